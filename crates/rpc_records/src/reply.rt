@@ -1,0 +1,58 @@
+use texts::{Listed, Text};
+
+/// Why a reply has no more jobs.
+#[derive(Clone, Copy, Debug, PartialEq, Eq)]
+pub enum EndWord {
+    /// As many seconds as were asked for.
+    Enough,
+    /// As many jobs as one reply may have.
+    ReplyLimit,
+    /// As many jobs as a host may have in progress.
+    InProgressLimit,
+    /// As many jobs as the host may get on one day.
+    DailyQuota,
+    /// No further job that this host may do.
+    NoEligibleWork,
+}
+
+/// A job of a reply: one instance of a workunit, for the version of its application that the host can run.
+#[derive(Debug, Drop)]
+pub struct Job {
+    pub app_name: Text,
+    /// Seconds that the job will take on this host.
+    pub estimate: u64,
+    /// The instance's name.
+    pub name: Text,
+    /// The platform of the version.
+    pub platform: Text,
+    /// The moment by which its report is due, in seconds since 1970-01-01T00:00:00Z.
+    pub report_deadline: u64,
+    /// Whether the host had it before and lost it.
+    pub resent: bool,
+    pub version_num: u32,
+    /// The workunit's name.
+    pub wu_name: Text,
+}
+
+/// A scheduler_reply.
+#[derive(Debug, Drop)]
+pub struct Reply {
+    pub end_word: EndWord,
+    /// Millicredits of the host.
+    pub host_total_credit: u64,
+    /// The host's number.
+    pub hostid: u32,
+    /// Seconds that the client has to wait before its next call.
+    pub request_delay: u32,
+    /// The names of the results that the client should no longer work on.
+    pub result_abort: Listed<Text>,
+    /// The names of the reports that were taken, so that the client may forget them.
+    pub result_ack: Listed<Text>,
+    /// First the jobs that are sent again, then the new ones.
+    pub results: Listed<Job>,
+    /// The number of the call that is answered.
+    pub rpc_seqno: u32,
+    pub user_name: Text,
+    /// Millicredits of the user, over all hosts.
+    pub user_total_credit: u64,
+}
