@@ -7,10 +7,15 @@
 pub mod listed;
 pub mod same;
 pub mod text;
+pub mod word;
 
 pub use listed::Listed;
 pub use same::Same;
-pub use text::Text;
+pub use text::{Text, utf8_text};
+pub use word::{is_word, word_of};
 
 /// Want of memory: an allocation was refused.
 pub type Memory = std::alloc::AllocError;
+
+#[cfg(test)]
+mod tests;

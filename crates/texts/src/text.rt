@@ -1,5 +1,5 @@
-ghost use Rattle.std.specs.Prelude.{◌≡◌, ◌==◌, List, ℕ, nat_eq, refl, length, Some, IfOk};
-ghost use Rattle.std.specs.Str.{bytes_eq};
+ghost use Rattle.std.specs.Prelude.{◌≡◌, ◌==◌, List, ℕ, nat_eq, refl, length, Some, None, IfOk, option_map, if◌then◌else◌};
+ghost use Rattle.std.specs.Str.{bytes_eq, is_utf8};
 ghost use Rattle.std.specs.String.{string_bytes};
 ghost use Rattle.std.specs.Ordering.{nat_cmp};
 ghost use Rattle.std.specs.Cmp.{partial_equiv_from_equiv};
@@ -9,8 +9,8 @@ use crate::Memory;
 use crate::same::Same;
 use std::alloc::Global;
 use std::cmp::Ordering;
-use std::fmt;
 use std::marker::Model;
+use std::{fmt, str};
 
 /// A text, which contracts see as the list of its bytes in UTF-8.
 #[derive(Drop)]
@@ -65,6 +65,16 @@ impl Text {
         ensures { result ≡ bytes_eq self.now other.now }
     {
         self.as_str() == other
+    }
+}
+
+/// The text that these bytes are, where they are UTF-8 (RFC 3629).
+pub fn utf8_text(bytes: &[u8]) -> Option<&str>
+    ensures { option_map (λ text. text.now) result ≡ (if is_utf8 bytes.now then Some bytes.now else None) }
+{
+    match str::from_utf8(bytes) {
+        Ok(text) => Some(text),
+        Err(_) => None,
     }
 }
 
