@@ -1,3 +1,10 @@
+ghost use Rattle.std.specs.Prelude.{◌≡◌};
+ghost use Rattle.rpc_records.specs.Members.{key_of, path_of};
+ghost use Rattle.rpc_records.specs.Replies.{name_of, number_of, status_of};
+ghost use Rattle.rpc_records.specs.declared.fault.Fault.TheVariants.{Unavailable};
+
+use std::alloc::{AllocError, AllocFailed};
+
 /// A member of a request, in the order in which they are checked.
 #[derive(Clone, Copy, Debug, PartialEq, Eq)]
 pub enum Member {
@@ -14,6 +21,42 @@ pub enum Member {
     WorkReqSeconds,
     OtherResults,
     Results,
+}
+
+impl Member {
+    /// Its name in its object: four of them stand in host_info.
+    pub fn key(self) -> &'static str
+        ensures { result.now ≡ key_of self }
+    {
+        match self {
+            Member::Authenticator => "authenticator",
+            Member::Hostid => "hostid",
+            Member::RpcSeqno => "rpc_seqno",
+            Member::HostInfo => "host_info",
+            Member::HostCpid => "host_cpid",
+            Member::PFpops => "p_fpops",
+            Member::MNbytes => "m_nbytes",
+            Member::DFree => "d_free",
+            Member::PlatformName => "platform_name",
+            Member::AltPlatforms => "alt_platforms",
+            Member::WorkReqSeconds => "work_req_seconds",
+            Member::OtherResults => "other_results",
+            Member::Results => "results",
+        }
+    }
+
+    /// Its name in a refusal, as `host_info.host_cpid`.
+    pub fn path(self) -> &'static str
+        ensures { result.now ≡ path_of self }
+    {
+        match self {
+            Member::HostCpid => "host_info.host_cpid",
+            Member::PFpops => "host_info.p_fpops",
+            Member::MNbytes => "host_info.m_nbytes",
+            Member::DFree => "host_info.d_free",
+            _ => self.key(),
+        }
+    }
 }
 
 /// A refusal. Each changes nothing.
@@ -46,11 +89,11 @@ pub enum Fault {
     /// The operator's key is missing or wrong.
     NotOperator,
     /// The first faulty row of an import, and in it the first faulty column.
-    BadCsv { row: u32, column: u32 },
+    BadCsv { row: u64, column: u64 },
     /// The name in this row stands already.
-    DuplicateName(u32),
+    DuplicateName(u64),
     /// This row names an application that does not stand.
-    UnknownReference(u32),
+    UnknownReference(u64),
     /// The batch of this name had other bytes.
     BatchReused,
     /// More rows than a table may have.
@@ -59,4 +102,94 @@ pub enum Fault {
     NoSuchHost,
     /// Memory, size or disk is wanting.
     Unavailable,
+}
+
+impl Fault {
+    /// Its name in the body that tells it.
+    pub fn name(self) -> &'static str
+        ensures { result.now ≡ name_of self }
+    {
+        match self {
+            Fault::BadHttp => "bad_http",
+            Fault::NoRoute => "no_route",
+            Fault::WrongMethod => "wrong_method",
+            Fault::LengthRequired => "length_required",
+            Fault::TooLarge => "too_large",
+            Fault::BadJson => "bad_json",
+            Fault::BadMember(_) => "bad_member",
+            Fault::BadAccount => "bad_account",
+            Fault::BadHost => "bad_host",
+            Fault::Stale(_) => "stale",
+            Fault::Reused(_) => "reused",
+            Fault::HostsFull => "hosts_full",
+            Fault::NotOperator => "not_operator",
+            Fault::BadCsv { .. } => "bad_csv",
+            Fault::DuplicateName(_) => "duplicate_name",
+            Fault::UnknownReference(_) => "unknown_reference",
+            Fault::BatchReused => "batch_reused",
+            Fault::TableFull => "table_full",
+            Fault::NoSuchHost => "no_such_host",
+            Fault::Unavailable => "unavailable",
+        }
+    }
+
+    /// Its number, 1 to 20.
+    pub fn number(self) -> u8
+        ensures { result ≡ number_of self }
+    {
+        match self {
+            Fault::BadHttp => 1,
+            Fault::NoRoute => 2,
+            Fault::WrongMethod => 3,
+            Fault::LengthRequired => 4,
+            Fault::TooLarge => 5,
+            Fault::BadJson => 6,
+            Fault::BadMember(_) => 7,
+            Fault::BadAccount => 8,
+            Fault::BadHost => 9,
+            Fault::Stale(_) => 10,
+            Fault::Reused(_) => 11,
+            Fault::HostsFull => 12,
+            Fault::NotOperator => 13,
+            Fault::BadCsv { .. } => 14,
+            Fault::DuplicateName(_) => 15,
+            Fault::UnknownReference(_) => 16,
+            Fault::BatchReused => 17,
+            Fault::TableFull => 18,
+            Fault::NoSuchHost => 19,
+            Fault::Unavailable => 20,
+        }
+    }
+
+    /// The status code of the HTTP response that tells it.
+    pub fn status(self) -> u16
+        ensures { result ≡ status_of self }
+    {
+        match self {
+            Fault::BadHttp | Fault::BadJson | Fault::BadMember(_) | Fault::BadCsv { .. } => 400,
+            Fault::BadAccount | Fault::NotOperator => 403,
+            Fault::NoRoute | Fault::NoSuchHost => 404,
+            Fault::WrongMethod => 405,
+            Fault::LengthRequired => 411,
+            Fault::TooLarge => 413,
+            Fault::Unavailable => 503,
+            _ => 409,
+        }
+    }
+}
+
+impl From<AllocError> for Fault {
+    ghost from_gives = { λ _ fault. fault ≡ Unavailable };
+
+    fn from(_refused: AllocError) -> Fault {
+        Fault::Unavailable
+    }
+}
+
+impl<T: Drop> From<AllocFailed<T>> for Fault {
+    ghost from_gives = { λ _ fault. fault ≡ Unavailable };
+
+    fn from(_refused: AllocFailed<T>) -> Fault {
+        Fault::Unavailable
+    }
 }

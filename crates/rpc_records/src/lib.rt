@@ -1,10 +1,27 @@
-//! The records of a scheduler call, and their texts.
+//! The records of a scheduler call, and their texts: a request and what it means, the reply, and the refusals.
+//!
+//! A request comes as JSON: [`decode_request`] says what it means, or which refusal it gets. [`request_text`] is its
+//! canonical text, by which two calls are told to be the same. Replies and refusals are written by [`reply_text`] and
+//! [`fault_text`].
 #![tactic(auto)]
 
+mod answers;
+mod canonical;
+mod decode;
 pub mod fault;
+pub mod laws;
+mod members;
 pub mod reply;
 pub mod request;
+#[cfg(test)]
+mod tests;
+mod text_kind;
+mod to_json;
+mod values;
 
+pub use answers::{fault_text, reply_text, unavailable_text};
+pub use canonical::request_text;
+pub use decode::decode_request;
 pub use fault::{Fault, Member};
 pub use reply::{EndWord, Job, Reply};
 pub use request::{HostInfo, Report, Request};

@@ -1,3 +1,6 @@
+ghost use Rattle.std.specs.Prelude.{◌≡◌};
+ghost use Rattle.rpc_records.specs.Replies.{end_word_of};
+
 use texts::{Listed, Text};
 
 /// Why a reply has no more jobs.
@@ -13,6 +16,21 @@ pub enum EndWord {
     DailyQuota,
     /// No further job that this host may do.
     NoEligibleWork,
+}
+
+impl EndWord {
+    /// As a reply tells it.
+    pub fn word(self) -> &'static str
+        ensures { result.now ≡ end_word_of self }
+    {
+        match self {
+            EndWord::Enough => "enough",
+            EndWord::ReplyLimit => "reply_limit",
+            EndWord::InProgressLimit => "in_progress_limit",
+            EndWord::DailyQuota => "daily_quota",
+            EndWord::NoEligibleWork => "no_eligible_work",
+        }
+    }
 }
 
 /// A job of a reply: one instance of a workunit, for the version of its application that the host can run.

@@ -1,1 +1,2 @@
+pub mod SeenTexts
 pub mod Words

@@ -6,19 +6,23 @@ use Rattle.std.specs.List.{list_all}
 use Rattle.std.specs.Str.{IsAscii, IsUtf8}
 use Rattle.texts.specs.Words.{is_word_byte, is_word}
 
-pub word_byte_below : (b : ℕ) → is_word_byte b ≡ true → b < 128
+word_byte_below : (b : ℕ) → is_word_byte b ≡ true → b < 128
 word_byte_below b h = grind (arith, nat_tests)
 
-pub and_left : (a b : Bool) → (a && b) ≡ true → a ≡ true
+and_left : (a b : Bool) → (a && b) ≡ true → a ≡ true
 and_left a b h = grind arith
 
-pub and_right : (a b : Bool) → (a && b) ≡ true → b ≡ true
+and_right : (a b : Bool) → (a && b) ≡ true → b ≡ true
 and_right a b h = grind arith
 
-pub words_below : (text : List ℕ) → list_all is_word_byte text ≡ true → (i : ℕ) → get_or text i 0 < 128
-words_below [] h i = omega arith
-words_below (b ∷ bs) h zero = word_byte_below b (and_left (is_word_byte b) (list_all is_word_byte bs) h)
-words_below (b ∷ bs) h (suc i) = words_below bs (and_right (is_word_byte b) (list_all is_word_byte bs) h) i
+-- a text each of whose bytes passes a test that only ASCII passes
+below : (p : ℕ → Bool) → ((b : ℕ) → p b ≡ true → b < 128) → (text : List ℕ) → list_all p text ≡ true → (i : ℕ) → get_or text i 0 < 128
+below p ascii [] h i = omega arith
+below p ascii (b ∷ bs) h zero = ascii b (and_left (p b) (list_all p bs) h)
+below p ascii (b ∷ bs) h (suc i) = below p ascii bs (and_right (p b) (list_all p bs) h) i
+
+pub IsUtf8-list_all : (p : ℕ → Bool) → ((b : ℕ) → p b ≡ true → b < 128) → (text : List ℕ) → list_all p text ≡ true → IsUtf8 text
+IsUtf8-list_all p ascii text h = IsUtf8-from_ascii text (below p ascii text h)
 
 pub IsUtf8-word : (text : List ℕ) → is_word text ≡ true → IsUtf8 text
-IsUtf8-word text h = IsUtf8-from_ascii text (words_below text (and_right _ (list_all is_word_byte text) h))
+IsUtf8-word text h = IsUtf8-list_all is_word_byte word_byte_below text (and_right _ (list_all is_word_byte text) h)

@@ -1,4 +1,4 @@
-use crate::{Listed, Text, is_word, utf8_text, word_of};
+use crate::{Listed, Seen, Text, is_word, utf8_text, word_of};
 use std::test::Fail;
 
 #[test]
@@ -44,4 +44,20 @@ fn bytes_are_read_as_text(rt: HostRuntime) {
     assert_eq!(rt; utf8_text(b"caf\xc3").map(str::len), None);
     assert_eq!(rt; word_of(b"dock-2").map(str::len), Some(6));
     assert_eq!(rt; word_of(b"dock 2").map(str::len), None);
+}
+
+#[test]
+fn a_text_comes_by_first_once(rt: HostRuntime) -> Result<(), Fail> {
+    let mut seen = Seen::new(rt.alloc());
+    for (text, first) in [
+        ("b", true),
+        ("a", true),
+        ("b", false),
+        ("", true),
+        ("a", false),
+        ("", false),
+    ] {
+        assert_eq!(rt; seen.is_first(text)?, first, "{text}");
+    }
+    Ok(())
 }

@@ -1,0 +1,6 @@
+pub mod NameLists
+pub mod PlaceLemmas
+pub mod Beginnings
+pub mod IsRun
+pub mod Carried
+pub mod Following

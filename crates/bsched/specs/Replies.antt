@@ -1,0 +1,52 @@
+-- Answers and their bodies.
+use Rattle.std.specs.Prelude.{ℕ, ◌==◌, if◌then◌else◌, List, [], map, codes, unwrap_or}
+use Rattle.serde_json.specs.Data.{Data, string, object, member, no_members}
+use Rattle.serde_json.specs.Written.{compact_text}
+use Rattle.rpc_records.specs.Replies.{fault_text_of, status_of}
+use Rattle.rpc_records.specs.Spelling.{whole}
+use Rattle.rpc_records.specs.declared.fault.Fault.{Fault}
+use Rattle.rpc_records.specs.declared.reply.EndWord.{EndWord}
+use Rattle.rpc_records.specs.declared.reply.EndWord.TheVariants.{Enough, NoEligibleWork}
+use Rattle.rpc_records.specs.declared.reply.Reply.{Reply}
+use Rattle.rpc_records.specs.declared.request.Report.{Report}
+use Rattle.rpc_records.specs.declared.request.Request.{Request}
+use Rattle.bsched.specs.Names.{distinct}
+use Rattle.bsched.specs.declared.first.line.Answer.{Answer}
+use Rattle.bsched.specs.declared.first.line.Limits.{Limits}
+
+abbrev pub good : List ℕ → Answer
+good body = record { status = 200; body = body }
+
+abbrev pub refusal : Fault → Answer
+refusal fault = record { status = status_of fault; body = fault_text_of fault }
+
+-- The answer to the import of one account, by the batch of its name: one row.
+abbrev pub imported_json : List ℕ → Data
+imported_json name = object (
+    member (codes "batch") (string name) (
+    member (codes "kind") (string (codes "accounts")) (
+    member (codes "rows") (whole 1)
+    no_members)))
+
+unfoldable pub imported_text : List ℕ → List ℕ
+imported_text name = compact_text (imported_json name)
+
+-- With no work there is enough only of none.
+abbrev pub end_word : ℕ → EndWord
+end_word asked = if asked == 0 then Enough else NoEligibleWork
+
+-- The reply to a first-heard call where there is no work: every report is acknowledged, and every result that the host has is aborted.
+abbrev pub reply_of : Limits → ℕ → Request → Reply
+reply_of limits number request =
+    record {
+      end_word = end_word request.asked;
+      host_total_credit = 0;
+      hostid = number;
+      request_delay = limits.request_delay;
+      result_abort = distinct (unwrap_or request.other_results []);
+      result_ack = distinct (map (λ (report : Report). report.name) request.results);
+      results = [];
+      rpc_seqno = request.rpc_seqno;
+      user_name = request.authenticator;
+      user_total_credit = 0;
+    }

@@ -1,0 +1,35 @@
+-- The machine that hears each call once, and remembers none. A run has the newest turn first.
+use Rattle.std.specs.Prelude.{◌≡◌, ℕ, ◌+◌, List, [], ◌∷◌, ◌++◌, length, map, unwrap_or}
+use Rattle.rpc_records.specs.Replies.{reply_text_of}
+use Rattle.rpc_records.specs.declared.request.Request.{Request}
+use Rattle.bsched.specs.Messages.{Said, Account, Call, Refused, key_of}
+use Rattle.bsched.specs.Replies.{imported_text, reply_of}
+use Rattle.bsched.specs.World.{World, empty_world, host_number, with_caller}
+use Rattle.bsched.specs.declared.first.line.Limits.{Limits}
+
+-- The number of the host that calls: its own, or the next.
+abbrev pub caller_number : World → Request → ℕ
+caller_number world request = unwrap_or (host_number (key_of request) world.hosts) (length world.hosts + 1)
+
+abbrev pub reply_body : Limits → World → Request → List ℕ
+reply_body limits world request = reply_text_of (reply_of limits (caller_number world request) request)
+
+-- From a world, a message may give this body and leave this world after it.
+abbrev pub Step : Limits → World → Said → List ℕ → World → Type 0
+Step limits world (Account name) body after = (body ≡ imported_text name) × (after ≡ record world { accounts = world.accounts ++ name ∷ [] })
+Step limits world (Call request) body after =
+    (body ≡ reply_body limits world request) × (after ≡ record world { hosts = with_caller request limits.daily_result_quota world.hosts })
+Step limits world (Refused fault) body after = ⊥
+
+-- One message, its body and the world after it.
+pub record Turn : Type 0 where
+  pub said : Said
+  pub body : List ℕ
+  pub after : World
+
+abbrev pub world_of : List Turn → World
+world_of [] = empty_world
+world_of (turn ∷ older) = turn.after
+
+abbrev pub said_of : List Turn → List Said
+said_of turns = map (λ (turn : Turn). turn.said) turns

@@ -1,0 +1,53 @@
+-- What one message does to a service, whatever stands in it.
+use Rattle.std.specs.Prelude.{◌≡◌, List, [], ◌∷◌, ◌++◌, Option, Some, None}
+use Rattle.std.specs.FinMap as map
+use Rattle.reply_register.specs.declared.kept.Kept.{Kept}
+use Rattle.reply_register.specs.declared.key.Key.{Key}
+use Rattle.bsched.specs.Messages.{Said, Account, Call, Refused, said, key_of}
+use Rattle.bsched.specs.Replies.{good, imported_text}
+use Rattle.bsched.specs.Runs.{reply_body}
+use Rattle.bsched.specs.Told.{kept_call, told}
+use Rattle.bsched.specs.World.{World, with_caller}
+use Rattle.bsched.specs.declared.first.line.Answer.{Answer}
+use Rattle.bsched.specs.declared.first.line.Arrival.{Arrival}
+use Rattle.bsched.specs.declared.first.line.Limits.{Limits}
+use Rattle.bsched.specs.declared.first.service.Service.{Service}
+
+-- What stands in a service: its limits, the accounts and hosts, and the kept call of each key.
+abbrev pub limits_of : Service → Limits
+limits_of service = service.limits
+
+abbrev pub world_in : Service → World
+world_in service = record { accounts = service.accounts; hosts = service.hosts }
+
+abbrev pub kept_in : Service → Key → Option Kept
+kept_in service key = map.get service.register key
+
+abbrev pub told_by : Service → Said → Option Answer
+told_by service message = told (limits_of service) (world_in service) (kept_in service) message
+
+-- A message that is told something changes nothing. One that is told nothing is first heard, and makes one step; of a call the
+-- number, the text and the reply are kept.
+abbrev pub ServesAs : Option Answer → Service → Said → Answer → Service → Type 0
+ServesAs (Some told) old message answer new = (answer ≡ told) × (new ≡ old)
+ServesAs None old (Account name) answer new =
+    (answer ≡ good (imported_text name)) × (new ≡ record old { accounts = old.accounts ++ name ∷ [] })
+ServesAs None old (Call request) answer new =
+    let reply = reply_body (limits_of old) (world_in old) request in
+    (answer ≡ good reply)
+    × (new ≡ record old {
+      hosts = with_caller request old.limits.daily_result_quota old.hosts;
+      register = map.insert old.register (key_of request) (kept_call request reply);
+    })
+ServesAs None old (Refused fault) answer new = ⊥
+
+abbrev pub Serves : Service → Said → Answer → Service → Type 0
+Serves old message answer new = ServesAs (told_by old message) old message answer new
+
+-- These arrivals, one after the other, with these answers.
+abbrev pub ServesAll : Service → List Arrival → List Answer → Service → Type 0
+ServesAll old [] [] new = new ≡ old
+ServesAll old [] (answer ∷ answers) new = ⊥
+ServesAll old (arrival ∷ arrivals) [] new = ⊥
+ServesAll old (arrival ∷ arrivals) (answer ∷ answers) new =
+    (mid : Service) × Serves old (said arrival.line) answer mid × ServesAll mid arrivals answers new

@@ -1,0 +1,53 @@
+-- Which members of an object are faulty, each judged by itself, and the order in which they are told.
+use Rattle.std.specs.Prelude.{◌^◌, List, [], ◌∷◌, Bool, false, Option, Some, None, is_none, option_and_then, unwrap_or, Result, Ok, Err}
+use Rattle.serde_json.specs.Data.{Data, null}
+use Rattle.serde_json.specs.Find.{get}
+use Rattle.rpc_records.specs.Members.{key_of}
+use Rattle.rpc_records.specs.Values.{object_in, word_in, number_in, speed_in, size_in, seconds_in, alternatives_in, listed_in, reports_in}
+use Rattle.rpc_records.specs.declared.fault.Fault.{Fault}
+use Rattle.rpc_records.specs.declared.fault.Member.{Member}
+use Rattle.rpc_records.specs.declared.fault.Member.TheVariants.{Authenticator, Hostid, RpcSeqno, HostInfo, HostCpid, PFpops, MNbytes, DFree, PlatformName, AltPlatforms, WorkReqSeconds, OtherResults, Results}
+
+-- The members in the order in which they are told.
+abbrev pub in_order : List Member
+in_order =
+    Authenticator ∷ Hostid ∷ RpcSeqno ∷ HostInfo ∷ HostCpid ∷ PFpops ∷ MNbytes ∷ DFree ∷ PlatformName ∷ AltPlatforms ∷ WorkReqSeconds
+    ∷ OtherResults ∷ Results ∷ []
+
+-- Those that stand at the top of a request. The others stand in host_info.
+abbrev pub at_top : List Member
+at_top = Authenticator ∷ Hostid ∷ RpcSeqno ∷ HostInfo ∷ PlatformName ∷ AltPlatforms ∷ WorkReqSeconds ∷ OtherResults ∷ Results ∷ []
+
+-- It is missing, or it isn't as wanted.
+abbrev pub is_wanting : {A : Type 0} → (Data → Option A) → Option Data → Bool
+is_wanting reads found = is_none (option_and_then reads found)
+
+-- It is there, and isn't as wanted.
+abbrev pub is_spoiled : {A : Type 0} → (Data → Option A) → Option Data → Bool
+is_spoiled reads None = false
+is_spoiled reads (Some d) = is_none (reads d)
+
+-- The value of host_info.
+abbrev pub info_of : Data → Data
+info_of d = unwrap_or (get (key_of HostInfo) d) null
+
+-- A member of this object is missing or faulty.
+abbrev pub is_faulty : Data → Member → Bool
+is_faulty d Authenticator = is_wanting word_in (get (key_of Authenticator) d)
+is_faulty d Hostid = is_spoiled number_in (get (key_of Hostid) d)
+is_faulty d RpcSeqno = is_wanting number_in (get (key_of RpcSeqno) d)
+is_faulty d HostInfo = is_wanting object_in (get (key_of HostInfo) d)
+is_faulty d HostCpid = is_wanting word_in (get (key_of HostCpid) (info_of d))
+is_faulty d PFpops = is_wanting speed_in (get (key_of PFpops) (info_of d))
+is_faulty d MNbytes = is_wanting size_in (get (key_of MNbytes) (info_of d))
+is_faulty d DFree = is_wanting size_in (get (key_of DFree) (info_of d))
+is_faulty d PlatformName = is_wanting word_in (get (key_of PlatformName) d)
+is_faulty d AltPlatforms = is_spoiled alternatives_in (get (key_of AltPlatforms) d)
+is_faulty d WorkReqSeconds = is_spoiled seconds_in (get (key_of WorkReqSeconds) d)
+is_faulty d OtherResults = is_spoiled listed_in (get (key_of OtherResults) d)
+is_faulty d Results = is_spoiled reports_in (get (key_of Results) d)
+
+-- The refusal, where a reading is one.
+abbrev pub refusal_of : {A : Type 0} → Result A Fault → Option Fault
+refusal_of (Ok x) = None
+refusal_of (Err e) = Some e

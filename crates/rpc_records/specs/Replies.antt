@@ -1,0 +1,145 @@
+-- The texts of the answers to a scheduler call: compact JSON as serde_json writes it, the members of each object in byte order of
+-- their names. The names of a reply's members are those of BOINC's scheduler RPC protocol where it has them; the refusals are this profile's.
+use Rattle.std.specs.Prelude.{ℕ, List, [], ◌∷◌, codes}
+use Rattle.serde_json.specs.Data.{Data, string, boolean, object, Members, member, no_members, put}
+use Rattle.serde_json.specs.Written.{compact_text}
+use Rattle.rpc_records.specs.Members.{path_of}
+use Rattle.rpc_records.specs.Spelling.{whole, list_json}
+use Rattle.rpc_records.specs.declared.reply.EndWord.{EndWord}
+use Rattle.rpc_records.specs.declared.reply.EndWord.TheVariants.{Enough, ReplyLimit, InProgressLimit, DailyQuota, NoEligibleWork}
+use Rattle.rpc_records.specs.declared.reply.Job.{Job}
+use Rattle.rpc_records.specs.declared.reply.Reply.{Reply}
+use Rattle.rpc_records.specs.declared.fault.Fault.{Fault}
+use Rattle.rpc_records.specs.declared.fault.Fault.TheVariants.{BadHttp, NoRoute, WrongMethod, LengthRequired, TooLarge, BadJson, BadMember, BadAccount, BadHost, Stale, Reused, HostsFull, NotOperator, BadCsv, DuplicateName, UnknownReference, BatchReused, TableFull, NoSuchHost, Unavailable}
+
+-- ---- replies
+
+-- Why a reply has no more jobs, as a word.
+abbrev pub end_word_of : EndWord → List ℕ
+end_word_of Enough = codes "enough"
+end_word_of ReplyLimit = codes "reply_limit"
+end_word_of InProgressLimit = codes "in_progress_limit"
+end_word_of DailyQuota = codes "daily_quota"
+end_word_of NoEligibleWork = codes "no_eligible_work"
+
+abbrev pub job_json : Job → Data
+job_json j = object (
+    member (codes "app_name") (string j.app_name) (
+    member (codes "estimate") (whole j.estimate) (
+    member (codes "name") (string j.name) (
+    member (codes "platform") (string j.platform) (
+    member (codes "report_deadline") (whole j.report_deadline) (
+    member (codes "resent") (boolean j.resent) (
+    member (codes "version_num") (whole j.version_num) (
+    member (codes "wu_name") (string j.wu_name)
+    no_members))))))))
+
+unfoldable pub reply_json : Reply → Data
+reply_json r = object (
+    member (codes "end_word") (string (end_word_of r.end_word)) (
+    member (codes "host_total_credit") (whole r.host_total_credit) (
+    member (codes "hostid") (whole r.hostid) (
+    member (codes "request_delay") (whole r.request_delay) (
+    member (codes "result_abort") (list_json string r.result_abort) (
+    member (codes "result_ack") (list_json string r.result_ack) (
+    member (codes "results") (list_json job_json r.results) (
+    member (codes "rpc_seqno") (whole r.rpc_seqno) (
+    member (codes "user_name") (string r.user_name) (
+    member (codes "user_total_credit") (whole r.user_total_credit)
+    no_members))))))))))
+
+unfoldable pub reply_text_of : Reply → List ℕ
+reply_text_of r = compact_text (reply_json r)
+
+-- ---- refusals
+
+abbrev pub number_of : Fault → ℕ
+number_of BadHttp = 1
+number_of NoRoute = 2
+number_of WrongMethod = 3
+number_of LengthRequired = 4
+number_of TooLarge = 5
+number_of BadJson = 6
+number_of (BadMember m) = 7
+number_of BadAccount = 8
+number_of BadHost = 9
+number_of (Stale last) = 10
+number_of (Reused last) = 11
+number_of HostsFull = 12
+number_of NotOperator = 13
+number_of (BadCsv row column) = 14
+number_of (DuplicateName row) = 15
+number_of (UnknownReference row) = 16
+number_of BatchReused = 17
+number_of TableFull = 18
+number_of NoSuchHost = 19
+number_of Unavailable = 20
+
+abbrev pub name_of : Fault → List ℕ
+name_of BadHttp = codes "bad_http"
+name_of NoRoute = codes "no_route"
+name_of WrongMethod = codes "wrong_method"
+name_of LengthRequired = codes "length_required"
+name_of TooLarge = codes "too_large"
+name_of BadJson = codes "bad_json"
+name_of (BadMember m) = codes "bad_member"
+name_of BadAccount = codes "bad_account"
+name_of BadHost = codes "bad_host"
+name_of (Stale last) = codes "stale"
+name_of (Reused last) = codes "reused"
+name_of HostsFull = codes "hosts_full"
+name_of NotOperator = codes "not_operator"
+name_of (BadCsv row column) = codes "bad_csv"
+name_of (DuplicateName row) = codes "duplicate_name"
+name_of (UnknownReference row) = codes "unknown_reference"
+name_of BatchReused = codes "batch_reused"
+name_of TableFull = codes "table_full"
+name_of NoSuchHost = codes "no_such_host"
+name_of Unavailable = codes "unavailable"
+
+-- The status code of the HTTP response that tells it.
+abbrev pub status_of : Fault → ℕ
+status_of BadHttp = 400
+status_of NoRoute = 404
+status_of WrongMethod = 405
+status_of LengthRequired = 411
+status_of TooLarge = 413
+status_of BadJson = 400
+status_of (BadMember m) = 400
+status_of BadAccount = 403
+status_of BadHost = 409
+status_of (Stale last) = 409
+status_of (Reused last) = 409
+status_of HostsFull = 409
+status_of NotOperator = 403
+status_of (BadCsv row column) = 400
+status_of (DuplicateName row) = 409
+status_of (UnknownReference row) = 409
+status_of BatchReused = 409
+status_of TableFull = 409
+status_of NoSuchHost = 404
+status_of Unavailable = 503
+
+-- What it tells beside its name and its number.
+abbrev pub details_of : Fault → List (List ℕ × Data)
+details_of (BadMember m) = (codes "member", string (path_of m)) ∷ []
+details_of (Stale last) = (codes "last", whole last) ∷ []
+details_of (Reused last) = (codes "last", whole last) ∷ []
+details_of (BadCsv row column) = (codes "column", whole column) ∷ (codes "row", whole row) ∷ []
+details_of (DuplicateName row) = (codes "row", whole row) ∷ []
+details_of (UnknownReference row) = (codes "row", whole row) ∷ []
+details_of _ = []
+
+-- The members with these too, each at the place of its name.
+abbrev pub with_details : List (List ℕ × Data) → Members → Members
+with_details [] members = members
+with_details (d ∷ ds) members = with_details ds (put d.0 d.1 members)
+
+abbrev pub fault_json : Fault → Data
+fault_json f = object (with_details (details_of f) (
+    member (codes "error") (string (name_of f)) (
+    member (codes "number") (whole (number_of f))
+    no_members)))
+
+unfoldable pub fault_text_of : Fault → List ℕ
+fault_text_of f = compact_text (fault_json f)

@@ -1,0 +1,63 @@
+-- The canonical text of a request: compact JSON as serde_json writes it, every member with its default put in, but other_results only
+-- where the request has it, so that an absent list and an empty one are two texts. In each object the members stand in byte order of
+-- their names.
+use Rattle.std.specs.Prelude.{ℕ, List, [], drop, map, slice_index_or, codes, Option, Some, None}
+use Rattle.serde_json.specs.Data.{Data, string, number, unsigned, array, object, Members, member, no_members}
+use Rattle.serde_json.specs.Find.{of_integer}
+use Rattle.serde_json.specs.View.{items_of}
+use Rattle.serde_json.specs.Written.{compact_text}
+use Rattle.rpc_records.specs.declared.request.HostInfo.{HostInfo}
+use Rattle.rpc_records.specs.declared.request.Report.{Report}
+use Rattle.rpc_records.specs.declared.request.Request.{Request}
+
+-- A whole number.
+abbrev pub whole : ℕ → Data
+whole n = number (unsigned n)
+
+-- The values of a list, in order.
+abbrev pub list_json : {A : Type 0} → (A → Data) → List A → Data
+list_json each xs = array (items_of (map each xs))
+
+-- The host's own platform, empty where a request has none.
+abbrev pub own_platform : Request → List ℕ
+own_platform r = slice_index_or r.platforms 0 []
+
+-- The alternative platforms: those behind the host's own.
+abbrev pub alternatives : Request → List (List ℕ)
+alternatives r = drop 1 r.platforms
+
+abbrev pub host_json : HostInfo → Data
+host_json h = object (
+    member (codes "d_free") (whole h.d_free) (
+    member (codes "host_cpid") (string h.host_cpid) (
+    member (codes "m_nbytes") (whole h.m_nbytes) (
+    member (codes "p_fpops") (whole h.p_fpops)
+    no_members))))
+
+abbrev pub report_json : Report → Data
+report_json p = object (
+    member (codes "exit_status") (number (of_integer p.exit_status)) (
+    member (codes "name") (string p.name) (
+    member (codes "output") (string p.output)
+    no_members)))
+
+-- The list of what the host has, where it is told, before the members behind it.
+abbrev pub with_other_results : Option (List (List ℕ)) → Members → Members
+with_other_results None rest = rest
+with_other_results (Some names) rest = member (codes "other_results") (list_json string names) rest
+
+unfoldable pub request_json : Request → Data
+request_json r = object (
+    member (codes "alt_platforms") (list_json string (alternatives r)) (
+    member (codes "authenticator") (string r.authenticator) (
+    member (codes "host_info") (host_json r.host) (
+    member (codes "hostid") (whole r.hostid) (
+    with_other_results r.other_results (
+    member (codes "platform_name") (string (own_platform r)) (
+    member (codes "results") (list_json report_json r.results) (
+    member (codes "rpc_seqno") (whole r.rpc_seqno) (
+    member (codes "work_req_seconds") (whole r.asked)
+    no_members)))))))))
+
+unfoldable pub canonical_text : Request → List ℕ
+canonical_text r = compact_text (request_json r)
