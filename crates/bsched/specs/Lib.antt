@@ -10,3 +10,4 @@ pub mod Told
 pub mod Serves
 pub mod Stands
 pub mod ReplayLines
+pub mod Endings

@@ -1,3 +1,6 @@
+ghost use Rattle.std.specs.Prelude.{◌≡◌};
+ghost use Rattle.bsched.specs.Endings.{exit_status};
+
 mod line;
 #[cfg(test)]
 mod tests;
@@ -32,7 +35,9 @@ pub enum Ended {
 
 impl Ended {
     /// The exit status of a program that ends so.
-    pub fn status(self) -> u8 {
+    pub fn status(self) -> u8
+        ensures { result ≡ exit_status self }
+    {
         match self {
             Ended::Good => 0,
             Ended::Line(_) | Ended::File => 1,
