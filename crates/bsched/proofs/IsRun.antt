@@ -12,7 +12,7 @@ use Rattle.reply_register.specs.declared.key.Key.{Key}
 use Rattle.reply_register.proofs.Calls.{same_key-is}
 use Rattle.rpc_records.specs.Spelling.{canonical_text}
 use Rattle.rpc_records.specs.declared.request.Request.{Request}
-use Rattle.bsched.specs.FirstHeard.{max_accounts, accounts_of, keys_of, with_key, names_host, is_above, is_first_heard, first_heard}
+use Rattle.bsched.specs.FirstHeard.{accounts_of, has_host_room, keys_of, with_key, names_host, is_above, is_first_heard, first_heard}
 use Rattle.bsched.specs.Messages.{Said, Account, Call, Refused, said, key_of}
 use Rattle.bsched.specs.Names.{has_name}
 use Rattle.bsched.specs.Pasts.{Answered, Past, said_in}
@@ -124,14 +124,14 @@ is_third false b false d all = all
 -- whether a call is first heard, of what is asked of the older messages
 abbrev first_call : Limits → Request → List (List ℕ) → Option ℕ → Bool → ℕ → Bool
 first_call limits request names number above count =
-    has_name request.authenticator names && names_host request.hostid number && above && (is_some number || nat_lt count limits.max_hosts)
+    has_name request.authenticator names && names_host request.hostid number && above && has_host_room limits number count
 
 call_rises : (limits : Limits) (request : Request) (older : List Said) → is_first_heard limits older (Call request) ≡ true
     → is_above (key_of request) request.rpc_seqno older ≡ true
 call_rises limits request older first =
     let number : Option ℕ = place_where (same_key (key_of request)) (keys_of older) in
     is_third (has_name request.authenticator (accounts_of older)) (names_host request.hostid number)
-    (is_above (key_of request) request.rpc_seqno older) (is_some number || nat_lt (length (keys_of older)) limits.max_hosts) first
+    (is_above (key_of request) request.rpc_seqno older) (has_host_room limits number (length (keys_of older))) first
 
 above_step : (limits : Limits) (world after : World) (message : Said) (body : List ℕ) (older : List Said) (kept : Key → Option Kept)
     → is_first_heard limits older message ≡ true → Step limits world message body after
@@ -186,7 +186,7 @@ call_told : (limits : Limits) (request : Request) (world : World) (kept : Option
     ≡ is_none (told_call limits world kept request)
 call_told limits request world kept =
     let number : Option ℕ = host_number (key_of request) world.hosts in
-    let room : Bool = is_some number || nat_lt (length world.hosts) limits.max_hosts in
+    let room : Bool = has_host_room limits number (length world.hosts) in
     call_cases (has_name request.authenticator world.accounts) (names_host request.hostid number) (above_kept kept request.rpc_seqno) room
     (told_beside room kept request.rpc_seqno (canonical_text request)) _ _ (beside_none room kept request.rpc_seqno (canonical_text request))
 
@@ -208,7 +208,7 @@ room_for_new limits world kept request told none =
     let room : nat_lt (length world.hosts) limits.max_hosts ≡ true =
     is_room number _ none
     (is_fourth (has_name request.authenticator world.accounts) (names_host request.hostid number) (above_kept kept request.rpc_seqno)
-    (is_some number || nat_lt (length world.hosts) limits.max_hosts) (call_told limits request world kept ∙ ap is_none told)) in
+    (has_host_room limits number (length world.hosts)) (call_told limits request world kept ∙ ap is_none told)) in
     grind (arith, nat_tests)
 
 -- The whole law: a message is first heard after the messages of a run just where the run's world and kept calls tell it nothing.

@@ -8,7 +8,8 @@ use Rattle.reply_register.specs.Keys.{same_key}
 use Rattle.rpc_records.specs.declared.request.Request.{Request}
 use Rattle.bsched.specs.Messages.{key_of}
 use Rattle.bsched.specs.Places.{place_where}
-use Rattle.bsched.specs.World.{host_number, host_told, quota_at, with_host, with_caller}
+use Rattle.bsched.specs.HostRows.{quota_at, with_host}
+use Rattle.bsched.specs.World.{host_number, host_told, with_caller}
 use Rattle.bsched.specs.declared.first.hosts.Host.{Host}
 
 shifted : (b : Bool) (o : Option ℕ) (k : ℕ) (rest : Option ℕ) → option_map (λ i. i + 1) rest ≡ option_map (λ place. place + (k + 1)) o

@@ -10,7 +10,7 @@ use Rattle.bsched.specs.Pasts.{Past, said_in}
 use Rattle.bsched.specs.Places.{place_where, is_place}
 use Rattle.bsched.specs.declared.first.line.Limits.{Limits}
 
--- how many accounts there may be
+-- How many accounts there may be.
 abbrev pub max_accounts : ℕ
 max_accounts = 10000
 
@@ -21,6 +21,7 @@ accounts_of (Account name ∷ older) = accounts_of older ++ name ∷ []
 accounts_of (Call request ∷ older) = accounts_of older
 accounts_of (Refused fault ∷ older) = accounts_of older
 
+-- The keys with this one behind them, unless it is among them.
 abbrev pub with_key : Key → List Key → List Key
 with_key key [] = key ∷ []
 with_key key (k ∷ keys) = if same_key key k then key ∷ keys else k ∷ with_key key keys
@@ -43,16 +44,25 @@ is_above key seqno (Account name ∷ older) = is_above key seqno older
 is_above key seqno (Call request ∷ older) = (if same_key key (key_of request) then nat_lt request.rpc_seqno seqno else true) && is_above key seqno older
 is_above key seqno (Refused fault ∷ older) = is_above key seqno older
 
--- Whether a message is first heard after these, which are first heard.
+-- Room for one more account.
+abbrev pub has_account_room : ℕ → Bool
+has_account_room count = nat_lt count max_accounts
+
+-- Room for the host of a call: it has a number, or fewer hosts stand than may.
+abbrev pub has_host_room : Limits → Option ℕ → ℕ → Bool
+has_host_room limits number count = is_some number || nat_lt count limits.max_hosts
+
+-- Whether a message is first heard after these, which are: a new account where there is room for it, or a call of an account that
+-- stands, with the number of its host if it tells one, a number above the earlier ones of its key, and room for its host.
 abbrev pub is_first_heard : Limits → List Said → Said → Bool
-is_first_heard limits older (Account name) = not (has_name name (accounts_of older)) && nat_lt (length (accounts_of older)) max_accounts
+is_first_heard limits older (Account name) = not (has_name name (accounts_of older)) && has_account_room (length (accounts_of older))
 is_first_heard limits older (Call request) =
     let key = key_of request in
     let number = place_where (same_key key) (keys_of older) in
     has_name request.authenticator (accounts_of older)
     && names_host request.hostid number
     && is_above key request.rpc_seqno older
-    && (is_some number || nat_lt (length (keys_of older)) limits.max_hosts)
+    && has_host_room limits number (length (keys_of older))
 is_first_heard limits older (Refused fault) = false
 
 -- The first-heard ones of these messages.

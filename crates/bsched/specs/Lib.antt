@@ -4,6 +4,7 @@ pub mod Messages
 pub mod Pasts
 pub mod FirstHeard
 pub mod World
+pub mod HostRows
 pub mod Replies
 pub mod Runs
 pub mod Told

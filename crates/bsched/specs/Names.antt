@@ -5,6 +5,7 @@ use Rattle.std.specs.Str.{bytes_eq}
 use Rattle.texts.specs.Seen.{has_seen}
 use Rattle.texts.specs.declared.seen.Seen.{Seen}
 
+-- Whether the name is among these.
 abbrev pub has_name : List ℕ → List (List ℕ) → Bool
 has_name name names = list_any (bytes_eq name) names
 

@@ -5,23 +5,25 @@ use Rattle.bsched.specs.Messages.{Said, said}
 use Rattle.bsched.specs.declared.first.line.Answer.{Answer}
 use Rattle.bsched.specs.declared.first.line.Arrival.{Arrival}
 
+-- An arrival with its answer.
 pub record Answered : Type 0 where
   pub arrival : Arrival
   pub answer : Answer
 
+-- What was heard and answered, the newest first.
 abbrev pub Past : Type 0
 Past = List Answered
 
--- the past, and then this arrival with this answer
+-- The past, and then this arrival with this answer.
 abbrev pub then_heard : Past → Arrival → Answer → Past
 then_heard past arrival answer = record { arrival = arrival; answer = answer } ∷ past
 
--- the past, and then these arrivals with these answers, as far as both go
+-- The past, and then these arrivals with these answers, as far as both go.
 abbrev pub followed : Past → List Arrival → List Answer → Past
 followed past [] answers = past
 followed past (arrival ∷ arrivals) [] = past
 followed past (arrival ∷ arrivals) (answer ∷ answers) = followed (then_heard past arrival answer) arrivals answers
 
--- what was said, without the moments and the answers
+-- What was said, without the moments and the answers.
 abbrev pub said_in : Past → List Said
 said_in past = map (λ (h : Answered). said h.arrival.line) past

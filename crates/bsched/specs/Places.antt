@@ -6,6 +6,7 @@ abbrev pub place_where : {X : Type 0} → (X → Bool) → List X → Option ℕ
 place_where test [] = None
 place_where test (x ∷ xs) = if test x then Some 1 else option_map (λ place. place + 1) (place_where test xs)
 
+-- Whether the place was found, and is this number.
 abbrev pub is_place : ℕ → Option ℕ → Bool
 is_place number None = false
 is_place number (Some place) = number == place

@@ -1,4 +1,4 @@
--- Answers and their bodies.
+-- Answers and their bodies. (The members of a reply are named as in BOINC's scheduler_reply; the rest is this profile's.)
 use Rattle.std.specs.Prelude.{ℕ, ◌==◌, if◌then◌else◌, List, [], map, codes, unwrap_or}
 use Rattle.serde_json.specs.Data.{Data, string, object, member, no_members}
 use Rattle.serde_json.specs.Written.{compact_text}
@@ -14,9 +14,11 @@ use Rattle.bsched.specs.Names.{distinct}
 use Rattle.bsched.specs.declared.first.line.Answer.{Answer}
 use Rattle.bsched.specs.declared.first.line.Limits.{Limits}
 
+-- A good answer with this body.
 abbrev pub good : List ℕ → Answer
 good body = record { status = 200; body = body }
 
+-- The answer that tells a refusal.
 abbrev pub refusal : Fault → Answer
 refusal fault = record { status = status_of fault; body = fault_text_of fault }
 
@@ -28,6 +30,7 @@ imported_json name = object (
     member (codes "rows") (whole 1)
     no_members)))
 
+-- Its text.
 unfoldable pub imported_text : List ℕ → List ℕ
 imported_text name = compact_text (imported_json name)
 
@@ -35,7 +38,8 @@ imported_text name = compact_text (imported_json name)
 abbrev pub end_word : ℕ → EndWord
 end_word asked = if asked == 0 then Enough else NoEligibleWork
 
--- The reply to a first-heard call where there is no work: every report is acknowledged, and every result that the host has is aborted.
+-- The reply to a first-heard call where there is no work: every report is acknowledged,
+-- and every result that the host says it has is to be aborted, each name once.
 abbrev pub reply_of : Limits → ℕ → Request → Reply
 reply_of limits number request =
     record {

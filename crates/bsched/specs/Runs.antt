@@ -11,10 +11,12 @@ use Rattle.bsched.specs.declared.first.line.Limits.{Limits}
 abbrev pub caller_number : World → Request → ℕ
 caller_number world request = unwrap_or (host_number (key_of request) world.hosts) (length world.hosts + 1)
 
+-- The body of the reply to a first-heard call.
 abbrev pub reply_body : Limits → World → Request → List ℕ
 reply_body limits world request = reply_text_of (reply_of limits (caller_number world request) request)
 
--- From a world, a message may give this body and leave this world after it.
+-- One step: from a world, a message may give this body and leave this world after it. An account is added behind the others; a call
+-- renews its host or makes it. A refusal is no step.
 abbrev pub Step : Limits → World → Said → List ℕ → World → Type 0
 Step limits world (Account name) body after = (body ≡ imported_text name) × (after ≡ record world { accounts = world.accounts ++ name ∷ [] })
 Step limits world (Call request) body after =
@@ -27,9 +29,11 @@ pub record Turn : Type 0 where
   pub body : List ℕ
   pub after : World
 
+-- The world after these turns.
 abbrev pub world_of : List Turn → World
 world_of [] = empty_world
 world_of (turn ∷ older) = turn.after
 
+-- The messages of these turns.
 abbrev pub said_of : List Turn → List Said
 said_of turns = map (λ (turn : Turn). turn.said) turns

@@ -13,16 +13,19 @@ use Rattle.bsched.specs.declared.first.line.Arrival.{Arrival}
 use Rattle.bsched.specs.declared.first.line.Limits.{Limits}
 use Rattle.bsched.specs.declared.first.service.Service.{Service}
 
--- What stands in a service: its limits, the accounts and hosts, and the kept call of each key.
+-- The limits of a service.
 abbrev pub limits_of : Service → Limits
 limits_of service = service.limits
 
+-- The accounts and hosts that stand in it.
 abbrev pub world_in : Service → World
 world_in service = record { accounts = service.accounts; hosts = service.hosts }
 
+-- The call of a key that is kept in it.
 abbrev pub kept_in : Service → Key → Option Kept
 kept_in service key = map.get service.register key
 
+-- What it tells without a step.
 abbrev pub told_by : Service → Said → Option Answer
 told_by service message = told (limits_of service) (world_in service) (kept_in service) message
 
@@ -41,6 +44,7 @@ ServesAs None old (Call request) answer new =
     })
 ServesAs None old (Refused fault) answer new = ⊥
 
+-- The one case that holds.
 abbrev pub Serves : Service → Said → Answer → Service → Type 0
 Serves old message answer new = ServesAs (told_by old message) old message answer new
 

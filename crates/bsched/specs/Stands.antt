@@ -33,6 +33,7 @@ pub record StandsBy (service : Service) (past : Past) (turns : List Turn) : Type
   pub world : world_in service ≡ world_of turns
   pub kept : (key : Key) → kept_in service key ≡ kept_of turns key
 
+-- Some run answers the past and leaves what stands.
 abbrev pub Stands : Service → Past → Type 0
 Stands service past = (turns : List Turn) × StandsBy service past turns
 

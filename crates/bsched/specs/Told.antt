@@ -9,7 +9,7 @@ use Rattle.reply_register.specs.declared.key.Key.{Key}
 use Rattle.rpc_records.specs.Spelling.{canonical_text}
 use Rattle.rpc_records.specs.declared.fault.Fault.TheVariants as fault
 use Rattle.rpc_records.specs.declared.request.Request.{Request}
-use Rattle.bsched.specs.FirstHeard.{max_accounts, names_host}
+use Rattle.bsched.specs.FirstHeard.{has_account_room, has_host_room, names_host}
 use Rattle.bsched.specs.Messages.{Said, Account, Call, Refused, key_of}
 use Rattle.bsched.specs.Names.{has_name}
 use Rattle.bsched.specs.Replies.{good, refusal, imported_text}
@@ -22,6 +22,7 @@ use Rattle.bsched.specs.declared.first.line.Limits.{Limits}
 abbrev pub kept_call : Request → List ℕ → Kept
 kept_call request reply = record { seqno = request.rpc_seqno; text = canonical_text request; reply = reply }
 
+-- What is kept of a key after a message with this body.
 abbrev pub kept_after : Key → Said → List ℕ → Option Kept → Option Kept
 kept_after key (Account name) body older = older
 kept_after key (Call request) body older = if same_key key (key_of request) then Some (kept_call request body) else older
@@ -43,6 +44,7 @@ told_heard room reply call.Repeat = Some (good reply)
 told_heard room reply (call.Reused last) = Some (refusal (fault.Reused last))
 told_heard room reply (call.Stale last) = Some (refusal (fault.Stale last))
 
+-- A call of this number and canonical text beside the kept call of its key.
 abbrev pub told_beside : Bool → Option Kept → ℕ → List ℕ → Option Answer
 told_beside room None seqno text = told_fresh room
 told_beside room (Some kept) seqno text = told_heard room kept.reply (heard (Some kept) seqno text)
@@ -51,7 +53,7 @@ told_beside room (Some kept) seqno text = told_heard room kept.reply (heard (Som
 abbrev pub told_call : Limits → World → Option Kept → Request → Option Answer
 told_call limits world kept request =
     let number = host_number (key_of request) world.hosts in
-    let room = is_some number || nat_lt (length world.hosts) limits.max_hosts in
+    let room = has_host_room limits number (length world.hosts) in
     if has_name request.authenticator world.accounts
     then (if names_host request.hostid number
     then told_beside room kept request.rpc_seqno (canonical_text request)
@@ -62,7 +64,7 @@ told_call limits world kept request =
 abbrev pub told_account : World → List ℕ → Option Answer
 told_account world name =
     if has_name name world.accounts then Some (good (imported_text name))
-    else (if nat_lt (length world.accounts) max_accounts then None else Some (refusal fault.TableFull))
+    else (if has_account_room (length world.accounts) then None else Some (refusal fault.TableFull))
 
 -- The answer to a message that is not first heard, from the world and the kept calls; none to one that is.
 abbrev pub told : Limits → World → (Key → Option Kept) → Said → Option Answer

@@ -1,6 +1,5 @@
--- The world: the accounts and the hosts, each by its place.
-use Rattle.std.specs.Prelude.{ℕ, ◌-◌, if◌then◌else◌, List, [], ◌∷◌, ◌++◌, slice_get, slice_set, Option, Some, None}
-use Rattle.std.specs.Option.{option_map_or}
+-- The world: the accounts and the hosts, each by its place. (BOINC's tables user and host, as far as they go with no work.)
+use Rattle.std.specs.Prelude.{ℕ, if◌then◌else◌, List, [], ◌∷◌, Option}
 use Rattle.reply_register.specs.Keys.{same_key}
 use Rattle.reply_register.specs.declared.key.Key.{Key}
 use Rattle.rpc_records.specs.declared.request.Request.{Request}
@@ -8,10 +7,12 @@ use Rattle.bsched.specs.Messages.{key_of}
 use Rattle.bsched.specs.Places.{place_where}
 use Rattle.bsched.specs.declared.first.hosts.Host.{Host}
 
+-- The accounts and the hosts that stand.
 pub record World : Type 0 where
   pub accounts : List (List ℕ)
   pub hosts : List Host
 
+-- Nothing stands.
 abbrev pub empty_world : World
 empty_world = record { accounts = []; hosts = [] }
 
@@ -19,7 +20,7 @@ empty_world = record { accounts = []; hosts = [] }
 abbrev pub host_number : Key → List Host → Option ℕ
 host_number key hosts = place_where (λ (host : Host). same_key key host.key) hosts
 
--- the host that calls, with the facts and platforms that it tells
+-- The host that calls, with the facts and platforms that it tells and this quota.
 abbrev pub host_told : Request → ℕ → Host
 host_told request quota =
     record {
@@ -36,13 +37,3 @@ abbrev pub with_caller : Request → ℕ → List Host → List Host
 with_caller request quota [] = host_told request quota ∷ []
 with_caller request quota (host ∷ hosts) =
     if same_key (key_of request) host.key then host_told request host.quota ∷ hosts else host ∷ with_caller request quota hosts
-
--- The quota of the host of this number, and of one without a number this one.
-abbrev pub quota_at : Option ℕ → ℕ → List Host → ℕ
-quota_at None quota hosts = quota
-quota_at (Some number) quota hosts = option_map_or (λ (host : Host). host.quota) (slice_get hosts (number - 1)) quota
-
--- The hosts with this one at its number, or without a number behind the others.
-abbrev pub with_host : Option ℕ → Host → List Host → List Host
-with_host None host hosts = hosts ++ host ∷ []
-with_host (Some number) host hosts = slice_set hosts (number - 1) host

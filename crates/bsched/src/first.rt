@@ -3,13 +3,16 @@
 //! Each call of a host is acted on once, whatever is lost, repeated or comes late: what stands is one run of a
 //! machine that hears each call once.
 
-pub mod answers;
-pub mod hosts;
+mod answers;
+mod checks;
+mod hosts;
 pub mod laws;
-pub mod line;
-pub mod replies;
-pub mod service;
+mod line;
+mod replies;
+mod service;
+#[cfg(test)]
+mod tests;
 
-pub use hosts::{Host, Hosts};
+pub use hosts::Host;
 pub use line::{Answer, Arrival, Limits, Line};
 pub use service::Service;

@@ -25,7 +25,7 @@ pub enum Member {
 
 impl Member {
     /// Its name in its object: four of them stand in host_info.
-    pub fn key(self) -> &'static str
+    pub(crate) fn key(self) -> &'static str
         ensures { result.now ≡ key_of self }
     {
         match self {
@@ -46,7 +46,7 @@ impl Member {
     }
 
     /// Its name in a refusal, as `host_info.host_cpid`.
-    pub fn path(self) -> &'static str
+    pub(crate) fn path(self) -> &'static str
         ensures { result.now ≡ path_of self }
     {
         match self {

@@ -20,7 +20,7 @@ pub enum EndWord {
 
 impl EndWord {
     /// As a reply tells it.
-    pub fn word(self) -> &'static str
+    pub(crate) fn word(self) -> &'static str
         ensures { result.now ≡ end_word_of self }
     {
         match self {

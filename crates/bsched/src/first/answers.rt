@@ -1,7 +1,6 @@
-ghost use Rattle.std.specs.Prelude.{◌≡◌, IfOk};
+ghost use Rattle.std.specs.Prelude.{◌≡◌, None, IsTrue, IfOk};
 ghost use Rattle.std.specs.Option.{option_copied};
 ghost use Rattle.serde_json.specs.View.{view};
-ghost use Rattle.bsched.specs.FirstHeard.{names_host};
 ghost use Rattle.bsched.specs.Replies.{good, refusal, imported_json, imported_text};
 ghost use Rattle.bsched.specs.Told.{told_fresh, told_beside};
 
@@ -44,22 +43,10 @@ pub fn imported(alloc: Global, name: &Text) -> Result<Text, Memory>
     Ok(Text::of(value.to_string(alloc)?))
 }
 
-/// Whether a call tells no host number, or that of its key.
-pub fn names_host(hostid: u32, number: Option<u32>) -> bool
-    ensures { result ≡ names_host hostid number }
-{
-    if hostid == 0 {
-        return true;
-    }
-    match number {
-        None => false,
-        Some(number) => hostid == number,
-    }
-}
-
 /// What a fresh call is told without a step: nothing where there is room for its host.
 pub fn told_fresh(alloc: Global, room: bool) -> Result<Option<Answer>, Memory>
-    ensures { IfOk result (λ told. told ≡ told_fresh room) }
+    ensures told { IfOk result (λ told. told ≡ told_fresh room) }
+    ensures room { IfOk result (λ told. told ≡ None → IsTrue room) }
 {
     if room {
         return Ok(None);
@@ -75,7 +62,9 @@ pub fn told_beside(
     seqno: u32,
     text: &str,
 ) -> Result<Option<Answer>, Memory>
-    ensures { IfOk result (λ told. told ≡ told_beside room (option_copied kept.entry) seqno text.now) }
+    ensures told { IfOk result (λ told.
+        told ≡ told_beside room (option_copied kept.entry) seqno text.now) }
+    ensures room { IfOk result (λ told. told ≡ None → IsTrue room) }
 {
     let Some(kept) = kept else {
         return told_fresh(alloc, room);

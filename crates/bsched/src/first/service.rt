@@ -7,11 +7,12 @@ ghost use Rattle.bsched.specs.Names.{has_name};
 ghost use Rattle.bsched.specs.Pasts.{Past, then_heard, followed};
 ghost use Rattle.bsched.specs.Serves.{limits_of, world_in, kept_in, told_by, ServesAs, Serves, ServesAll};
 ghost use Rattle.bsched.specs.Stands.{Stands};
-ghost use Rattle.bsched.specs.Told.{told_call};
-ghost use Rattle.bsched.specs.World.{host_number, with_host, quota_at};
+ghost use Rattle.bsched.specs.World.{host_number};
+ghost use Rattle.bsched.specs.HostRows.{quota_at, with_host};
 ghost use Rattle.bsched.specs.declared.first.line.Answer.{Answer};
 
-use crate::first::answers::{good, imported, names_host, refusal, told_beside};
+use crate::first::answers::{good, imported, refusal, told_beside};
+use crate::first::checks::{has_account_room, has_host_room, is_too_long, names_host};
 use crate::first::hosts::{Host, Hosts, caller, told_host};
 use crate::first::line::{Answer, Arrival, Limits, Line};
 use crate::first::replies::{has_name, reply};
@@ -19,12 +20,6 @@ use reply_register::{Kept, Key, Register};
 use rpc_records::{Fault, Request, decode_request, reply_text, request_text};
 use std::alloc::{AllocError, Global};
 use texts::{Listed, Memory, Text};
-
-/// The longest body of a scheduler_request, in bytes.
-const MAX_BODY: usize = 262_144;
-
-/// How many accounts there may be.
-const MAX_ACCOUNTS: usize = 10_000;
 
 /// The accounts, the hosts and the kept calls of a project with no work yet.
 #[derive(Drop)]
@@ -58,9 +53,9 @@ impl Service {
             → Stands self.new (followed past arrivals.now answers.items)) }
 
         // Some of the arrivals, from the first on, were heard, and the others were not.
-        ensures some { OnErr result ((heard : ℕ) × (answers : List Answer)
+        ensures prefix { OnErr result ((heard : ℕ) × (answers : List Answer)
             × ServesAll self.old (take heard arrivals.now) answers self.new) }
-        ensures some_stand { OnErr result ((past : Past) → Stands self.old past
+        ensures prefix_stands { OnErr result ((past : Past) → Stands self.old past
             → (answers : List Answer) × Stands self.new (followed past arrivals.now answers)) }
     {
         let mut answers = Listed::new(self.alloc);
@@ -83,8 +78,7 @@ impl Service {
         ensures stands { IfOk result (λ answer. (past : Past) → Stands self.old past
             → Stands self.new (then_heard past (record { now = now; line = line.now }) answer)) }
     {
-        let answer = self.serve(line)?;
-        Ok(answer)
+        self.serve(line)
     }
 
     fn serve(&mut self, line: &Line) -> Result<Answer, Memory>
@@ -106,7 +100,7 @@ impl Service {
         if has_name(name, self.accounts.as_slice()) {
             return Ok(good(body));
         }
-        if self.accounts.len() >= MAX_ACCOUNTS {
+        if !has_account_room(self.accounts.len()) {
             return refusal(self.alloc, Fault::TableFull);
         }
         self.accounts.push(name.clone()?)?;
@@ -118,7 +112,7 @@ impl Service {
         ensures exact { IfOk result (λ answer. Serves self.old (said_body body.now) answer self.new) }
         ensures err { OnErr result (self.new ≡ self.old) }
     {
-        if body.len() > MAX_BODY {
+        if is_too_long(body) {
             return refusal(self.alloc, Fault::TooLarge);
         }
         match decode_request(self.alloc, body) {
@@ -156,7 +150,7 @@ impl Service {
         if !names_host(request.hostid, number) {
             return Ok(Some(refusal(self.alloc, Fault::BadHost)?));
         }
-        let room = number.is_some() || self.hosts.len() < self.limits.max_hosts;
+        let room = has_host_room(&self.limits, number, self.hosts.len());
         told_beside(
             self.alloc,
             room,

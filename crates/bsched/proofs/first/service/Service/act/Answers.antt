@@ -6,7 +6,8 @@ use Rattle.bsched.specs.Messages.{key_of}
 use Rattle.bsched.specs.Replies.{good, reply_of}
 use Rattle.bsched.specs.Runs.{reply_body}
 use Rattle.bsched.specs.Serves.{limits_of, world_in}
-use Rattle.bsched.specs.World.{host_number, host_told, quota_at, with_host, with_caller}
+use Rattle.bsched.specs.HostRows.{quota_at, with_host}
+use Rattle.bsched.specs.World.{host_number, host_told, with_caller}
 use Rattle.bsched.proofs.PlaceLemmas.{with_host-caller}
 use Rattle.bsched.proofs.first.service.Service.act.Goals as goal
 

@@ -1,5 +1,7 @@
+use Rattle.std.proofs.lemmas.Result.{IfOk-weaker}
 use Rattle.bsched.proofs.Carried.{carried}
 use Rattle.bsched.proofs.first.service.Service.answer.Goals as goal
 
 pub returns-clause-stands : goal.returns-clause-stands
-returns-clause-stands c = carried _ _ (record { now = c.args.now; line = c.args.line.now }) _ c.in_ok-answer.ensures.exact
+returns-clause-stands c =
+    IfOk-weaker _ _ _ (λ answer. carried _ _ (record { now = c.args.now; line = c.args.line.now }) answer) c.serve.ensures.exact

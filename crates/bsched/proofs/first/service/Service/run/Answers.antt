@@ -20,8 +20,8 @@ returns-clause-stands c =
     let i = c.loop-arrival.arrival-index in
     rw c.into_vec.ensures (stands_some c.args.self.now c.args.arrivals.now i c.loop-arrival.answers c.loop-arrival.self c.loop-arrival.invariant)
 
-pub returns-in_err-answer-clause-some_stand : goal.returns-in_err-answer-clause-some_stand
-returns-in_err-answer-clause-some_stand c =
+pub returns-in_err-answer-clause-prefix_stands : goal.returns-in_err-answer-clause-prefix_stands
+returns-in_err-answer-clause-prefix_stands c =
     let i = c.loop-arrival.arrival-index in
     let error = err_from_is_err_and c.from_residual.result c.from_residual.ensures.1 in
     rw error.1 (λ past stands. (
@@ -31,8 +31,8 @@ returns-in_err-answer-clause-some_stand c =
     ))
 
 -- the last arrival acted, and there was no room for its answer
-pub returns-in_err-push-clause-some : goal.returns-in_err-push-clause-some
-returns-in_err-push-clause-some c =
+pub returns-in_err-push-clause-prefix : goal.returns-in_err-push-clause-prefix
+returns-in_err-push-clause-prefix c =
     let arrivals = c.args.arrivals.now in
     let i = c.loop-arrival.arrival-index in
     let error = err_from_is_err_and c.from_residual-in_err-push.result c.from_residual-in_err-push.ensures.1 in
@@ -43,8 +43,8 @@ returns-in_err-push-clause-some c =
           c.in_ok-answer.ensures.exact,
     )
 
-pub returns-in_err-push-clause-some_stand : goal.returns-in_err-push-clause-some_stand
-returns-in_err-push-clause-some_stand c =
+pub returns-in_err-push-clause-prefix_stands : goal.returns-in_err-push-clause-prefix_stands
+returns-in_err-push-clause-prefix_stands c =
     let old = c.args.self.now in
     let arrivals = c.args.arrivals.now in
     let i = c.loop-arrival.arrival-index in
