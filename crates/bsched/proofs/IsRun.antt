@@ -126,7 +126,7 @@ abbrev first_call : Limits → Request → List (List ℕ) → Option ℕ → Bo
 first_call limits request names number above count =
     has_name request.authenticator names && names_host request.hostid number && above && has_host_room limits number count
 
-call_rises : (limits : Limits) (request : Request) (older : List Said) → is_first_heard limits older (Call request) ≡ true
+pub call_rises : (limits : Limits) (request : Request) (older : List Said) → is_first_heard limits older (Call request) ≡ true
     → is_above (key_of request) request.rpc_seqno older ≡ true
 call_rises limits request older first =
     let number : Option ℕ = place_where (same_key (key_of request)) (keys_of older) in
@@ -189,27 +189,6 @@ call_told limits request world kept =
     let room : Bool = has_host_room limits number (length world.hosts) in
     call_cases (has_name request.authenticator world.accounts) (names_host request.hostid number) (above_kept kept request.rpc_seqno) room
     (told_beside room kept request.rpc_seqno (canonical_text request)) _ _ (beside_none room kept request.rpc_seqno (canonical_text request))
-
-is_fourth : (a b c d : Bool) → (a && b && c && d) ≡ true → d ≡ true
-is_fourth a b c true all = refl
-is_fourth true true true false all = all
-is_fourth true true false false all = all
-is_fourth true false c false all = all
-is_fourth false b c false all = all
-
-is_room : (number : Option ℕ) (room : Bool) → number ≡ None → (is_some number || room) ≡ true → room ≡ true
-is_room number room none either = rw none at either
-
--- a new host that is told nothing has room
-pub room_for_new : (limits : Limits) (world : World) (kept : Option Kept) (request : Request) → told_call limits world kept request ≡ None
-    → host_number (key_of request) world.hosts ≡ None → length world.hosts < limits.max_hosts
-room_for_new limits world kept request told none =
-    let number : Option ℕ = host_number (key_of request) world.hosts in
-    let room : nat_lt (length world.hosts) limits.max_hosts ≡ true =
-    is_room number _ none
-    (is_fourth (has_name request.authenticator world.accounts) (names_host request.hostid number) (above_kept kept request.rpc_seqno)
-    (has_host_room limits number (length world.hosts)) (call_told limits request world kept ∙ ap is_none told)) in
-    grind (arith, nat_tests)
 
 -- The whole law: a message is first heard after the messages of a run just where the run's world and kept calls tell it nothing.
 pub told_none : (limits : Limits) (turns : List Turn) → IsRun limits turns → (message : Said)

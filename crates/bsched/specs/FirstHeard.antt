@@ -1,6 +1,6 @@
 -- Which messages are first heard: from the messages and the limits alone, with no look at what stands. Lists of messages have the
 -- newest first. (What a repeated, an older or a wrong number means is this profile's.)
-use Rattle.std.specs.Prelude.{◌≡◌, ℕ, Bool, true, false, not, ◌&&◌, ◌||◌, ◌==◌, nat_lt, if◌then◌else◌, List, [], ◌∷◌, ◌++◌, length, Option, is_some}
+use Rattle.std.specs.Prelude.{◌≡◌, ◌<◌, ℕ, Bool, true, false, not, ◌&&◌, ◌||◌, ◌==◌, nat_lt, if◌then◌else◌, List, [], ◌∷◌, ◌++◌, length, Option, is_some}
 use Rattle.reply_register.specs.Keys.{same_key}
 use Rattle.reply_register.specs.declared.key.Key.{Key}
 use Rattle.rpc_records.specs.declared.request.Request.{Request}
@@ -77,3 +77,10 @@ abbrev pub FirstHeardBegins : Type 0
 FirstHeardBegins =
     (limits : Limits) (newer older : Past)
     → (later : List Said) × (first_heard limits (said_in (newer ++ older)) ≡ later ++ first_heard limits (said_in older))
+
+-- The numbers of a key's first-heard calls rise: no call is first heard twice, and none after a later one.
+abbrev pub NumbersRise : Type 0
+NumbersRise =
+    (limits : Limits) (past : Past) (newer between oldest : List Said) (later earlier : Request)
+    → first_heard limits (said_in past) ≡ newer ++ Call later ∷ (between ++ Call earlier ∷ oldest)
+    → same_key (key_of later) (key_of earlier) ≡ true → earlier.rpc_seqno < later.rpc_seqno

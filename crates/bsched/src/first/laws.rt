@@ -1,5 +1,5 @@
 //! Laws of the definitions, which do no work.
-ghost use Rattle.bsched.specs.FirstHeard.{FirstHeardBegins};
+ghost use Rattle.bsched.specs.FirstHeard.{FirstHeardBegins, NumbersRise};
 ghost use Rattle.bsched.specs.Stands.{RunsTheFirstHeard};
 
 /// The first-heard messages of a past begin with those of each shorter one.
@@ -11,3 +11,9 @@ pub fn first_heard_begins()
 pub fn runs_the_first_heard()
     ensures { RunsTheFirstHeard }
 {}
+
+/// The numbers of a key's first-heard calls rise: no call is first heard twice, and none after a later one.
+pub fn numbers_rise()
+    ensures { NumbersRise }
+{
+}
