@@ -66,4 +66,4 @@ numbers_rise limits past newer between oldest later earlier split same =
     let older : List Said = between ++ Call earlier ∷ oldest in
     is_less earlier.rpc_seqno later.rpc_seqno
     (above_each (key_of later) later.rpc_seqno between oldest earlier
-      (call_rises limits later older (heads_first limits (said_in past) newer (Call later) older split)) same)
+    (call_rises limits later older (heads_first limits (said_in past) newer (Call later) older split)) same)

@@ -6,12 +6,11 @@ use Rattle.serde_json.specs.Find.{get}
 use Rattle.rpc_records.specs.Members.{key_of}
 use Rattle.rpc_records.specs.Order.{in_order, is_faulty, is_wanting, is_spoiled, info_of, refusal_of}
 use Rattle.rpc_records.specs.Reading.{and_then, needed, defaulted, host_at, platforms_at, request_at, json_of, value_meaning, meaning}
-use Rattle.rpc_records.specs.Values.{text_in, object_in, list_in, read_or}
+use Rattle.rpc_records.specs.Values.{object_in, read_or}
 use Rattle.rpc_records.specs.declared.fault.Fault.{Fault}
 use Rattle.rpc_records.specs.declared.fault.Fault.TheVariants.{BadJson, BadMember}
 use Rattle.rpc_records.specs.declared.fault.Member.{Member}
 use Rattle.rpc_records.specs.declared.request.HostInfo.{HostInfo as Host}
-use Rattle.rpc_records.specs.declared.text_kind.TextKind.TheVariants.{Name}
 use Rattle.rpc_records.specs.declared.fault.Member.TheVariants.{Authenticator, Hostid, RpcSeqno, HostInfo, HostCpid, PFpops, MNbytes, DFree, PlatformName, AltPlatforms, WorkReqSeconds, OtherResults, Results}
 
 -- the refusal that tells a member, where there is one

@@ -6,12 +6,15 @@ use Rattle.rpc_records.specs.declared.request.HostInfo.{HostInfo}
 use Rattle.rpc_records.specs.declared.request.Report.{Report}
 use Rattle.rpc_records.specs.declared.request.Request.{Request}
 
+-- 1 to 64 bytes of ASCII letters, digits, `-`, `.` and `_`.
 abbrev pub IsWord : List ℕ → Type 0
 IsWord text = IsTrue (is_word text)
 
+-- 1 to 254 bytes.
 abbrev pub IsName : List ℕ → Type 0
 IsName text = IsTrue (is_name text)
 
+-- A host's name and its amounts: some operations a second, and bytes.
 pub record IsHostInfo (host : HostInfo) : Type 0 where
   pub host_cpid : IsWord host.host_cpid
   pub some_fpops : 1 ≤ host.p_fpops
@@ -19,6 +22,7 @@ pub record IsHostInfo (host : HostInfo) : Type 0 where
   pub m_nbytes : host.m_nbytes ≤ 10 ^ 18
   pub d_free : host.d_free ≤ 10 ^ 18
 
+-- A report's name, exit status of 32 bits, and output of at most 1,024 bytes.
 pub record IsReport (report : Report) : Type 0 where
   pub name : IsName report.name
   pub least_status : negsuc 2147483647 ≤ℤ report.exit_status
@@ -30,6 +34,7 @@ pub record AreListed (names : List (List ℕ)) : Type 0 where
   pub count : length names ≤ 1024
   pub each : All IsName names
 
+-- A request with its own platform and at most 7 others, and at most 256 reports.
 pub record IsInRange (request : Request) : Type 0 where
   pub authenticator : IsWord request.authenticator
   pub hostid : request.hostid ≤ 2147483647

@@ -1,10 +1,10 @@
 -- The texts of the answers to a scheduler call: compact JSON as serde_json writes it, the members of each object in byte order of
 -- their names. The names of a reply's members are those of BOINC's scheduler RPC protocol where it has them; the refusals are this profile's.
 use Rattle.std.specs.Prelude.{ℕ, List, [], ◌∷◌, codes}
-use Rattle.serde_json.specs.Data.{Data, string, boolean, object, Members, member, no_members, put}
+use Rattle.serde_json.specs.Data.{Data, string, boolean, object, Members, member, no_members}
 use Rattle.serde_json.specs.Written.{compact_text}
 use Rattle.rpc_records.specs.Members.{path_of}
-use Rattle.rpc_records.specs.Spelling.{whole, list_json}
+use Rattle.rpc_records.specs.Spelling.{whole, list_json, with_members}
 use Rattle.rpc_records.specs.declared.reply.EndWord.{EndWord}
 use Rattle.rpc_records.specs.declared.reply.EndWord.TheVariants.{Enough, ReplyLimit, InProgressLimit, DailyQuota, NoEligibleWork}
 use Rattle.rpc_records.specs.declared.reply.Job.{Job}
@@ -22,6 +22,7 @@ end_word_of InProgressLimit = codes "in_progress_limit"
 end_word_of DailyQuota = codes "daily_quota"
 end_word_of NoEligibleWork = codes "no_eligible_work"
 
+-- One job, to do or to do again.
 abbrev pub job_json : Job → Data
 job_json j = object (
     member (codes "app_name") (string j.app_name) (
@@ -34,6 +35,7 @@ job_json j = object (
     member (codes "wu_name") (string j.wu_name)
     no_members))))))))
 
+-- A reply as a value.
 unfoldable pub reply_json : Reply → Data
 reply_json r = object (
     member (codes "end_word") (string (end_word_of r.end_word)) (
@@ -48,11 +50,13 @@ reply_json r = object (
     member (codes "user_total_credit") (whole r.user_total_credit)
     no_members))))))))))
 
+-- The body of a reply.
 unfoldable pub reply_text_of : Reply → List ℕ
 reply_text_of r = compact_text (reply_json r)
 
 -- ---- refusals
 
+-- The number of a refusal.
 abbrev pub number_of : Fault → ℕ
 number_of BadHttp = 1
 number_of NoRoute = 2
@@ -75,6 +79,7 @@ number_of TableFull = 18
 number_of NoSuchHost = 19
 number_of Unavailable = 20
 
+-- Its name.
 abbrev pub name_of : Fault → List ℕ
 name_of BadHttp = codes "bad_http"
 name_of NoRoute = codes "no_route"
@@ -130,16 +135,13 @@ details_of (DuplicateName row) = (codes "row", whole row) ∷ []
 details_of (UnknownReference row) = (codes "row", whole row) ∷ []
 details_of _ = []
 
--- The members with these too, each at the place of its name.
-abbrev pub with_details : List (List ℕ × Data) → Members → Members
-with_details [] members = members
-with_details (d ∷ ds) members = with_details ds (put d.0 d.1 members)
-
+-- A refusal as a value: its name and number, and what else it tells.
 abbrev pub fault_json : Fault → Data
-fault_json f = object (with_details (details_of f) (
+fault_json f = object (with_members (details_of f) (
     member (codes "error") (string (name_of f)) (
     member (codes "number") (whole (number_of f))
     no_members)))
 
+-- The body that tells a refusal.
 unfoldable pub fault_text_of : Fault → List ℕ
 fault_text_of f = compact_text (fault_json f)

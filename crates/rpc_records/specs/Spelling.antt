@@ -1,8 +1,8 @@
 -- The canonical text of a request: compact JSON as serde_json writes it, every member with its default put in, but other_results only
 -- where the request has it, so that an absent list and an empty one are two texts. In each object the members stand in byte order of
 -- their names.
-use Rattle.std.specs.Prelude.{ℕ, List, [], drop, map, slice_index_or, codes, Option, Some, None}
-use Rattle.serde_json.specs.Data.{Data, string, number, unsigned, array, object, Members, member, no_members}
+use Rattle.std.specs.Prelude.{ℕ, List, [], ◌∷◌, drop, map, slice_index_or, codes, Option, Some, None}
+use Rattle.serde_json.specs.Data.{Data, string, number, unsigned, array, object, Members, member, no_members, put}
 use Rattle.serde_json.specs.Find.{of_integer}
 use Rattle.serde_json.specs.View.{items_of}
 use Rattle.serde_json.specs.Written.{compact_text}
@@ -18,6 +18,11 @@ whole n = number (unsigned n)
 abbrev pub list_json : {A : Type 0} → (A → Data) → List A → Data
 list_json each xs = array (items_of (map each xs))
 
+-- The members with these too, each at the place of its name.
+abbrev pub with_members : List (List ℕ × Data) → Members → Members
+with_members [] members = members
+with_members (m ∷ ms) members = with_members ms (put m.0 m.1 members)
+
 -- The host's own platform, empty where a request has none.
 abbrev pub own_platform : Request → List ℕ
 own_platform r = slice_index_or r.platforms 0 []
@@ -26,6 +31,7 @@ own_platform r = slice_index_or r.platforms 0 []
 abbrev pub alternatives : Request → List (List ℕ)
 alternatives r = drop 1 r.platforms
 
+-- What a host tells of itself.
 abbrev pub host_json : HostInfo → Data
 host_json h = object (
     member (codes "d_free") (whole h.d_free) (
@@ -34,6 +40,7 @@ host_json h = object (
     member (codes "p_fpops") (whole h.p_fpops)
     no_members))))
 
+-- One report.
 abbrev pub report_json : Report → Data
 report_json p = object (
     member (codes "exit_status") (number (of_integer p.exit_status)) (
@@ -46,6 +53,7 @@ abbrev pub with_other_results : Option (List (List ℕ)) → Members → Members
 with_other_results None rest = rest
 with_other_results (Some names) rest = member (codes "other_results") (list_json string names) rest
 
+-- A request as a value.
 unfoldable pub request_json : Request → Data
 request_json r = object (
     member (codes "alt_platforms") (list_json string (alternatives r)) (
@@ -59,5 +67,6 @@ request_json r = object (
     member (codes "work_req_seconds") (whole r.asked)
     no_members)))))))))
 
+-- The text by which two requests are told to be one.
 unfoldable pub canonical_text : Request → List ℕ
 canonical_text r = compact_text (request_json r)

@@ -1,10 +1,10 @@
 //! The texts of the answers to a scheduler call.
 
-ghost use Rattle.std.specs.Prelude.{◌≡◌, codes, IfOk, OnOk};
-ghost use Rattle.serde_json.specs.Data.{boolean, string, put as with_member};
+ghost use Rattle.std.specs.Prelude.{◌≡◌, [], ◌∷◌, codes, IfOk, OnOk};
+ghost use Rattle.serde_json.specs.Data.{boolean, string};
 ghost use Rattle.serde_json.specs.View.{view, members_view};
-ghost use Rattle.rpc_records.specs.Spelling.{whole, list_json};
-ghost use Rattle.rpc_records.specs.Replies.{end_word_of, job_json, reply_json, reply_text_of, details_of, with_details, fault_json, fault_text_of};
+ghost use Rattle.rpc_records.specs.Spelling.{whole, list_json, with_members};
+ghost use Rattle.rpc_records.specs.Replies.{end_word_of, job_json, reply_json, reply_text_of, details_of, fault_json, fault_text_of};
 
 use crate::fault::Fault;
 use crate::reply::{Job, Reply};
@@ -53,11 +53,12 @@ impl ToJson for Reply {
 /// Which call is answered, and how it ended.
 fn put_call(members: &mut Map<String, Value>, alloc: Global, reply: &Reply) -> Result<(), Memory>
     ensures { OnOk result (members_view members.new.entries
-        ≡ with_member (codes "rpc_seqno") (whole reply.now.rpc_seqno)
-        (with_member (codes "request_delay") (whole reply.now.request_delay)
-        (with_member (codes "hostid") (whole reply.now.hostid)
-        (with_member (codes "end_word") (string (end_word_of reply.now.end_word))
-        (members_view members.old.entries))))) }
+        ≡ with_members
+        ((codes "end_word", string (end_word_of reply.now.end_word))
+        ∷ (codes "hostid", whole reply.now.hostid)
+        ∷ (codes "request_delay", whole reply.now.request_delay)
+        ∷ (codes "rpc_seqno", whole reply.now.rpc_seqno) ∷ [])
+        (members_view members.old.entries)) }
 {
     put_str(members, alloc, "end_word", reply.end_word.word())?;
     put_whole(members, alloc, "hostid", u64::from(reply.hostid))?;
@@ -73,10 +74,11 @@ fn put_call(members: &mut Map<String, Value>, alloc: Global, reply: &Reply) -> R
 /// The credit of the host and of its user.
 fn put_credit(members: &mut Map<String, Value>, alloc: Global, reply: &Reply) -> Result<(), Memory>
     ensures { OnOk result (members_view members.new.entries
-        ≡ with_member (codes "user_total_credit") (whole reply.now.user_total_credit)
-        (with_member (codes "user_name") (string reply.now.user_name)
-        (with_member (codes "host_total_credit") (whole reply.now.host_total_credit)
-        (members_view members.old.entries)))) }
+        ≡ with_members
+        ((codes "host_total_credit", whole reply.now.host_total_credit)
+        ∷ (codes "user_name", string reply.now.user_name)
+        ∷ (codes "user_total_credit", whole reply.now.user_total_credit) ∷ [])
+        (members_view members.old.entries)) }
 {
     put_whole(members, alloc, "host_total_credit", reply.host_total_credit)?;
     put(members, alloc, "user_name", &reply.user_name)?;
@@ -86,10 +88,11 @@ fn put_credit(members: &mut Map<String, Value>, alloc: Global, reply: &Reply) ->
 /// The three lists of results.
 fn put_results(members: &mut Map<String, Value>, alloc: Global, reply: &Reply) -> Result<(), Memory>
     ensures { OnOk result (members_view members.new.entries
-        ≡ with_member (codes "results") (list_json job_json reply.now.results)
-        (with_member (codes "result_ack") (list_json string reply.now.result_ack)
-        (with_member (codes "result_abort") (list_json string reply.now.result_abort)
-        (members_view members.old.entries)))) }
+        ≡ with_members
+        ((codes "result_abort", list_json string reply.now.result_abort)
+        ∷ (codes "result_ack", list_json string reply.now.result_ack)
+        ∷ (codes "results", list_json job_json reply.now.results) ∷ [])
+        (members_view members.old.entries)) }
 {
     put(members, alloc, "result_abort", &reply.result_abort)?;
     put(members, alloc, "result_ack", &reply.result_ack)?;
@@ -110,11 +113,12 @@ impl ToJson for Job {
 /// What the job is an instance of, and what runs it.
 fn put_names(members: &mut Map<String, Value>, alloc: Global, job: &Job) -> Result<(), Memory>
     ensures { OnOk result (members_view members.new.entries
-        ≡ with_member (codes "wu_name") (string job.now.wu_name)
-        (with_member (codes "platform") (string job.now.platform)
-        (with_member (codes "name") (string job.now.name)
-        (with_member (codes "app_name") (string job.now.app_name)
-        (members_view members.old.entries))))) }
+        ≡ with_members
+        ((codes "app_name", string job.now.app_name)
+        ∷ (codes "name", string job.now.name)
+        ∷ (codes "platform", string job.now.platform)
+        ∷ (codes "wu_name", string job.now.wu_name) ∷ [])
+        (members_view members.old.entries)) }
 {
     put(members, alloc, "app_name", &job.app_name)?;
     put(members, alloc, "name", &job.name)?;
@@ -125,11 +129,12 @@ fn put_names(members: &mut Map<String, Value>, alloc: Global, job: &Job) -> Resu
 /// How long it takes, until when, and whether it was sent before.
 fn put_terms(members: &mut Map<String, Value>, alloc: Global, job: &Job) -> Result<(), Memory>
     ensures { OnOk result (members_view members.new.entries
-        ≡ with_member (codes "version_num") (whole job.now.version_num)
-        (with_member (codes "resent") (boolean job.now.resent)
-        (with_member (codes "report_deadline") (whole job.now.report_deadline)
-        (with_member (codes "estimate") (whole job.now.estimate)
-        (members_view members.old.entries))))) }
+        ≡ with_members
+        ((codes "estimate", whole job.now.estimate)
+        ∷ (codes "report_deadline", whole job.now.report_deadline)
+        ∷ (codes "resent", boolean job.now.resent)
+        ∷ (codes "version_num", whole job.now.version_num) ∷ [])
+        (members_view members.old.entries)) }
 {
     put_whole(members, alloc, "estimate", job.estimate)?;
     put_whole(members, alloc, "report_deadline", job.report_deadline)?;
@@ -152,7 +157,7 @@ impl ToJson for Fault {
 /// What a refusal tells beside its name and its number.
 fn put_details(members: &mut Map<String, Value>, alloc: Global, fault: Fault) -> Result<(), Memory>
     ensures { OnOk result (members_view members.new.entries
-        ≡ with_details (details_of fault) (members_view members.old.entries)) }
+        ≡ with_members (details_of fault) (members_view members.old.entries)) }
 {
     match fault {
         Fault::BadMember(member) => put_str(members, alloc, "member", member.path()),

@@ -1,11 +1,11 @@
 //! The canonical text of a request.
 
-ghost use Rattle.std.specs.Prelude.{◌≡◌, [], codes, drop, slice_index_or, IfOk, OnOk, MatchOption};
+ghost use Rattle.std.specs.Prelude.{◌≡◌, [], ◌∷◌, codes, drop, slice_index_or, IfOk, OnOk, MatchOption};
 ghost use Rattle.serde_json.specs.Data.{string, put as with_member};
 ghost use Rattle.serde_json.specs.View.{view, members_view};
 ghost use Rattle.rpc_records.specs.Ranges.{IsInRange};
 ghost use Rattle.rpc_records.specs.Reading.{meaning};
-ghost use Rattle.rpc_records.specs.Spelling.{whole, list_json, own_platform, alternatives, host_json, report_json, request_json, canonical_text};
+ghost use Rattle.rpc_records.specs.Spelling.{whole, list_json, with_members, own_platform, alternatives, host_json, report_json, request_json, canonical_text};
 
 use crate::request::{HostInfo, Report, Request};
 use crate::to_json::{ToJson, list_value, put, put_str, put_whole};
@@ -42,11 +42,12 @@ fn put_caller(
     request: &Request,
 ) -> Result<(), Memory>
     ensures { OnOk result (members_view members.new.entries
-        ≡ with_member (codes "rpc_seqno") (whole request.now.rpc_seqno)
-        (with_member (codes "hostid") (whole request.now.hostid)
-        (with_member (codes "host_info") (host_json request.now.host)
-        (with_member (codes "authenticator") (string request.now.authenticator)
-        (members_view members.old.entries))))) }
+        ≡ with_members
+        ((codes "authenticator", string request.now.authenticator)
+        ∷ (codes "host_info", host_json request.now.host)
+        ∷ (codes "hostid", whole request.now.hostid)
+        ∷ (codes "rpc_seqno", whole request.now.rpc_seqno) ∷ [])
+        (members_view members.old.entries)) }
 {
     put(members, alloc, "authenticator", &request.authenticator)?;
     put(members, alloc, "host_info", &request.host)?;
@@ -61,11 +62,12 @@ fn put_work(
     request: &Request,
 ) -> Result<(), Memory>
     ensures { OnOk result (members_view members.new.entries
-        ≡ with_member (codes "work_req_seconds") (whole request.now.asked)
-        (with_member (codes "results") (list_json report_json request.now.results)
-        (with_member (codes "platform_name") (string (own_platform request.now))
-        (with_member (codes "alt_platforms") (list_json string (alternatives request.now))
-        (members_view members.old.entries))))) }
+        ≡ with_members
+        ((codes "alt_platforms", list_json string (alternatives request.now))
+        ∷ (codes "platform_name", string (own_platform request.now))
+        ∷ (codes "results", list_json report_json request.now.results)
+        ∷ (codes "work_req_seconds", whole request.now.asked) ∷ [])
+        (members_view members.old.entries)) }
 {
     put_platforms(members, alloc, request.platforms.as_slice())?;
     put(members, alloc, "results", &request.results)?;
@@ -79,9 +81,10 @@ fn put_platforms(
     platforms: &[Text],
 ) -> Result<(), Memory>
     ensures { OnOk result (members_view members.new.entries
-        ≡ with_member (codes "platform_name") (string (slice_index_or platforms.now 0 []))
-        (with_member (codes "alt_platforms") (list_json string (drop 1 platforms.now))
-        (members_view members.old.entries))) }
+        ≡ with_members
+        ((codes "alt_platforms", list_json string (drop 1 platforms.now))
+        ∷ (codes "platform_name", string (slice_index_or platforms.now 0 [])) ∷ [])
+        (members_view members.old.entries)) }
 {
     let (own, alternatives) = match platforms {
         [] => ("", platforms),

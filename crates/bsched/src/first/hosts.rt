@@ -53,6 +53,13 @@ impl Hosts {
         }
     }
 
+    /// The hosts, in the order of their numbers.
+    pub fn as_slice(&self) -> &[Host]
+        ensures { result.now ≡ self.now }
+    {
+        self.rows.as_slice()
+    }
+
     /// How many there are.
     pub fn len(&self) -> u32
         ensures { result ≡ length self.now }

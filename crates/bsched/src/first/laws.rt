@@ -15,5 +15,4 @@ pub fn runs_the_first_heard()
 /// The numbers of a key's first-heard calls rise: no call is first heard twice, and none after a later one.
 pub fn numbers_rise()
     ensures { NumbersRise }
-{
-}
+{}

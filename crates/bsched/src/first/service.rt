@@ -46,6 +46,20 @@ impl Service {
         }
     }
 
+    /// The accounts, in the order in which they were added.
+    pub fn accounts(&self) -> &[Text]
+        ensures { result.now ≡ (world_in self.now).accounts }
+    {
+        self.accounts.as_slice()
+    }
+
+    /// The hosts, in the order of their numbers.
+    pub fn hosts(&self) -> &[Host]
+        ensures { result.now ≡ (world_in self.now).hosts }
+    {
+        self.hosts.as_slice()
+    }
+
     /// Answers each of these arrivals in turn. Where memory is wanting the arrivals before it have acted.
     pub fn run(&mut self, arrivals: &[Arrival]) -> Result<Vec<Answer>, Memory>
         ensures exact { IfOk result (λ answers. ServesAll self.old arrivals.now answers.items self.new) }

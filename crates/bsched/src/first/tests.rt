@@ -178,6 +178,23 @@ fn answers_as_the_plain_model(rt: HostRuntime) -> Result<(), Fail> {
         assert_eq!(rt; answer.status, status, "line {i}");
         assert!(rt; answer.body.is(body.as_str()), "line {i}");
     }
+    assert_eq!(rt; service.accounts().len(), 2);
+    assert_eq!(rt; service.hosts().len(), plain.hosts as usize);
+    for (host, latest) in plain.latest.iter().enumerate() {
+        let Some((number, _)) = *latest else {
+            continue;
+        };
+        let (authenticator, cpid) = key(host);
+        let found = service
+            .hosts()
+            .get(number.saturating_sub(1) as usize)
+            .ok_or("no such host")?;
+        assert!(rt;
+            found.key.authenticator.is(authenticator) && found.key.host_cpid.is(cpid),
+            "{host}"
+        );
+        assert_eq!(rt; found.quota, 4);
+    }
     Ok(())
 }
 
