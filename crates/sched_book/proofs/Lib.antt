@@ -1,0 +1,15 @@
+pub mod Reports
+pub mod SplitNames
+pub mod Credits
+pub mod PlaceLists
+pub mod Offering
+pub mod Changes
+pub mod PlacesOf
+pub mod Patching
+pub mod Examples
+pub mod LeastFront
+pub mod Settling
+pub mod Newest
+pub mod FirstOfEach
+pub mod Recording
+pub mod MadeNames

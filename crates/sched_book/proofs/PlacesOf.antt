@@ -1,0 +1,148 @@
+-- Places of a list that grows by one, or of which one element is changed.
+use Rattle.std.proofs.Common.{◌≡◌, ℕ, zero, suc, ◌+◌, ◌-◌, Bool, true, false, cond, eqb, List, [], ◌∷◌, ◌++◌, length, Option, Some, None, sym, refl, ap, ◌∙◌, arith}
+use Rattle.std.proofs.Math.Dec.{eqb-suc-zero, eqb-zero-suc, eqb-suc-suc}
+use Rattle.std.proofs.Math.Numerals.{add-one}
+use Rattle.std.proofs.lemmas.Iterator.Adapters.{position_from-zero}
+use Rattle.std.specs.Prelude.{find, option_map, option_and_then, slice_get}
+use Rattle.std.specs.Option.{option_or}
+use Rattle.std.specs.List.{position_from}
+use Rattle.sched_book.specs.Places.{nth, place_where}
+use Rattle.sched_book.specs.Reports.{changed_at, changed_nth}
+
+-- what stands at a place after zero
+pub nth-suc : {X : Type 0} (xs : List X) (i : ℕ) → nth xs (suc i) ≡ slice_get xs i
+nth-suc xs i =
+    ap (λ (b : Bool). cond b None (slice_get xs (suc i - 1))) (eqb-suc-zero i)
+    ∙ ap (slice_get xs) (let same : suc i - 1 ≡ i = omega arith in same)
+
+changed_nth-suc : {X : Type 0} (f : X → X) (xs : List X) (i : ℕ) → changed_nth f xs (suc i) ≡ changed_at f xs i
+changed_nth-suc f xs i =
+    ap (λ (b : Bool). cond b xs (changed_at f xs (suc i - 1))) (eqb-suc-zero i)
+    ∙ ap (changed_at f xs) (let same : suc i - 1 ≡ i = omega arith in same)
+
+-- one element more, behind the others
+slice_get-push : {X : Type 0} (xs : List X) (x : X) (i : ℕ) → slice_get (xs ++ x ∷ []) i ≡ cond (eqb (length xs) i) (Some x) (slice_get xs i)
+slice_get-push [] x zero = refl
+slice_get-push [] x (suc i) = sym (ap (λ (b : Bool). cond b (Some x) None) (eqb-zero-suc i))
+slice_get-push (y ∷ ys) x zero = sym (ap (λ (b : Bool). cond b (Some x) (Some y)) (eqb-suc-zero (length ys)))
+slice_get-push (y ∷ ys) x (suc i) =
+    slice_get-push ys x i ∙ sym (ap (λ (b : Bool). cond b (Some x) (slice_get ys i)) (eqb-suc-suc (length ys) i))
+
+pub nth-push : {X : Type 0} (xs : List X) (x : X) (n : ℕ) → nth (xs ++ x ∷ []) n ≡ cond (eqb (length xs + 1) n) (Some x) (nth xs n)
+nth-push xs x zero =
+    sym (ap (λ m. cond (eqb m zero) (Some x) None) (add-one (length xs)) ∙ ap (λ (b : Bool). cond b (Some x) None) (eqb-suc-zero (length xs)))
+nth-push xs x (suc i) =
+    nth-suc (xs ++ x ∷ []) i
+    ∙ slice_get-push xs x i
+    ∙ ap (λ o. cond (eqb (length xs) i) (Some x) o) (sym (nth-suc xs i))
+    ∙ sym (ap (λ m. cond (eqb m (suc i)) (Some x) (nth xs (suc i))) (add-one (length xs))
+    ∙ ap (λ (b : Bool). cond b (Some x) (nth xs (suc i))) (eqb-suc-suc (length xs) i))
+
+-- one element changed
+length-changed_at : {X : Type 0} (f : X → X) (xs : List X) (i : ℕ) → length (changed_at f xs i) ≡ length xs
+length-changed_at f [] i = refl
+length-changed_at f (x ∷ xs) zero = refl
+length-changed_at f (x ∷ xs) (suc i) = ap suc (length-changed_at f xs i)
+
+pub length-changed_nth : {X : Type 0} (f : X → X) (xs : List X) (n : ℕ) → length (changed_nth f xs n) ≡ length xs
+length-changed_nth f xs zero = refl
+length-changed_nth f xs (suc i) = ap length (changed_nth-suc f xs i) ∙ length-changed_at f xs i
+
+pub same_none : {X : Type 0} (b : Bool) (o : Option X) → o ≡ cond b o o
+same_none true o = refl
+same_none false o = refl
+
+pub slice_get-changed_at : {X : Type 0} (f : X → X) (xs : List X) (i j : ℕ)
+    → slice_get (changed_at f xs i) j ≡ cond (eqb i j) (option_map f (slice_get xs j)) (slice_get xs j)
+slice_get-changed_at f [] i j = same_none (eqb i j) None
+slice_get-changed_at f (x ∷ xs) zero zero = refl
+slice_get-changed_at f (x ∷ xs) zero (suc j) =
+    sym (ap (λ (b : Bool). cond b (option_map f (slice_get xs j)) (slice_get xs j)) (eqb-zero-suc j))
+slice_get-changed_at f (x ∷ xs) (suc i) zero = sym (ap (λ (b : Bool). cond b (Some (f x)) (Some x)) (eqb-suc-zero i))
+slice_get-changed_at f (x ∷ xs) (suc i) (suc j) =
+    slice_get-changed_at f xs i j
+    ∙ sym (ap (λ (b : Bool). cond b (option_map f (slice_get xs j)) (slice_get xs j)) (eqb-suc-suc i j))
+
+pub nth-changed_nth : {X : Type 0} (f : X → X) (xs : List X) (n m : ℕ)
+    → nth (changed_nth f xs n) m ≡ cond (eqb n m) (option_map f (nth xs m)) (nth xs m)
+nth-changed_nth f xs zero zero = refl
+nth-changed_nth f xs zero (suc j) = sym (ap (λ (b : Bool). cond b (option_map f (nth xs (suc j))) (nth xs (suc j))) (eqb-zero-suc j))
+nth-changed_nth f xs (suc i) zero = sym (ap (λ (b : Bool). cond b None None) (eqb-suc-zero i))
+nth-changed_nth f xs (suc i) (suc j) =
+    ap (λ ys. nth ys (suc j)) (changed_nth-suc f xs i)
+    ∙ nth-suc (changed_at f xs i) j
+    ∙ slice_get-changed_at f xs i j
+    ∙ ap (λ o. cond (eqb i j) (option_map f o) o) (sym (nth-suc xs j))
+    ∙ sym (ap (λ (b : Bool). cond b (option_map f (nth xs (suc j))) (nth xs (suc j))) (eqb-suc-suc i j))
+
+-- the first place that passes, by recursion
+shift : {X : Type 0} (p : X → Bool) (n : ℕ) (xs : List X) → position_from p (n + 1) xs ≡ option_map (λ i. i + 1) (position_from p n xs)
+shift p n [] = refl
+shift p n (x ∷ xs) = cases (p x) _ _ (shift p (n + 1) xs)
+  where
+    cases : (b : Bool) (o next : Option ℕ) → o ≡ option_map (λ i. i + 1) next
+        → cond b (Some (n + 1)) o ≡ option_map (λ i. i + 1) (cond b (Some n) next)
+    cases true o next same = refl
+    cases false o next same = same
+
+pub place_where-is : {X : Type 0} (p : X → Bool) (xs : List X) → place_where p xs ≡ position_from p 1 xs
+place_where-is p xs = ap (option_map (λ i. i + 1)) (position_from-zero p xs) ∙ sym (shift p 0 xs)
+
+position_from-push : {X : Type 0} (p : X → Bool) (n : ℕ) (xs : List X) (x : X)
+    → position_from p n (xs ++ x ∷ []) ≡ option_or (position_from p n xs) (cond (p x) (Some (length xs + n)) None)
+position_from-push p n [] x = ap (λ m. cond (p x) (Some m) None) (let same : n ≡ 0 + n = omega arith in same)
+position_from-push p n (y ∷ ys) x =
+    cases (p y) _ _ _ (position_from-push p (n + 1) ys x
+    ∙ ap (λ m. option_or (position_from p (n + 1) ys) (cond (p x) (Some m) None))
+    (let same : length ys + (n + 1) ≡ suc (length ys) + n = omega arith in same))
+  where
+    cases : (b : Bool) (o old last : Option ℕ) → o ≡ option_or old last → cond b (Some n) o ≡ option_or (cond b (Some n) old) last
+    cases true o old last same = refl
+    cases false o old last same = same
+
+pub place_where-push : {X : Type 0} (p : X → Bool) (xs : List X) (x : X)
+    → place_where p (xs ++ x ∷ []) ≡ option_or (place_where p xs) (cond (p x) (Some (length xs + 1)) None)
+place_where-push p xs x =
+    place_where-is p (xs ++ x ∷ [])
+    ∙ position_from-push p 1 xs x
+    ∙ ap (λ o. option_or o (cond (p x) (Some (length xs + 1)) None)) (sym (place_where-is p xs))
+
+-- a change that the test does not see
+position_from-changed_at : {X : Type 0} (p : X → Bool) (f : X → X) → ((x : X) → p (f x) ≡ p x) → (n : ℕ) (xs : List X) (i : ℕ)
+    → position_from p n (changed_at f xs i) ≡ position_from p n xs
+position_from-changed_at p f same n [] i = refl
+position_from-changed_at p f same n (x ∷ xs) zero = ap (λ (b : Bool). cond b (Some n) (position_from p (n + 1) xs)) (same x)
+position_from-changed_at p f same n (x ∷ xs) (suc i) = ap (λ o. cond (p x) (Some n) o) (position_from-changed_at p f same (n + 1) xs i)
+
+pub place_where-changed_nth : {X : Type 0} (p : X → Bool) (f : X → X) → ((x : X) → p (f x) ≡ p x) → (xs : List X) (n : ℕ)
+    → place_where p (changed_nth f xs n) ≡ place_where p xs
+place_where-changed_nth p f same xs zero = refl
+place_where-changed_nth p f same xs (suc i) =
+    ap (place_where p) (changed_nth-suc f xs i)
+    ∙ place_where-is p (changed_at f xs i)
+    ∙ position_from-changed_at p f same 1 xs i
+    ∙ sym (place_where-is p xs)
+
+-- the first that passes stands at the first place that passes
+find_at : {X : Type 0} (p : X → Bool) (xs : List X) → find p xs ≡ option_and_then (slice_get xs) (position_from p 0 xs)
+find_at {X} p [] = refl
+find_at {X} p (x ∷ xs) = cases (p x) (position_from p 0 xs) _ (find_at p xs) ∙ ap (λ o. option_and_then (slice_get (x ∷ xs)) (cond (p x) (Some 0) o)) (sym (shift p 0 xs))
+  where
+    later : (o : Option ℕ) → option_and_then (slice_get xs) o ≡ option_and_then (slice_get (x ∷ xs)) (option_map (λ i. i + 1) o)
+    later None = refl
+    later (Some i) = sym (ap (slice_get (x ∷ xs)) (add-one i))
+
+    cases : (b : Bool) (o : Option ℕ) (found : Option X) → found ≡ option_and_then (slice_get xs) o
+        → cond b (Some x) found ≡ option_and_then (slice_get (x ∷ xs)) (cond b (Some 0) (option_map (λ i. i + 1) o))
+    cases true o found is = refl
+    cases false o found is = is ∙ later o
+
+pub find-is : {X : Type 0} (p : X → Bool) (xs : List X) → find p xs ≡ option_and_then (nth xs) (place_where p xs)
+find-is p xs =
+    find_at p xs
+    ∙ at_places (position_from p 0 xs)
+    ∙ ap (λ o. option_and_then (nth xs) (option_map (λ i. i + 1) o)) (sym (position_from-zero p xs))
+  where
+    at_places : (o : Option ℕ) → option_and_then (slice_get xs) o ≡ option_and_then (nth xs) (option_map (λ i. i + 1) o)
+    at_places None = refl
+    at_places (Some i) = sym (ap (nth xs) (add-one i) ∙ nth-suc xs i)

@@ -1,0 +1,160 @@
+-- What is counted of a workunit from scratch: agreement, the canonical result, how many instances it needs,
+-- its status and the verdicts on its instances. The limits are those of BOINC's workunits; that they are
+-- counted exactly, from all reports at each time, is this profile's.
+-- The instances of a workunit are a list, and an instance's number is its index there.
+use Rattle.std.specs.Prelude.{ℕ, ◌+◌, ◌-◌, ◌/◌, max, Bool, true, false, not, ◌&&◌, ◌||◌, nat_lt, nat_le, if◌then◌else◌, List, [], ◌∷◌, ◌++◌, length, take, drop, fold, find, count_by, insert, Option, Some, None, option_and_then, is_some, is_none, unwrap_or, slice_get}
+use Rattle.std.specs.List.{prefix_len}
+use Rattle.std.specs.Str.{bytes_eq}
+use Rattle.sched_book.specs.WholeNumbers.{whole_number, are_within}
+use Rattle.sched_book.specs.declared.rows.Agreement.{Agreement}
+use Rattle.sched_book.specs.declared.rows.Agreement.TheVariants.{Exact, Within}
+use Rattle.sched_book.specs.declared.rows.Workunit.{Workunit}
+use Rattle.sched_book.specs.declared.instance.Instance.{Instance}
+use Rattle.sched_book.specs.declared.instance.Outcome.{Outcome}
+use Rattle.sched_book.specs.declared.instance.Status.{Status}
+use Rattle.sched_book.specs.declared.instance.Status.TheVariants.{Open, Done, FailedErrors, FailedSuccess, FailedTotal}
+use Rattle.sched_book.specs.declared.instance.Verdict.{Verdict}
+use Rattle.sched_book.specs.declared.instance.Verdict.TheVariants.{Valid, Invalid}
+
+-- two outputs agree
+abbrev pub agree : Agreement → List ℕ → List ℕ → Bool
+agree Exact x y = bytes_eq x y
+agree (Within n) x y = bytes_eq x y || are_within n (whole_number x) (whole_number y)
+
+-- the report was judged, and told of a success
+abbrev pub tells_success : Option Outcome → Bool
+tells_success None = false
+tells_success (Some r) = r.success && is_some r.place
+
+-- the report was judged, and told of a client error
+abbrev pub tells_error : Option Outcome → Bool
+tells_error None = false
+tells_error (Some r) = not r.success && is_some r.place
+
+abbrev pub is_judged : Instance → Bool
+is_judged x = tells_success x.report || tells_error x.report
+
+abbrev pub told_output : Option Outcome → List ℕ
+told_output None = []
+told_output (Some r) = r.output
+
+-- the place of a judged report, and 0 of any other
+abbrev pub told_place : Option Outcome → ℕ
+told_place None = 0
+told_place (Some r) = unwrap_or r.place 0
+
+-- a host has it: an owner, no report and no lapse
+abbrev pub is_held : Instance → Bool
+is_held x = is_some x.owner && is_none x.report && is_none x.lapse
+
+-- a result may yet come of it: not given to a host, or held by one
+abbrev pub is_live : Instance → Bool
+is_live x = is_none x.owner || is_held x
+
+abbrev pub report_of : List Instance → ℕ → Option Outcome
+report_of xs i = option_and_then (λ x. x.report) (slice_get xs i)
+
+abbrev pub output_of : List Instance → ℕ → List ℕ
+output_of xs i = told_output (report_of xs i)
+
+abbrev pub place_of : List Instance → ℕ → ℕ
+place_of xs i = told_place (report_of xs i)
+
+-- the numbers, from n on, of those that pass
+abbrev pub numbers_from : ℕ → (Instance → Bool) → List Instance → List ℕ
+numbers_from n p [] = []
+numbers_from n p (x ∷ xs) = if p x then n ∷ numbers_from (n + 1) p xs else numbers_from (n + 1) p xs
+
+-- i put behind the front whose keys are not greater
+abbrev pub put_by : (ℕ → ℕ) → List ℕ → ℕ → List ℕ
+put_by key is i = insert is (prefix_len (λ j. nat_le (key j) (key i)) is) i
+
+-- the good reports: the numbers of the judged successes, in the order of the places of their reports
+abbrev pub good : List Instance → List ℕ
+good xs = fold (put_by (place_of xs)) [] (numbers_from 0 (λ x. tells_success x.report) xs)
+
+abbrev pub errors : List Instance → ℕ
+errors xs = count_by (λ x. tells_error x.report) xs
+
+abbrev pub live : List Instance → ℕ
+live xs = count_by is_live xs
+
+-- how many of these reports agree with report i, itself counted
+abbrev pub votes : Agreement → List Instance → List ℕ → ℕ → ℕ
+votes a xs reports i = count_by (λ j. agree a (output_of xs i) (output_of xs j)) reports
+
+-- the first of these reports that has enough votes among them
+abbrev pub leader : Agreement → List Instance → ℕ → List ℕ → Option ℕ
+leader a xs enough reports = find (λ i. nat_le enough (votes a xs reports i)) reports
+
+-- the leader of the least front of the reports that has one, from this front on
+abbrev pub first_leader : Agreement → List Instance → ℕ → List ℕ → List ℕ → Option ℕ
+first_leader a xs enough front [] = leader a xs enough front
+first_leader a xs enough front (i ∷ rest) =
+    if is_some (leader a xs enough front)
+    then leader a xs enough front
+    else first_leader a xs enough (front ++ i ∷ []) rest
+
+-- more than half of a quorum
+abbrev pub majority : Workunit → ℕ
+majority u = u.min_quorum / 2 + 1
+
+-- The number of the canonical result: of the least front of the good reports that is no shorter than the quorum
+-- and in which some report agrees with a majority, the first such report.
+abbrev pub canonical : Agreement → Workunit → List Instance → Option ℕ
+canonical a u xs =
+    if nat_le u.min_quorum (length (good xs))
+    then first_leader a xs (majority u) (take u.min_quorum (good xs)) (drop u.min_quorum (good xs))
+    else None
+
+-- how many results the workunit wants by now, where that many are successes
+abbrev pub want : Workunit → ℕ → ℕ
+want u successes = max u.target_nresults (if nat_le u.min_quorum successes then successes + 1 else 0)
+
+-- how many more instances it needs
+abbrev pub need : Workunit → List Instance → ℕ
+need u xs = want u (length (good xs)) - live xs - length (good xs)
+
+abbrev pub status : Agreement → Workunit → List Instance → Status
+status a u xs =
+    if is_some (canonical a u xs) then Done
+    else (if nat_lt u.max_error_results (errors xs) then FailedErrors
+    else (if nat_lt u.max_success_results (length (good xs)) then FailedSuccess
+    else (if nat_lt u.max_total_results (length xs + need u xs) then FailedTotal
+    else Open)))
+
+abbrev pub is_open : Status → Bool
+is_open Open = true
+is_open Done = false
+is_open FailedErrors = false
+is_open FailedSuccess = false
+is_open FailedTotal = false
+
+abbrev pub has_failed : Status → Bool
+has_failed Open = false
+has_failed Done = false
+has_failed FailedErrors = true
+has_failed FailedSuccess = true
+has_failed FailedTotal = true
+
+-- the verdict on a judged success, by the number of the canonical result
+abbrev pub verdict_by : Agreement → List Instance → Option ℕ → Instance → Option Verdict
+verdict_by a xs None x = None
+verdict_by a xs (Some c) x =
+    if tells_success x.report
+    then Some (if agree a (told_output x.report) (output_of xs c) then Valid else Invalid)
+    else None
+
+-- none without a judged success, or while the workunit has no canonical result
+abbrev pub verdict : Agreement → Workunit → List Instance → Instance → Option Verdict
+verdict a u xs x = verdict_by a xs (canonical a u xs) x
+
+abbrev pub is_valid : Option Verdict → Bool
+is_valid None = false
+is_valid (Some Valid) = true
+is_valid (Some Invalid) = false
+
+abbrev pub is_invalid : Option Verdict → Bool
+is_invalid None = false
+is_invalid (Some Valid) = false
+is_invalid (Some Invalid) = true

@@ -1,0 +1,76 @@
+-- What holds of every world that a run reaches.
+use Rattle.std.specs.Prelude.{◌≡◌, ◌≢◌, ℕ, ◌+◌, ◌<◌, ◌≤◌, Bool, ◌&&◌, ◌==◌, IsTrue, List, length, count_by, All, AllPairs, is_some, None}
+use Rattle.std.specs.List.{list_any}
+use Rattle.sched_book.specs.Count.{is_open, need, is_judged, told_place}
+use Rattle.sched_book.specs.Places.{nth, book_status, account_in, owner_host}
+use Rattle.sched_book.specs.Limits.{AreSettingsInLimits, IsVersionInLimits, IsUnitInLimits, IsHostInLimits, IsInstanceInLimits}
+use Rattle.sched_book.specs.Imports.{has_app, same_version}
+use Rattle.sched_book.specs.declared.instance.Instance.{Instance}
+use Rattle.sched_book.specs.declared.instance.UnitBook.{UnitBook}
+use Rattle.sched_book.specs.declared.rows.App.{App}
+use Rattle.sched_book.specs.declared.rows.HostRow.{HostRow}
+use Rattle.sched_book.specs.declared.rows.Version.{Version}
+use Rattle.sched_book.specs.declared.world.World.{World}
+
+-- the two were not given to hosts of one user
+abbrev pub AreOfOtherUsers : List HostRow → Instance → Instance → Type 0
+AreOfOtherUsers hosts x y =
+    IsTrue (is_some x.owner) → IsTrue (is_some y.owner) → account_in hosts (owner_host x.owner) ≢ account_in hosts (owner_host y.owner)
+
+-- an instance that nobody was given has neither lapse nor report
+abbrev pub IsBare : Instance → Type 0
+IsBare x = x.owner ≡ None → (x.lapse ≡ None) × (x.report ≡ None)
+
+-- the host that it was given to stands
+abbrev pub HasOwnerAmong : List HostRow → Instance → Type 0
+HasOwnerAmong hosts x = IsTrue (is_some x.owner) → IsTrue (is_some (nth hosts (owner_host x.owner)))
+
+-- some judged report has the place n
+abbrev pub has_place : List Instance → ℕ → Bool
+has_place xs n = list_any (λ x. is_judged x && (told_place x.report == n)) xs
+
+-- A workunit with its instances, where these are the hosts and applications.
+pub record IsSoundUnit (hosts : List HostRow) (apps : List App) (b : UnitBook) : Type 0 where
+  -- an open workunit has all instances that it needs
+  pub satisfied : IsTrue (is_open (book_status apps b)) → need b.unit b.instances ≡ 0
+  pub one_for_each_user : AllPairs (AreOfOtherUsers hosts) b.instances
+  -- the places of the judged reports are 1 up to their count
+  pub places : (n : ℕ) → n < count_by is_judged b.instances → IsTrue (has_place b.instances (n + 1))
+  pub in_range : All (λ x. IsTrue (is_judged x) → told_place x.report ≤ count_by is_judged b.instances) b.instances
+  pub bare : All IsBare b.instances
+  pub owners : All (HasOwnerAmong hosts) b.instances
+  pub app : IsTrue (has_app apps b.unit.app)
+  pub few : length b.instances ≤ 100
+  pub limits : IsUnitInLimits b.unit
+  pub instances : All IsInstanceInLimits b.instances
+
+-- A host, where there are so many accounts, and its quota has this limit.
+pub record IsSoundHost (accounts limit : ℕ) (h : HostRow) : Type 0 where
+  pub account : (1 ≤ h.account) × (h.account ≤ accounts)
+  pub limits : IsHostInLimits limit h
+
+pub record IsSoundVersion (apps : List App) (v : Version) : Type 0 where
+  pub app : IsTrue (has_app apps v.app)
+  pub limits : IsVersionInLimits v
+
+-- two hosts have different keys
+abbrev pub HaveOtherKeys : HostRow → HostRow → Type 0
+HaveOtherKeys h k = h.account ≡ k.account → h.cpid ≢ k.cpid
+
+pub record Sound (w : World) : Type 0 where
+  pub settings : AreSettingsInLimits w.settings
+  pub units : All (IsSoundUnit w.hosts w.apps) w.units
+  pub hosts : All (IsSoundHost (length w.accounts) w.settings.daily_result_quota) w.hosts
+  pub versions : All (IsSoundVersion w.apps) w.versions
+  -- names, authenticators and keys stand once
+  pub account_names : AllPairs (λ a b. a.authenticator ≢ b.authenticator) w.accounts
+  pub app_names : AllPairs (λ a b. a.name ≢ b.name) w.apps
+  pub version_names : AllPairs (λ a b. IsTrue (same_version a b) → ⊥) w.versions
+  pub unit_names : AllPairs (λ a b. a.unit.name ≢ b.unit.name) w.units
+  pub host_keys : AllPairs HaveOtherKeys w.hosts
+  -- no table is longer than it may be
+  pub account_count : length w.accounts ≤ 10000
+  pub app_count : length w.apps ≤ 100
+  pub version_count : length w.versions ≤ 1000
+  pub unit_count : length w.units ≤ 200000
+  pub host_count : length w.hosts ≤ w.settings.max_hosts

@@ -1,0 +1,448 @@
+//! What is counted of a workunit and of a host, from scratch: the plain slow program of the definitions.
+//!
+//! Agreement, the canonical result, need, status, verdict and credit. Nothing here takes memory.
+
+ghost use Rattle.std.specs.Prelude.{◌≡◌, ◌<◌, ◌≤◌, ◌^◌, ◌+◌, ◌*◌, ◌&&◌, length, take, drop, nat_le};
+ghost use Rattle.std.specs.List.{prefix_len};
+ghost use Rattle.arrayvec.specs.ArrayVec.{array_vec_len};
+ghost use Rattle.sched_book.specs.Count.{agree, tells_success, tells_error, is_held, is_live, output_of, place_of, put_by, good, errors, live, votes, leader, first_leader, canonical, want, need, status, verdict_by, verdict, is_open, has_failed, is_valid};
+ghost use Rattle.sched_book.specs.Limits.{IsBounded};
+ghost use Rattle.sched_book.specs.Places.{agreement_by, book_status, is_owned_by, credit_in, host_credit, user_credit};
+
+use crate::instance::{Instance, Status, UnitBook, Verdict};
+use crate::rows::{Agreement, App, Workunit};
+use crate::whole_numbers::{are_numbers_within, whole_number_of};
+use crate::world::World;
+use arrayvec::ArrayVec;
+
+/// The most instances that a workunit may have.
+pub const MOST_INSTANCES: usize = 100;
+
+/// Whether two outputs of an application agree.
+pub fn agree(agreement: &Agreement, left: &str, right: &str) -> bool
+    ensures { result ≡ agree agreement.now left.now right.now }
+{
+    match agreement {
+        Agreement::Exact => left == right,
+        Agreement::Within(distance) => {
+            left == right
+                || are_numbers_within(
+                    *distance,
+                    whole_number_of(left.as_bytes()),
+                    whole_number_of(right.as_bytes()),
+                )
+        }
+    }
+}
+
+/// Whether a success was reported of the instance, and judged.
+pub fn is_judged_success(instance: &Instance) -> bool
+    ensures { result ≡ tells_success instance.now.report }
+{
+    match &instance.report {
+        None => false,
+        Some(outcome) => outcome.success && outcome.place.is_some(),
+    }
+}
+
+/// Whether a client error was reported of the instance, and judged.
+pub fn is_judged_error(instance: &Instance) -> bool
+    ensures { result ≡ tells_error instance.now.report }
+{
+    match &instance.report {
+        None => false,
+        Some(outcome) => !outcome.success && outcome.place.is_some(),
+    }
+}
+
+/// Whether a host has the instance: it was given to one, and has neither report nor lapse.
+pub fn is_held(instance: &Instance) -> bool
+    ensures { result ≡ is_held instance.now }
+{
+    instance.owner.is_some() && instance.report.is_none() && instance.lapse.is_none()
+}
+
+/// Whether a result may yet come of the instance: it was not given to a host, or one holds it.
+pub fn is_live(instance: &Instance) -> bool
+    ensures { result ≡ is_live instance.now }
+{
+    instance.owner.is_none() || is_held(instance)
+}
+
+/// The output that was reported of an instance, empty where none was.
+fn output_at(instances: &[Instance], number: usize) -> &str
+    ensures { result.now ≡ output_of instances.now number }
+{
+    match instances.get(number) {
+        None => "",
+        Some(instance) => match &instance.report {
+            None => "",
+            Some(outcome) => outcome.output.as_str(),
+        },
+    }
+}
+
+/// The place of an instance's judged report, 0 where there is none.
+fn place_at(instances: &[Instance], number: usize) -> u32
+    ensures { result ≡ place_of instances.now number }
+{
+    match instances.get(number) {
+        None => 0,
+        Some(instance) => match &instance.report {
+            None => 0,
+            Some(outcome) => outcome.place.unwrap_or(0),
+        },
+    }
+}
+
+/// Where among these reports one belongs: behind those whose places are not greater than its own.
+fn spot_among(instances: &[Instance], reports: &[usize], number: usize) -> usize
+    ensures value { result ≡ prefix_len (λ j. nat_le (place_of instances.now j) (place_of instances.now number)) reports.now }
+    ensures within { result ≤ length reports.now }
+{
+    reports
+        .iter()
+        .take_while(|other| place_at(instances, **other) <= place_at(instances, number))
+        .count()
+}
+
+/// Puts a report where it belongs.
+fn put_report(instances: &[Instance], reports: &mut ArrayVec<usize, MOST_INSTANCES>, number: usize)
+    requires { array_vec_len reports.old < MOST_INSTANCES }
+    ensures items { reports.new.items ≡ put_by (place_of instances.now) reports.old.items number }
+    ensures len { array_vec_len reports.new ≡ array_vec_len reports.old + 1 }
+{
+    let index = spot_among(instances, reports.as_slice(), number);
+    reports.insert(index, number);
+}
+
+#[tactic(auto, using(crate::proofs::Reports::put_steps))]
+/// The good reports: the numbers of the judged successes, in the order of their places.
+fn good_reports(instances: &[Instance]) -> ArrayVec<usize, MOST_INSTANCES>
+    requires { length instances.now ≤ MOST_INSTANCES }
+    ensures { result.items ≡ good instances.now }
+{
+    let mut reports = ArrayVec::new();
+    for (number, instance) in instances.iter().enumerate() {
+        if is_judged_success(instance) {
+            put_report(instances, &mut reports, number);
+        }
+    }
+    reports
+}
+
+/// How many of these reports agree with the one of this number.
+fn votes_for(
+    agreement: &Agreement,
+    instances: &[Instance],
+    reports: &[usize],
+    number: usize,
+) -> usize
+    ensures { result ≡ votes agreement.now instances.now reports.now number }
+{
+    let output = output_at(instances, number);
+    reports
+        .iter()
+        .filter(|other| agree(agreement, output, output_at(instances, **other)))
+        .count()
+}
+
+/// The first of these reports that agrees with enough of them.
+fn leader_among(
+    agreement: &Agreement,
+    instances: &[Instance],
+    enough: usize,
+    reports: &[usize],
+) -> Option<usize>
+    ensures { result ≡ leader agreement.now instances.now enough reports.now }
+{
+    reports.iter().copied().find(|number| enough
+        <= votes_for(agreement, instances, reports, *number))
+}
+
+#[tactic(auto, using(crate::proofs::Reports::leader_steps))]
+/// The leader of the least front that has one, of fronts no shorter than a quorum.
+fn first_leader_among(
+    agreement: &Agreement,
+    instances: &[Instance],
+    enough: usize,
+    reports: &[usize],
+    quorum: usize,
+) -> Option<usize>
+    requires { quorum ≤ length reports.now }
+    ensures { result ≡ first_leader agreement.now instances.now enough (take quorum reports.now) (drop quorum reports.now) }
+{
+    for length in quorum..reports.len() {
+        let front = leader_among(agreement, instances, enough, &reports[..length]);
+        if front.is_some() {
+            return front;
+        }
+    }
+    leader_among(agreement, instances, enough, reports)
+}
+
+/// The number of the canonical result, where there is one.
+pub fn canonical(agreement: &Agreement, unit: &Workunit, instances: &[Instance]) -> Option<usize>
+    requires { length instances.now ≤ MOST_INSTANCES }
+    ensures { result ≡ canonical agreement.now unit.now instances.now }
+{
+    let reports = good_reports(instances);
+    let quorum = unit.min_quorum as usize;
+    if quorum <= reports.len() {
+        first_leader_among(
+            agreement,
+            instances,
+            quorum / 2 + 1,
+            reports.as_slice(),
+            quorum,
+        )
+    } else {
+        None
+    }
+}
+
+/// How many judged successes a workunit has.
+pub fn success_count(instances: &[Instance]) -> usize
+    requires { length instances.now ≤ MOST_INSTANCES }
+    ensures value { result ≡ length (good instances.now) }
+    ensures few { result ≤ MOST_INSTANCES }
+{
+    good_reports(instances).len()
+}
+
+/// How many judged client errors a workunit has.
+pub fn error_count(instances: &[Instance]) -> usize
+    ensures value { result ≡ errors instances.now }
+    ensures few { result ≤ length instances.now }
+{
+    instances
+        .iter()
+        .filter(|instance| is_judged_error(instance))
+        .count()
+}
+
+/// Of how many instances a result may yet come.
+pub fn live_count(instances: &[Instance]) -> usize
+    ensures value { result ≡ live instances.now }
+    ensures few { result ≤ length instances.now }
+{
+    instances
+        .iter()
+        .filter(|instance| is_live(instance))
+        .count()
+}
+
+/// How many results a workunit wants by now, where that many are successes.
+fn wanted(unit: &Workunit, successes: usize) -> usize
+    requires { successes ≤ MOST_INSTANCES }
+    ensures value { result ≡ want unit.now successes }
+    ensures small { result < 2 ^ 32 }
+{
+    let target = unit.target_nresults as usize;
+    if unit.min_quorum as usize <= successes {
+        target.max(successes + 1)
+    } else {
+        target
+    }
+}
+
+/// How many more instances a workunit needs.
+pub fn need(unit: &Workunit, instances: &[Instance]) -> usize
+    requires { length instances.now ≤ MOST_INSTANCES }
+    ensures value { result ≡ need unit.now instances.now }
+    ensures small { result < 2 ^ 32 }
+{
+    let successes = success_count(instances);
+    wanted(unit, successes)
+        .saturating_sub(live_count(instances))
+        .saturating_sub(successes)
+}
+
+/// Where a workunit stands.
+pub fn status(agreement: &Agreement, unit: &Workunit, instances: &[Instance]) -> Status
+    requires { length instances.now ≤ MOST_INSTANCES }
+    ensures { result ≡ status agreement.now unit.now instances.now }
+{
+    if canonical(agreement, unit, instances).is_some() {
+        return Status::Done;
+    }
+    if (unit.max_error_results as usize) < error_count(instances) {
+        return Status::FailedErrors;
+    }
+    if (unit.max_success_results as usize) < success_count(instances) {
+        return Status::FailedSuccess;
+    }
+    if (unit.max_total_results as usize) < instances.len() + need(unit, instances) {
+        return Status::FailedTotal;
+    }
+    Status::Open
+}
+
+/// Whether a workunit of this status takes part in new grants.
+pub fn is_open(status: Status) -> bool
+    ensures { result ≡ is_open status }
+{
+    match status {
+        Status::Open => true,
+        Status::Done | Status::FailedErrors | Status::FailedSuccess | Status::FailedTotal => false,
+    }
+}
+
+/// Whether a workunit of this status has failed.
+pub fn has_failed(status: Status) -> bool
+    ensures { result ≡ has_failed status }
+{
+    match status {
+        Status::Open | Status::Done => false,
+        Status::FailedErrors | Status::FailedSuccess | Status::FailedTotal => true,
+    }
+}
+
+/// The verdict on one of the workunit's instances, by the number of the canonical result.
+pub fn verdict_by(
+    agreement: &Agreement,
+    instances: &[Instance],
+    canonical: Option<usize>,
+    instance: &Instance,
+) -> Option<Verdict>
+    ensures { result ≡ verdict_by agreement.now instances.now canonical instance.now }
+{
+    let Some(number) = canonical else {
+        return None;
+    };
+    let Some(outcome) = &instance.report else {
+        return None;
+    };
+    if !is_judged_success(instance) {
+        return None;
+    }
+    if agree(
+        agreement,
+        outcome.output.as_str(),
+        output_at(instances, number),
+    ) {
+        Some(Verdict::Valid)
+    } else {
+        Some(Verdict::Invalid)
+    }
+}
+
+/// The verdict on one of the workunit's instances: none without a judged success, or while the workunit has
+/// no canonical result.
+pub fn verdict(
+    agreement: &Agreement,
+    unit: &Workunit,
+    instances: &[Instance],
+    instance: &Instance,
+) -> Option<Verdict>
+    requires { length instances.now ≤ MOST_INSTANCES }
+    ensures { result ≡ verdict agreement.now unit.now instances.now instance.now }
+{
+    verdict_by(
+        agreement,
+        instances,
+        canonical(agreement, unit, instances),
+        instance,
+    )
+}
+
+/// How the outputs of the application of this name are compared; of an unknown one, exactly.
+pub fn agreement_by(apps: &[App], name: &str) -> Agreement
+    ensures { result ≡ agreement_by apps.now name.now }
+{
+    match apps.iter().find(|app| app.name.is(name)) {
+        None => Agreement::Exact,
+        Some(app) => app.agreement,
+    }
+}
+
+/// Where a workunit stands, with its instances and where these are the applications.
+pub fn book_status(apps: &[App], book: &UnitBook) -> Status
+    requires { length book.now.instances ≤ MOST_INSTANCES }
+    ensures { result ≡ book_status apps.now book.now }
+{
+    status(
+        &agreement_by(apps, book.unit.app.as_str()),
+        &book.unit,
+        book.instances.as_slice(),
+    )
+}
+
+/// Whether the instance was given to the host of this number.
+pub fn is_owned_by(host: u32, instance: &Instance) -> bool
+    ensures { result ≡ is_owned_by host instance.now }
+{
+    match &instance.owner {
+        None => false,
+        Some(owner) => owner.host == host,
+    }
+}
+
+/// Whether a verdict says that the result is valid.
+pub fn is_valid(verdict: Option<Verdict>) -> bool
+    ensures { result ≡ is_valid verdict }
+{
+    match verdict {
+        Some(Verdict::Valid) => true,
+        Some(Verdict::Invalid) | None => false,
+    }
+}
+
+/// Whether the instance was given to the host of this number, and its result is valid, where `canonical` is the
+/// number of the workunit's canonical result.
+fn is_valid_of(
+    host: u32,
+    agreement: &Agreement,
+    instances: &[Instance],
+    canonical: Option<usize>,
+    instance: &Instance,
+) -> bool
+    ensures { result ≡ (is_owned_by host instance.now && is_valid (verdict_by agreement.now instances.now canonical instance.now)) }
+{
+    is_owned_by(host, instance) && is_valid(verdict_by(agreement, instances, canonical, instance))
+}
+
+/// The millicredits that the host of this number has from one workunit.
+pub fn credit_in(apps: &[App], host: u32, book: &UnitBook) -> u64
+    requires { length book.now.instances ≤ MOST_INSTANCES }
+    ensures value { result ≡ credit_in apps.now host book.now }
+    ensures small { result ≤ 100 * 2 ^ 32 }
+{
+    let agreement = agreement_by(apps, book.unit.app.as_str());
+    let instances = book.instances.as_slice();
+    let canonical = canonical(&agreement, &book.unit, instances);
+    let valid = instances
+        .iter()
+        .filter(|instance| is_valid_of(host, &agreement, instances, canonical, instance))
+        .count();
+    u64::from(book.unit.credit) * valid as u64
+}
+
+#[tactic(auto, using(crate::proofs::Credits::host_credit_steps))]
+/// The millicredits of the host of this number: the credits of the workunits of its valid results.
+pub fn host_credit(world: &World, host: u32) -> u64
+    requires { IsBounded world.now }
+    ensures { result ≡ host_credit world.now host }
+{
+    let mut credit = 0;
+    for book in world.units.as_slice() {
+        credit += credit_in(world.apps.as_slice(), host, book);
+    }
+    credit
+}
+
+#[tactic(auto, using(crate::proofs::Credits::user_credit_steps))]
+/// The millicredits of a user: those of the user's hosts together.
+pub fn user_credit(world: &World, account: u32) -> u64
+    requires bounded { IsBounded world.now }
+    requires fits { user_credit world.now account < 2 ^ 64 }
+    ensures { result ≡ user_credit world.now account }
+{
+    let mut credit = 0;
+    for (index, row) in world.hosts.as_slice().iter().enumerate() {
+        if row.account == account {
+            credit += host_credit(world, index as u32 + 1);
+        }
+    }
+    credit
+}

@@ -1,0 +1,234 @@
+//! What a desk is: who stands for a world, and answers what that world says.
+
+ghost use Rattle.std.specs.Prelude.{◌≡◌, ◌≤◌, List, length, IfOk, OnOk, OnErr};
+ghost use Rattle.sched_book.specs.Places.{instance_at, host_at, unit_named, known_host, held_by, owned_by, overdue, sent_on_day};
+ghost use Rattle.sched_book.specs.Fits.{version_at};
+ghost use Rattle.sched_book.specs.Offers.{unsent, OffersAll, OffersSome};
+ghost use Rattle.sched_book.specs.Desk.{counts, account_by_key, app_by_name, workunit_at, agreement_at, instances_at, units_of_user, version_by_key};
+ghost use Rattle.sched_book.specs.declared.world.World.{World};
+
+use crate::instance::{Instance, Place};
+use crate::moment::Moment;
+use crate::rows::{Account, Agreement, App, HostRow, Version, Workunit};
+use crate::settings::Settings;
+use std::alloc::Global;
+use std::fmt;
+use texts::{Listed, Memory};
+
+/// How many rows each table has.
+#[derive(Clone, Copy, Debug, PartialEq, Eq)]
+pub struct Counts {
+    pub accounts: u32,
+    pub apps: u32,
+    pub versions: u32,
+    pub workunits: u32,
+    pub hosts: u32,
+}
+
+/// A row with its place.
+#[derive(Drop)]
+pub struct Placed<T> {
+    pub place: u32,
+    pub row: T,
+}
+
+/// An instance that nobody was given, of an open workunit.
+#[derive(Drop)]
+pub struct Candidate {
+    pub place: Place,
+    pub unit: Workunit,
+}
+
+/// Whether a taker wants to be offered more.
+#[derive(Clone, Copy, Debug, PartialEq, Eq)]
+pub enum Flow {
+    GoOn,
+    Stop,
+}
+
+/// Memory, size or disk is wanting.
+#[derive(Clone, Copy, Debug, PartialEq, Eq)]
+pub struct Unavailable;
+
+impl fmt::Display for Unavailable {
+    fn fmt<W: fmt::Write>(&self, f: &mut fmt::Formatter<W>) -> fmt::Result {
+        write!(f, "unavailable")
+    }
+}
+
+impl std::error::Error for Unavailable {}
+
+impl From<Memory> for Unavailable {
+    fn from(_memory: Memory) -> Unavailable {
+        Unavailable
+    }
+}
+
+/// Who is offered candidates.
+pub trait Taker {
+    ghost use Rattle.sched_book.specs.declared.desk.Candidate.{Candidate};
+    ghost use Rattle.sched_book.specs.declared.desk.Flow.{Flow};
+
+    /// What an offer may do: the taker before, the candidate, the answer, and the taker after.
+    ghost takes: { Self → Candidate → Flow → Self → Type 0 };
+
+    /// Takes the candidate or leaves it, and says whether to be offered more.
+    fn offer(&mut self, candidate: &Candidate) -> Flow
+        ensures { takes self.old candidate.now result self.new };
+}
+
+/// Who can be asked about workunits and their instances.
+///
+/// A look-up of what does not stand answers `None` or an empty list. Each call changes nothing that a later
+/// call or a stop of the program could show, also where it is unavailable: that is `reads`. Its answer is that of
+/// the world where the storage below was honest to the end and the desk was well kept before.
+pub trait Units {
+    /// The world that it stands for.
+    ghost world: { Self → World };
+
+    /// What lies below it has not failed.
+    ghost honest: { Self → Type 0 };
+
+    /// Whatever it keeps in two ways agrees.
+    ghost well_kept: { Self → Type 0 };
+
+    /// What reading may do to it.
+    ghost reads: { Self → Self → Type 0 };
+
+    /// The place of the workunit of this name.
+    fn unit_by_name(&mut self, name: &str) -> Result<Option<u32>, Unavailable>
+        ensures reads { reads self.old self.new }
+        ensures answer { honest self.new → well_kept self.old → IfOk result (λ r. r ≡ unit_named (world self.old) name.now) };
+
+    /// The workunit at this place.
+    fn unit(&mut self, alloc: Global, unit: u32) -> Result<Option<Workunit>, Unavailable>
+        ensures reads { reads self.old self.new }
+        ensures answer { honest self.new → well_kept self.old → IfOk result (λ r. r ≡ workunit_at (world self.old) unit) };
+
+    /// How the outputs of the workunit at this place are compared.
+    fn agreement_of(&mut self, alloc: Global, unit: u32) -> Result<Option<Agreement>, Unavailable>
+        ensures reads { reads self.old self.new }
+        ensures answer { honest self.new → well_kept self.old → IfOk result (λ r. r ≡ agreement_at (world self.old) unit) };
+
+    /// The instance of this number of the workunit at this place.
+    fn instance(
+        &mut self,
+        alloc: Global,
+        unit: u32,
+        number: u32,
+    ) -> Result<Option<Instance>, Unavailable>
+        ensures reads { reads self.old self.new }
+        ensures answer { honest self.new → well_kept self.old →
+            IfOk result (λ r. r ≡ instance_at (world self.old) (record { unit = unit; number = number })) };
+
+    /// The instances of the workunit at this place, by number.
+    fn instances_of(&mut self, alloc: Global, unit: u32) -> Result<Listed<Instance>, Unavailable>
+        ensures reads { reads self.old self.new }
+        ensures few { IfOk result (λ r. length r ≤ 100) }
+        ensures answer { honest self.new → well_kept self.old → IfOk result (λ r. r ≡ instances_at (world self.old) unit) };
+
+    // No call at all reads nothing, and reading may go on.
+    ghost reads_none: { (d : Self) → reads d d };
+
+    ghost reads_on: { (a b c : Self) → reads a b → reads b c → reads a c };
+
+    // What was honest to the end was honest before; reading keeps a desk well, and its world as it is.
+    ghost stays_honest: { (a b : Self) → reads a b → honest b → honest a };
+
+    ghost stays_kept: { (a b : Self) → reads a b → honest b → well_kept a → well_kept b };
+
+    ghost stays_same: { (a b : Self) → reads a b → honest b → well_kept a → world b ≡ world a };
+}
+
+/// Who stands for a whole world.
+pub trait Desk: Units {
+    fn settings(&mut self, alloc: Global) -> Result<Settings, Unavailable>
+        ensures reads { Self.reads self.old self.new }
+        ensures answer { Self.honest self.new → Self.well_kept self.old → IfOk result (λ r. r ≡ (Self.world self.old).settings) };
+
+    fn counts(&mut self) -> Result<Counts, Unavailable>
+        ensures reads { Self.reads self.old self.new }
+        ensures answer { Self.honest self.new → Self.well_kept self.old → IfOk result (λ r. r ≡ counts (Self.world self.old)) };
+
+    /// The account with this authenticator.
+    fn account_by_key(
+        &mut self,
+        alloc: Global,
+        authenticator: &str,
+    ) -> Result<Option<Placed<Account>>, Unavailable>
+        ensures reads { Self.reads self.old self.new }
+        ensures answer { Self.honest self.new → Self.well_kept self.old →
+            IfOk result (λ r. r ≡ account_by_key (Self.world self.old) authenticator.now) };
+
+    /// The application of this name.
+    fn app_by_name(&mut self, alloc: Global, name: &str) -> Result<Option<Placed<App>>, Unavailable>
+        ensures reads { Self.reads self.old self.new }
+        ensures answer { Self.honest self.new → Self.well_kept self.old → IfOk result (λ r. r ≡ app_by_name (Self.world self.old) name.now) };
+
+    /// The number of the host that belongs to this account and has this name for itself.
+    fn host_by_key(&mut self, account: u32, cpid: &str) -> Result<Option<u32>, Unavailable>
+        ensures reads { Self.reads self.old self.new }
+        ensures answer { Self.honest self.new → Self.well_kept self.old → IfOk result (λ r. r ≡ known_host (Self.world self.old) account cpid.now) };
+
+    /// The host of this number.
+    fn host_by_id(&mut self, alloc: Global, host: u32) -> Result<Option<HostRow>, Unavailable>
+        ensures reads { Self.reads self.old self.new }
+        ensures answer { Self.honest self.new → Self.well_kept self.old → IfOk result (λ r. r ≡ host_at (Self.world self.old) host) };
+
+    /// The places of the instances that the host holds, in order.
+    fn held_by(&mut self, alloc: Global, host: u32) -> Result<Listed<Place>, Unavailable>
+        ensures reads { Self.reads self.old self.new }
+        ensures answer { Self.honest self.new → Self.well_kept self.old → IfOk result (λ r. r ≡ held_by (Self.world self.old) host) };
+
+    /// The places of the instances that were given to the host, in order.
+    fn owned_by(&mut self, alloc: Global, host: u32) -> Result<Listed<Place>, Unavailable>
+        ensures reads { Self.reads self.old self.new }
+        ensures answer { Self.honest self.new → Self.well_kept self.old → IfOk result (λ r. r ≡ owned_by (Self.world self.old) host) };
+
+    /// How many of the host's instances were sent on this day.
+    fn sent_on_day(&mut self, host: u32, day: u64) -> Result<u32, Unavailable>
+        ensures reads { Self.reads self.old self.new }
+        ensures answer { Self.honest self.new → Self.well_kept self.old → IfOk result (λ r. r ≡ sent_on_day (Self.world self.old) host day) };
+
+    /// The places of the workunits of which some instance was given to a host of the user, in order.
+    fn units_of_user(&mut self, alloc: Global, account: u32) -> Result<Listed<u32>, Unavailable>
+        ensures reads { Self.reads self.old self.new }
+        ensures answer { Self.honest self.new → Self.well_kept self.old → IfOk result (λ r. r ≡ units_of_user (Self.world self.old) account) };
+
+    /// The version that a host runs of the application at this place: the newest for the first of the host's
+    /// platforms that has any.
+    fn version_for(
+        &mut self,
+        alloc: Global,
+        host: &HostRow,
+        app: u32,
+    ) -> Result<Option<Version>, Unavailable>
+        ensures reads { Self.reads self.old self.new }
+        ensures answer { Self.honest self.new → Self.well_kept self.old → IfOk result (λ r. r ≡ version_at (Self.world self.old) host.now app) };
+
+    /// The version of this application, for this platform, with this number.
+    fn version_by_key(
+        &mut self,
+        alloc: Global,
+        app: &str,
+        platform: &str,
+        version_num: u32,
+    ) -> Result<Option<Version>, Unavailable>
+        ensures reads { Self.reads self.old self.new }
+        ensures answer { Self.honest self.new → Self.well_kept self.old →
+            IfOk result (λ r. r ≡ version_by_key (Self.world self.old) app.now platform.now version_num) };
+
+    /// The places of the held instances whose deadline is before this moment, in order.
+    fn due_before(&mut self, alloc: Global, now: Moment) -> Result<Listed<Place>, Unavailable>
+        ensures reads { Self.reads self.old self.new }
+        ensures answer { Self.honest self.new → Self.well_kept self.old → IfOk result (λ r. r ≡ overdue (Self.world self.old) now) };
+
+    /// Offers the instances of open workunits that nobody was given, in the order of their places and from this
+    /// place on, until the taker says stop. None is skipped; where the desk is unavailable the offers end early.
+    fn unsent_from<T: Taker>(&mut self, from: Place, taker: &mut T) -> Result<(), Unavailable>
+        ensures reads { Self.reads self.old self.new }
+        ensures all { Self.honest self.new → Self.well_kept self.old →
+            OnOk result (OffersAll T.takes taker.old (unsent (Self.world self.old) from) taker.new) }
+        ensures some { Self.honest self.new → Self.well_kept self.old →
+            OnErr result (OffersSome T.takes taker.old (unsent (Self.world self.old) from) taker.new) };
+}

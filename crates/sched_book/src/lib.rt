@@ -1,0 +1,38 @@
+//! The world of the job machine, what is counted of it from scratch, and the desks that answer for it.
+//!
+//! The rows are BOINC's: accounts, applications, their versions, workunits with their instances, and hosts.
+//! `specs/` says what the machine does with them: counts of a workunit, the grant of jobs, reports, lost
+//! jobs, settlement, imports, and one step of it. [`count`] is the plain slow program of the counts.
+//! A [`Desk`] stands for a [`World`] and answers what that world says.
+#![tactic(auto)]
+
+pub mod count;
+pub mod delta;
+pub mod desk;
+pub mod instance;
+pub mod laws;
+pub mod list_desk;
+mod listings;
+mod look_ups;
+pub mod machine;
+pub mod moment;
+pub mod names;
+mod offers;
+pub mod patched;
+pub mod rows;
+pub mod settings;
+mod versions;
+mod whole_numbers;
+pub mod world;
+
+pub use delta::{Change, Delta};
+pub use desk::{Candidate, Counts, Desk, Flow, Placed, Taker, Unavailable, Units};
+pub use instance::{Instance, Lapse, Outcome, Owner, Place, Status, UnitBook, Verdict};
+pub use list_desk::ListDesk;
+pub use machine::{Answered, Call, Caller};
+pub use moment::Moment;
+pub use names::{instance_name, split_name};
+pub use patched::Patched;
+pub use rows::{Account, Agreement, App, HostRow, Rows, Version, Workunit};
+pub use settings::Settings;
+pub use world::World;

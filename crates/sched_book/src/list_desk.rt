@@ -1,0 +1,258 @@
+//! The plain desk, which keeps a world as lists and looks through them.
+
+ghost use Rattle.std.specs.Prelude.{◌≡◌, ⊤, IfOk, OnOk, OnErr};
+ghost use Rattle.sched_book.specs.Delta.{applied};
+ghost use Rattle.sched_book.specs.Places.{unit_named, known_host, sent_on_day};
+ghost use Rattle.sched_book.specs.Desk.{counts, agreement_at};
+ghost use Rattle.sched_book.specs.Step.{empty_world};
+
+use crate::count::agreement_by;
+use crate::delta::{Delta, changed_world, is_bounded};
+use crate::desk::{Counts, Desk, Placed, Taker, Unavailable, Units};
+use crate::instance::{Instance, Place};
+use crate::listings::{Listing, count_sent_on_day, list_places, list_units_of_user};
+use crate::look_ups::{
+    account_place, app_place, copy_at, copy_nth, find_version, host_place, nth, unit_place,
+};
+use crate::moment::Moment;
+use crate::offers::offer_all;
+use crate::rows::{Account, Agreement, App, HostRow, Version, Workunit};
+use crate::settings::Settings;
+use crate::versions::version_of_app;
+use crate::world::World;
+use std::alloc::Global;
+use std::marker::Model;
+use texts::{Listed, Memory};
+
+/// A desk over lists in memory. Every call takes time in proportion to the rows that it looks through. A call that
+/// answers no row and no list takes no memory, and always succeeds.
+#[derive(Drop)]
+pub struct ListDesk {
+    alloc: Global,
+    world: World,
+}
+
+impl Model for ListDesk {
+    ghost use Rattle.sched_book.specs.Limits.{IsBounded};
+    ghost use Rattle.sched_book.specs.declared.world.World.{World};
+
+    ghost Value = { World };
+
+    ghost view = { λ d. d.world };
+
+    ghost invariant = { λ d. IsBounded d.world };
+}
+
+impl ListDesk {
+    /// The desk of the world that has these settings and nothing else.
+    pub fn new(alloc: Global, settings: &Settings) -> Result<ListDesk, Memory>
+        ensures { IfOk result (λ d. d ≡ empty_world settings.now) }
+    {
+        Ok(ListDesk {
+            alloc,
+            world: World {
+                settings: settings.clone()?,
+                accounts: Listed::new(alloc),
+                apps: Listed::new(alloc),
+                versions: Listed::new(alloc),
+                units: Listed::new(alloc),
+                hosts: Listed::new(alloc),
+            },
+        })
+    }
+}
+
+impl ListDesk {
+    /// Makes all changes, or none. Changes that would make a list longer than its table may be are refused.
+    pub fn apply(&mut self, delta: &Delta) -> Result<(), Unavailable>
+        ensures ok { OnOk result (self.new ≡ applied self.old delta.now) }
+        ensures err { OnErr result (self.new ≡ self.old) }
+    {
+        let changed = changed_world(self.alloc, &self.world, delta.as_slice())?;
+        if !is_bounded(&changed) {
+            return Err(Unavailable);
+        }
+        self.world = changed;
+        Ok(())
+    }
+}
+
+impl Units for ListDesk {
+    ghost use Rattle.std.proofs.Common.{rules};
+
+    ghost world = { λ d. d };
+
+    ghost honest = { λ _. ⊤ };
+
+    ghost well_kept = { λ _. ⊤ };
+
+    ghost reads = { λ a b. a ≡ b };
+
+    fn unit_by_name(&mut self, name: &str) -> Result<Option<u32>, Unavailable>
+        ensures reads { self.new ≡ self.old }
+        ensures answer { result ≡ Ok (unit_named self.old name.now) }
+    {
+        Ok(unit_place(self.world.units.as_slice(), name))
+    }
+
+    fn unit(&mut self, _alloc: Global, unit: u32) -> Result<Option<Workunit>, Unavailable> {
+        match nth(self.world.units.as_slice(), unit) {
+            None => Ok(None),
+            Some(book) => Ok(Some(book.unit.clone()?)),
+        }
+    }
+
+    fn agreement_of(&mut self, _alloc: Global, unit: u32) -> Result<Option<Agreement>, Unavailable>
+        ensures reads { self.new ≡ self.old }
+        ensures answer { result ≡ Ok (agreement_at self.old unit) }
+    {
+        match nth(self.world.units.as_slice(), unit) {
+            None => Ok(None),
+            Some(book) => Ok(Some(agreement_by(
+                self.world.apps.as_slice(),
+                book.unit.app.as_str(),
+            ))),
+        }
+    }
+
+    fn instance(
+        &mut self,
+        _alloc: Global,
+        unit: u32,
+        number: u32,
+    ) -> Result<Option<Instance>, Unavailable> {
+        match nth(self.world.units.as_slice(), unit) {
+            None => Ok(None),
+            Some(book) => match book.instances.as_slice().get(number as usize) {
+                None => Ok(None),
+                Some(instance) => Ok(Some(instance.clone()?)),
+            },
+        }
+    }
+
+    fn instances_of(&mut self, alloc: Global, unit: u32) -> Result<Listed<Instance>, Unavailable> {
+        match nth(self.world.units.as_slice(), unit) {
+            None => Ok(Listed::new(alloc)),
+            Some(book) => Ok(book.instances.clone()?),
+        }
+    }
+
+    ghost reads_none = { λ d. Prim.search rules };
+
+    ghost reads_on = { λ a b c h k. Prim.search rules };
+
+    ghost stays_honest = { λ a b h k. Prim.search rules };
+
+    ghost stays_kept = { λ a b h k l. Prim.search rules };
+
+    ghost stays_same = { λ a b h k l. Prim.search rules };
+}
+
+impl Desk for ListDesk {
+    fn settings(&mut self, _alloc: Global) -> Result<Settings, Unavailable> {
+        Ok(self.world.settings.clone()?)
+    }
+
+    fn counts(&mut self) -> Result<Counts, Unavailable>
+        ensures reads { self.new ≡ self.old }
+        ensures answer { result ≡ Ok (counts self.old) }
+    {
+        Ok(Counts {
+            accounts: self.world.accounts.len() as u32,
+            apps: self.world.apps.len() as u32,
+            versions: self.world.versions.len() as u32,
+            workunits: self.world.units.len() as u32,
+            hosts: self.world.hosts.len() as u32,
+        })
+    }
+
+    fn account_by_key(
+        &mut self,
+        _alloc: Global,
+        authenticator: &str,
+    ) -> Result<Option<Placed<Account>>, Unavailable> {
+        let accounts = self.world.accounts.as_slice();
+        Ok(copy_at(accounts, account_place(accounts, authenticator))?)
+    }
+
+    fn app_by_name(
+        &mut self,
+        _alloc: Global,
+        name: &str,
+    ) -> Result<Option<Placed<App>>, Unavailable> {
+        let apps = self.world.apps.as_slice();
+        Ok(copy_at(apps, app_place(apps, name))?)
+    }
+
+    fn host_by_key(&mut self, account: u32, cpid: &str) -> Result<Option<u32>, Unavailable>
+        ensures reads { self.new ≡ self.old }
+        ensures answer { result ≡ Ok (known_host self.old account cpid.now) }
+    {
+        Ok(host_place(self.world.hosts.as_slice(), account, cpid))
+    }
+
+    fn host_by_id(&mut self, _alloc: Global, host: u32) -> Result<Option<HostRow>, Unavailable> {
+        Ok(copy_nth(self.world.hosts.as_slice(), host)?)
+    }
+
+    fn held_by(&mut self, alloc: Global, host: u32) -> Result<Listed<Place>, Unavailable> {
+        Ok(list_places(alloc, &Listing::Held(host), self.world.units.as_slice())?)
+    }
+
+    fn owned_by(&mut self, alloc: Global, host: u32) -> Result<Listed<Place>, Unavailable> {
+        Ok(list_places(alloc, &Listing::Owned(host), self.world.units.as_slice())?)
+    }
+
+    fn sent_on_day(&mut self, host: u32, day: u64) -> Result<u32, Unavailable>
+        ensures reads { self.new ≡ self.old }
+        ensures answer { result ≡ Ok (sent_on_day self.old host day) }
+    {
+        Ok(count_sent_on_day(self.world.units.as_slice(), host, day))
+    }
+
+    fn units_of_user(&mut self, alloc: Global, account: u32) -> Result<Listed<u32>, Unavailable> {
+        Ok(list_units_of_user(
+            alloc,
+            self.world.hosts.as_slice(),
+            self.world.units.as_slice(),
+            account,
+        )?)
+    }
+
+    fn version_for(
+        &mut self,
+        _alloc: Global,
+        host: &HostRow,
+        app: u32,
+    ) -> Result<Option<Version>, Unavailable> {
+        match nth(self.world.apps.as_slice(), app) {
+            None => Ok(None),
+            Some(app) => Ok(version_of_app(
+                self.world.versions.as_slice(),
+                app.name.as_str(),
+                host.platforms.as_slice(),
+            )?),
+        }
+    }
+
+    fn version_by_key(
+        &mut self,
+        _alloc: Global,
+        app: &str,
+        platform: &str,
+        version_num: u32,
+    ) -> Result<Option<Version>, Unavailable> {
+        match find_version(self.world.versions.as_slice(), app, platform, version_num) {
+            None => Ok(None),
+            Some(version) => Ok(Some(version.clone()?)),
+        }
+    }
+
+    fn due_before(&mut self, alloc: Global, now: Moment) -> Result<Listed<Place>, Unavailable> {
+        Ok(list_places(alloc, &Listing::Overdue(now), self.world.units.as_slice())?)
+    }
+
+    fn unsent_from<T: Taker>(&mut self, from: Place, taker: &mut T) -> Result<(), Unavailable> {
+        Ok(offer_all(&self.world, from, taker)?)
+    }
+}

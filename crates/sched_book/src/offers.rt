@@ -1,0 +1,74 @@
+//! Offers to a taker, one candidate at a time.
+
+ghost use Rattle.std.specs.Prelude.{◌≡◌, ◌≤◌, ◌&&◌, not, is_none, List, All, length, IfOk, OnOk, OnErr};
+ghost use Rattle.sched_book.specs.Places.{is_before};
+ghost use Rattle.sched_book.specs.Offers.{unsent, unsent_in, OffersAll, OffersSome, Offered, OfferedSome};
+ghost use Rattle.sched_book.specs.declared.instance.UnitBook.{UnitBook};
+
+use crate::count::{book_status, is_open};
+use crate::desk::{Candidate, Flow, Taker};
+use crate::instance::{Instance, Place, UnitBook};
+use crate::world::World;
+use texts::Memory;
+
+/// Whether one place stands before another.
+pub(crate) fn is_place_before(place: Place, other: Place) -> bool
+    ensures { result ≡ is_before place other }
+{
+    place.unit < other.unit || (place.unit == other.unit && place.number < other.number)
+}
+
+/// Whether an instance is to be offered, where the offers begin at `from`.
+fn is_offered(from: Place, place: Place, instance: &Instance) -> bool
+    ensures { result ≡ (is_none instance.now.owner && not (is_before place from)) }
+{
+    instance.owner.is_none() && !is_place_before(place, from)
+}
+
+/// Offers the candidates of one workunit, and says whether the taker wants more.
+fn offer_unit<T: Taker>(
+    taker: &mut T,
+    from: Place,
+    unit: u32,
+    book: &UnitBook,
+) -> Result<Flow, Memory>
+    requires { length book.now.instances ≤ 100 }
+    ensures ok { IfOk result (Offered T.takes taker.old (unsent_in from unit book.now.unit 0 book.now.instances) taker.new) }
+    ensures err { OnErr result (OfferedSome T.takes taker.old (unsent_in from unit book.now.unit 0 book.now.instances) taker.new) }
+{
+    let mut candidate = Candidate {
+        place: Place { unit, number: 0 },
+        unit: book.unit.clone()?,
+    };
+    for (number, instance) in book.instances.as_slice().iter().enumerate() {
+        candidate.place = Place {
+            unit,
+            number: number as u32,
+        };
+        if is_offered(from, candidate.place, instance) {
+            match taker.offer(&candidate) {
+                Flow::GoOn => {}
+                Flow::Stop => return Ok(Flow::Stop),
+            }
+        }
+    }
+    Ok(Flow::GoOn)
+}
+
+/// Offers all candidates from a place on.
+pub(crate) fn offer_all<T: Taker>(world: &World, from: Place, taker: &mut T) -> Result<(), Memory>
+    requires units { length world.now.units ≤ 200000 }
+    requires instances { All (λ (b : UnitBook). length b.instances ≤ 100) world.now.units }
+    ensures all { OnOk result (OffersAll T.takes taker.old (unsent world.now from) taker.new) }
+    ensures some { OnErr result (OffersSome T.takes taker.old (unsent world.now from) taker.new) }
+{
+    for (index, book) in world.units.as_slice().iter().enumerate() {
+        if is_open(book_status(world.apps.as_slice(), book)) {
+            match offer_unit(taker, from, index as u32 + 1, book)? {
+                Flow::GoOn => {}
+                Flow::Stop => return Ok(()),
+            }
+        }
+    }
+    Ok(())
+}

@@ -1,0 +1,122 @@
+use texts::{Listed, Same, Text};
+
+/// How two outputs of an application are compared.
+#[derive(Clone, Copy, Debug, PartialEq, Eq)]
+pub enum Agreement {
+    /// Equal texts.
+    Exact,
+    /// Equal texts, or two whole numbers that are at most this far apart.
+    Within(u32),
+}
+
+/// A volunteer's account.
+#[derive(Clone, Drop)]
+pub struct Account {
+    /// Its secret word, by which a host says whose it is.
+    pub authenticator: Text,
+    /// The volunteer's name, 1 to 64 bytes.
+    pub name: Text,
+}
+
+/// An application of the project.
+#[derive(Clone, Drop)]
+pub struct App {
+    pub name: Text,
+    pub agreement: Agreement,
+}
+
+/// A version of an application for a platform.
+#[derive(Clone, Drop)]
+pub struct Version {
+    /// The application's name.
+    pub app: Text,
+    pub platform: Text,
+    /// 1 to 1,000,000.
+    pub version_num: u32,
+}
+
+/// A workunit: a piece of work that is done several times, once by each of its instances.
+#[derive(Clone, Drop)]
+pub struct Workunit {
+    pub name: Text,
+    /// The application's name.
+    pub app: Text,
+    /// How many successes a decision takes: 1 to 100.
+    pub min_quorum: u32,
+    /// How many instances it begins with: `min_quorum` to 100.
+    pub target_nresults: u32,
+    /// More errors than this and it fails: up to 100.
+    pub max_error_results: u32,
+    /// More instances than this and it fails: `target_nresults` to 100.
+    pub max_total_results: u32,
+    /// More successes than this with no decision and it fails: up to 100.
+    pub max_success_results: u32,
+    /// Seconds from the sending of a job to its deadline: 1 to 100,000,000.
+    pub delay_bound: u32,
+    /// Floating-point operations that a job takes: 1 to 10^18.
+    pub rsc_fpops_est: u64,
+    /// Bytes of memory that a job takes: up to 10^18.
+    pub rsc_memory_bound: u64,
+    /// Bytes of disk that a job takes: up to 10^18.
+    pub rsc_disk_bound: u64,
+    /// Millicredits for each valid result: up to 100,000,000.
+    pub credit: u32,
+}
+
+/// A host, with what it last told of itself.
+#[derive(Clone, Drop)]
+pub struct HostRow {
+    /// The place of the account that it belongs to.
+    pub account: u32,
+    /// The host's own name for itself.
+    pub cpid: Text,
+    /// Floating-point operations a second: 1 to 10^18.
+    pub p_fpops: u64,
+    /// Bytes of memory: up to 10^18.
+    pub m_nbytes: u64,
+    /// Bytes of free disk: up to 10^18.
+    pub d_free: u64,
+    /// Its platforms, the preferred one first: 1 to 8.
+    pub platforms: Listed<Text>,
+    /// The most jobs that it may get on one day: 1 to the setting `daily_result_quota`.
+    pub quota: u32,
+}
+
+/// The rows of one import.
+#[derive(Drop)]
+pub enum Rows {
+    Accounts(Listed<Account>),
+    Apps(Listed<App>),
+    Versions(Listed<Version>),
+    Workunits(Listed<Workunit>),
+}
+
+impl Same for Account {
+    ghost use Rattle.std.proofs.Common.{rules};
+
+    ghost exact = { λ account copy is_copy. Prim.search rules };
+}
+
+impl Same for App {
+    ghost use Rattle.std.proofs.Common.{rules};
+
+    ghost exact = { λ app copy is_copy. Prim.search rules };
+}
+
+impl Same for Version {
+    ghost use Rattle.std.proofs.Common.{rules};
+
+    ghost exact = { λ version copy is_copy. Prim.search rules };
+}
+
+impl Same for Workunit {
+    ghost use Rattle.std.proofs.Common.{rules};
+
+    ghost exact = { λ workunit copy is_copy. Prim.search rules };
+}
+
+impl Same for HostRow {
+    ghost use Rattle.std.proofs.Common.{rules};
+
+    ghost exact = { λ host copy is_copy. Prim.search rules };
+}

@@ -1,0 +1,74 @@
+//! Texts that say whole numbers, by which an application may compare its outputs.
+
+ghost use Rattle.std.specs.Prelude.{◌≡◌, ◌<◌, ◌≤◌, ◌^◌, IsTrue, IfSome, length};
+ghost use Rattle.std.specs.Char.{is_ascii_digit};
+ghost use Rattle.std.specs.List.{list_all};
+ghost use Rattle.sched_book.specs.WholeNumbers.{number_of, magnitude, whole_number, are_within};
+
+/// What a row of digits says.
+fn number_of_digits(digits: &[u8]) -> u64
+    requires digits { IsTrue (list_all is_ascii_digit digits.now) }
+    requires few { length digits.now ≤ 18 }
+    ensures value { result ≡ number_of digits.now }
+    ensures small { result < 10 ^ 18 }
+{
+    let mut number = 0;
+    for digit in digits {
+        number = 10 * number + u64::from(*digit - b'0');
+    }
+    number
+}
+
+fn are_digits(text: &[u8]) -> bool
+    ensures { result ≡ list_all is_ascii_digit text.now }
+{
+    text.iter().all(|byte| byte.is_ascii_digit())
+}
+
+/// Reads a digit from 1 to 9 and at most 17 more.
+fn magnitude_of(text: &[u8]) -> Option<u64>
+    ensures value { result ≡ magnitude text.now }
+    ensures small { IfSome result (λ n. n < 10 ^ 18) }
+{
+    let [first, rest @ ..] = text else {
+        return None;
+    };
+    if *first >= b'1' && first.is_ascii_digit() && are_digits(rest) && rest.len() <= 17 {
+        Some(number_of_digits(text))
+    } else {
+        None
+    }
+}
+
+/// Reads a whole number: `0`, or a magnitude with or without a minus sign.
+pub(crate) fn whole_number_of(text: &[u8]) -> Option<i64>
+    ensures { result ≡ whole_number text.now }
+{
+    let [first, rest @ ..] = text else {
+        return None;
+    };
+    if text == b"0".as_slice() {
+        return Some(0);
+    }
+    if *first == b'-' {
+        match magnitude_of(rest) {
+            None => None,
+            Some(magnitude) => Some(-(magnitude as i64)),
+        }
+    } else {
+        match magnitude_of(text) {
+            None => None,
+            Some(magnitude) => Some(magnitude as i64),
+        }
+    }
+}
+
+/// Whether both are whole numbers, and at most `distance` apart.
+pub(crate) fn are_numbers_within(distance: u32, left: Option<i64>, right: Option<i64>) -> bool
+    ensures { result ≡ are_within distance left right }
+{
+    match (left, right) {
+        (Some(left), Some(right)) => left.abs_diff(right) <= u64::from(distance),
+        _ => false,
+    }
+}
