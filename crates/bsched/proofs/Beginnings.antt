@@ -1,7 +1,7 @@
 -- The first-heard messages of a past begin with those of each shorter one.
 use Rattle.std.proofs.Common.{◌≡◌, List, [], ◌∷◌, ◌++◌, Bool, true, false, refl, ap}
 use Rattle.std.specs.Prelude.{if◌then◌else◌}
-use Rattle.bsched.specs.FirstHeard.{is_first_heard, first_heard}
+use Rattle.bsched.specs.FirstHeard.{first_heard}
 use Rattle.bsched.specs.Messages.{Said, said}
 use Rattle.bsched.specs.Pasts.{Past, said_in}
 use Rattle.bsched.specs.declared.first.line.Limits.{Limits}

@@ -1,14 +1,13 @@
 -- What serves a message stands for the past and that message.
-use Rattle.std.proofs.Common.{◌≡◌, ℕ, List, [], ◌∷◌, ◌++◌, Bool, true, false, refl, sym, ◌∙◌, ap, subst, inl, inr}
+use Rattle.std.proofs.Common.{◌≡◌, ℕ, List, ◌∷◌, true, false, refl, sym, ◌∙◌, ap, subst, inl, inr}
 use Rattle.std.specs.Prelude.{Option, Some, None, is_none}
-use Rattle.reply_register.specs.declared.kept.Kept.{Kept}
 use Rattle.reply_register.specs.declared.key.Key.{Key}
 use Rattle.reply_register.proofs.Calls.{get_kept}
 use Rattle.bsched.specs.FirstHeard.{is_first_heard, first_heard}
 use Rattle.bsched.specs.Messages.{Said, Account, Call, Refused, said, key_of}
 use Rattle.bsched.specs.Pasts.{Past, said_in, then_heard}
 use Rattle.bsched.specs.Replies.{good, imported_text}
-use Rattle.bsched.specs.Runs.{Turn, Step, world_of, said_of, reply_body}
+use Rattle.bsched.specs.Runs.{Turn, Step, world_of, reply_body}
 use Rattle.bsched.specs.Serves.{limits_of, world_in, kept_in, told_by, ServesAs, Serves}
 use Rattle.bsched.specs.Stands.{Answers, StandsBy, Stands}
 use Rattle.bsched.specs.Told.{kept_call, kept_after, kept_of, told}

@@ -1,7 +1,7 @@
 -- What is so of each run over first-heard messages: its accounts, its hosts' keys and its kept calls are those of its messages, and
 -- a message is first heard just where it is told nothing.
-use Rattle.std.proofs.Common.{◌≡◌, ℕ, ◌+◌, ◌<◌, List, [], ◌∷◌, ◌++◌, length, Bool, true, false, refl, sym, ◌∙◌, ap, subst, inl, inr, arith, nat_lt}
-use Rattle.std.specs.Prelude.{◌&&◌, ◌||◌, not, if◌then◌else◌, map, Option, Some, None, option_map, is_none, is_some}
+use Rattle.std.proofs.Common.{◌≡◌, ℕ, ◌+◌, List, [], ◌∷◌, ◌++◌, length, Bool, true, false, refl, sym, ◌∙◌, ap, subst, inl, inr, arith, nat_lt}
+use Rattle.std.specs.Prelude.{◌&&◌, not, if◌then◌else◌, map, Option, Some, None, option_map, is_none}
 use Rattle.std.specs.Str.{bytes_eq}
 use Rattle.std.proofs.lemmas.Bool.Decides.{nat_tests}
 use Rattle.std.proofs.lemmas.List.{length-map}
@@ -15,10 +15,10 @@ use Rattle.rpc_records.specs.declared.request.Request.{Request}
 use Rattle.bsched.specs.FirstHeard.{accounts_of, has_host_room, keys_of, with_key, names_host, is_above, is_first_heard, first_heard}
 use Rattle.bsched.specs.Messages.{Said, Account, Call, Refused, said, key_of}
 use Rattle.bsched.specs.Names.{has_name}
-use Rattle.bsched.specs.Pasts.{Answered, Past, said_in}
+use Rattle.bsched.specs.Pasts.{Past, said_in}
 use Rattle.bsched.specs.Places.{place_where}
 use Rattle.bsched.specs.Runs.{Turn, Step, world_of, said_of}
-use Rattle.bsched.specs.Stands.{Acts, Answers}
+use Rattle.bsched.specs.Stands.{Answers}
 use Rattle.bsched.specs.Told.{kept_call, kept_after, kept_of, told_fresh, told_heard, told_beside, told_call, told}
 use Rattle.bsched.specs.World.{World, host_number, host_told, with_caller}
 use Rattle.bsched.specs.declared.first.hosts.Host.{Host}

@@ -1,5 +1,5 @@
 -- What a service stands for: a past, and the one run of the machine over its first-heard messages.
-use Rattle.std.specs.Prelude.{◌≡◌, ◌⊎◌, true, false, List, [], ◌∷◌, Option, Some}
+use Rattle.std.specs.Prelude.{◌≡◌, ◌⊎◌, true, false, List, [], ◌∷◌, Some}
 use Rattle.reply_register.specs.declared.key.Key.{Key}
 use Rattle.bsched.specs.FirstHeard.{is_first_heard, first_heard}
 use Rattle.bsched.specs.Messages.{said}

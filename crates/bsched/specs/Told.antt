@@ -1,5 +1,5 @@
 -- The answers that change nothing.
-use Rattle.std.specs.Prelude.{ℕ, Bool, ◌||◌, nat_lt, if◌then◌else◌, List, [], ◌∷◌, length, Option, Some, None, is_some}
+use Rattle.std.specs.Prelude.{ℕ, Bool, if◌then◌else◌, List, [], ◌∷◌, length, Option, Some, None}
 use Rattle.reply_register.specs.Calls.{heard}
 use Rattle.reply_register.specs.Keys.{same_key}
 use Rattle.reply_register.specs.declared.kept.Heard.{Heard}

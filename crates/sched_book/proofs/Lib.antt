@@ -13,3 +13,4 @@ pub mod Newest
 pub mod FirstOfEach
 pub mod Recording
 pub mod MadeNames
+pub mod Fitting

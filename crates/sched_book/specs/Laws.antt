@@ -6,6 +6,9 @@ use Rattle.sched_book.specs.Fits.{is_version_for, version_among}
 use Rattle.std.specs.Str.{bytes_eq}
 use Rattle.rpc_records.specs.declared.request.Report.{Report}
 use Rattle.sched_book.specs.Names.{instance_name, name_parts}
+use Rattle.sched_book.specs.Limits.{IsBounded}
+use Rattle.sched_book.specs.Delta.{applied, Fits}
+use Rattle.sched_book.specs.declared.delta.Change.{Change}
 use Rattle.sched_book.specs.Count.{has_failed}
 use Rattle.sched_book.specs.Places.{instance_at, place_named, status_at}
 use Rattle.sched_book.specs.Reports.{first_reports, awaits_report, with_report, recorded}
@@ -108,3 +111,7 @@ MadeNamesAreSplit = (unit : List ℕ) (number : ℕ) → number < 100 → name_p
 abbrev pub SplitNamesAreMade : Type 0
 SplitNamesAreMade = (name unit : List ℕ) (number : ℕ) → name_parts name ≡ Some (unit, number)
     → (name ≡ instance_name unit number) × (number < 100)
+
+-- changes that fit keep every table within its bounds
+abbrev pub FittingKeepsBounds : Type 0
+FittingKeepsBounds = (w : World) (changes : List Change) → w.settings.max_hosts ≤ 100000 → IsBounded w → Fits w changes → IsBounded (applied w changes)

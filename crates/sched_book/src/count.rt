@@ -4,6 +4,7 @@
 
 ghost use Rattle.std.specs.Prelude.{◌≡◌, ◌<◌, ◌≤◌, ◌^◌, ◌+◌, ◌*◌, ◌&&◌, length, take, drop, nat_le};
 ghost use Rattle.std.specs.List.{prefix_len};
+ghost use Rattle.std.specs.Option.{SomeIff};
 ghost use Rattle.arrayvec.specs.ArrayVec.{array_vec_len};
 ghost use Rattle.sched_book.specs.Count.{agree, tells_success, tells_error, is_held, is_live, output_of, place_of, put_by, good, errors, live, votes, leader, first_leader, canonical, want, need, status, verdict_by, verdict, is_open, has_failed, is_valid};
 ghost use Rattle.sched_book.specs.Limits.{IsBounded};
@@ -116,8 +117,8 @@ fn put_report(instances: &[Instance], reports: &mut ArrayVec<usize, MOST_INSTANC
     reports.insert(index, number);
 }
 
-#[tactic(auto, using(crate::proofs::Reports::put_steps))]
 /// The good reports: the numbers of the judged successes, in the order of their places.
+#[tactic(auto, using(crate::proofs::Reports::put_steps))]
 fn good_reports(instances: &[Instance]) -> ArrayVec<usize, MOST_INSTANCES>
     requires { length instances.now ≤ MOST_INSTANCES }
     ensures { result.items ≡ good instances.now }
@@ -160,8 +161,8 @@ fn leader_among(
         <= votes_for(agreement, instances, reports, *number))
 }
 
-#[tactic(auto, using(crate::proofs::Reports::leader_steps))]
 /// The leader of the least front that has one, of fronts no shorter than a quorum.
+#[tactic(auto, using(crate::proofs::Reports::leader_steps))]
 fn first_leader_among(
     agreement: &Agreement,
     instances: &[Instance],
@@ -418,8 +419,8 @@ pub fn credit_in(apps: &[App], host: u32, book: &UnitBook) -> u64
     u64::from(book.unit.credit) * valid as u64
 }
 
-#[tactic(auto, using(crate::proofs::Credits::host_credit_steps))]
 /// The millicredits of the host of this number: the credits of the workunits of its valid results.
+#[tactic(auto, using(crate::proofs::Credits::host_credit_steps))]
 pub fn host_credit(world: &World, host: u32) -> u64
     requires { IsBounded world.now }
     ensures { result ≡ host_credit world.now host }
@@ -431,18 +432,20 @@ pub fn host_credit(world: &World, host: u32) -> u64
     credit
 }
 
+/// The millicredits of a user: those of the user's hosts together, unless they are past what fits.
 #[tactic(auto, using(crate::proofs::Credits::user_credit_steps))]
-/// The millicredits of a user: those of the user's hosts together.
-pub fn user_credit(world: &World, account: u32) -> u64
-    requires bounded { IsBounded world.now }
-    requires fits { user_credit world.now account < 2 ^ 64 }
-    ensures { result ≡ user_credit world.now account }
+pub fn user_credit(world: &World, account: u32) -> Option<u64>
+    requires { IsBounded world.now }
+    ensures { SomeIff result (user_credit world.now account < 2 ^ 64) (user_credit world.now account) }
 {
-    let mut credit = 0;
+    let mut credit: u64 = 0;
     for (index, row) in world.hosts.as_slice().iter().enumerate() {
         if row.account == account {
-            credit += host_credit(world, index as u32 + 1);
+            let Some(sum) = credit.checked_add(host_credit(world, index as u32 + 1)) else {
+                return None;
+            };
+            credit = sum;
         }
     }
-    credit
+    Some(credit)
 }

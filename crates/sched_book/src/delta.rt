@@ -97,8 +97,8 @@ pub(crate) fn changed_book(book: &UnitBook, number: u32, row: Instance) -> Resul
     Ok(changed)
 }
 
-#[tactic(auto, using(crate::proofs::Changes::changed_nth_steps))]
 /// Puts an instance at a place; where no workunit stands there nothing changes.
+#[tactic(auto, using(crate::proofs::Changes::changed_nth_steps))]
 fn put_instance(books: &mut Listed<UnitBook>, place: Place, row: Instance) -> Result<(), Memory>
     ensures { OnOk result (books.new ≡ changed_nth (with_instance place.number row) books.old place.unit) }
 {

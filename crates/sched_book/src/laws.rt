@@ -1,6 +1,6 @@
 //! Laws of the definitions. Each function does nothing; its contract is the law.
 
-ghost use Rattle.sched_book.specs.Laws.{CanonicalIsFirstLeader, VersionIsNewestOfFirst, SettlementIsPointwise, FirstReportsAreFirst, ReportsAreRecordedByPlace, MadeNamesAreSplit, SplitNamesAreMade};
+ghost use Rattle.sched_book.specs.Laws.{CanonicalIsFirstLeader, VersionIsNewestOfFirst, SettlementIsPointwise, FirstReportsAreFirst, ReportsAreRecordedByPlace, MadeNamesAreSplit, SplitNamesAreMade, FittingKeepsBounds};
 
 /// The canonical result is the first report that agrees with a majority, of the least front of the good reports
 /// in which one does; there is none where no front has one.
@@ -37,3 +37,9 @@ pub fn made_names_are_split()
 pub fn split_names_are_made()
     ensures { SplitNamesAreMade }
 {}
+
+/// Changes that fit a world keep every table within its bounds.
+pub fn fitting_changes_keep_bounds()
+    ensures { FittingKeepsBounds }
+{
+}

@@ -25,6 +25,9 @@ mod versions;
 mod whole_numbers;
 pub mod world;
 
+#[cfg(test)]
+mod tests;
+
 pub use delta::{Change, Delta};
 pub use desk::{Candidate, Counts, Desk, Flow, Placed, Taker, Unavailable, Units};
 pub use instance::{Instance, Lapse, Outcome, Owner, Place, Status, UnitBook, Verdict};

@@ -22,6 +22,12 @@ pub struct Patched<'a, D> {
     pub delta: &'a Delta,
 }
 
+impl<'a, D> Drop for Patched<'a, D> {
+    fn drop(self) {
+        let Patched { desk: _, delta: _ } = self;
+    }
+}
+
 /// How many workunits stand after a change.
 fn count_with(count: u64, change: &Change) -> u64
     requires { count < 2 ^ 64 - 1 }

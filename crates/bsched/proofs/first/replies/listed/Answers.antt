@@ -1,4 +1,4 @@
-use Rattle.std.proofs.Common.{take, get_or}
+use Rattle.std.proofs.Common.{take}
 use Rattle.std.proofs.lemmas.List.{take_more}
 use Rattle.std.proofs.Common.{◌∙◌, ap, sym, ◌∷◌, [], ◌++◌}
 use Rattle.bsched.proofs.NameLists.{distinct_more}

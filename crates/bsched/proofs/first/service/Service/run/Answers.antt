@@ -1,4 +1,4 @@
-use Rattle.std.proofs.Common.{◌≡◌, ◌+◌, List, ◌∷◌, [], ◌++◌, take, sym, subst}
+use Rattle.std.proofs.Common.{◌+◌, List, ◌∷◌, [], ◌++◌, take, sym, subst}
 use Rattle.std.proofs.lemmas.Result.{err_from_is_err_and}
 use Rattle.bsched.specs.Serves.{ServesAll}
 use Rattle.bsched.specs.declared.first.line.Answer.{Answer}
