@@ -12,14 +12,14 @@ use std::alloc::Global;
 use texts::{Memory, Text};
 
 /// A good answer with this body.
-pub fn good(body: Text) -> Answer
+pub(crate) fn good(body: Text) -> Answer
     ensures { result ≡ good body }
 {
     Answer { status: 200, body }
 }
 
 /// The answer that tells this refusal.
-pub fn refusal(alloc: Global, fault: Fault) -> Result<Answer, Memory>
+pub(crate) fn refusal(alloc: Global, fault: Fault) -> Result<Answer, Memory>
     ensures { IfOk result (λ answer. answer ≡ refusal fault) }
 {
     Ok(Answer {
@@ -36,7 +36,7 @@ fn imported_value(alloc: Global, name: &str) -> Result<Value, Memory>
 
 /// The body that tells that the account of this name was imported.
 #[tactic(auto, unfolding(crate::specs::Replies::imported_text))]
-pub fn imported(alloc: Global, name: &Text) -> Result<Text, Memory>
+pub(crate) fn imported(alloc: Global, name: &Text) -> Result<Text, Memory>
     ensures { IfOk result (λ text. text ≡ imported_text name.now) }
 {
     let value = imported_value(alloc, name.as_str())?;
@@ -44,7 +44,7 @@ pub fn imported(alloc: Global, name: &Text) -> Result<Text, Memory>
 }
 
 /// What a fresh call is told without a step: nothing where there is room for its host.
-pub fn told_fresh(alloc: Global, room: bool) -> Result<Option<Answer>, Memory>
+pub(crate) fn told_fresh(alloc: Global, room: bool) -> Result<Option<Answer>, Memory>
     ensures told { IfOk result (λ told. told ≡ told_fresh room) }
     ensures room { IfOk result (λ told. told ≡ None → IsTrue room) }
 {
@@ -55,7 +55,7 @@ pub fn told_fresh(alloc: Global, room: bool) -> Result<Option<Answer>, Memory>
 }
 
 /// What the call of this number and canonical text is told without a step, beside the kept call of its key.
-pub fn told_beside(
+pub(crate) fn told_beside(
     alloc: Global,
     room: bool,
     kept: Option<&Kept>,

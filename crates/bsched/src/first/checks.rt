@@ -12,21 +12,21 @@ const MAX_BODY: usize = 262_144;
 const MAX_ACCOUNTS: usize = 10_000;
 
 /// Whether a body is longer than is read.
-pub fn is_too_long(body: &[u8]) -> bool
+pub(crate) fn is_too_long(body: &[u8]) -> bool
     ensures { result ≡ is_too_long body.now }
 {
     body.len() > MAX_BODY
 }
 
 /// Whether there is room for one more account where so many stand.
-pub fn has_account_room(count: usize) -> bool
+pub(crate) fn has_account_room(count: usize) -> bool
     ensures { result ≡ has_account_room count }
 {
     count < MAX_ACCOUNTS
 }
 
 /// Whether a call tells no host number, or that of its key.
-pub fn names_host(hostid: u32, number: Option<u32>) -> bool
+pub(crate) fn names_host(hostid: u32, number: Option<u32>) -> bool
     ensures { result ≡ names_host hostid number }
 {
     if hostid == 0 {
@@ -39,7 +39,7 @@ pub fn names_host(hostid: u32, number: Option<u32>) -> bool
 }
 
 /// Whether there is room for the host of a call: it has a number, or fewer than `max_hosts` stand.
-pub fn has_host_room(limits: &Limits, number: Option<u32>, count: u32) -> bool
+pub(crate) fn has_host_room(limits: &Limits, number: Option<u32>, count: u32) -> bool
     ensures room { result ≡ has_host_room limits.now number count }
     ensures next_fits { IsTrue result → ForNone number (count + 1 < 2 ^ 32) }
 {

@@ -1,4 +1,4 @@
-ghost use Rattle.std.specs.Prelude.{◌≡◌, ◌==◌, ◌+◌, ◌-◌, ◌<◌, ◌≤◌, ◌^◌, [], ◌∷◌, ◌++◌, length, take, slice_get, slice_set, position, option_map, Some, IfSome, IfOk, OnOk, OnErr};
+ghost use Rattle.std.specs.Prelude.{◌≡◌, ◌+◌, ◌-◌, ◌<◌, ◌≤◌, ◌^◌, [], ◌∷◌, ◌++◌, length, take, slice_get, slice_set, position, option_map, Some, IfSome, IfOk, OnOk, OnErr};
 ghost use Rattle.bsched.specs.Messages.{key_of};
 ghost use Rattle.reply_register.specs.Keys.{same_key};
 ghost use Rattle.bsched.specs.World.{host_number, host_told};
@@ -28,7 +28,7 @@ pub struct Host {
 
 /// The hosts. A host's number is its place, from 1.
 #[derive(Drop)]
-pub struct Hosts {
+pub(crate) struct Hosts {
     rows: Listed<Host>,
 }
 
@@ -45,7 +45,7 @@ impl Model for Hosts {
 
 impl Hosts {
     /// No hosts, which take no memory yet.
-    pub fn new(alloc: Global) -> Hosts
+    pub(crate) fn new(alloc: Global) -> Hosts
         ensures { result ≡ [] }
     {
         Hosts {
@@ -54,27 +54,21 @@ impl Hosts {
     }
 
     /// The hosts, in the order of their numbers.
-    pub fn as_slice(&self) -> &[Host]
+    pub(crate) fn as_slice(&self) -> &[Host]
         ensures { result.now ≡ self.now }
     {
         self.rows.as_slice()
     }
 
     /// How many there are.
-    pub fn len(&self) -> u32
+    pub(crate) fn len(&self) -> u32
         ensures { result ≡ length self.now }
     {
         self.rows.len() as u32
     }
 
-    pub fn is_empty(&self) -> bool
-        ensures { result ≡ (length self.now == 0) }
-    {
-        self.len() == 0
-    }
-
     /// The number of the host of this key, where there is one.
-    pub fn number_of(&self, key: &Key) -> Option<u32>
+    pub(crate) fn number_of(&self, key: &Key) -> Option<u32>
         ensures number { result ≡ host_number key.now self.now }
         ensures from_one { IfSome result (λ number. 1 ≤ number) }
         ensures there { IfSome result (λ number. number ≤ length self.now) }
@@ -86,7 +80,7 @@ impl Hosts {
     }
 
     /// The host of this number.
-    pub fn get(&self, number: u32) -> &Host
+    pub(crate) fn get(&self, number: u32) -> &Host
         requires from_one { 1 ≤ number }
         requires there { number ≤ length self.now }
         ensures { slice_get self.now (number - 1) ≡ Some result.now }
@@ -95,7 +89,7 @@ impl Hosts {
     }
 
     /// Makes the next host.
-    pub fn push(&mut self, host: Host) -> Result<(), Memory>
+    pub(crate) fn push(&mut self, host: Host) -> Result<(), Memory>
         requires { length self.old + 1 < 2 ^ 32 }
         ensures ok { OnOk result (self.new ≡ self.old ++ host ∷ []) }
         ensures err { OnErr result (self.new ≡ self.old) }
@@ -104,7 +98,7 @@ impl Hosts {
     }
 
     /// Puts `host` in the place of the one of this number.
-    pub fn replace(&mut self, number: u32, host: Host)
+    pub(crate) fn replace(&mut self, number: u32, host: Host)
         requires from_one { 1 ≤ number }
         requires there { number ≤ length self.old }
         ensures { self.new ≡ slice_set self.old (number - 1) host }
@@ -113,7 +107,7 @@ impl Hosts {
     }
 
     /// Lets go of the last host.
-    pub fn drop_last(&mut self)
+    pub(crate) fn drop_last(&mut self)
         ensures { self.new ≡ take (length self.old - 1) self.old }
     {
         self.rows.drop_last();
@@ -129,7 +123,7 @@ fn index_of(hosts: &[Host], key: &Key) -> Option<usize>
 }
 
 /// Who makes this call.
-pub fn caller(request: &Request) -> Result<Key, Memory>
+pub(crate) fn caller(request: &Request) -> Result<Key, Memory>
     ensures { IfOk result (λ key. key ≡ key_of request.now) }
 {
     Ok(Key {
@@ -139,7 +133,7 @@ pub fn caller(request: &Request) -> Result<Key, Memory>
 }
 
 /// The host that makes this call, with the facts and platforms that it tells.
-pub fn told_host(request: Request, key: Key, quota: u32) -> Host
+pub(crate) fn told_host(request: Request, key: Key, quota: u32) -> Host
     requires { key ≡ key_of request }
     ensures { result ≡ host_told request quota }
 {

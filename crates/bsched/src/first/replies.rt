@@ -9,7 +9,7 @@ use std::alloc::Global;
 use texts::{Listed, Memory, Seen, Text};
 
 /// Whether the name is among these.
-pub fn has_name(name: &Text, names: &[Text]) -> bool
+pub(crate) fn has_name(name: &Text, names: &[Text]) -> bool
     ensures { result ≡ has_name name.now names.now }
 {
     names.iter().any(|other| *name == *other)
@@ -73,7 +73,7 @@ fn end_word(asked: u64) -> EndWord
 }
 
 /// The reply to a first-heard call of the host of this number.
-pub fn reply(
+pub(crate) fn reply(
     alloc: Global,
     limits: &Limits,
     number: u32,
