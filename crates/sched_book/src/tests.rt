@@ -1,8 +1,8 @@
 //! That the calls succeed where there is memory, and answer what the worked examples say.
 
-use crate::count::{canonical, host_credit, need, status, user_credit, verdict};
+use crate::count::{canonical, need, status, verdict};
 use crate::delta::{Change, Delta};
-use crate::desk::{Candidate, Desk, Flow, Taker, Unavailable, Units};
+use crate::desk::{Candidate, Desk, Flow, Taker, Units};
 use crate::instance::{Instance, Outcome, Owner, Place, Status, Verdict};
 use crate::list_desk::ListDesk;
 use crate::moment::Moment;
@@ -165,6 +165,12 @@ fn the_plain_desk_answers(rt: HostRuntime) -> Result<(), Fail> {
     assert_eq!(rt; desk.unit_by_name("f2")?, Some(2));
     assert_eq!(rt; desk.host_by_key(2, "c2")?, Some(2));
     assert_eq!(rt; desk.host_by_key(1, "c2")?, None);
+    assert_eq!(rt; desk.account_by_key(alloc, "k3")?.is_some(), true);
+    assert_eq!(rt; desk.app_by_name(alloc, "fold")?.is_some(), true);
+    assert_eq!(rt; desk.host_by_id(alloc, 1)?.is_some(), true);
+    assert_eq!(rt; desk.version_by_key(alloc, "fold", "linux", 8)?.is_some(), true);
+    assert_eq!(rt; desk.unit(alloc, 2)?.is_some(), true);
+    assert_eq!(rt; desk.instance(alloc, 2, 3)?.is_some(), false);
     let first_host = host(alloc, 1, "c1")?;
     match desk.version_for(alloc, &first_host, 1)? {
         None => assert!(rt; false, "a version"),
@@ -184,6 +190,13 @@ fn the_plain_desk_answers(rt: HostRuntime) -> Result<(), Fail> {
     };
     assert_eq!(rt; patched.agreement_of(alloc, 1)?, Some(Agreement::Within(2)));
     assert_eq!(rt; patched.instances_of(alloc, 1)?.len(), 3);
+    assert_eq!(rt; patched.unit_by_name("f2")?, Some(2));
+    drop(patched);
+    desk.apply(&delta)?;
+    assert_eq!(rt; desk.owned_by(alloc, 2)?.as_slice(), [Place { unit: 1, number: 1 }].as_slice());
+    assert_eq!(rt; desk.held_by(alloc, 2)?.len(), 0);
+    assert_eq!(rt; desk.sent_on_day(2, 0)?, 1);
+    assert_eq!(rt; desk.units_of_user(alloc, 2)?.as_slice(), [1].as_slice());
     Ok(())
 }
 
