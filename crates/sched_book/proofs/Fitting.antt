@@ -25,9 +25,9 @@ pushed xs x limit room = let long : length (xs ++ x ∷ []) ≡ length xs + 1 = 
 put_within : {X : Type 0} (xs : List X) (i : ℕ) (x : X) (limit : ℕ) → length xs ≤ limit → i < limit → length (put_at xs i x) ≤ limit
 put_within xs i x limit short below = cases (ltb i (length xs)) refl
   where
-  cases : (b : Bool) → ltb i (length xs) ≡ b → length (cond b (set xs i x) (xs ++ x ∷ [])) ≤ limit
-  cases true is = let same : length (set xs i x) ≡ length xs = length-set xs i x in omega arith
-  cases false is = pushed xs x limit (let past : length xs ≤ i = ltb-false i (length xs) is in omega arith)
+    cases : (b : Bool) → ltb i (length xs) ≡ b → length (cond b (set xs i x) (xs ++ x ∷ [])) ≤ limit
+    cases true is = let same : length (set xs i x) ≡ length xs = length-set xs i x in omega arith
+    cases false is = pushed xs x limit (let past : length xs ≤ i = ltb-false i (length xs) is in omega arith)
 
 -- a fact of each element, with one element more in front and with one changed
 all_cons : {X : Type 0} (P : X → Type 0) (x : X) (xs : List X) → P x → All P xs → All P (x ∷ xs)
@@ -46,9 +46,9 @@ all_changed_at P f keeps (x ∷ xs) (suc i) all =
 all_changed_nth : {X : Type 0} (P : X → Type 0) (f : X → X) → ((x : X) → P x → P (f x)) → (xs : List X) (n : ℕ) → All P xs → All P (changed_nth f xs n)
 all_changed_nth P f keeps xs n all = cases (eqb n 0)
   where
-  cases : (b : Bool) → All P (cond b xs (changed_at f xs (n - 1)))
-  cases true = all
-  cases false = all_changed_at P f keeps xs (n - 1) all
+    cases : (b : Bool) → All P (cond b xs (changed_at f xs (n - 1)))
+    cases true = all
+    cases false = all_changed_at P f keeps xs (n - 1) all
 
 abbrev HasFew : UnitBook → Type 0
 HasFew b = length b.instances ≤ 100
@@ -58,37 +58,59 @@ hosts_within : {X : Type 0} (xs : List X) (n : ℕ) (x : X) → length xs ≤ 10
 hosts_within xs zero x short low = short
 hosts_within xs (suc i) x short low = cases (eqb (suc i) 0)
   where
-  cases : (b : Bool) → length (cond b xs (put_at xs (suc i - 1) x)) ≤ 100000
-  cases true = short
-  cases false = put_within xs (suc i - 1) x 100000 short (omega arith)
+    cases : (b : Bool) → length (cond b xs (put_at xs (suc i - 1) x)) ≤ 100000
+    cases true = short
+    cases false = put_within xs (suc i - 1) x 100000 short (omega arith)
 
 fitting_keeps_one : (w : World) (c : Change) → w.settings.max_hosts ≤ 100000 → IsBounded w → FitsOne w c → IsBounded (applied_one w c)
 fitting_keeps_one w (change.Account a) limit bounded fits = record {
   accounts = pushed w.accounts a 10000 fits;
-  apps = bounded.apps; versions = bounded.versions; hosts = bounded.hosts; units = bounded.units; instances = bounded.instances;
+  apps = bounded.apps;
+  versions = bounded.versions;
+  hosts = bounded.hosts;
+  units = bounded.units;
+  instances = bounded.instances;
 }
 fitting_keeps_one w (change.App a) limit bounded fits = record {
   apps = pushed w.apps a 100 fits;
-  accounts = bounded.accounts; versions = bounded.versions; hosts = bounded.hosts; units = bounded.units; instances = bounded.instances;
+  accounts = bounded.accounts;
+  versions = bounded.versions;
+  hosts = bounded.hosts;
+  units = bounded.units;
+  instances = bounded.instances;
 }
 fitting_keeps_one w (change.Version v) limit bounded fits = record {
   versions = pushed w.versions v 1000 fits.0;
-  accounts = bounded.accounts; apps = bounded.apps; hosts = bounded.hosts; units = bounded.units; instances = bounded.instances;
+  accounts = bounded.accounts;
+  apps = bounded.apps;
+  hosts = bounded.hosts;
+  units = bounded.units;
+  instances = bounded.instances;
 }
 fitting_keeps_one w (change.Workunit u) limit bounded fits = record {
   units = pushed w.units (new_unit u) 200000 fits.0;
   instances = All-append HasFew w.units (new_unit u ∷ []) bounded.instances
-    (all_cons HasFew (new_unit u) [] (let long : length (replicate u.target_nresults fresh) ≡ u.target_nresults = length-replicate u.target_nresults fresh in omega (arith, fits.2.target.1)) (λ k d none. absurd (omega arith)));
-  accounts = bounded.accounts; apps = bounded.apps; versions = bounded.versions; hosts = bounded.hosts;
+      (all_cons HasFew (new_unit u) [] (let long : length (replicate u.target_nresults fresh) ≡ u.target_nresults = length-replicate u.target_nresults fresh in omega (arith, fits.2.target.1)) (λ k d none. absurd (omega arith)));
+  accounts = bounded.accounts;
+  apps = bounded.apps;
+  versions = bounded.versions;
+  hosts = bounded.hosts;
 }
 fitting_keeps_one w (change.Host number h) limit bounded fits = record {
   hosts = hosts_within w.hosts number h bounded.hosts (omega (arith, fits.2));
-  accounts = bounded.accounts; apps = bounded.apps; versions = bounded.versions; units = bounded.units; instances = bounded.instances;
+  accounts = bounded.accounts;
+  apps = bounded.apps;
+  versions = bounded.versions;
+  units = bounded.units;
+  instances = bounded.instances;
 }
 fitting_keeps_one w (change.Instance p x) limit bounded fits = record {
   units = let same : length (changed_nth (with_instance p.number x) w.units p.unit) ≡ length w.units = length-changed_nth (with_instance p.number x) w.units p.unit in omega (arith, bounded.units);
   instances = all_changed_nth HasFew (with_instance p.number x) (λ b few. put_within b.instances p.number x 100 few fits.1) w.units p.unit bounded.instances;
-  accounts = bounded.accounts; apps = bounded.apps; versions = bounded.versions; hosts = bounded.hosts;
+  accounts = bounded.accounts;
+  apps = bounded.apps;
+  versions = bounded.versions;
+  hosts = bounded.hosts;
 }
 
 -- the settings stay

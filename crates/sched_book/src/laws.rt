@@ -41,5 +41,4 @@ pub fn split_names_are_made()
 /// Changes that fit a world keep every table within its bounds.
 pub fn fitting_changes_keep_bounds()
     ensures { FittingKeepsBounds }
-{
-}
+{}

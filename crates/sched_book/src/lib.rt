@@ -21,12 +21,11 @@ mod offers;
 pub mod patched;
 pub mod rows;
 pub mod settings;
+#[cfg(test)]
+mod tests;
 mod versions;
 mod whole_numbers;
 pub mod world;
-
-#[cfg(test)]
-mod tests;
 
 pub use delta::{Change, Delta};
 pub use desk::{Candidate, Counts, Desk, Flow, Placed, Taker, Unavailable, Units};

@@ -160,7 +160,16 @@ fn the_plain_desk_answers(rt: HostRuntime) -> Result<(), Fail> {
     let mut desk = ListDesk::new(alloc, &settings(alloc)?)?;
     desk.apply(&setup(alloc)?)?;
     let counts = desk.counts()?;
-    assert_eq!(rt; (counts.accounts, counts.apps, counts.versions, counts.workunits, counts.hosts), (3, 1, 3, 2, 2));
+    assert_eq!(rt;
+        (
+            counts.accounts,
+            counts.apps,
+            counts.versions,
+            counts.workunits,
+            counts.hosts
+        ),
+        (3, 1, 3, 2, 2)
+    );
     assert_eq!(rt; desk.settings(alloc)?.request_delay, 60);
     assert_eq!(rt; desk.unit_by_name("f2")?, Some(2));
     assert_eq!(rt; desk.host_by_key(2, "c2")?, Some(2));
@@ -168,7 +177,10 @@ fn the_plain_desk_answers(rt: HostRuntime) -> Result<(), Fail> {
     assert_eq!(rt; desk.account_by_key(alloc, "k3")?.is_some(), true);
     assert_eq!(rt; desk.app_by_name(alloc, "fold")?.is_some(), true);
     assert_eq!(rt; desk.host_by_id(alloc, 1)?.is_some(), true);
-    assert_eq!(rt; desk.version_by_key(alloc, "fold", "linux", 8)?.is_some(), true);
+    assert_eq!(rt;
+        desk.version_by_key(alloc, "fold", "linux", 8)?.is_some(),
+        true
+    );
     assert_eq!(rt; desk.unit(alloc, 2)?.is_some(), true);
     assert_eq!(rt; desk.instance(alloc, 2, 3)?.is_some(), false);
     let first_host = host(alloc, 1, "c1")?;
@@ -182,7 +194,10 @@ fn the_plain_desk_answers(rt: HostRuntime) -> Result<(), Fail> {
         most: 4,
     };
     desk.unsent_from(Place { unit: 1, number: 1 }, &mut taker)?;
-    assert_eq!(rt; (taker.offers, taker.last), (4, Place { unit: 2, number: 1 }));
+    assert_eq!(rt;
+        (taker.offers, taker.last),
+        (4, Place { unit: 2, number: 1 })
+    );
     let delta = reports(alloc)?;
     let mut patched = Patched {
         desk: &mut desk,
@@ -193,7 +208,10 @@ fn the_plain_desk_answers(rt: HostRuntime) -> Result<(), Fail> {
     assert_eq!(rt; patched.unit_by_name("f2")?, Some(2));
     drop(patched);
     desk.apply(&delta)?;
-    assert_eq!(rt; desk.owned_by(alloc, 2)?.as_slice(), [Place { unit: 1, number: 1 }].as_slice());
+    assert_eq!(rt;
+        desk.owned_by(alloc, 2)?.as_slice(),
+        [Place { unit: 1, number: 1 }].as_slice()
+    );
     assert_eq!(rt; desk.held_by(alloc, 2)?.len(), 0);
     assert_eq!(rt; desk.sent_on_day(2, 0)?, 1);
     assert_eq!(rt; desk.units_of_user(alloc, 2)?.as_slice(), [1].as_slice());
@@ -213,8 +231,14 @@ fn counts_the_worked_example(rt: HostRuntime) -> Result<(), Fail> {
     assert_eq!(rt; canonical(&agreement, &unit, &instances), Some(0));
     assert_eq!(rt; status(&agreement, &unit, &instances), Status::Done);
     assert_eq!(rt; need(&unit, &instances), 1);
-    assert_eq!(rt; verdict(&agreement, &unit, &instances, &instances[1]), Some(Verdict::Invalid));
-    assert_eq!(rt; verdict(&agreement, &unit, &instances, &instances[2]), Some(Verdict::Valid));
+    assert_eq!(rt;
+        verdict(&agreement, &unit, &instances, &instances[1]),
+        Some(Verdict::Invalid)
+    );
+    assert_eq!(rt;
+        verdict(&agreement, &unit, &instances, &instances[2]),
+        Some(Verdict::Valid)
+    );
     let name = instance_name(alloc, "w_1", 7)?;
     assert_eq!(rt; name.as_str(), "w_1_7");
     assert_eq!(rt; split_name("w_1_7"), Some(("w_1", 7)));
