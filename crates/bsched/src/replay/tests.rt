@@ -283,6 +283,7 @@ fn a_line_may_be_1_100_000_bytes_long(rt: HostRuntime) -> Result<(), Fail> {
     let (printed, ended) = replayed(alloc, &lines)?;
     assert_eq!(rt; ended, Ended::Good);
     assert!(rt; printed.as_slice() == b"413 {\"error\":\"too_large\",\"number\":5}\n".as_slice());
+    assert!(rt; start.len() <= lines.len());
     lines.insert(start.len(), b'x')?;
     let (printed, ended) = replayed(alloc, &lines)?;
     assert_eq!(rt; ended, Ended::Line(1));
