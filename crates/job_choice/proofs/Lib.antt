@@ -1,0 +1,8 @@
+pub mod Candidates
+pub mod Carried
+pub mod Greedy
+pub mod Known
+pub mod Only
+pub mod Passing
+pub mod Sets
+pub mod Taking

@@ -1,0 +1,298 @@
+-- One who takes the candidates in turn, as long as it may, ends with a grant.
+use Rattle.std.proofs.Common.{◌≡◌, ◌⊎◌, inl, inr, ℕ, ◌+◌, ◌-◌, ◌/◌, Bool, true, false, cond, not, eqb, List, [], ◌∷◌, ◌++◌, length, Option, Some, None, All, sym, refl, ap, ◌∙◌, subst, arith}
+use Rattle.std.specs.Prelude.{◌&&◌, ◌||◌, nat_le, is_none, filter, option_map, option_and_then, unwrap_or, sum_by, Contains}
+use Rattle.std.specs.List.{list_all}
+use Rattle.std.proofs.lemmas.Bool.{and_parts, and_from, and_cases, or_parts, or_left, both_ways, not-true, not-false, leb-false}
+use Rattle.std.proofs.lemmas.List.{length-map, map-append}
+use Rattle.std.proofs.lemmas.List.Elements.{All-nil, All-push}
+use Rattle.std.proofs.lemmas.List.Sums.{sum_by_push}
+use Rattle.rpc_records.specs.declared.reply.EndWord.{EndWord}
+use Rattle.rpc_records.specs.declared.reply.EndWord.TheVariants.{Enough, ReplyLimit, InProgressLimit, DailyQuota, NoEligibleWork}
+use Rattle.sched_book.specs.Desk.{units_of_user}
+use Rattle.sched_book.specs.Fits.{estimate, fits, version_for, unit_fits, is_for, is_eligible}
+use Rattle.sched_book.specs.Grant.{Asking, IsGrant, is_maximal, is_enough, fills_reply, fills_progress, fills_day, seconds_at, seconds_of, sent_today, has_unit, end_word}
+use Rattle.sched_book.specs.Offers.{unsent, OffersAll}
+use Rattle.sched_book.specs.Places.{places, unit_at, user_had}
+use Rattle.sched_book.specs.declared.desk.Candidate.{Candidate}
+use Rattle.sched_book.specs.declared.desk.Flow.TheVariants.{GoOn, Stop}
+use Rattle.sched_book.specs.declared.instance.Place.{Place}
+use Rattle.sched_book.specs.declared.instance.UnitBook.{UnitBook}
+use Rattle.sched_book.specs.declared.rows.Version.{Version}
+use Rattle.sched_book.specs.declared.world.World.{World}
+use Rattle.sched_book.proofs.Newest.{behind, front_of}
+use Rattle.job_choice.specs.Chosen.{places_of, IsJob, IsChoice}
+use Rattle.job_choice.specs.Choosing.{is_full, end_word_at, has_job_of, is_new_unit, version_in, with_job, after_with, after, Takes, versions_known}
+use Rattle.job_choice.specs.Offered.{HasJust, limits_on, IsBegun, IsOffered, first_place}
+use Rattle.job_choice.specs.UnitsHad.{has_had}
+use Rattle.job_choice.specs.declared.choosing.Choosing.{Choosing}
+use Rattle.job_choice.specs.declared.choosing.Limits.{Limits}
+use Rattle.job_choice.specs.declared.granted.Grant.{Grant}
+use Rattle.job_choice.specs.declared.granted.Granted.{Granted}
+use Rattle.job_choice.proofs.Candidates.{InWorld, in_world, found_nth, passes_at}
+use Rattle.job_choice.proofs.Greedy.{AreTaken, none_taken, passed_over, taken_on, all_seen, is_grant}
+use Rattle.job_choice.proofs.Known.{version_is, had_at}
+use Rattle.job_choice.proofs.Passing.{nothing_left, left_reached}
+
+-- tests that agree one by one
+same_or : (a b c d e f g h : Bool) → a ≡ e → b ≡ f → c ≡ g → d ≡ h → (a || b || c || d) ≡ (e || f || g || h)
+same_or a b c d e f g h p q r s =
+    ap (λ x. x || b || c || d) p ∙ ap (λ x. e || x || c || d) q ∙ ap (λ x. e || f || x || d) r ∙ ap (λ x. e || f || g || x) s
+
+abbrev first_word : Bool → Bool → Bool → Bool → EndWord
+first_word a b c d = cond a Enough (cond b ReplyLimit (cond c InProgressLimit (cond d DailyQuota NoEligibleWork)))
+
+same_word : (a b c d e f g h : Bool) → a ≡ e → b ≡ f → c ≡ g → d ≡ h → first_word a b c d ≡ first_word e f g h
+same_word a b c d e f g h p q r s =
+    ap (λ x. first_word x b c d) p ∙ ap (λ x. first_word e x c d) q ∙ ap (λ x. first_word e f x d) r ∙ ap (λ x. first_word e f g x) s
+
+has_job-is : (jobs : List Granted) (unit : ℕ) → has_job_of jobs unit ≡ has_unit unit (places_of jobs)
+has_job-is [] unit = refl
+has_job-is (j ∷ jobs) unit = ap (λ b. eqb j.place.unit unit || b) (has_job-is jobs unit)
+
+stops : (full : Bool) → Stop ≡ cond full Stop GoOn → full ≡ true
+stops true h = refl
+stops false h = absurd cc
+
+goes : (full : Bool) → GoOn ≡ cond full Stop GoOn → full ≡ false
+goes true h = absurd cc
+goes false h = refl
+
+module _ (w : World) (q : Asking) where
+  -- what was read is that of the world, and what is granted was taken by place
+  record IsOn (t : Choosing) (left : List Candidate) : Type 0 where
+    host : t.host.now ≡ q.host
+    had : HasJust t.had (units_of_user w q.host.account)
+    versions : t.versions ≡ versions_known w q.host
+    limits_are : t.limits ≡ limits_on w q.number q.host q.held (q.now / 86400)
+    wanted_is : t.wanted ≡ q.asked - seconds_of w q (places_of t.jobs)
+    jobs : All (IsJob w q.host) t.jobs
+    taken : AreTaken w q (places_of t.jobs) left
+
+  -- its tests are those of the definitions
+  module _ (t : Choosing) (left : List Candidate) (on : IsOn t left) where
+    count_is : length t.jobs ≡ length (places_of t.jobs)
+    count_is = sym (length-map t.jobs (λ (j : Granted). j.place))
+
+    enough_is : eqb t.wanted 0 ≡ is_enough w q (places_of t.jobs)
+    enough_is = ap (λ n. eqb n 0) on.wanted_is ∙ nothing_left q.asked (seconds_of w q (places_of t.jobs))
+
+    reply_is : nat_le t.limits.reply (length t.jobs) ≡ fills_reply w (length (places_of t.jobs))
+    reply_is = ap (λ (l : Limits). nat_le l.reply (length t.jobs)) on.limits_are ∙ ap (nat_le w.settings.max_wus_to_send) count_is
+
+    progress_is : nat_le t.limits.progress (length t.jobs) ≡ fills_progress w q (length (places_of t.jobs))
+    progress_is =
+        ap (λ (l : Limits). nat_le l.progress (length t.jobs)) on.limits_are
+        ∙ left_reached w.settings.max_wus_in_progress q.held (length t.jobs)
+        ∙ ap (λ n. nat_le w.settings.max_wus_in_progress (q.held + n)) count_is
+
+    day_is : nat_le t.limits.day (length t.jobs) ≡ fills_day w q (length (places_of t.jobs))
+    day_is =
+        ap (λ (l : Limits). nat_le l.day (length t.jobs)) on.limits_are
+        ∙ left_reached q.host.quota (sent_today w q) (length t.jobs)
+        ∙ ap (λ n. nat_le q.host.quota (sent_today w q + n)) count_is
+
+    full_is : is_full t
+        ≡ (is_enough w q (places_of t.jobs) || fills_reply w (length (places_of t.jobs)) || fills_progress w q (length (places_of t.jobs)) || fills_day w q (length (places_of t.jobs)))
+    full_is = same_or (eqb t.wanted 0) (nat_le t.limits.reply (length t.jobs)) (nat_le t.limits.progress (length t.jobs)) (nat_le t.limits.day (length t.jobs))
+        (is_enough w q (places_of t.jobs)) (fills_reply w (length (places_of t.jobs))) (fills_progress w q (length (places_of t.jobs))) (fills_day w q (length (places_of t.jobs)))
+        enough_is reply_is progress_is day_is
+
+    word_is : end_word_at t ≡ end_word w q (places_of t.jobs)
+    word_is = same_word (eqb t.wanted 0) (nat_le t.limits.reply (length t.jobs)) (nat_le t.limits.progress (length t.jobs)) (nat_le t.limits.day (length t.jobs))
+        (is_enough w q (places_of t.jobs)) (fills_reply w (length (places_of t.jobs))) (fills_progress w q (length (places_of t.jobs))) (fills_day w q (length (places_of t.jobs)))
+        enough_is reply_is progress_is day_is
+
+    full_maximal : is_full t ≡ true → is_maximal w q (places_of t.jobs) ≡ true
+    full_maximal full =
+        or_left (is_enough w q (places_of t.jobs) || fills_reply w (length (places_of t.jobs)) || fills_progress w q (length (places_of t.jobs)) || fills_day w q (length (places_of t.jobs)))
+        (list_all (λ (p : Place). has_unit p.unit (places_of t.jobs)) (filter (is_eligible w q.host) (places w)))
+        (sym full_is ∙ full)
+
+  -- a candidate of the world
+  module _ (c : Candidate) (here : InWorld w 1 w.units c) where
+    at : unit_at w c.place.unit ≡ Some here.book
+    at = found_nth w.units c.place.unit here.index here.book here.place here.found
+
+    eligible_is : is_eligible w q.host c.place ≡ (unit_fits w q.host here.book && not (user_had w q.host.account here.book))
+    eligible_is =
+        passes_at w (λ b x. is_none x.owner && is_for w q.host b) c.place here.book here.x at here.stands
+        ∙ ap (λ (b : Bool). b && is_for w q.host here.book) here.free
+        ∙ ap (λ (b : Bool). b && unit_fits w q.host here.book && not (user_had w q.host.account here.book)) here.opened
+
+    seconds_is : seconds_at w q c.place ≡ estimate here.book.unit.rsc_fpops_est q.host.p_fpops
+    seconds_is = ap (λ (o : Option UnitBook). unwrap_or (option_map (λ b. estimate b.unit.rsc_fpops_est q.host.p_fpops) o) 0) at
+
+    module _ (t : Choosing) (left : List Candidate) (on : IsOn t (c ∷ left)) where
+      version_here : version_in t.versions c.unit.app ≡ version_for w q.host here.book.unit.app
+      version_here =
+          ap (λ vs. version_in vs c.unit.app) on.versions
+          ∙ version_is w q.host c.unit.app
+          ∙ ap (λ u. version_for w q.host u.app) here.row
+
+      had_here : has_had t.had c.place.unit ≡ user_had w q.host.account here.book
+      had_here = on.had c.place.unit ∙ had_at 1 (user_had w q.host.account) w.units here.index here.book c.place.unit here.found here.place
+
+      fits_here : (o : Option Version) → version_in t.versions c.unit.app ≡ o → fits t.host.now c.unit o ≡ unit_fits w q.host here.book
+      fits_here o is =
+          ap (λ h. fits h c.unit o) on.host ∙ ap (λ u. fits q.host u o) here.row ∙ ap (fits q.host here.book.unit) (sym is ∙ version_here)
+
+      estimate_here : estimate c.unit.rsc_fpops_est t.host.now.p_fpops ≡ estimate here.book.unit.rsc_fpops_est q.host.p_fpops
+      estimate_here =
+          ap (λ h. estimate c.unit.rsc_fpops_est h.p_fpops) on.host ∙ ap (λ u. estimate u.rsc_fpops_est q.host.p_fpops) here.row
+
+      -- it is left
+      left_out : (is_eligible w q.host c.place ≡ true → has_unit c.place.unit (places_of t.jobs) ≡ true) → IsOn t left
+      left_out over = record {
+        host = on.host;
+        had = on.had;
+        versions = on.versions;
+        limits_are = on.limits_are;
+        wanted_is = on.wanted_is;
+        jobs = on.jobs;
+        taken = passed_over w q (places_of t.jobs) c left on.taken over;
+      }
+
+      unfit : (o : Option Version) → version_in t.versions c.unit.app ≡ o → fits t.host.now c.unit o ≡ false → IsOn t left
+      unfit o is misfit = left_out (λ eligible.
+          absurd (both_ways (unit_fits w q.host here.book) (sym (fits_here o is) ∙ misfit)
+          (and_parts (unit_fits w q.host here.book) (not (user_had w q.host.account here.book)) (sym eligible_is ∙ eligible)).0))
+
+      not_new : is_new_unit t.had t.jobs c.place.unit ≡ false → IsOn t left
+      not_new old = left_out (λ eligible.
+          let new = (and_parts (unit_fits w q.host here.book) (not (user_had w q.host.account here.book)) (sym eligible_is ∙ eligible)).1 in
+          elim (and_cases (not (has_had t.had c.place.unit)) (not (has_job_of t.jobs c.place.unit)) old) [
+            | inl had ↦ absurd (both_ways (not (user_had w q.host.account here.book)) (ap not (sym had_here) ∙ had) new)
+            | inr has ↦ sym (has_job-is t.jobs c.place.unit) ∙ not-false (has_job_of t.jobs c.place.unit) has
+          ])
+
+      -- it is taken
+      taken_in : (v : Version) → version_in t.versions c.unit.app ≡ Some v → is_full t ≡ false → is_new_unit t.had t.jobs c.place.unit ≡ true
+          → fits t.host.now c.unit (Some v) ≡ true → IsOn (with_job t c v) left
+      taken_in v is room new fit =
+          let jobs = places_of t.jobs in
+          let job : Granted = record { place = c.place; estimate = estimate c.unit.rsc_fpops_est t.host.now.p_fpops; version = v } in
+          let pushed : places_of (t.jobs ++ job ∷ []) ≡ jobs ++ c.place ∷ [] = map-append (λ (j : Granted). j.place) t.jobs (job ∷ []) in
+          let news = and_parts (not (has_had t.had c.place.unit)) (not (has_job_of t.jobs c.place.unit)) new in
+          let parts = or_parts (is_enough w q jobs || fills_reply w (length jobs) || fills_progress w q (length jobs)) (fills_day w q (length jobs)) (sym (full_is t (c ∷ left) on) ∙ room) in
+          let more = or_parts (is_enough w q jobs || fills_reply w (length jobs)) (fills_progress w q (length jobs)) parts.0 in
+          let most = or_parts (is_enough w q jobs) (fills_reply w (length jobs)) more.0 in
+          record {
+            host = on.host;
+            had = on.had;
+            versions = on.versions;
+            limits_are = on.limits_are;
+            wanted_is =
+                (let before = on.wanted_is in
+                let sum : sum_by (seconds_at w q) (jobs ++ c.place ∷ []) ≡ sum_by (seconds_at w q) jobs + seconds_at w q c.place = sum_by_push (seconds_at w q) jobs c.place in
+                let seconds : seconds_at w q c.place ≡ estimate c.unit.rsc_fpops_est t.host.now.p_fpops = seconds_is ∙ sym estimate_here in
+                let same : t.wanted - estimate c.unit.rsc_fpops_est t.host.now.p_fpops ≡ q.asked - seconds_of w q (jobs ++ c.place ∷ []) =
+                remainder t.wanted q.asked q.before (sum_by (seconds_at w q) jobs) (seconds_at w q c.place) (estimate c.unit.rsc_fpops_est t.host.now.p_fpops)
+                (sum_by (seconds_at w q) (jobs ++ c.place ∷ [])) before sum seconds in
+                same ∙ ap (λ ps. q.asked - seconds_of w q ps) (sym pushed));
+            jobs = All-push (IsJob w q.host) t.jobs job on.jobs (record {
+              estimate_is = ap (option_map (λ (b : UnitBook). estimate b.unit.rsc_fpops_est q.host.p_fpops)) at ∙ ap (λ n. Some n) (sym estimate_here);
+              version_is = ap (option_and_then (λ (b : UnitBook). version_for w q.host b.unit.app)) at ∙ sym version_here ∙ is;
+            });
+            taken = subst (λ ps. AreTaken w q ps left) (sym pushed)
+                (taken_on w q jobs c left on.taken
+                (eligible_is ∙ and_from (unit_fits w q.host here.book) (not (user_had w q.host.account here.book)) (sym (fits_here (Some v) is) ∙ fit) (ap not (sym had_here) ∙ news.0))
+                (sym (has_job-is t.jobs c.place.unit) ∙ not-true (has_job_of t.jobs c.place.unit) news.1)
+                (leb-false q.asked (seconds_of w q jobs) most.0)
+                (leb-false w.settings.max_wus_to_send (length jobs) most.1)
+                (leb-false w.settings.max_wus_in_progress (q.held + length jobs) more.1)
+                (leb-false q.host.quota (sent_today w q + length jobs) parts.1));
+          }
+        where
+          remainder : (now asked before sum one e more : ℕ) → now ≡ asked - (before + sum) → more ≡ sum + one → one ≡ e → now - e ≡ asked - (before + more)
+          remainder now asked before sum one e more h k l = omega arith
+
+      step : is_full t ≡ false → IsOn (after t c) left
+      step room = by (version_in t.versions c.unit.app) refl
+        where
+          with_version : (v : Version) → version_in t.versions c.unit.app ≡ Some v → (new fit : Bool)
+              → is_new_unit t.had t.jobs c.place.unit ≡ new → fits t.host.now c.unit (Some v) ≡ fit
+              → IsOn (cond (new && fit) (with_job t c v) t) left
+          with_version v is true true new fit = taken_in v is room new fit
+          with_version v is true false new fit = unfit (Some v) is fit
+          with_version v is false b new fit = not_new new
+
+          by : (o : Option Version) → version_in t.versions c.unit.app ≡ o → IsOn (after_with t c o) left
+          by None is = unfit None is (and_false (nat_le c.unit.rsc_memory_bound t.host.now.m_nbytes && nat_le c.unit.rsc_disk_bound t.host.now.d_free
+              && nat_le (estimate c.unit.rsc_fpops_est t.host.now.p_fpops) c.unit.delay_bound))
+            where
+              and_false : (b : Bool) → (b && false) ≡ false
+              and_false true = refl
+              and_false false = refl
+          by (Some v) is = with_version v is (is_new_unit t.had t.jobs c.place.unit) (fits t.host.now c.unit (Some v)) refl refl
+
+  -- after the last offer nothing more can be given
+  record IsOver (t : Choosing) : Type 0 where
+    left : List Candidate
+    on : IsOn t left
+    maximal : is_maximal w q (places_of t.jobs) ≡ true
+
+  ends : (left : List Candidate) (old new : Choosing) → IsOn old left → is_full old ≡ false
+      → ((c : Candidate) → Contains left c → InWorld w 1 w.units c) → OffersAll Takes old left new → (new.refused ≡ true) ⊎ IsOver new
+  ends [] old new on room here h =
+      inr (subst IsOver (sym h) (record { left = []; on = on; maximal = all_seen w q (places_of old.jobs) on.taken }))
+  ends (c ∷ cs) old new on room here h =
+      let there = here c (front_of c cs) in
+      let later = λ (d : Candidate) (k : Contains cs d). here d (behind c cs d k) in
+      elim h [
+        | inl last ↦ elim last [
+          | inl refused ↦ inl refused.1
+          | inr taken ↦ (let full = stops (is_full new) taken.0 in
+              let now : IsOn new cs = subst (λ t. IsOn t cs) (sym taken.1) (step c there old cs on room) in
+              inr (record { left = cs; on = now; maximal = full_maximal new cs now full }))
+        ]
+        | inr more ↦ elim more.1 [
+          | inl never ↦ absurd (let differ : GoOn ≡ Stop = never.0 in cc)
+          | inr taken ↦ ends cs more.0 new (subst (λ t. IsOn t cs) (sym taken.1) (step c there old cs on room)) (goes (is_full more.0) taken.0) later more.2
+        ]
+      ]
+
+  begun : (t : Choosing) → IsBegun w q.host (limits_on w q.number q.host q.held (q.now / 86400)) (q.asked - q.before) t → IsOn t (unsent w first_place)
+  begun t h =
+      let none : [] ≡ t.jobs = sym h.jobs in
+      record {
+        host = h.host;
+        had = h.had;
+        versions = h.versions;
+        limits_are = h.limits_are;
+        wanted_is = h.wanted_is ∙ subst (λ (js : List Granted). q.asked - q.before ≡ q.asked - seconds_of w q (places_of js)) none (let zero_more : q.asked - q.before ≡ q.asked - (q.before + 0) = omega arith in zero_more);
+        jobs = subst (All (IsJob w q.host)) none (All-nil (IsJob w q.host));
+        taken = subst (λ (js : List Granted). AreTaken w q (places_of js) (unsent w first_place)) none (none_taken w q);
+      }
+
+  choice : (t : Choosing) (g : Grant) → IsOver t → g.jobs ≡ t.jobs → g.end_word ≡ end_word_at t → IsChoice w q g
+  choice t g over jobs word = record {
+    grant = subst (λ js. IsGrant w q (places_of js)) (sym jobs) (is_grant w q (places_of t.jobs) over.left over.on.taken over.maximal);
+    end_word_is = word ∙ word_is t over.left over.on ∙ ap (λ js. end_word w q (places_of js)) (sym jobs);
+    jobs = subst (All (IsJob w q.host)) (sym jobs) over.on.jobs;
+  }
+
+  chosen : (old new : Choosing) (g : Grant)
+      → IsBegun w q.host (limits_on w q.number q.host q.held (q.now / 86400)) (q.asked - q.before) old
+      → IsOffered w old new → g.jobs ≡ new.jobs → g.end_word ≡ end_word_at new → IsChoice w q g
+  chosen old new g fresh offered jobs word =
+      let on = begun old fresh in
+      elim offered [
+        | inl none ↦ choice new g
+            (subst IsOver (sym none.1) (record { left = unsent w first_place; on = on; maximal = full_maximal old (unsent w first_place) on none.0 })) jobs word
+        | inr all ↦ elim (ends (unsent w first_place) old new on all.0 (λ c k. in_world w first_place 1 w.units c k) all.2) [
+          | inl refused ↦ absurd (both_ways new.refused all.1 refused)
+          | inr over ↦ choice new g over jobs word
+        ]
+      ]
+
+  -- the same where the world, the limits and the seconds come by other names
+  pub chosen_at : (begun_in offered_in : World) (limits : Limits) (wanted day : ℕ) (old new : Choosing) (g : Grant)
+      → begun_in ≡ w → offered_in ≡ w → day ≡ q.now / 86400 → limits ≡ limits_on w q.number q.host q.held day → wanted ≡ q.asked - q.before
+      → IsBegun begun_in q.host limits wanted old → IsOffered offered_in old new → g.jobs ≡ new.jobs → g.end_word ≡ end_word_at new → IsChoice w q g
+  chosen_at begun_in offered_in limits wanted day old new g same same_later today limits_are wanted_is fresh offered jobs word =
+      let known : limits ≡ limits_on w q.number q.host q.held (q.now / 86400) = limits_are ∙ ap (limits_on w q.number q.host q.held) today in
+      chosen old new g
+      (subst (λ n. IsBegun w q.host (limits_on w q.number q.host q.held (q.now / 86400)) n old) wanted_is
+      (subst (λ l. IsBegun w q.host l wanted old) known
+      (subst (λ v. IsBegun v q.host limits wanted old) same fresh)))
+      (subst (λ v. IsOffered v old new) same_later offered) jobs word

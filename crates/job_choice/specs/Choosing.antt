@@ -1,0 +1,60 @@
+-- What one who chooses jobs does with each candidate, and when it stops.
+use Rattle.std.specs.Prelude.{◌≡◌, ◌⊎◌, ℕ, ◌-◌, Bool, not, ◌&&◌, ◌||◌, ◌==◌, nat_le, if◌then◌else◌, IsTrue, List, [], ◌∷◌, ◌++◌, length, find, filter_map, Option, Some, None}
+use Rattle.std.specs.List.{list_any}
+use Rattle.std.specs.Str.{bytes_eq}
+use Rattle.rpc_records.specs.declared.reply.EndWord.{EndWord}
+use Rattle.rpc_records.specs.declared.reply.EndWord.TheVariants.{Enough, ReplyLimit, InProgressLimit, DailyQuota, NoEligibleWork}
+use Rattle.sched_book.specs.Fits.{estimate, fits, version_among}
+use Rattle.sched_book.specs.declared.desk.Candidate.{Candidate}
+use Rattle.sched_book.specs.declared.desk.Flow.{Flow}
+use Rattle.sched_book.specs.declared.desk.Flow.TheVariants.{GoOn, Stop}
+use Rattle.sched_book.specs.declared.rows.HostRow.{HostRow}
+use Rattle.sched_book.specs.declared.rows.Version.{Version}
+use Rattle.sched_book.specs.declared.world.World.{World}
+use Rattle.job_choice.specs.UnitsHad.{has_had}
+use Rattle.job_choice.specs.declared.choosing.Choosing.{Choosing}
+use Rattle.job_choice.specs.declared.granted.Granted.{Granted}
+use Rattle.job_choice.specs.declared.units_had.UnitsHad.{UnitsHad}
+
+-- the seconds are granted, or a limit is reached
+abbrev pub is_full : Choosing → Bool
+is_full t = (t.wanted == 0) || nat_le t.limits.reply (length t.jobs) || nat_le t.limits.progress (length t.jobs) || nat_le t.limits.day (length t.jobs)
+
+abbrev pub end_word_at : Choosing → EndWord
+end_word_at t =
+    if t.wanted == 0 then Enough
+    else (if nat_le t.limits.reply (length t.jobs) then ReplyLimit
+    else (if nat_le t.limits.progress (length t.jobs) then InProgressLimit
+    else (if nat_le t.limits.day (length t.jobs) then DailyQuota
+    else NoEligibleWork)))
+
+abbrev pub has_job_of : List Granted → ℕ → Bool
+has_job_of jobs unit = list_any (λ j. j.place.unit == unit) jobs
+
+abbrev pub is_new_unit : UnitsHad → List Granted → ℕ → Bool
+is_new_unit had jobs unit = not (has_had had unit) && not (has_job_of jobs unit)
+
+abbrev pub version_in : List Version → List ℕ → Option Version
+version_in versions app = find (λ v. bytes_eq v.app app) versions
+
+abbrev pub with_job : Choosing → Candidate → Version → Choosing
+with_job t c v = record t {
+  wanted = t.wanted - estimate c.unit.rsc_fpops_est t.host.now.p_fpops;
+  jobs = t.jobs ++ (record { place = c.place; estimate = estimate c.unit.rsc_fpops_est t.host.now.p_fpops; version = v }) ∷ [];
+}
+
+abbrev pub after_with : Choosing → Candidate → Option Version → Choosing
+after_with t c None = t
+after_with t c (Some v) = if is_new_unit t.had t.jobs c.place.unit && fits t.host.now c.unit (Some v) then with_job t c v else t
+
+-- a candidate is taken where it is of a new workunit and fits
+abbrev pub after : Choosing → Candidate → Choosing
+after t c = after_with t c (version_in t.versions c.unit.app)
+
+-- It stops for want of memory, or takes the candidate where it may and stops once it is full.
+abbrev pub Takes : Choosing → Candidate → Flow → Choosing → Type 0
+Takes old c flow new = ((flow ≡ Stop) × IsTrue new.refused) ⊎ ((flow ≡ (if is_full new then Stop else GoOn)) × (new ≡ after old c))
+
+-- the version that the host runs of each application, where it runs any
+abbrev pub versions_known : World → HostRow → List Version
+versions_known w h = filter_map (λ a. version_among w.versions a.name h.platforms) w.apps

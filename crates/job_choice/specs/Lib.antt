@@ -1,0 +1,5 @@
+pub mod Alike
+pub mod Chosen
+pub mod Choosing
+pub mod Offered
+pub mod UnitsHad

@@ -1,0 +1,36 @@
+//! What a host can run, and how long it takes.
+
+ghost use Rattle.std.specs.Prelude.{◌≡◌, ◌<◌};
+ghost use Rattle.std.specs.Option.{option_copied};
+ghost use Rattle.sched_book.specs.Fits as spec;
+
+use sched_book::{HostRow, Version, Workunit};
+
+/// The seconds that so many floating-point operations take at so many a second, rounded up, and at least 1.
+pub fn estimate(fpops: u64, p_fpops: u64) -> u64
+    requires { 0 < p_fpops }
+    ensures { result ≡ spec.estimate fpops p_fpops }
+{
+    fpops.div_ceil(p_fpops).max(1)
+}
+
+/// The same, and 1 where the speed is not known.
+pub(crate) fn seconds_at_speed(fpops: u64, p_fpops: u64) -> u64
+    ensures { result ≡ spec.estimate fpops p_fpops }
+{
+    if p_fpops == 0 {
+        return 1;
+    }
+    estimate(fpops, p_fpops)
+}
+
+/// Whether a host has the memory, the disk, the speed and a version for a workunit. A host of unknown speed counts
+/// as fast.
+pub fn fits(host: &HostRow, unit: &Workunit, version: Option<&Version>) -> bool
+    ensures { result ≡ spec.fits host.now unit.now (option_copied version.entry) }
+{
+    unit.rsc_memory_bound <= host.m_nbytes
+        && unit.rsc_disk_bound <= host.d_free
+        && seconds_at_speed(unit.rsc_fpops_est, host.p_fpops) <= u64::from(unit.delay_bound)
+        && version.is_some()
+}

@@ -1,0 +1,19 @@
+//! Which jobs a host is given.
+//!
+//! [`choose`] asks a desk for what bears on the choice, and is then offered the candidates in their order. It
+//! takes each that the host may have, until the host has enough or a limit is reached. That is the one grant that
+//! the definitions allow: a maximal list of jobs, by place.
+#![tactic(auto)]
+
+pub mod choice;
+mod choosing;
+pub mod fitting;
+pub mod granted;
+pub mod laws;
+#[cfg(test)]
+mod tests;
+mod units_had;
+
+pub use choice::choose;
+pub use fitting::{estimate, fits};
+pub use granted::{Grant, Granted};
