@@ -1,0 +1,218 @@
+-- What reports change fits, in a world whose instances keep within limits.
+use Rattle.std.proofs.Common.{◌≡◌, ℕ, zero, suc, ◌+◌, ◌-◌, ◌<◌, ◌≤◌, Bool, true, false, cond, eqb, List, [], ◌∷◌, ◌++◌, length, Option, Some, None, sym, refl, ap, ◌∙◌, subst, arith, IfSome}
+use Rattle.std.specs.Prelude.{◌&&◌, ◌||◌, All, IsTrue, count_by, is_none, is_some, option_map, option_and_then, unwrap_or, slice_get}
+use Rattle.std.proofs.lemmas.List.Sums.{count_by-le-length, fold-append, sum_by-cons}
+use Rattle.std.proofs.lemmas.Option.{slice_get_within, get_or_from_slice_get}
+use Rattle.rpc_records.specs.declared.request.Report.{Report}
+use Rattle.sched_book.specs.Count.{tells_success, tells_error, is_judged, has_failed}
+use Rattle.sched_book.specs.Places.{nth, unit_at, instance_at, place_named, status_at, is_same, is_owned_by}
+use Rattle.sched_book.specs.Limits.{IsInstanceInLimits}
+use Rattle.sched_book.specs.Sound.{HasOwnerAmong, IsSoundUnit, Sound}
+use Rattle.sched_book.specs.Desk.{instances_at}
+use Rattle.sched_book.specs.Delta.{applied_one, applied, FitsOne, Fits}
+use Rattle.sched_book.specs.Reports.{changed_at, with_number, with_changed, awaits_report, with_report}
+use Rattle.sched_book.specs.declared.delta.Change.{Change}
+use Rattle.sched_book.specs.declared.delta.Change.TheVariants as change
+use Rattle.sched_book.specs.declared.instance.Instance.{Instance}
+use Rattle.sched_book.specs.declared.instance.Outcome.{Outcome}
+use Rattle.sched_book.specs.declared.instance.Place.{Place}
+use Rattle.sched_book.specs.declared.instance.UnitBook.{UnitBook}
+use Rattle.sched_book.specs.declared.world.World.{World}
+use Rattle.sched_book.proofs.PlacesOf.{nth-changed_nth}
+use Rattle.sched_book.proofs.Recording.{instance_at-with_changed, is_same-true}
+use Rattle.quorum_credit.specs.Taken.{place_among, reported_in, change_by}
+use Rattle.quorum_credit.specs.Limited.{IsLimited, FitWithin}
+use Rattle.quorum_credit.proofs.Recorded.{with_changed-is}
+
+-- what holds of each holds of the one at a place
+all_get : {X : Type 0} (P : X → Type 0) (xs : List X) (i : ℕ) (x : X) → All P xs → slice_get xs i ≡ Some x → P x
+all_get P xs i x all is = subst P (get_or_from_slice_get xs i x x is) (all i x (slice_get_within xs i x is))
+
+all_nth : {X : Type 0} (P : X → Type 0) (xs : List X) (n : ℕ) (x : X) → All P xs → nth xs n ≡ Some x → P x
+all_nth {X} P xs n x all is = cases (eqb n 0) is
+  where
+    cases : (b : Bool) → cond b None (slice_get xs (n - 1)) ≡ Some x → P x
+    cases true none = absurd cc
+    cases false there = all_get P xs (n - 1) x all there
+
+pub limited_from_sound : (w : World) → Sound w → IsLimited w
+limited_from_sound w sound = record {
+  few = λ unit b stands. (all_nth (IsSoundUnit w.hosts w.apps) w.units unit b sound.units stands).few;
+  each = λ p x stands. cases p x (unit_at w p.unit) refl stands;
+}
+  where
+    cases : (p : Place) (x : Instance) (o : Option UnitBook) → unit_at w p.unit ≡ o
+        → option_and_then (λ (b : UnitBook). slice_get b.instances p.number) o ≡ Some x → HasOwnerAmong w.hosts x × IsInstanceInLimits x
+    cases p x None is none = absurd cc
+    cases p x (Some b) is there =
+        let unit = all_nth (IsSoundUnit w.hosts w.apps) w.units p.unit b sound.units is in
+        (all_get (HasOwnerAmong w.hosts) b.instances p.number x unit.owners there, all_get IsInstanceInLimits b.instances p.number x unit.instances there)
+
+length-changed : {X : Type 0} (f : X → X) (xs : List X) (i : ℕ) → length (changed_at f xs i) ≡ length xs
+length-changed f [] i = refl
+length-changed f (x ∷ xs) zero = refl
+length-changed f (x ∷ xs) (suc i) = ap suc (length-changed f xs i)
+
+-- an instance within limits put at a place
+module _ (f : Instance → Instance) (w : World) (p : Place) (limited : IsLimited w) where
+  few_after : (unit : ℕ) (b : UnitBook) → unit_at (with_changed f w p) unit ≡ Some b → length b.instances ≤ 100
+  few_after unit b stands = cases (eqb p.unit unit) (unit_at w unit) refl (sym (nth-changed_nth (with_number f p.number) w.units p.unit unit) ∙ stands)
+    where
+      cases : (same : Bool) (o : Option UnitBook) → unit_at w unit ≡ o → cond same (option_map (with_number f p.number) o) o ≡ Some b → length b.instances ≤ 100
+      cases true None was is = absurd cc
+      cases true (Some u) was is =
+          let changed : with_number f p.number u ≡ b = cc in
+          let few : length u.instances ≤ 100 = limited.few unit u was in
+          let long : length (with_number f p.number u).instances ≡ length u.instances = length-changed f u.instances p.number in
+          let whole : length (with_number f p.number u).instances ≡ length b.instances = ap (λ (c : UnitBook). length c.instances) changed in
+          omega arith
+      cases false o was is = limited.few unit b (was ∙ is)
+
+  each_after : (x : Instance) → instance_at w p ≡ Some x → HasOwnerAmong w.hosts (f x) × IsInstanceInLimits (f x)
+      → (q : Place) (y : Instance) → instance_at (with_changed f w p) q ≡ Some y → HasOwnerAmong w.hosts y × IsInstanceInLimits y
+  each_after x stood good q y stands = cases (is_same p q) refl (sym (instance_at-with_changed f w p q) ∙ stands)
+    where
+      cases : (same : Bool) → is_same p q ≡ same → cond same (option_map f (instance_at w q)) (instance_at w q) ≡ Some y
+          → HasOwnerAmong w.hosts y × IsInstanceInLimits y
+      cases true same is =
+          let equal : p ≡ q = is_same-true p q same in
+          let here : instance_at w q ≡ Some x = ap (instance_at w) (sym equal) ∙ stood in
+          let value : Some (f x) ≡ Some y = sym (ap (option_map f) here) ∙ is in
+          let put : f x ≡ y = cc in
+          subst (λ z. HasOwnerAmong w.hosts z × IsInstanceInLimits z) put good
+      cases false same is = limited.each q y is
+
+  pub limited_after : (x : Instance) → instance_at w p ≡ Some x → HasOwnerAmong w.hosts (f x) × IsInstanceInLimits (f x) → IsLimited (with_changed f w p)
+  limited_after x stood good = record { few = few_after; each = each_after x stood good }
+
+-- an instance that awaits a report is not judged, so that not all are
+not_judged : (o : Option Outcome) (b : Bool) → (b && is_none o) ≡ true → (tells_success o || tells_error o) ≡ false
+not_judged None b awaits = refl
+not_judged (Some r) true awaits = absurd cc
+not_judged (Some r) false awaits = absurd cc
+
+-- one more, which counts or does not
+count_step : {X : Type 0} (p : X → Bool) (y : X) (xs : List X) (n : ℕ) → cond {A = ℕ} (p y) 1 0 + count_by p xs < n → count_by p (y ∷ xs) < n
+count_step p y xs n less = subst (λ m. m < n) (sym (sum_by-cons (λ x. cond {A = ℕ} (p x) 1 0) y xs)) less
+
+fewer : {X : Type 0} (p : X → Bool) (xs : List X) (i : ℕ) (x : X) → slice_get xs i ≡ Some x → p x ≡ false → count_by p xs < length xs
+fewer p [] i x stands fails = absurd cc
+fewer p (y ∷ xs) zero x stands fails =
+    let same : y ≡ x = cc in
+    count_step p y xs (suc (length xs)) (cases (p y) (ap p same ∙ fails) (count_by-le-length p xs))
+  where
+    cases : (b : Bool) → b ≡ false → count_by p xs ≤ length xs → cond {A = ℕ} b 1 0 + count_by p xs < suc (length xs)
+    cases true is rest = absurd cc
+    cases false is rest = omega arith
+fewer p (y ∷ xs) (suc i) x stands fails = count_step p y xs (suc (length xs)) (cases (p y) (fewer p xs i x stands fails))
+  where
+    cases : (b : Bool) → count_by p xs < length xs → cond {A = ℕ} b 1 0 + count_by p xs < suc (length xs)
+    cases true less = omega arith
+    cases false less = omega arith
+
+small_place : (failed : Bool) (n : ℕ) → n < 100 → unwrap_or (cond failed None (Some (1 + n))) 0 ≤ 100
+small_place true n less = omega arith
+small_place false n less = omega arith
+
+-- what is done to an instance at a place fits, where what comes of it is within limits
+pub done_fits : (f : Instance → Instance) (w : World) (p : Place) (b : UnitBook) (x : Instance) → IsLimited w → unit_at w p.unit ≡ Some b
+    → slice_get b.instances p.number ≡ Some x → HasOwnerAmong w.hosts (f x) × IsInstanceInLimits (f x)
+    → FitsOne w (change.Instance p (f x)) × IsLimited (applied_one w (change.Instance p (f x)))
+done_fits f w p b x limited stands is good =
+    let few : length b.instances ≤ 100 = limited.few p.unit b stands in
+    let within : p.number < length b.instances = slice_get_within b.instances p.number x is in
+    let here : instance_at w p ≡ Some x = ap (option_and_then (λ (u : UnitBook). slice_get u.instances p.number)) stands ∙ is in (
+      (
+        subst (λ (o : Option UnitBook). IsTrue (is_some o)) (sym stands) refl,
+        omega arith,
+        subst (λ (o : Option UnitBook). IfSome o (λ (u : UnitBook). p.number ≤ length u.instances)) (sym stands) (let low : p.number ≤ length b.instances = omega arith in low),
+        good.0,
+        good.1,
+      ),
+      subst IsLimited (with_changed-is f w p b x stands is) (limited_after f w p limited x here good),
+    )
+
+-- one report more
+module _ (host : ℕ) (r : Report) (failed : Bool) (w : World) (p : Place) (limited : IsLimited w) where
+  abbrev FitsAndStays : Change → Type 0
+  FitsAndStays c = FitsOne w c × IsLimited (applied_one w c)
+
+  put_fits : (b : UnitBook) (x : Instance) → unit_at w p.unit ≡ Some b → slice_get b.instances p.number ≡ Some x → awaits_report host x ≡ true
+      → FitsAndStays (change.Instance p (with_report r (place_among failed b.instances) x))
+  put_fits b x stands is awaits =
+      let f = with_report r (place_among failed b.instances) in
+      let few : length b.instances ≤ 100 = limited.few p.unit b stands in
+      let less : count_by is_judged b.instances < length b.instances =
+      fewer is_judged b.instances p.number x is (not_judged x.report (is_owned_by host x) awaits) in
+      let here : instance_at w p ≡ Some x = ap (option_and_then (λ (u : UnitBook). slice_get u.instances p.number)) stands ∙ is in
+      let before = limited.each p x here in
+      done_fits f w p b x limited stands is (
+        before.0,
+        record {
+          sent = before.1.sent;
+          deadline = before.1.deadline;
+          place = small_place failed (count_by is_judged b.instances) (omega arith);
+        },
+      )
+
+  at_instance : (b : UnitBook) → unit_at w p.unit ≡ Some b → (o : Option Instance) → slice_get b.instances p.number ≡ o
+      → (t : Bool) → unwrap_or (option_map (awaits_report host) o) false ≡ t
+      → (y : Instance) → cond t (option_map (with_report r (place_among failed b.instances)) o) None ≡ Some y → FitsAndStays (change.Instance p y)
+  at_instance b stands o is false awaits y puts = absurd cc
+  at_instance b stands None is true awaits y puts = absurd cc
+  at_instance b stands (Some x) is true awaits y puts =
+      let value : with_report r (place_among failed b.instances) x ≡ y = cc in
+      subst (λ z. FitsAndStays (change.Instance p z)) value (put_fits b x stands is awaits)
+
+  at_unit : (o : Option UnitBook) → unit_at w p.unit ≡ o
+      → (y : Instance) → reported_in host r failed (unwrap_or (option_map (λ (b : UnitBook). b.instances) o) []) p.number ≡ Some y
+      → FitsAndStays (change.Instance p y)
+  at_unit None stands y puts = absurd cc
+  at_unit (Some b) stands y puts = at_instance b stands (slice_get b.instances p.number) refl _ refl y puts
+
+  pub report_fits : (y : Instance) → reported_in host r failed (instances_at w p.unit) p.number ≡ Some y → FitsAndStays (change.Instance p y)
+  report_fits y puts = at_unit (unit_at w p.unit) refl y puts
+
+change_fits : (entry : World) (host : ℕ) (r : Report) (w : World) (c : Change) → IsLimited w → change_by entry host r w ≡ Some c
+    → FitsOne w c × IsLimited (applied_one w c)
+change_fits entry host r w c limited some = cases (place_named entry r.name) some
+  where
+    puts : (p : Place) (q : Option Instance) → reported_in host r (has_failed (status_at entry p.unit)) (instances_at w p.unit) p.number ≡ q
+        → option_map (change.Instance p) q ≡ Some c → FitsOne w c × IsLimited (applied_one w c)
+    puts p None was is = absurd cc
+    puts p (Some y) was is =
+        let same : change.Instance p y ≡ c = cc in
+        subst (λ d. FitsOne w d × IsLimited (applied_one w d)) same
+        (report_fits host r (has_failed (status_at entry p.unit)) w p limited y was)
+
+    cases : (o : Option Place)
+        → option_and_then (λ p. option_map (change.Instance p) (reported_in host r (has_failed (status_at entry p.unit)) (instances_at w p.unit) p.number)) o ≡ Some c
+        → FitsOne w c × IsLimited (applied_one w c)
+    cases None is = absurd cc
+    cases (Some p) is = puts p _ refl is
+
+fits_more : (w : World) (cs : List Change) (c : Change) → Fits w cs → FitsOne (applied w cs) c → Fits w (cs ++ c ∷ [])
+fits_more w [] c fits one = (one, tt)
+fits_more w (d ∷ ds) c fits one = (fits.0, fits_more (applied_one w d) ds c fits.1 one)
+
+-- one change more that fits
+pub fit_more : (entry : World) (cs more : List Change) (c : Change) → more ≡ cs ++ c ∷ []
+    → (IsLimited (applied entry cs) → FitsOne (applied entry cs) c × IsLimited (applied_one (applied entry cs) c)) → FitWithin entry cs → FitWithin entry more
+fit_more entry cs more c pushed one before =
+    let next = one before.limited in
+    subst (FitWithin entry) (sym pushed)
+    (record {
+      fits = fits_more entry cs c before.fits next.0;
+      limited = subst IsLimited (sym (fold-append applied_one entry cs (c ∷ []))) next.1;
+    })
+
+pub fit_none : (w : World) → IsLimited w → FitWithin w []
+fit_none w limited = record { fits = tt; limited = limited }
+
+pub fit_some : (entry : World) (host : ℕ) (r : Report) (cs more : List Change) (c : Change) → Some c ≡ change_by entry host r (applied entry cs)
+    → more ≡ cs ++ c ∷ [] → FitWithin entry cs → FitWithin entry more
+fit_some entry host r cs more c some pushed =
+    fit_more entry cs more c pushed (λ limited. change_fits entry host r (applied entry cs) c limited (sym some))
+
+-- for what one report changes
+pub ruleset fit_steps = (fit_none, limited_from_sound)

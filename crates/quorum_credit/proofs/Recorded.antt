@@ -1,0 +1,113 @@
+-- One report more, as a change of the instance that awaits it.
+use Rattle.std.proofs.Common.{◌≡◌, ℕ, zero, suc, ◌-◌, ◌<◌, Bool, true, false, cond, eqb, List, [], ◌∷◌, ◌++◌, length, Option, Some, None, sym, refl, ap, ◌∙◌}
+use Rattle.std.specs.Prelude.{◌+◌, count_by, option_map, option_and_then, unwrap_or, slice_get, slice_set}
+use Rattle.std.proofs.lemmas.Bool.{lt-ltb}
+use Rattle.std.proofs.lemmas.List.Sums.{fold-append}
+use Rattle.std.proofs.lemmas.Option.{slice_get_within, get_or_from_slice_get}
+use Rattle.rpc_records.specs.declared.request.Report.{Report}
+use Rattle.sched_book.specs.Count.{is_judged, has_failed}
+use Rattle.sched_book.specs.Places.{nth, unit_at, passes, place_named, status_at}
+use Rattle.sched_book.specs.Desk.{instances_at}
+use Rattle.sched_book.specs.Delta.{put_at, with_instance, applied_one, applied}
+use Rattle.sched_book.specs.Reports.{changed_at, changed_nth, with_number, with_changed, awaits_report, with_report, judged_place, next_place, record_at, record_one}
+use Rattle.sched_book.specs.declared.delta.Change.{Change}
+use Rattle.sched_book.specs.declared.delta.Change.TheVariants as change
+use Rattle.sched_book.specs.declared.instance.Instance.{Instance}
+use Rattle.sched_book.specs.declared.instance.Place.{Place}
+use Rattle.sched_book.specs.declared.instance.UnitBook.{UnitBook}
+use Rattle.sched_book.specs.declared.world.World.{World}
+use Rattle.sched_book.proofs.Changes.{changed_at-set}
+use Rattle.quorum_credit.specs.Taken.{place_among, reported_in, change_by}
+
+-- where an element stands, changing it is putting the changed one
+pub changed_at-put : {X : Type 0} (f : X → X) (xs : List X) (i : ℕ) (x : X) → slice_get xs i ≡ Some x → changed_at f xs i ≡ put_at xs i (f x)
+changed_at-put f xs i x stands =
+    let within : i < length xs = slice_get_within xs i x stands in
+    changed_at-set f xs i x within (sym (get_or_from_slice_get xs i x x stands))
+    ∙ sym (ap (λ (b : Bool). cond b (slice_set xs i (f x)) (xs ++ f x ∷ [])) (lt-ltb i (length xs) within))
+
+-- two changes that do the same to what stands at a place
+changed_at-same : {X : Type 0} (f g : X → X) (xs : List X) (i : ℕ) (x : X) → slice_get xs i ≡ Some x → f x ≡ g x → changed_at f xs i ≡ changed_at g xs i
+changed_at-same f g [] i x stands same = refl
+changed_at-same f g (y ∷ xs) zero x stands same = let is : y ≡ x = cc in ap (λ z. z ∷ xs) (ap f is ∙ same ∙ sym (ap g is))
+changed_at-same f g (y ∷ xs) (suc i) x stands same = ap (λ ys. y ∷ ys) (changed_at-same f g xs i x stands same)
+
+pub changed_nth-same : {X : Type 0} (f g : X → X) (xs : List X) (n : ℕ) (x : X) → nth xs n ≡ Some x → f x ≡ g x → changed_nth f xs n ≡ changed_nth g xs n
+changed_nth-same {X} f g xs n x stands same = cases (eqb n 0) stands
+  where
+    cases : (b : Bool) → cond b None (slice_get xs (n - 1)) ≡ Some x → cond b xs (changed_at f xs (n - 1)) ≡ cond b xs (changed_at g xs (n - 1))
+    cases true none = refl
+    cases false there = changed_at-same f g xs (n - 1) x there same
+
+-- what is done to the instance at a place, as a change
+pub with_changed-is : (f : Instance → Instance) (w : World) (p : Place) (b : UnitBook) (x : Instance) → unit_at w p.unit ≡ Some b
+    → slice_get b.instances p.number ≡ Some x → with_changed f w p ≡ applied_one w (change.Instance p (f x))
+with_changed-is f w p b x stands is =
+    ap (λ units. record w { units = units })
+    (changed_nth-same (with_number f p.number) (with_instance p.number (f x)) w.units p.unit b stands
+    (ap (λ xs. record b { instances = xs }) (changed_at-put f b.instances p.number x is)))
+
+module _ (entry : World) (host : ℕ) (w : World) (r : Report) (p : Place) where
+  abbrev failed : Bool
+  failed = has_failed (status_at entry p.unit)
+
+  abbrev put : Option Instance → World
+  put None = w
+  put (Some x) = applied_one w (change.Instance p x)
+
+  abbrev test : Option UnitBook → Bool
+  test o = unwrap_or (option_and_then (λ (b : UnitBook). option_map (awaits_report host) (slice_get b.instances p.number)) o) false
+
+  -- the instance awaits the report, or not
+  at_instance : (b : UnitBook) → unit_at w p.unit ≡ Some b → (o : Option Instance) → slice_get b.instances p.number ≡ o
+      → (t : Bool) → unwrap_or (option_map (awaits_report host) o) false ≡ t
+      → cond t (with_changed (with_report r (judged_place entry w p.unit)) w p) w
+      ≡ put (cond t (option_map (with_report r (place_among failed b.instances)) o) None)
+  at_instance b stands None is t passes = let never : t ≡ false = sym passes in ap (λ (s : Bool). cond s (with_changed (with_report r (judged_place entry w p.unit)) w p) w) never
+      ∙ sym (ap (λ (s : Bool). put (cond s None None)) never)
+  at_instance b stands (Some x) is false passes = refl
+  at_instance b stands (Some x) is true passes =
+      let next : next_place w p.unit ≡ 1 + count_by is_judged b.instances = ap (λ o. unwrap_or (option_map (λ (b : UnitBook). 1 + count_by is_judged b.instances) o) 1) stands in
+      with_changed-is (with_report r (judged_place entry w p.unit)) w p b x stands is
+      ∙ ap (λ n. applied_one w (change.Instance p (with_report r (cond failed None (Some n)) x))) next
+
+  at_unit : (o : Option UnitBook) → unit_at w p.unit ≡ o
+      → cond (test o) (with_changed (with_report r (judged_place entry w p.unit)) w p) w
+      ≡ put (reported_in host r failed (unwrap_or (option_map (λ (b : UnitBook). b.instances) o) []) p.number)
+  at_unit None stands = refl
+  at_unit (Some b) stands = at_instance b stands (slice_get b.instances p.number) refl _ refl
+
+  pub record_at-is : record_at entry host r w p ≡ put (reported_in host r failed (instances_at w p.unit) p.number)
+  record_at-is = at_unit (unit_at w p.unit) refl
+
+-- the world after a change, where there is one
+abbrev changed : World → Option Change → World
+changed w None = w
+changed w (Some c) = applied_one w c
+
+put-is : (entry : World) (host : ℕ) (w : World) (r : Report) (p : Place) (o : Option Instance)
+    → put entry host w r p o ≡ changed w (option_map (change.Instance p) o)
+put-is entry host w r p None = refl
+put-is entry host w r p (Some x) = refl
+
+record_one-is : (entry : World) (host : ℕ) (w : World) (r : Report) → record_one entry host w r ≡ changed w (change_by entry host r w)
+record_one-is entry host w r = cases (place_named entry r.name)
+  where
+    cases : (o : Option Place)
+        → unwrap_or (option_map (record_at entry host r w) o) w
+        ≡ changed w (option_and_then (λ p. option_map (change.Instance p) (reported_in host r (has_failed (status_at entry p.unit)) (instances_at w p.unit) p.number)) o)
+    cases None = refl
+    cases (Some p) = record_at-is entry host w r p ∙ put-is entry host w r p (reported_in host r (has_failed (status_at entry p.unit)) (instances_at w p.unit) p.number)
+
+pub take_none : (entry : World) (host : ℕ) (r : Report) (cs : List Change) → change_by entry host r (applied entry cs) ≡ None
+    → applied entry cs ≡ record_one entry host (applied entry cs) r
+take_none entry host r cs none = sym (record_one-is entry host (applied entry cs) r ∙ ap (changed (applied entry cs)) none)
+
+pub take_some : (entry : World) (host : ℕ) (r : Report) (cs : List Change) (c : Change) → change_by entry host r (applied entry cs) ≡ Some c
+    → applied entry (cs ++ c ∷ []) ≡ record_one entry host (applied entry cs) r
+take_some entry host r cs c some =
+    fold-append applied_one entry cs (c ∷ [])
+    ∙ sym (record_one-is entry host (applied entry cs) r ∙ ap (changed (applied entry cs)) some)
+
+-- for what one report changes
+pub ruleset taken_steps = (take_none, take_some)

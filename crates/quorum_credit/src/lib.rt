@@ -1,0 +1,21 @@
+//! What reports and lapses come to: which are recorded, what workunits need then, and the quotas of hosts.
+//!
+//! A host reports what its jobs came to. Reports agree or not, enough that agree make a workunit done, and a
+//! workunit that is still open gets the instances that it lacks. BOINC's clients report in scheduler requests;
+//! what is counted, and how a host's daily quota moves, is this profile's. Everything is counted from scratch by
+//! [`sched_book::count`]; the desk is only read, and what changes is handed back as a delta.
+#![tactic(auto)]
+
+mod changed;
+mod late;
+mod quota;
+mod reports;
+mod settlement;
+#[cfg(test)]
+mod tests;
+mod touched;
+
+pub use late::{Lapsed, lapse_late};
+pub use quota::next_quota;
+pub use reports::{Taken, take_reports};
+pub use settlement::{Settled, Verdicts, agree, canonical, settle};

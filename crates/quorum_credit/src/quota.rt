@@ -1,0 +1,35 @@
+//! How many jobs a host may get on a day.
+
+ghost use Rattle.std.specs.Prelude.{◌≡◌, ◌≤◌, ◌<◌, ◌*◌, ◌^◌, ◌-◌, min, max};
+ghost use Rattle.sched_book.specs.Settle.{next_quota};
+
+/// A quota less what counts against its host, at least one.
+fn lowered(quota: u32, charges: u32) -> u32
+    ensures { result ≡ max 1 (quota - charges) }
+{
+    quota.saturating_sub(charges).max(1)
+}
+
+/// A number doubled so many times, at most the limit. It stops at the limit, so at most 32 doublings are done.
+fn raised(number: u32, times: u32, limit: u32) -> u32
+    requires { 1 ≤ number }
+    ensures { result ≡ min limit (number * 2 ^ times) }
+{
+    let mut raised = u64::from(number);
+    for _ in 0..times {
+        if raised >= u64::from(limit) {
+            return limit;
+        }
+        raised *= 2;
+    }
+    raised.min(u64::from(limit)) as u32
+}
+
+/// The quota of a host after `charges` things that count against it, and then `merits` that count for it: it is
+/// lowered by one for each of the former, to no less than one, then doubled for each of the latter, to no more
+/// than the limit.
+pub fn next_quota(quota: u32, charges: u32, merits: u32, limit: u32) -> u32
+    ensures { result ≡ next_quota quota charges merits limit }
+{
+    raised(lowered(quota, charges), merits, limit)
+}

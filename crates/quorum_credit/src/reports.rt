@@ -1,0 +1,323 @@
+//! The reports of a call.
+
+ghost use Rattle.std.specs.Prelude.{◌≡◌, List, ◌∷◌, ◌++◌, ◌==◌, ◌+◌, ◌≤◌, length, map, count_by, fold, IfOk, OnOk, unwrap_or, option_map, option_and_then};
+ghost use Rattle.rpc_records.specs.declared.request.Report.{Report};
+ghost use Rattle.sched_book.specs.Count.{is_judged, has_failed};
+ghost use Rattle.sched_book.specs.Places.{status_at, place_named, place_of_parts};
+ghost use Rattle.sched_book.specs.Desk.{instances_at};
+ghost use Rattle.sched_book.specs.Reports.{first_reports, awaits_report, outcome_of, with_report, record_one, recorded};
+ghost use Rattle.sched_book.specs.Delta.{applied, Fits};
+ghost use Rattle.sched_book.specs.Sound.{Sound};
+ghost use Rattle.texts.specs.Seen.{has_seen};
+ghost use Rattle.quorum_credit.specs.Firsts.{first_beyond};
+ghost use Rattle.quorum_credit.specs.Limited.{IsLimited, FitWithin};
+ghost use Rattle.quorum_credit.specs.Taken.{place_among, reported_in, change_by, AreTouched};
+
+use crate::changed::instances_under;
+use crate::touched::touched_by;
+use rpc_records::{Report, Request};
+use sched_book::{
+    Change, Delta, Desk, Instance, Outcome, Place, Status, Unavailable, count, split_name,
+};
+use std::alloc::Global;
+use texts::{Listed, Memory, Seen, Text};
+
+/// What the reports of a call come to.
+#[derive(Drop)]
+pub struct Taken {
+    /// The instances that they change.
+    pub delta: Delta,
+    /// The names that are acknowledged, each once, in the order of their first places.
+    pub acked: Listed<Text>,
+    /// The places of the workunits that they touch, in order and each once.
+    pub touched: Listed<u32>,
+}
+
+/// Puts a report behind the first ones, unless its name came by; `seen` knows which did.
+fn add_first<'a>(
+    firsts: &mut Vec<&'a Report>,
+    seen: &mut Seen<'a>,
+    report: &'a Report,
+) -> Result<(), Memory>
+    ensures { OnOk result ((later : List Report) →
+        map (λ r. r.now) firsts.new.items ++ first_beyond (has_seen seen.new) later
+        ≡ map (λ r. r.now) firsts.old.items ++ first_beyond (has_seen seen.old) (report.now ∷ later)) }
+{
+    if seen.is_first(report.name.as_str())? {
+        firsts.push(report)?;
+    }
+    Ok(())
+}
+
+/// The first report of each name.
+fn first_reports<'a>(alloc: Global, reports: &'a [Report]) -> Result<Vec<&'a Report>, Memory>
+    ensures { IfOk result (λ firsts. map (λ r. r.now) firsts.items ≡ first_reports reports.now) }
+{
+    let mut seen = Seen::new(alloc);
+    let mut firsts = Vec::new(alloc);
+    for report in reports {
+        add_first(&mut firsts, &mut seen, report)?;
+    }
+    Ok(firsts)
+}
+
+/// Copies of the names of these reports.
+fn names_of(alloc: Global, reports: &[&Report]) -> Result<Listed<Text>, Memory>
+    ensures { IfOk result (λ names. names ≡ map (λ (r : Report). r.name) (map (λ r. r.now) reports.now)) }
+{
+    let mut names = Listed::new(alloc);
+    for report in reports {
+        names.push(report.name.clone()?)?;
+    }
+    Ok(names)
+}
+
+/// Whether the host was given the instance and did not report it yet.
+fn awaits_report(host: u32, instance: &Instance) -> bool
+    ensures { result ≡ awaits_report host instance.now }
+{
+    count::is_owned_by(host, instance) && instance.report.is_none()
+}
+
+/// Whether a report of the instance was judged.
+fn is_judged(instance: &Instance) -> bool
+    ensures { result ≡ is_judged instance.now }
+{
+    count::is_judged_success(instance) || count::is_judged_error(instance)
+}
+
+/// How many reports of these instances were judged.
+fn judged_count(instances: &[Instance]) -> usize
+    ensures value { result ≡ count_by is_judged instances.now }
+    ensures few { result ≤ length instances.now }
+{
+    instances
+        .iter()
+        .filter(|instance| is_judged(instance))
+        .count()
+}
+
+/// The place that the next report of a workunit with these instances gets: none where the workunit had failed.
+fn place_among(failed: bool, instances: &[Instance]) -> Option<u32>
+    requires { length instances.now ≤ 100 }
+    ensures { result ≡ place_among failed instances.now }
+{
+    if failed {
+        None
+    } else {
+        Some(1 + judged_count(instances) as u32)
+    }
+}
+
+/// What is kept of a report: exit status 0 is a success, any other a client error.
+fn outcome_of(report: &Report, place: Option<u32>) -> Result<Outcome, Memory>
+    ensures { IfOk result (λ outcome. outcome ≡ outcome_of report.now place) }
+{
+    Ok(Outcome {
+        success: report.exit_status == 0,
+        output: report.output.clone()?,
+        place,
+    })
+}
+
+/// The instance with what was reported of it.
+fn with_report(report: &Report, place: Option<u32>, instance: &Instance) -> Result<Instance, Memory>
+    ensures { IfOk result (λ row. row ≡ with_report report.now place instance.now) }
+{
+    Ok(Instance {
+        owner: instance.owner,
+        lapse: instance.lapse,
+        report: Some(outcome_of(report, place)?),
+    })
+}
+
+/// The instance of this number with one report more, where it awaits it from this host.
+fn reported_in(
+    host: u32,
+    report: &Report,
+    failed: bool,
+    instances: &[Instance],
+    number: u32,
+) -> Result<Option<Instance>, Memory>
+    requires { length instances.now ≤ 100 }
+    ensures { IfOk result (λ row. row ≡ reported_in host report.now failed instances.now number) }
+{
+    match instances.get(number as usize) {
+        None => Ok(None),
+        Some(instance) => {
+            if !awaits_report(host, instance) {
+                return Ok(None);
+            }
+            let place = place_among(failed, instances);
+            Ok(Some(with_report(report, place, instance)?))
+        }
+    }
+}
+
+/// The status of the workunit at a place; one that does not stand counts as failed.
+fn status_at<D: Desk>(alloc: Global, desk: &mut D, unit: u32) -> Result<Status, Unavailable>
+    ensures reads { D.reads desk.old desk.new }
+    ensures answer { D.honest desk.new → D.well_kept desk.old → IfOk result (λ status. status ≡ status_at (D.world desk.old) unit) }
+{
+    let Some(row) = desk.unit(alloc, unit)? else {
+        return Ok(Status::FailedTotal);
+    };
+    let Some(agreement) = desk.agreement_of(alloc, unit)? else {
+        return Ok(Status::FailedTotal);
+    };
+    let instances = desk.instances_of(alloc, unit)?;
+    Ok(count::status(&agreement, &row, instances.as_slice()))
+}
+
+/// The place of the instance of this number of the workunit of this name, where it stands.
+fn place_of_parts<D: Desk>(
+    alloc: Global,
+    desk: &mut D,
+    name: &str,
+    number: u32,
+) -> Result<Option<Place>, Unavailable>
+    ensures reads { D.reads desk.old desk.new }
+    ensures answer { D.honest desk.new → D.well_kept desk.old →
+        IfOk result (λ place. place ≡ place_of_parts (D.world desk.old) (name.now, number)) }
+{
+    let Some(unit) = desk.unit_by_name(name)? else {
+        return Ok(None);
+    };
+    match desk.instance(alloc, unit, number)? {
+        None => Ok(None),
+        Some(_) => Ok(Some(Place { unit, number })),
+    }
+}
+
+/// The place of the instance that a name means.
+fn place_named<D: Desk>(
+    alloc: Global,
+    desk: &mut D,
+    name: &str,
+) -> Result<Option<Place>, Unavailable>
+    ensures reads { D.reads desk.old desk.new }
+    ensures answer { D.honest desk.new → D.well_kept desk.old →
+        IfOk result (λ place. place ≡ place_named (D.world desk.old) name.now) }
+{
+    match split_name(name) {
+        None => Ok(None),
+        Some((unit, number)) => place_of_parts(alloc, desk, unit, number),
+    }
+}
+
+/// The instance at a place with one report more, where it awaits it from this host, after changes. The report is
+/// judged where the workunit had not failed before them.
+fn reported_at<D: Desk>(
+    alloc: Global,
+    desk: &mut D,
+    delta: &Delta,
+    host: u32,
+    report: &Report,
+    place: Place,
+) -> Result<Option<Instance>, Unavailable>
+    ensures reads { D.reads desk.old desk.new }
+    ensures answer { D.honest desk.new → D.well_kept desk.old → IfOk result (λ row. row ≡
+        reported_in host report.now (has_failed (status_at (D.world desk.old) place.unit))
+        (instances_at (applied (D.world desk.old) delta.now) place.unit) place.number) }
+{
+    let failed = count::has_failed(status_at(alloc, desk, place.unit)?);
+    let instances = instances_under(alloc, desk, delta, place.unit)?;
+    Ok(reported_in(host, report, failed, instances.as_slice(), place.number)?)
+}
+
+/// What one report changes, after changes.
+fn change_by<D: Desk>(
+    alloc: Global,
+    desk: &mut D,
+    delta: &Delta,
+    host: u32,
+    report: &Report,
+) -> Result<Option<Change>, Unavailable>
+    ensures reads { D.reads desk.old desk.new }
+    ensures answer { D.honest desk.new → D.well_kept desk.old → IfOk result (λ change.
+        change ≡ change_by (D.world desk.old) host report.now (applied (D.world desk.old) delta.now)) }
+{
+    let Some(place) = place_named(alloc, desk, report.name.as_str())? else {
+        return Ok(None);
+    };
+    match reported_at(alloc, desk, delta, host, report, place)? {
+        None => Ok(None),
+        Some(row) => Ok(Some(Change::Instance { place, row })),
+    }
+}
+
+/// Puts what one report changes behind the changes so far.
+#[tactic(auto, using(crate::proofs::Recorded::taken_steps))]
+fn take_report<D: Desk>(
+    alloc: Global,
+    desk: &mut D,
+    delta: &mut Delta,
+    host: u32,
+    report: &Report,
+) -> Result<(), Unavailable>
+    ensures reads { D.reads desk.old desk.new }
+    ensures answer { D.honest desk.new → D.well_kept desk.old →
+        OnOk result (applied (D.world desk.old) delta.new ≡ record_one (D.world desk.old) host (applied (D.world desk.old) delta.old) report.now) }
+    ensures fits { D.honest desk.new → D.well_kept desk.old →
+        OnOk result (FitWithin (D.world desk.old) delta.old → FitWithin (D.world desk.old) delta.new) }
+{
+    match change_by(alloc, desk, delta, host, report)? {
+        None => Ok(()),
+        Some(change) => {
+            delta.push(change)?;
+            Ok(())
+        }
+    }
+}
+
+/// What these reports change, in their order.
+#[tactic(auto, using(crate::proofs::FitReports::fit_steps))]
+fn take_in_turn<D: Desk>(
+    alloc: Global,
+    desk: &mut D,
+    host: u32,
+    reports: &[&Report],
+) -> Result<Delta, Unavailable>
+    ensures reads { D.reads desk.old desk.new }
+    ensures answer { D.honest desk.new → D.well_kept desk.old → IfOk result (λ delta.
+        applied (D.world desk.old) delta ≡ fold (record_one (D.world desk.old) host) (D.world desk.old) (map (λ r. r.now) reports.now)) }
+    ensures fits { D.honest desk.new → D.well_kept desk.old →
+        IfOk result (λ delta. IsLimited (D.world desk.old) → FitWithin (D.world desk.old) delta) }
+{
+    let mut delta = Listed::new(alloc);
+    for report in reports {
+        take_report(alloc, desk, &mut delta, host, report)?;
+    }
+    Ok(delta)
+}
+
+/// Takes the reports of a call from the host of this number.
+///
+/// Of each name the first report counts. It is recorded where the host was given the instance and did not report
+/// it yet, also after a lapse; it is judged where the workunit had not failed before the call, and then gets the
+/// next place among the workunit's judged reports. Every name is acknowledged, whatever became of its report.
+#[tactic(auto, using(crate::proofs::FitReports::fit_steps))]
+pub fn take_reports<D: Desk>(
+    alloc: Global,
+    desk: &mut D,
+    host: u32,
+    request: &Request,
+) -> Result<Taken, Unavailable>
+    ensures reads { D.reads desk.old desk.new }
+    ensures delta { D.honest desk.new → D.well_kept desk.old →
+        IfOk result (λ taken. applied (D.world desk.old) taken.delta ≡ recorded (D.world desk.old) host request.now.results) }
+    ensures acked { IfOk result (λ taken. taken.acked ≡ map (λ (r : Report). r.name) (first_reports request.now.results)) }
+    ensures fits { D.honest desk.new → D.well_kept desk.old →
+        IfOk result (λ taken. Sound (D.world desk.old) → Fits (D.world desk.old) taken.delta) }
+    ensures touched { IfOk result (λ taken. AreTouched taken.delta taken.touched) }
+{
+    let firsts = first_reports(alloc, request.results.as_slice())?;
+    let acked = names_of(alloc, firsts.as_slice())?;
+    let delta = take_in_turn(alloc, desk, host, firsts.as_slice())?;
+    let touched = touched_by(alloc, delta.as_slice())?;
+    Ok(Taken {
+        delta,
+        acked,
+        touched,
+    })
+}
