@@ -1,0 +1,7 @@
+pub mod CountTexts
+pub mod LookUps
+pub mod SeenKeysLaws
+pub mod FromTheFront
+pub mod TakenNames
+pub mod TextRecords
+pub mod InOrder

@@ -1,0 +1,38 @@
+-- What one field of an import says, where it is of the wanted form. The forms are this profile's.
+use Rattle.std.specs.Prelude.{ℕ, Bool, false, ◌&&◌, ◌||◌, nat_eq, nat_le, if◌then◌else◌, List, [], ◌∷◌, length, drop, codes, Option, Some, None, option_and_then, option_map}
+use Rattle.std.specs.Char.{is_ascii_digit}
+use Rattle.std.specs.List.{list_all, starts_with}
+use Rattle.std.specs.Str.{bytes_eq, is_utf8}
+use Rattle.std.specs.Str.Parse.{digits_value}
+use Rattle.texts.specs.Words.{is_word}
+use Rattle.sched_book.specs.declared.rows.Agreement.{Agreement}
+use Rattle.sched_book.specs.declared.rows.Agreement.TheVariants.{Exact, Within}
+
+abbrev pub word_in : List ℕ → Option (List ℕ)
+word_in field = if is_word field then Some field else None
+
+-- 1 to 64 bytes of UTF-8
+abbrev pub name_in : List ℕ → Option (List ℕ)
+name_in field = if nat_le 1 (length field) && nat_le (length field) 64 && is_utf8 field then Some field else None
+
+-- `0`, or a digit 1 to 9 followed by digits
+abbrev pub is_count_text : List ℕ → Bool
+is_count_text [] = false
+is_count_text (c ∷ cs) = bytes_eq (c ∷ cs) (48 ∷ []) || (nat_le 49 c && list_all is_ascii_digit (c ∷ cs))
+
+-- the number that a count text says
+abbrev pub count_in : List ℕ → Option ℕ
+count_in field = if is_count_text field then Some (digits_value 10 field) else None
+
+abbrev pub within : ℕ → ℕ → ℕ → Option ℕ
+within least most n = if nat_le least n && nat_le n most then Some n else None
+
+-- the same, where it is in a range
+abbrev pub number_in : ℕ → ℕ → List ℕ → Option ℕ
+number_in least most field = option_and_then (within least most) (count_in field)
+
+-- `exact`, or `within:` and a count text up to 1,000,000,000
+abbrev pub agreement_in : List ℕ → Option Agreement
+agreement_in field =
+    if bytes_eq field (codes "exact") then Some Exact
+    else (if starts_with nat_eq field (codes "within:") then option_map Within (number_in 0 1000000000 (drop 7 field)) else None)

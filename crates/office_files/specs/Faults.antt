@@ -1,0 +1,27 @@
+-- What the faults of an import mean.
+use Rattle.std.specs.Prelude.{◌≡◌, ◌≢◌, ⊤, Result, Ok, Err}
+use Rattle.rpc_records.specs.declared.fault.Fault.{Fault}
+use Rattle.rpc_records.specs.declared.fault.Fault.TheVariants as refusal
+use Rattle.office_files.specs.declared.fault.RowsFault.{RowsFault}
+use Rattle.office_files.specs.declared.fault.RowsFault.TheVariants.{BadCsv, DuplicateName, UnknownReference, TableFull, Unavailable}
+
+-- the refusal that tells a fault
+abbrev pub refusal_of : RowsFault → Fault
+refusal_of (BadCsv row column) = refusal.BadCsv row column
+refusal_of (DuplicateName row) = refusal.DuplicateName row
+refusal_of (UnknownReference row) = refusal.UnknownReference row
+refusal_of TableFull = refusal.TableFull
+refusal_of Unavailable = refusal.Unavailable
+
+-- the faults that reading a text may have
+abbrev pub IsOfReading : RowsFault → Type 0
+IsOfReading (BadCsv row column) = ⊤
+IsOfReading (DuplicateName row) = ⊥
+IsOfReading (UnknownReference row) = ⊥
+IsOfReading TableFull = ⊥
+IsOfReading Unavailable = ⊤
+
+-- What a call answered is what a reading says, unless memory was wanting.
+abbrev pub Gives : {A : Type 0} → Result A RowsFault → Result A RowsFault → Type 0
+Gives (Ok x) reading = reading ≡ Ok x
+Gives (Err e) reading = IsOfReading e × (e ≢ Unavailable → reading ≡ Err e)

@@ -1,0 +1,161 @@
+-- The rows that the records of an import say. The first record is the header and is row 0; data rows and columns count from 1.
+-- What is told of a faulty text is its first faulty row, and in that the first faulty column: column 0 where the number of
+-- fields is wrong, and row 0, column 0 where there is no record at all. The formats are this profile's.
+use Rattle.std.specs.Prelude.{◌≡◌, ℕ, ◌+◌, ◌-◌, ◌^◌, Bool, false, ◌==◌, if◌then◌else◌, List, [], ◌∷◌, length, codes, Option, Some, None, ok_or, option_map, option_and_then, unwrap_or, Result, Ok, Err, ⊤}
+use Rattle.std.specs.Str.{bytes_eq}
+use Rattle.csv.specs.Records.{field_at}
+use Rattle.sched_book.specs.declared.rows.Account.{Account}
+use Rattle.sched_book.specs.declared.rows.App.{App}
+use Rattle.sched_book.specs.declared.rows.Rows.{Rows}
+use Rattle.sched_book.specs.declared.rows.Rows.TheVariants as rows
+use Rattle.sched_book.specs.declared.rows.Version.{Version}
+use Rattle.sched_book.specs.declared.rows.Workunit.{Workunit}
+use Rattle.office_files.specs.Columns.{word_in, name_in, number_in, agreement_in}
+use Rattle.office_files.specs.Records.{Record, AreRecordsOf}
+use Rattle.office_files.specs.declared.fault.RowsFault.{RowsFault}
+use Rattle.office_files.specs.declared.fault.RowsFault.TheVariants.{BadCsv, DuplicateName, UnknownReference, TableFull, Unavailable}
+
+-- A reading goes on with what was read, and is over at the first fault.
+unfoldable pub and_then : {A B : Type 0} → Result A RowsFault → (A → Result B RowsFault) → Result B RowsFault
+and_then (Ok x) f = f x
+and_then (Err e) f = Err e
+
+infixl 10 ◌>>=◌
+abbrev ◌>>=◌ : {A B : Type 0} → Result A RowsFault → (A → Result B RowsFault) → Result B RowsFault
+◌>>=◌ = and_then
+
+-- what a column of a row says
+unfoldable pub column_of : {A : Type 0} → ℕ → ℕ → (List ℕ → Option A) → Record → Result A RowsFault
+column_of row column reads fields = ok_or (option_and_then reads (field_at fields (column - 1))) (BadCsv row column)
+
+abbrev pub account_header : Record
+account_header = codes "authenticator" ∷ codes "name" ∷ []
+
+unfoldable pub account_of : ℕ → Record → Result Account RowsFault
+account_of row fields = do
+  authenticator ← column_of row 1 word_in fields
+  name ← column_of row 2 name_in fields
+  Ok (record { authenticator = authenticator; name = name })
+
+abbrev pub app_header : Record
+app_header = codes "name" ∷ codes "agreement" ∷ []
+
+unfoldable pub app_of : ℕ → Record → Result App RowsFault
+app_of row fields = do
+  name ← column_of row 1 word_in fields
+  agreement ← column_of row 2 agreement_in fields
+  Ok (record { name = name; agreement = agreement })
+
+abbrev pub version_header : Record
+version_header = codes "app" ∷ codes "platform" ∷ codes "version_num" ∷ []
+
+unfoldable pub version_of : ℕ → Record → Result Version RowsFault
+version_of row fields = do
+  app ← column_of row 1 word_in fields
+  platform ← column_of row 2 word_in fields
+  version_num ← column_of row 3 (number_in 1 1000000) fields
+  Ok (record { app = app; platform = platform; version_num = version_num })
+
+abbrev pub workunit_header : Record
+workunit_header =
+    codes "name" ∷ codes "app" ∷ codes "min_quorum" ∷ codes "target_nresults" ∷ codes "max_error_results" ∷ codes "max_total_results"
+    ∷ codes "max_success_results" ∷ codes "delay_bound" ∷ codes "rsc_fpops_est" ∷ codes "rsc_memory_bound" ∷ codes "rsc_disk_bound"
+    ∷ codes "credit" ∷ []
+
+-- the target is read against a good quorum, and the most instances against a good target
+unfoldable pub workunit_of : ℕ → Record → Result Workunit RowsFault
+workunit_of row fields = do
+  name ← column_of row 1 word_in fields
+  app ← column_of row 2 word_in fields
+  min_quorum ← column_of row 3 (number_in 1 100) fields
+  target_nresults ← column_of row 4 (number_in min_quorum 100) fields
+  max_error_results ← column_of row 5 (number_in 0 100) fields
+  max_total_results ← column_of row 6 (number_in target_nresults 100) fields
+  max_success_results ← column_of row 7 (number_in 0 100) fields
+  delay_bound ← column_of row 8 (number_in 1 100000000) fields
+  rsc_fpops_est ← column_of row 9 (number_in 1 (10 ^ 18)) fields
+  rsc_memory_bound ← column_of row 10 (number_in 0 (10 ^ 18)) fields
+  rsc_disk_bound ← column_of row 11 (number_in 0 (10 ^ 18)) fields
+  credit ← column_of row 12 (number_in 0 100000000) fields
+  Ok (record {
+    name = name;
+    app = app;
+    min_quorum = min_quorum;
+    target_nresults = target_nresults;
+    max_error_results = max_error_results;
+    max_total_results = max_total_results;
+    max_success_results = max_success_results;
+    delay_bound = delay_bound;
+    rsc_fpops_est = rsc_fpops_est;
+    rsc_memory_bound = rsc_memory_bound;
+    rsc_disk_bound = rsc_disk_bound;
+    credit = credit;
+  })
+
+-- the field at an index is this name
+abbrev pub is_field : Record → ℕ → List ℕ → Bool
+is_field fields index name = unwrap_or (option_map (λ field. bytes_eq field name) (field_at fields index)) false
+
+-- the first column, the names being those from an index on, whose field is not the name
+abbrev pub first_other : Record → ℕ → List (List ℕ) → Option ℕ
+first_other fields index [] = None
+first_other fields index (name ∷ names) = if is_field fields index name then first_other fields (index + 1) names else Some (index + 1)
+
+-- the column to tell of a faulty header
+abbrev pub header_fault : List (List ℕ) → Record → Option ℕ
+header_fault names fields = if length fields == length names then first_other fields 0 names else Some 0
+
+-- the row that a record of so many fields says
+unfoldable pub row_of : {X : Type 0} → (ℕ → Record → Result X RowsFault) → ℕ → ℕ → Record → Result X RowsFault
+row_of reads count row fields = if length fields == count then reads row fields else Err (BadCsv row 0)
+
+-- the rows from a number on
+unfoldable pub rows_from : {X : Type 0} → (ℕ → Record → Result X RowsFault) → ℕ → List Record → Result (List X) RowsFault
+rows_from reads row [] = Ok []
+rows_from reads row (fields ∷ more) = do
+  x ← reads row fields
+  xs ← rows_from reads (row + 1) more
+  Ok (x ∷ xs)
+
+-- the rows under a header
+abbrev pub rows_under : {X : Type 0} → (ℕ → Record → Result X RowsFault) → List (List ℕ) → List Record → Option ℕ → Result (List X) RowsFault
+rows_under reads header records None = rows_from (row_of reads (length header)) 1 records
+rows_under reads header records (Some column) = Err (BadCsv 0 column)
+
+-- the rows of an import with this header
+abbrev pub rows_in : {X : Type 0} → (ℕ → Record → Result X RowsFault) → List (List ℕ) → List Record → Result (List X) RowsFault
+rows_in reads header [] = Err (BadCsv 0 0)
+rows_in reads header (fields ∷ records) = rows_under reads header records (header_fault header fields)
+
+-- what the records of the four imports say
+unfoldable pub accounts_in : List Record → Result Rows RowsFault
+accounts_in records = do
+  accounts ← rows_in account_of account_header records
+  Ok (rows.Accounts accounts)
+
+unfoldable pub apps_in : List Record → Result Rows RowsFault
+apps_in records = do
+  apps ← rows_in app_of app_header records
+  Ok (rows.Apps apps)
+
+unfoldable pub versions_in : List Record → Result Rows RowsFault
+versions_in records = do
+  versions ← rows_in version_of version_header records
+  Ok (rows.Versions versions)
+
+unfoldable pub workunits_in : List Record → Result Rows RowsFault
+workunits_in records = do
+  workunits ← rows_in workunit_of workunit_header records
+  Ok (rows.Workunits workunits)
+
+-- the records of a text say this
+abbrev pub Says : {A : Type 0} → (List Record → Result A RowsFault) → List ℕ → Result A RowsFault → Type 0
+Says reading text said = (records : List Record) × AreRecordsOf text records × (reading records ≡ said)
+
+-- a text is refused: what its records say is told, unless memory was wanting
+abbrev pub Refuses : {A : Type 0} → (List Record → Result A RowsFault) → List ℕ → RowsFault → Type 0
+Refuses reading text (BadCsv row column) = Says reading text (Err (BadCsv row column))
+Refuses reading text Unavailable = ⊤
+Refuses reading text (DuplicateName row) = ⊥
+Refuses reading text (UnknownReference row) = ⊥
+Refuses reading text TableFull = ⊥

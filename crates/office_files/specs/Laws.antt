@@ -1,0 +1,42 @@
+-- Laws of the definitions of imports.
+use Rattle.std.specs.Prelude.{◌≡◌, ℕ, ◌+◌, List, [], ◌∷◌, ◌++◌, length, None, Result, Ok, Err, ⊤}
+use Rattle.office_files.specs.Records.{Record, AreRecordsOf}
+use Rattle.office_files.specs.Importing.{account_header, account_of, app_header, app_of, version_header, version_of, workunit_header, workunit_of, header_fault, row_of, rows_in}
+use Rattle.office_files.specs.declared.fault.RowsFault.{RowsFault}
+use Rattle.office_files.specs.declared.fault.RowsFault.TheVariants.{BadCsv}
+
+-- a text has exactly one list of records
+abbrev pub TextHasOneList : Type 0
+TextHasOneList = (text : List ℕ)
+    → (records : List Record) × AreRecordsOf text records × ((others : List Record) → AreRecordsOf text others → others ≡ records)
+
+-- each record is read as the row beside it, the first one's number being `row`
+abbrev pub AllRead : {X : Type 0} → (ℕ → Record → Result X RowsFault) → ℕ → List Record → List X → Type 0
+AllRead reads row [] [] = ⊤
+AllRead reads row [] (x ∷ xs) = ⊥
+AllRead reads row (fields ∷ more) [] = ⊥
+AllRead reads row (fields ∷ more) (x ∷ xs) = (reads row fields ≡ Ok x) × AllRead reads (row + 1) more xs
+
+-- the row of this number, of which the column is faulty, is the first faulty one of the records
+pub record IsFirstFault {X : Type 0} (reads : ℕ → Record → Result X RowsFault) (records : List Record) (row column : ℕ) : Type 0 where
+  pub before : List Record
+  pub rows : List X
+  pub good : AllRead reads 1 before rows
+  pub fields : Record
+  pub faulty : reads row fields ≡ Err (BadCsv row column)
+  pub after : List Record
+  pub split : records ≡ before ++ fields ∷ after
+  pub number : row ≡ length before + 1
+
+-- under a good header, rows are told where every record is read as one, and else the first faulty one
+pub record ReadsInOrder {X : Type 0} (reads : ℕ → Record → Result X RowsFault) (header : List (List ℕ)) : Type 0 where
+  pub good : (first : Record) (records : List Record) (rows : List X) → header_fault header first ≡ None
+      → rows_in reads header (first ∷ records) ≡ Ok rows → AllRead (row_of reads (length header)) 1 records rows
+  pub faulty : (first : Record) (records : List Record) (row column : ℕ) → header_fault header first ≡ None
+      → rows_in reads header (first ∷ records) ≡ Err (BadCsv row column) → IsFirstFault (row_of reads (length header)) records row column
+
+pub record ImportsReadInOrder : Type 0 where
+  pub accounts : ReadsInOrder account_of account_header
+  pub apps : ReadsInOrder app_of app_header
+  pub versions : ReadsInOrder version_of version_header
+  pub workunits : ReadsInOrder workunit_of workunit_header

@@ -1,0 +1,86 @@
+//! What one field says, where it is of the wanted form.
+
+ghost use Rattle.std.specs.Prelude.{◌≡◌, ◌≤◌, ◌^◌, IsTrue, IfSome, Some, None, nat_lt, option_map, if◌then◌else◌};
+ghost use Rattle.std.specs.Char.{is_ascii_digit};
+ghost use Rattle.std.specs.List.{list_all};
+ghost use Rattle.std.specs.Str.Parse.{digits_value};
+ghost use Rattle.office_files.specs.Columns as spec;
+
+use sched_book::Agreement;
+use texts::utf8_text;
+
+/// The most bytes of an account's name.
+const MOST_NAME_BYTES: usize = 64;
+
+/// How far apart two outputs may be that still agree.
+const MOST_DISTANCE: u64 = 1_000_000_000;
+
+/// A text of 1 to 64 bytes of UTF-8.
+pub(crate) fn name_in(field: &[u8]) -> Option<&str>
+    ensures { option_map (λ name. name.now) result ≡ spec.name_in field.now }
+{
+    if field.is_empty() || MOST_NAME_BYTES < field.len() {
+        return None;
+    }
+    utf8_text(field)
+}
+
+fn are_digits(field: &[u8]) -> bool
+    ensures { result ≡ list_all is_ascii_digit field.now }
+{
+    field.iter().all(|byte| byte.is_ascii_digit())
+}
+
+/// Whether a field is `0`, or a digit 1 to 9 followed by digits.
+fn is_count_text(field: &[u8]) -> bool
+    ensures { result ≡ spec.is_count_text field.now }
+{
+    let [first, ..] = field else {
+        return false;
+    };
+    field == b"0".as_slice() || (b'1' <= *first && are_digits(field))
+}
+
+/// What a count text says, where it is below 2^64.
+fn value_of_count(field: &[u8]) -> Option<u64>
+    requires { IsTrue (spec.is_count_text field.now) }
+    ensures { result ≡ (if nat_lt (digits_value 10 field.now) (2 ^ 64) then Some (digits_value 10 field.now) else None) }
+{
+    let Some(text) = utf8_text(field) else {
+        return None;
+    };
+    match text.parse::<u64>() {
+        Ok(value) => Some(value),
+        Err(_) => None,
+    }
+}
+
+/// The number from `least` to `most` that a count text says.
+pub(crate) fn number_in(field: &[u8], least: u64, most: u64) -> Option<u64>
+    ensures value { result ≡ spec.number_in least most field.now }
+    ensures range { IfSome result (λ n. (least ≤ n) × (n ≤ most)) }
+{
+    if !is_count_text(field) {
+        return None;
+    }
+    match value_of_count(field) {
+        Some(value) if least <= value && value <= most => Some(value),
+        _ => None,
+    }
+}
+
+/// `exact`, or `within:` and a count text up to 1,000,000,000.
+pub(crate) fn agreement_in(field: &[u8]) -> Option<Agreement>
+    ensures { result ≡ spec.agreement_in field.now }
+{
+    if field == b"exact".as_slice() {
+        return Some(Agreement::Exact);
+    }
+    let Some(distance) = field.strip_prefix(b"within:".as_slice()) else {
+        return None;
+    };
+    match number_in(distance, 0, MOST_DISTANCE) {
+        None => None,
+        Some(distance) => Some(Agreement::Within(distance as u32)),
+    }
+}

@@ -1,0 +1,93 @@
+ghost use Rattle.std.specs.Prelude.{◌≡◌, ◌≤◌, ◌<◌, ◌^◌, IfOk};
+ghost use Rattle.csv.specs.Records.{fields_of};
+ghost use Rattle.office_files.specs.Columns.{word_in, name_in, number_in, agreement_in};
+ghost use Rattle.office_files.specs.Faults.{Gives};
+ghost use Rattle.office_files.specs.Importing.{column_of};
+
+use crate::columns;
+use crate::fault::RowsFault;
+use csv::ByteRecord;
+use sched_book::Agreement;
+use std::alloc::Global;
+use texts::{Text, word_of};
+
+/// A data row of an import, which is read column by column. Columns count from 1.
+#[derive(Clone, Copy)]
+pub(crate) struct DataRow<'a> {
+    /// Its number, which counts from 1.
+    pub(crate) number: u64,
+    pub(crate) record: &'a ByteRecord,
+}
+
+impl<'a> DataRow<'a> {
+    fn fault(&self, column: usize) -> RowsFault
+        ensures { result ≡ RowsFault.BadCsv self.now.number column }
+    {
+        RowsFault::BadCsv {
+            row: self.number,
+            column: column as u64,
+        }
+    }
+
+    /// The word in a column.
+    #[tactic(auto, unfolding(crate::specs::Importing::column_of))]
+    pub(crate) fn word(&self, alloc: Global, column: usize) -> Result<Text, RowsFault>
+        requires { 1 ≤ column }
+        ensures { Gives result (column_of self.now.number column word_in (fields_of self.now.record.now)) }
+    {
+        let word = self
+            .record
+            .get(column - 1)
+            .and_then(word_of)
+            .ok_or(self.fault(column))?;
+        Ok(Text::copied(alloc, word)?)
+    }
+
+    /// The name of an account in a column.
+    #[tactic(auto, unfolding(crate::specs::Importing::column_of))]
+    pub(crate) fn name(&self, alloc: Global, column: usize) -> Result<Text, RowsFault>
+        requires { 1 ≤ column }
+        ensures { Gives result (column_of self.now.number column name_in (fields_of self.now.record.now)) }
+    {
+        let name = self
+            .record
+            .get(column - 1)
+            .and_then(columns::name_in)
+            .ok_or(self.fault(column))?;
+        Ok(Text::copied(alloc, name)?)
+    }
+
+    /// How outputs are compared, by a column.
+    #[tactic(auto, unfolding(crate::specs::Importing::column_of))]
+    pub(crate) fn agreement(&self, column: usize) -> Result<Agreement, RowsFault>
+        requires { 1 ≤ column }
+        ensures { Gives result (column_of self.now.number column agreement_in (fields_of self.now.record.now)) }
+    {
+        self.record
+            .get(column - 1)
+            .and_then(columns::agreement_in)
+            .ok_or(self.fault(column))
+    }
+
+    /// The number from `least` to `most` in a column.
+    #[tactic(auto, unfolding(crate::specs::Importing::column_of))]
+    pub(crate) fn number(&self, column: usize, least: u64, most: u64) -> Result<u64, RowsFault>
+        requires { 1 ≤ column }
+        ensures said { Gives result (column_of self.now.number column (number_in least most) (fields_of self.now.record.now)) }
+        ensures range { IfOk result (λ n. (least ≤ n) × (n ≤ most)) }
+    {
+        self.record
+            .get(column - 1)
+            .and_then(|field| columns::number_in(field, least, most))
+            .ok_or(self.fault(column))
+    }
+
+    /// The same of 32 bits.
+    pub(crate) fn small(&self, column: usize, least: u32, most: u32) -> Result<u32, RowsFault>
+        requires { 1 ≤ column }
+        ensures said { Gives result (column_of self.now.number column (number_in least most) (fields_of self.now.record.now)) }
+        ensures range { IfOk result (λ n. (least ≤ n) × (n ≤ most)) }
+    {
+        Ok(self.number(column, u64::from(least), u64::from(most))? as u32)
+    }
+}

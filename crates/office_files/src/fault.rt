@@ -1,0 +1,53 @@
+ghost use Rattle.std.specs.Prelude.{◌≡◌};
+ghost use Rattle.office_files.specs.Faults.{refusal_of};
+ghost use Rattle.office_files.specs.declared.fault.RowsFault.TheVariants.{Unavailable};
+
+use rpc_records::Fault;
+use texts::Memory;
+
+/// Why the rows of an import are refused.
+#[derive(Clone, Copy, Debug, PartialEq, Eq)]
+pub enum RowsFault {
+    /// The first faulty row of the text, and in it the first faulty column. Both count from 1; row 0 is the header,
+    /// and column 0 the whole row.
+    BadCsv { row: u64, column: u64 },
+    /// The name in this row stands already, or in a row before it.
+    DuplicateName(u64),
+    /// This row names an application that does not stand.
+    UnknownReference(u64),
+    /// More rows than a table may have.
+    TableFull,
+    /// Memory, size or disk is wanting.
+    Unavailable,
+}
+
+impl RowsFault {
+    /// The refusal that tells it.
+    pub fn fault(self) -> Fault
+        ensures { result ≡ refusal_of self }
+    {
+        match self {
+            RowsFault::BadCsv { row, column } => Fault::BadCsv { row, column },
+            RowsFault::DuplicateName(row) => Fault::DuplicateName(row),
+            RowsFault::UnknownReference(row) => Fault::UnknownReference(row),
+            RowsFault::TableFull => Fault::TableFull,
+            RowsFault::Unavailable => Fault::Unavailable,
+        }
+    }
+}
+
+impl From<Memory> for RowsFault {
+    ghost from_gives = { λ _ fault. fault ≡ Unavailable };
+
+    fn from(_memory: Memory) -> RowsFault {
+        RowsFault::Unavailable
+    }
+}
+
+impl From<sched_book::Unavailable> for RowsFault {
+    ghost from_gives = { λ _ fault. fault ≡ Unavailable };
+
+    fn from(_unavailable: sched_book::Unavailable) -> RowsFault {
+        RowsFault::Unavailable
+    }
+}

@@ -1,0 +1,43 @@
+//! The files of a project's office: imports by CSV.
+//!
+//! An operator brings accounts, applications, versions and workunits as texts of comma-separated values (RFC 4180),
+//! one kind a text. [`read_accounts`], [`read_apps`], [`read_versions`] and [`read_workunits`] read them, and
+//! [`check_rows`] checks what they say beside what stands at a desk.
+//!
+//! The first record is the header, row 0; each further one is a data row of as many fields. A byte order mark and
+//! empty lines are passed over; CR, LF and CR LF end a record. Numbers are count texts: `0`, or a digit 1 to 9
+//! followed by digits.
+//!
+//! | Kind | Header | What the columns hold |
+//! |---|---|---|
+//! | accounts | `authenticator,name` | a word; 1 to 64 bytes of UTF-8 |
+//! | applications | `name,agreement` | a word; `exact`, or `within:` and 0 to 1,000,000,000 |
+//! | versions | `app,platform,version_num` | two words; 1 to 1,000,000 |
+//! | workunits | `name`, `app` | two words |
+//! | | `min_quorum` | 1 to 100 |
+//! | | `target_nresults` | `min_quorum` to 100 |
+//! | | `max_error_results` | 0 to 100 |
+//! | | `max_total_results` | `target_nresults` to 100 |
+//! | | `max_success_results` | 0 to 100 |
+//! | | `delay_bound` | 1 to 100,000,000 seconds |
+//! | | `rsc_fpops_est` | 1 to 10^18 operations |
+//! | | `rsc_memory_bound`, `rsc_disk_bound` | 0 to 10^18 bytes |
+//! | | `credit` | 0 to 100,000,000 millicredits |
+#![tactic(auto)]
+
+pub mod checks;
+mod columns;
+mod data_row;
+pub mod fault;
+mod kinds;
+pub mod laws;
+mod named;
+pub mod readers;
+mod seen_keys;
+#[cfg(test)]
+mod tests;
+mod texts_of_csv;
+
+pub use checks::check_rows;
+pub use fault::RowsFault;
+pub use readers::{read_accounts, read_apps, read_versions, read_workunits};
