@@ -6,12 +6,12 @@ use Rattle.reply_register.proofs.Calls.{get_kept}
 use Rattle.bsched.specs.FirstHeard.{is_first_heard, first_heard}
 use Rattle.bsched.specs.Messages.{Said, Account, Call, Refused, said, key_of}
 use Rattle.bsched.specs.Pasts.{Past, said_in, then_heard}
-use Rattle.bsched.specs.Replies.{good, imported_text}
+use Rattle.bsched.specs.Replies.{good, account_text}
 use Rattle.bsched.specs.Runs.{Turn, Step, world_of, reply_body}
 use Rattle.bsched.specs.Serves.{limits_of, world_in, kept_in, told_by, ServesAs, Serves}
 use Rattle.bsched.specs.Stands.{Answers, StandsBy, Stands}
 use Rattle.bsched.specs.Told.{kept_call, kept_after, kept_of, told}
-use Rattle.bsched.specs.declared.first.line.Answer.{Answer}
+use Rattle.bsched.specs.declared.answers.Answer.{Answer}
 use Rattle.bsched.specs.declared.first.line.Arrival.{Arrival}
 use Rattle.bsched.specs.declared.first.line.Limits.{Limits}
 use Rattle.bsched.specs.declared.first.service.Service.{Service}
@@ -28,7 +28,7 @@ record Steps (old : Service) (message : Said) (answer : Answer) (new : Service) 
 steps : (old : Service) (message : Said) (answer : Answer) (new : Service) → ServesAs None old message answer new → Steps old message answer new
 steps old (Account name) answer new serves =
     record {
-      body = imported_text name;
+      body = account_text name;
       answered = serves.0;
       step = (refl, ap world_in serves.1);
       kept = λ key. ap (λ service. kept_in service key) serves.1;

@@ -5,7 +5,7 @@ use Rattle.bsched.specs.Messages.{said}
 use Rattle.bsched.specs.Pasts.{Past, then_heard, followed}
 use Rattle.bsched.specs.Serves.{Serves, ServesAll}
 use Rattle.bsched.specs.Stands.{Stands}
-use Rattle.bsched.specs.declared.first.line.Answer.{Answer}
+use Rattle.bsched.specs.declared.answers.Answer.{Answer}
 use Rattle.bsched.specs.declared.first.line.Arrival.{Arrival}
 use Rattle.bsched.specs.declared.first.service.Service.{Service}
 use Rattle.bsched.proofs.Carried.{carried}

@@ -22,7 +22,7 @@ use Rattle.bsched.specs.Stands.{Answers}
 use Rattle.bsched.specs.Told.{kept_call, kept_after, kept_of, told_fresh, told_heard, told_beside, told_call, told}
 use Rattle.bsched.specs.World.{World, host_number, host_told, with_caller}
 use Rattle.bsched.specs.declared.first.hosts.Host.{Host}
-use Rattle.bsched.specs.declared.first.line.Answer.{Answer}
+use Rattle.bsched.specs.declared.answers.Answer.{Answer}
 use Rattle.bsched.specs.declared.first.line.Limits.{Limits}
 
 -- each turn is a step, of a message that is first heard after the older ones
@@ -124,14 +124,14 @@ is_third false b false d all = all
 -- whether a call is first heard, of what is asked of the older messages
 abbrev first_call : Limits → Request → List (List ℕ) → Option ℕ → Bool → ℕ → Bool
 first_call limits request names number above count =
-    has_name request.authenticator names && names_host request.hostid number && above && has_host_room limits number count
+    has_name request.authenticator names && names_host request.hostid number && above && has_host_room limits.max_hosts number count
 
 pub call_rises : (limits : Limits) (request : Request) (older : List Said) → is_first_heard limits older (Call request) ≡ true
     → is_above (key_of request) request.rpc_seqno older ≡ true
 call_rises limits request older first =
     let number : Option ℕ = place_where (same_key (key_of request)) (keys_of older) in
     is_third (has_name request.authenticator (accounts_of older)) (names_host request.hostid number)
-    (is_above (key_of request) request.rpc_seqno older) (has_host_room limits number (length (keys_of older))) first
+    (is_above (key_of request) request.rpc_seqno older) (has_host_room limits.max_hosts number (length (keys_of older))) first
 
 above_step : (limits : Limits) (world after : World) (message : Said) (body : List ℕ) (older : List Said) (kept : Key → Option Kept)
     → is_first_heard limits older message ≡ true → Step limits world message body after
@@ -186,7 +186,7 @@ call_told : (limits : Limits) (request : Request) (world : World) (kept : Option
     ≡ is_none (told_call limits world kept request)
 call_told limits request world kept =
     let number : Option ℕ = host_number (key_of request) world.hosts in
-    let room : Bool = has_host_room limits number (length world.hosts) in
+    let room : Bool = has_host_room limits.max_hosts number (length world.hosts) in
     call_cases (has_name request.authenticator world.accounts) (names_host request.hostid number) (above_kept kept request.rpc_seqno) room
     (told_beside room kept request.rpc_seqno (canonical_text request)) _ _ (beside_none room kept request.rpc_seqno (canonical_text request))
 

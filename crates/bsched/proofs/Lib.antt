@@ -5,3 +5,4 @@ pub mod Rising
 pub mod IsRun
 pub mod Carried
 pub mod Following
+pub mod AddedRows

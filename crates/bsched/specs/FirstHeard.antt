@@ -49,8 +49,8 @@ abbrev pub has_account_room : ℕ → Bool
 has_account_room count = nat_lt count max_accounts
 
 -- Room for the host of a call: it has a number, or fewer hosts stand than may.
-abbrev pub has_host_room : Limits → Option ℕ → ℕ → Bool
-has_host_room limits number count = is_some number || nat_lt count limits.max_hosts
+abbrev pub has_host_room : ℕ → Option ℕ → ℕ → Bool
+has_host_room max_hosts number count = is_some number || nat_lt count max_hosts
 
 -- Whether a message is first heard after these, which are: a new account where there is room for it, or a call of an account that
 -- stands, with the number of its host if it tells one, a number above the earlier ones of its key, and room for its host.
@@ -62,7 +62,7 @@ is_first_heard limits older (Call request) =
     has_name request.authenticator (accounts_of older)
     && names_host request.hostid number
     && is_above key request.rpc_seqno older
-    && has_host_room limits number (length (keys_of older))
+    && has_host_room limits.max_hosts number (length (keys_of older))
 is_first_heard limits older (Refused fault) = false
 
 -- The first-heard ones of these messages.

@@ -12,3 +12,7 @@ pub mod Serves
 pub mod Stands
 pub mod ReplayLines
 pub mod Endings
+pub mod Kinds
+pub mod DeskCalls
+pub mod DeskImports
+pub mod DeskServes

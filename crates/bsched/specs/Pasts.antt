@@ -2,7 +2,7 @@
 -- found no memory changed nothing and counts as lost.
 use Rattle.std.specs.Prelude.{List, [], ◌∷◌, map}
 use Rattle.bsched.specs.Messages.{Said, said}
-use Rattle.bsched.specs.declared.first.line.Answer.{Answer}
+use Rattle.bsched.specs.declared.answers.Answer.{Answer}
 use Rattle.bsched.specs.declared.first.line.Arrival.{Arrival}
 
 -- An arrival with its answer.

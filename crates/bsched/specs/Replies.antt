@@ -11,7 +11,7 @@ use Rattle.rpc_records.specs.declared.reply.Reply.{Reply}
 use Rattle.rpc_records.specs.declared.request.Report.{Report}
 use Rattle.rpc_records.specs.declared.request.Request.{Request}
 use Rattle.bsched.specs.Names.{distinct}
-use Rattle.bsched.specs.declared.first.line.Answer.{Answer}
+use Rattle.bsched.specs.declared.answers.Answer.{Answer}
 use Rattle.bsched.specs.declared.first.line.Limits.{Limits}
 
 -- A good answer with this body.
@@ -22,35 +22,39 @@ good body = record { status = 200; body = body }
 abbrev pub refusal : Fault → Answer
 refusal fault = record { status = status_of fault; body = fault_text_of fault }
 
--- The answer to the import of one account, by the batch of its name: one row.
-abbrev pub imported_json : List ℕ → Data
-imported_json name = object (
-    member (codes "batch") (string name) (
-    member (codes "kind") (string (codes "accounts")) (
-    member (codes "rows") (whole 1)
+-- The answer to an import: its batch, its kind and how many rows it brought.
+abbrev pub imported_json : List ℕ → List ℕ → ℕ → Data
+imported_json kind batch rows = object (
+    member (codes "batch") (string batch) (
+    member (codes "kind") (string kind) (
+    member (codes "rows") (whole rows)
     no_members)))
 
 -- Its text.
-unfoldable pub imported_text : List ℕ → List ℕ
-imported_text name = compact_text (imported_json name)
+unfoldable pub imported_text : List ℕ → List ℕ → ℕ → List ℕ
+imported_text kind batch rows = compact_text (imported_json kind batch rows)
+
+-- The answer to the import of one account, by the batch of its name.
+abbrev pub account_text : List ℕ → List ℕ
+account_text name = imported_text (codes "accounts") name 1
 
 -- With no work there is enough only of none.
 abbrev pub end_word : ℕ → EndWord
 end_word asked = if asked == 0 then Enough else NoEligibleWork
 
--- The reply to a first-heard call where there is no work: every report is acknowledged,
+-- The reply to a first-heard call of a host of the user of this name where there is no work: every report is acknowledged,
 -- and every result that the host says it has is to be aborted, each name once.
-abbrev pub reply_of : Limits → ℕ → Request → Reply
-reply_of limits number request =
+abbrev pub reply_of : ℕ → List ℕ → ℕ → Request → Reply
+reply_of request_delay user_name number request =
     record {
       end_word = end_word request.asked;
       host_total_credit = 0;
       hostid = number;
-      request_delay = limits.request_delay;
+      request_delay = request_delay;
       result_abort = distinct (unwrap_or request.other_results []);
       result_ack = distinct (map (λ (report : Report). report.name) request.results);
       results = [];
       rpc_seqno = request.rpc_seqno;
-      user_name = request.authenticator;
+      user_name = user_name;
       user_total_credit = 0;
     }

@@ -3,7 +3,7 @@ use Rattle.std.specs.Prelude.{◌≡◌, ℕ, ◌+◌, List, [], ◌∷◌, ◌+
 use Rattle.rpc_records.specs.Replies.{reply_text_of}
 use Rattle.rpc_records.specs.declared.request.Request.{Request}
 use Rattle.bsched.specs.Messages.{Said, Account, Call, Refused, key_of}
-use Rattle.bsched.specs.Replies.{imported_text, reply_of}
+use Rattle.bsched.specs.Replies.{account_text, reply_of}
 use Rattle.bsched.specs.World.{World, empty_world, host_number, with_caller}
 use Rattle.bsched.specs.declared.first.line.Limits.{Limits}
 
@@ -13,12 +13,12 @@ caller_number world request = unwrap_or (host_number (key_of request) world.host
 
 -- The body of the reply to a first-heard call.
 abbrev pub reply_body : Limits → World → Request → List ℕ
-reply_body limits world request = reply_text_of (reply_of limits (caller_number world request) request)
+reply_body limits world request = reply_text_of (reply_of limits.request_delay request.authenticator (caller_number world request) request)
 
 -- One step: from a world, a message may give this body and leave this world after it. An account is added behind the others; a call
 -- renews its host or makes it. A refusal is no step.
 abbrev pub Step : Limits → World → Said → List ℕ → World → Type 0
-Step limits world (Account name) body after = (body ≡ imported_text name) × (after ≡ record world { accounts = world.accounts ++ name ∷ [] })
+Step limits world (Account name) body after = (body ≡ account_text name) × (after ≡ record world { accounts = world.accounts ++ name ∷ [] })
 Step limits world (Call request) body after =
     (body ≡ reply_body limits world request) × (after ≡ record world { hosts = with_caller request limits.daily_result_quota world.hosts })
 Step limits world (Refused fault) body after = ⊥

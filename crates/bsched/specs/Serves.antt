@@ -4,11 +4,11 @@ use Rattle.std.specs.FinMap as map
 use Rattle.reply_register.specs.declared.kept.Kept.{Kept}
 use Rattle.reply_register.specs.declared.key.Key.{Key}
 use Rattle.bsched.specs.Messages.{Said, Account, Call, Refused, said, key_of}
-use Rattle.bsched.specs.Replies.{good, imported_text}
+use Rattle.bsched.specs.Replies.{good, account_text}
 use Rattle.bsched.specs.Runs.{reply_body}
 use Rattle.bsched.specs.Told.{kept_call, told}
 use Rattle.bsched.specs.World.{World, with_caller}
-use Rattle.bsched.specs.declared.first.line.Answer.{Answer}
+use Rattle.bsched.specs.declared.answers.Answer.{Answer}
 use Rattle.bsched.specs.declared.first.line.Arrival.{Arrival}
 use Rattle.bsched.specs.declared.first.line.Limits.{Limits}
 use Rattle.bsched.specs.declared.first.service.Service.{Service}
@@ -34,7 +34,7 @@ told_by service message = told (limits_of service) (world_in service) (kept_in s
 abbrev pub ServesAs : Option Answer → Service → Said → Answer → Service → Type 0
 ServesAs (Some told) old message answer new = (answer ≡ told) × (new ≡ old)
 ServesAs None old (Account name) answer new =
-    (answer ≡ good (imported_text name)) × (new ≡ record old { accounts = old.accounts ++ name ∷ [] })
+    (answer ≡ good (account_text name)) × (new ≡ record old { accounts = old.accounts ++ name ∷ [] })
 ServesAs None old (Call request) answer new =
     let reply = reply_body (limits_of old) (world_in old) request in
     (answer ≡ good reply)

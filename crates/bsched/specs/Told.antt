@@ -12,10 +12,10 @@ use Rattle.rpc_records.specs.declared.request.Request.{Request}
 use Rattle.bsched.specs.FirstHeard.{has_account_room, has_host_room, names_host}
 use Rattle.bsched.specs.Messages.{Said, Account, Call, Refused, key_of}
 use Rattle.bsched.specs.Names.{has_name}
-use Rattle.bsched.specs.Replies.{good, refusal, imported_text}
+use Rattle.bsched.specs.Replies.{good, refusal, account_text}
 use Rattle.bsched.specs.Runs.{Turn}
 use Rattle.bsched.specs.World.{World, host_number}
-use Rattle.bsched.specs.declared.first.line.Answer.{Answer}
+use Rattle.bsched.specs.declared.answers.Answer.{Answer}
 use Rattle.bsched.specs.declared.first.line.Limits.{Limits}
 
 -- What is kept of a call with its reply.
@@ -53,7 +53,7 @@ told_beside room (Some kept) seqno text = told_heard room kept.reply (heard (Som
 abbrev pub told_call : Limits → World → Option Kept → Request → Option Answer
 told_call limits world kept request =
     let number = host_number (key_of request) world.hosts in
-    let room = has_host_room limits number (length world.hosts) in
+    let room = has_host_room limits.max_hosts number (length world.hosts) in
     if has_name request.authenticator world.accounts
     then (if names_host request.hostid number
     then told_beside room kept request.rpc_seqno (canonical_text request)
@@ -63,7 +63,7 @@ told_call limits world kept request =
 -- An account that stands is told what its import was told.
 abbrev pub told_account : World → List ℕ → Option Answer
 told_account world name =
-    if has_name name world.accounts then Some (good (imported_text name))
+    if has_name name world.accounts then Some (good (account_text name))
     else (if has_account_room (length world.accounts) then None else Some (refusal fault.TableFull))
 
 -- The answer to a message that is not first heard, from the world and the kept calls; none to one that is.

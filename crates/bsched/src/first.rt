@@ -3,16 +3,14 @@
 //! Each call of a host is acted on once, whatever is lost, repeated or comes late: what stands is one run of a
 //! machine that hears each call once.
 
-mod answers;
-mod checks;
 mod hosts;
 pub mod laws;
 mod line;
-mod replies;
 mod service;
 #[cfg(test)]
 mod tests;
 
+pub use crate::answers::Answer;
 pub use hosts::Host;
-pub use line::{Answer, Arrival, Limits, Line};
+pub use line::{Arrival, Limits, Line};
 pub use service::Service;

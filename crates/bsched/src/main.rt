@@ -4,21 +4,21 @@
 //! prints the answers. `docs/PROFILE.md` states the formats.
 #![tactic(auto)]
 
+pub mod answers;
+mod checks;
 pub mod first;
+mod keys;
+pub mod plain;
 pub mod replay;
+mod replies;
 
-use crate::first::Limits;
 use crate::replay::Ended;
+use sched_book::Settings;
+use std::alloc::Global;
 use std::io::{BufReader, BufWriter};
 use std::process::ExitCode;
 use std::{env, io};
-
-/// What `replay` takes where no settings are told.
-const DEFAULT_LIMITS: Limits = Limits {
-    max_hosts: 3,
-    daily_result_quota: 4,
-    request_delay: 60,
-};
+use texts::{Memory, Text};
 
 fn main(rt: HostRuntime) -> io::Result<ExitCode> {
     let alloc = rt.alloc();
@@ -29,7 +29,10 @@ fn main(rt: HostRuntime) -> io::Result<ExitCode> {
     }
     let reader = BufReader::new(alloc, rt.reader())?;
     let writer = BufWriter::new(alloc, io::writer(&rt))?;
-    let ended = replay::replay(alloc, &DEFAULT_LIMITS, reader, writer);
+    let ended = match default_settings(alloc) {
+        Ok(settings) => replay::replay(alloc, &settings, reader, writer),
+        Err(_) => Ended::Unavailable,
+    };
     if ended != Ended::Good {
         eprintln!(rt; "bsched: {ended}")?;
     }
@@ -43,4 +46,17 @@ fn asks_for_replay(words: &[String]) -> bool {
         [_, command] => command.as_str() == "replay",
         _ => false,
     }
+}
+
+/// What `replay` takes where no settings are told.
+fn default_settings(alloc: Global) -> Result<Settings, Memory> {
+    Ok(Settings {
+        daily_result_quota: 4,
+        max_hosts: 3,
+        max_wus_in_progress: 3,
+        max_wus_to_send: 2,
+        operator_key: Text::copied(alloc, "opkey-01")?,
+        request_delay: 60,
+        resend_lost_results: true,
+    })
 }

@@ -5,13 +5,14 @@ mod line;
 #[cfg(test)]
 mod tests;
 
-use crate::first::{Answer, Limits, Service};
+use crate::answers::Answer;
+use crate::plain::{Failure, Service};
 use line::arrival_of;
 use rpc_records::unavailable_text;
+use sched_book::Settings;
 use std::alloc::Global;
 use std::io::{BufRead, ErrorKind, Read, Write};
 use std::{fmt, io};
-use texts::Memory;
 
 /// The most lines of a replay.
 pub const MOST_LINES: u32 = 1_000_000;
@@ -59,14 +60,14 @@ impl fmt::Display for Ended {
 
 /// Answers the lines of `reader`, each by a line of `writer`: its status, a space and its body. The first
 /// line that is none ends it. An answer that finds no memory is the refusal `unavailable`, and the lines
-/// behind it are answered all the same.
+/// behind it are answered all the same, unless it leaves the service half changed: that ends the run at once.
 pub fn replay<R: BufRead + Drop, W: Write + Drop>(
     alloc: Global,
-    limits: &Limits,
+    settings: &Settings,
     mut reader: R,
     mut writer: W,
 ) -> Ended {
-    let ended = answer_lines(alloc, limits, &mut reader, &mut writer).unwrap_or_else(
+    let ended = answer_lines(alloc, settings, &mut reader, &mut writer).unwrap_or_else(
         |error| ended_by(&error),
     );
     match writer.flush() {
@@ -84,11 +85,11 @@ fn ended_by(error: &io::Error) -> Ended {
 
 fn answer_lines<R: BufRead, W: Write>(
     alloc: Global,
-    limits: &Limits,
+    settings: &Settings,
     reader: &mut R,
     writer: &mut W,
 ) -> io::Result<Ended> {
-    let mut service = Service::new(alloc, *limits);
+    let mut service = Service::new(alloc, settings)?;
     let mut line = Vec::new(alloc);
     let mut ended = Ended::Good;
     for number in 1..=MOST_LINES {
@@ -101,10 +102,11 @@ fn answer_lines<R: BufRead, W: Write>(
         match answer_line(alloc, &mut service, text) {
             Ok(None) => return Ok(Ended::Line(number)),
             Ok(Some(answer)) => writeln!(writer, "{} {}", answer.status, answer.body.as_str())?,
-            Err(_) => {
+            Err(Failure::Unavailable) => {
                 ended = Ended::Unavailable;
                 writeln!(writer, "503 {}", unavailable_text())?;
             }
+            Err(Failure::HalfDone) => return Ok(Ended::Unavailable),
         }
     }
     if read_line(reader, &mut line)? {
@@ -135,9 +137,9 @@ fn answer_line(
     alloc: Global,
     service: &mut Service,
     text: &[u8],
-) -> Result<Option<Answer>, Memory> {
+) -> Result<Option<Answer>, Failure> {
     match arrival_of(alloc, text)? {
         None => Ok(None),
-        Some(arrival) => Ok(Some(service.answer(arrival.now, &arrival.line)?)),
+        Some(arrival) => Ok(Some(service.answer(&arrival.line)?)),
     }
 }

@@ -122,16 +122,6 @@ fn index_of(hosts: &[Host], key: &Key) -> Option<usize>
     hosts.iter().position(|host| *key == host.key)
 }
 
-/// Who makes this call.
-pub(crate) fn caller(request: &Request) -> Result<Key, Memory>
-    ensures { IfOk result (λ key. key ≡ key_of request.now) }
-{
-    Ok(Key {
-        authenticator: request.authenticator.clone()?,
-        host_cpid: request.host.host_cpid.clone()?,
-    })
-}
-
 /// The host that makes this call, with the facts and platforms that it tells.
 pub(crate) fn told_host(request: Request, key: Key, quota: u32) -> Host
     requires { key ≡ key_of request }

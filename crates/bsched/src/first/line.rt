@@ -20,13 +20,6 @@ pub enum Line {
     Scheduler(Listed<u8>),
 }
 
-/// An answer: the status of its HTTP response and the response's body.
-#[derive(Debug, Drop)]
-pub struct Answer {
-    pub status: u16,
-    pub body: Text,
-}
-
 /// A message and the moment at which it came, in seconds since 1970-01-01T00:00:00Z.
 #[derive(Debug, Drop)]
 pub struct Arrival {

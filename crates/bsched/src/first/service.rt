@@ -9,13 +9,14 @@ ghost use Rattle.bsched.specs.Serves.{limits_of, world_in, kept_in, told_by, Ser
 ghost use Rattle.bsched.specs.Stands.{Stands};
 ghost use Rattle.bsched.specs.World.{host_number};
 ghost use Rattle.bsched.specs.HostRows.{quota_at, with_host};
-ghost use Rattle.bsched.specs.declared.first.line.Answer.{Answer};
+ghost use Rattle.bsched.specs.declared.answers.Answer.{Answer};
 
-use crate::first::answers::{good, imported, refusal, told_beside};
-use crate::first::checks::{has_account_room, has_host_room, is_too_long, names_host};
-use crate::first::hosts::{Host, Hosts, caller, told_host};
-use crate::first::line::{Answer, Arrival, Limits, Line};
-use crate::first::replies::{has_name, reply};
+use crate::answers::{Answer, good, imported, refusal, told_beside};
+use crate::checks::{has_account_room, has_host_room, is_too_long, names_host};
+use crate::first::hosts::{Host, Hosts, told_host};
+use crate::first::line::{Arrival, Limits, Line};
+use crate::keys::key_of;
+use crate::replies::{has_name, reply};
 use reply_register::{Kept, Key, Register};
 use rpc_records::{Fault, Request, decode_request, reply_text, request_text};
 use std::alloc::{AllocError, Global};
@@ -110,7 +111,7 @@ impl Service {
         ensures exact { IfOk result (λ answer. Serves self.old (Account name.now) answer self.new) }
         ensures err { OnErr result (self.new ≡ self.old) }
     {
-        let body = imported(self.alloc, name)?;
+        let body = imported(self.alloc, "accounts", name.as_str(), 1)?;
         if has_name(name, self.accounts.as_slice()) {
             return Ok(good(body));
         }
@@ -141,7 +142,7 @@ impl Service {
         ensures exact { IfOk result (λ answer. Serves self.old (Call request) answer self.new) }
         ensures err { OnErr result (self.new ≡ self.old) }
     {
-        let key = caller(&request)?;
+        let key = key_of(&request)?;
         let text = request_text(self.alloc, &request)?;
         match self.told(&request, &key, text.as_str())? {
             Some(answer) => Ok(answer),
@@ -164,7 +165,7 @@ impl Service {
         if !names_host(request.hostid, number) {
             return Ok(Some(refusal(self.alloc, Fault::BadHost)?));
         }
-        let room = has_host_room(&self.limits, number, self.hosts.len());
+        let room = has_host_room(self.limits.max_hosts, number, self.hosts.len());
         told_beside(
             self.alloc,
             room,
@@ -185,7 +186,8 @@ impl Service {
         let number = self.hosts.number_of(&key);
         let reply = reply(
             self.alloc,
-            &self.limits,
+            self.limits.request_delay,
+            &request.authenticator,
             self.caller_number(number),
             &request,
         )?;

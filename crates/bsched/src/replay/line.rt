@@ -1,24 +1,27 @@
-ghost use Rattle.std.specs.Prelude.{◌≡◌, ◌<◌, length, position, IfOk, IfSome, option_map};
+ghost use Rattle.std.specs.Prelude.{◌≡◌, ◌<◌, ◌==◌, length, position, IfOk, IfSome, option_map, option_and_then};
+ghost use Rattle.std.specs.String.{string_bytes};
+ghost use Rattle.serde_json.specs.Find.{as_str};
+ghost use Rattle.serde_json.specs.View.{view};
+ghost use Rattle.rpc_records.specs.Reading.{json_of};
 ghost use Rattle.bsched.specs.ReplayLines as spec;
 
-use crate::first::{Arrival, Line};
+use crate::plain::{Arrival, Line};
 use jiff::Timestamp;
-use std::alloc::Global;
+use sched_book::Moment;
+use serde_json::Value;
+use std::alloc::{AllocError, Global};
 use texts::{Listed, Memory, Text, utf8_text, word_of};
 
-/// The latest moment of an arrival, in seconds since 1970-01-01T00:00:00Z.
-pub const LAST_MOMENT: u64 = 250_000_000_000;
-
 /// What arrives by a line of a replay, `INSTANT WORD BODY` without its line feed, or `None` where the line
-/// has not that form. The words are `account`, whose body is a word, and `scheduler`, whose body is a
-/// request's bytes, none where it is left out.
+/// has not that form. The words are `account`, whose body is a word; `import/KIND/BATCH`, whose body is a JSON
+/// string; and `scheduler`, whose body is a request's bytes, none where it is left out.
 pub fn arrival_of(alloc: Global, text: &[u8]) -> Result<Option<Arrival>, Memory>
     ensures { IfOk result (λ arrival. arrival ≡ spec.arrival_of text.now) }
 {
-    let Some(now) = moment_of(first_part(text)) else {
+    let Some(now) = moment_of(first_part(text, b' ')) else {
         return Ok(None);
     };
-    let Some(said) = second_part(text) else {
+    let Some(said) = second_part(text, b' ') else {
         return Ok(None);
     };
     match line_of(alloc, said)? {
@@ -30,32 +33,130 @@ pub fn arrival_of(alloc: Global, text: &[u8]) -> Result<Option<Arrival>, Memory>
 fn line_of(alloc: Global, text: &[u8]) -> Result<Option<Line>, Memory>
     ensures { IfOk result (λ line. line ≡ spec.line_of text.now) }
 {
-    let word = first_part(text);
+    line_by(alloc, first_part(text, b' '), second_part(text, b' '))
+}
+
+/// The message of this word and body.
+fn line_by(alloc: Global, word: &[u8], body: Option<&[u8]>) -> Result<Option<Line>, Memory>
+    ensures { IfOk result (λ line. line ≡ spec.line_by word.now (option_map (λ b. b.now) body.entry)) }
+{
     if word == b"account".as_slice() {
-        return account_line(alloc, second_part(text));
+        return account_line(alloc, body);
     }
     if word == b"scheduler".as_slice() {
-        let body = second_part(text).unwrap_or(&[]);
+        let body = body.unwrap_or(&[]);
         return Ok(Some(Line::Scheduler(Listed::of(body.to_vec(alloc)?))));
+    }
+    if first_part(word, b'/') == b"import".as_slice() {
+        return import_line(alloc, second_part(word, b'/'), body);
     }
     Ok(None)
 }
 
+/// The import of the account of this name.
 fn account_line(alloc: Global, body: Option<&[u8]>) -> Result<Option<Line>, Memory>
     ensures { IfOk result (λ line. line ≡ spec.account_line (option_map (λ b. b.now) body.entry)) }
 {
     let Some(body) = body else {
         return Ok(None);
     };
-    match word_of(body) {
-        Some(word) => Ok(Some(Line::Account(Text::copied(alloc, word)?))),
-        None => Ok(None),
+    let Some(name) = word_of(body) else {
+        return Ok(None);
+    };
+    Ok(Some(Line::Import {
+        kind: Text::copied(alloc, "accounts")?,
+        batch: Text::copied(alloc, name)?,
+        text: Listed::of(account_rows(alloc, name)?.into_bytes()),
+    }))
+}
+
+fn account_rows(alloc: Global, name: &str) -> Result<String, Memory>
+    ensures { IfOk result (λ text. string_bytes text ≡ spec.account_rows name.now) }
+{
+    format!(in alloc; "authenticator,name\n{name},{name}\n")
+}
+
+/// The import of a batch, whose kind and name the path tells.
+fn import_line(
+    alloc: Global,
+    path: Option<&[u8]>,
+    body: Option<&[u8]>,
+) -> Result<Option<Line>, Memory>
+    ensures { IfOk result (λ line.
+        line ≡ spec.import_line (option_map (λ p. p.now) path.entry) (option_map (λ b. b.now) body.entry)) }
+{
+    let Some(path) = path else {
+        return Ok(None);
+    };
+    let Some(kind) = word_of(first_part(path, b'/')) else {
+        return Ok(None);
+    };
+    let Some(batch) = word_in(second_part(path, b'/')) else {
+        return Ok(None);
+    };
+    let Some(text) = text_in(alloc, body)? else {
+        return Ok(None);
+    };
+    Ok(Some(Line::Import {
+        kind: Text::copied(alloc, kind)?,
+        batch: Text::copied(alloc, batch)?,
+        text: Listed::of(text.into_bytes()),
+    }))
+}
+
+/// The word that these bytes are, where they are there and are one.
+fn word_in(text: Option<&[u8]>) -> Option<&str>
+    ensures { option_map (λ word. word.now) result ≡ option_and_then spec.word_in (option_map (λ t. t.now) text.entry) }
+{
+    match text {
+        None => None,
+        Some(text) => word_of(text),
     }
 }
 
-/// The moment that an instant of ISO 8601 tells, in seconds since 1970-01-01T00:00:00Z: `None` where `jiff`
-/// reads none, where it is not on a whole second, and outside 0 to [`LAST_MOMENT`].
-pub fn moment_of(text: &[u8]) -> Option<u64>
+/// The text that a JSON string tells (RFC 8259), where it is there and is one.
+fn text_in(alloc: Global, body: Option<&[u8]>) -> Result<Option<String>, Memory>
+    ensures { IfOk result (λ text.
+        option_map string_bytes text ≡ option_and_then spec.text_told (option_map (λ b. b.now) body.entry)) }
+{
+    match body {
+        None => Ok(None),
+        Some(body) => text_told(alloc, body),
+    }
+}
+
+fn text_told(alloc: Global, body: &[u8]) -> Result<Option<String>, Memory>
+    ensures { IfOk result (λ text. option_map string_bytes text ≡ spec.text_told body.now) }
+{
+    match value_of(alloc, body)? {
+        None => Ok(None),
+        Some(value) => Ok(text_of(value)),
+    }
+}
+
+/// The value that a JSON text is, where it is one.
+fn value_of(alloc: Global, body: &[u8]) -> Result<Option<Value>, Memory>
+    ensures { IfOk result (λ value. option_map view value ≡ json_of body.now) }
+{
+    match Value::from_slice(alloc, body) {
+        Ok(value) => Ok(Some(value)),
+        Err(error) if error.is_memory() => Err(AllocError),
+        Err(_) => Ok(None),
+    }
+}
+
+fn text_of(value: Value) -> Option<String>
+    ensures { option_map string_bytes result ≡ as_str (view value) }
+{
+    match value {
+        Value::String(text) => Some(text),
+        _ => None,
+    }
+}
+
+/// The moment that an instant of ISO 8601 tells: `None` where `jiff` reads none, where it is not on a whole
+/// second, and where it is no moment.
+pub fn moment_of(text: &[u8]) -> Option<Moment>
     ensures { result ≡ spec.moment_of text.now }
 {
     match utf8_text(text) {
@@ -64,7 +165,7 @@ pub fn moment_of(text: &[u8]) -> Option<u64>
     }
 }
 
-fn moment_told(text: &str) -> Option<u64>
+fn moment_told(text: &str) -> Option<Moment>
     ensures { result ≡ spec.moment_told text.now }
 {
     match text.parse::<Timestamp>() {
@@ -73,40 +174,42 @@ fn moment_told(text: &str) -> Option<u64>
     }
 }
 
-fn moment_at(instant: Timestamp) -> Option<u64>
+fn moment_at(instant: Timestamp) -> Option<Moment>
     ensures { result ≡ spec.moment_of_nanoseconds instant.nanosecond }
 {
     if instant.subsec_nanosecond() != 0 {
         return None;
     }
     match u64::try_from(instant.as_second()) {
-        Ok(second) if second <= LAST_MOMENT => Some(second),
-        _ => None,
+        Ok(second) => Moment::new(second),
+        Err(_) => None,
     }
 }
 
-fn first_part(text: &[u8]) -> &[u8]
-    ensures { result.now ≡ spec.first_part text.now }
+/// What stands before the first separator, or all of it.
+fn first_part(text: &[u8], separator: u8) -> &[u8]
+    ensures { result.now ≡ spec.first_part separator text.now }
 {
-    match space_in(text) {
+    match find_byte(text, separator) {
         Some(at) => &text[..at],
         None => text,
     }
 }
 
-fn second_part(text: &[u8]) -> Option<&[u8]>
-    ensures { option_map (λ part. part.now) result ≡ spec.second_part text.now }
+/// What stands behind the first separator, where there is one.
+fn second_part(text: &[u8], separator: u8) -> Option<&[u8]>
+    ensures { option_map (λ part. part.now) result ≡ spec.second_part separator text.now }
 {
-    match space_in(text) {
+    match find_byte(text, separator) {
         Some(at) => Some(&text[at + 1..]),
         None => None,
     }
 }
 
-/// The index of the first space.
-fn space_in(text: &[u8]) -> Option<usize>
-    ensures first { result ≡ position spec.is_space text.now }
+/// The index of the first such byte.
+fn find_byte(text: &[u8], wanted: u8) -> Option<usize>
+    ensures first { result ≡ position (λ byte. byte == wanted) text.now }
     ensures within { IfSome result (λ at. at < length text.now) }
 {
-    text.iter().position(|byte| *byte == b' ')
+    text.iter().position(|byte| *byte == wanted)
 }

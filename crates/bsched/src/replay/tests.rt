@@ -1,17 +1,11 @@
 //! The worked rows of the first path: lines in, answers out.
 
 use super::{Ended, replay};
-use crate::first::Limits;
+use crate::default_settings;
 use std::alloc::Global;
 use std::io;
 use std::io::{BufReader, ErrorKind, Read};
 use std::test::Fail;
-
-const LIMITS: Limits = Limits {
-    max_hosts: 3,
-    daily_result_quota: 4,
-    request_delay: 60,
-};
 
 const ACCOUNTS: &str =
     "1970-01-01T00:00:00Z account k1\n1970-01-01T00:00:00Z account k2\n1970-01-01T00:00:00Z account k3\n";
@@ -42,7 +36,13 @@ fn good(alloc: Global, hostid: u32, seqno: u32, user: &str) -> Result<String, Fa
 /// What a replay of these lines prints, and how it ends.
 fn replayed(alloc: Global, lines: &[u8]) -> Result<(Vec<u8>, Ended), Fail> {
     let mut printed = Vec::new(alloc);
-    let ended = replay(alloc, &LIMITS, BufReader::new(alloc, lines)?, &mut printed);
+    let settings = default_settings(alloc)?;
+    let ended = replay(
+        alloc,
+        &settings,
+        BufReader::new(alloc, lines)?,
+        &mut printed,
+    );
     Ok((printed, ended))
 }
 
@@ -238,6 +238,121 @@ fn names_are_acknowledged_and_aborted_once(rt: HostRuntime) -> Result<(), Fail> 
     Ok(())
 }
 
+const PROJECT: &str =
+    "1970-01-01T00:00:00Z import/accounts/a0 \"authenticator,name\\nk1,Ann\\nk2,Bob\\nk3,Cid\\n\"\n1970-01-01T00:00:00Z import/apps/a0 \"name,agreement\\ndock,exact\\nfold,within:2\\n\"\n1970-01-01T00:00:00Z import/versions/a0 \"app,platform,version_num\\ndock,linux,101\\ndock,linux,102\\nfold,linux,7\\n\"\n";
+
+const PROJECT_IMPORTED: &str =
+    "200 {\"batch\":\"a0\",\"kind\":\"accounts\",\"rows\":3}\n200 {\"batch\":\"a0\",\"kind\":\"apps\",\"rows\":2}\n200 {\"batch\":\"a0\",\"kind\":\"versions\",\"rows\":3}\n";
+
+/// Behind the project's imports, these lines get these answers.
+fn answers_in_project(alloc: Global, lines: &str, told: &str) -> Result<bool, Fail> {
+    let input = format!(in alloc; "{PROJECT}{lines}")?;
+    let output = format!(in alloc; "{PROJECT_IMPORTED}{told}")?;
+    let (printed, ended) = replayed(alloc, input.as_bytes())?;
+    Ok(ended == Ended::Good && printed.as_slice() == output.as_bytes())
+}
+
+#[test]
+fn a_batch_sent_twice_counts_once(rt: HostRuntime) -> Result<(), Fail> {
+    let alloc = rt.alloc();
+    let lines =
+        "1970-01-01T00:00:00Z import/accounts/b1 \"authenticator,name\\nk5,Eve\\n\"\n1970-01-01T00:00:00Z import/accounts/b1  \"authenticator,name\\nk5,Eve\\n\" \n1970-01-01T00:00:00Z import/accounts/b1 \"authenticator,name\\nk5,Evf\\n\"\n1970-01-01T00:00:00Z import/accounts/b1 \"x\"\n1970-01-01T00:00:00Z import/apps/b1 \"name,agreement\\nscan,exact\\n\"\n";
+    let told =
+        "200 {\"batch\":\"b1\",\"kind\":\"accounts\",\"rows\":1}\n200 {\"batch\":\"b1\",\"kind\":\"accounts\",\"rows\":1}\n409 {\"error\":\"batch_reused\",\"number\":17}\n409 {\"error\":\"batch_reused\",\"number\":17}\n200 {\"batch\":\"b1\",\"kind\":\"apps\",\"rows\":1}\n";
+    assert!(rt; answers_in_project(alloc, lines, told)?);
+    Ok(())
+}
+
+#[test]
+fn a_faulty_import_is_refused_whole(rt: HostRuntime) -> Result<(), Fail> {
+    let alloc = rt.alloc();
+    // a name twice: none of its rows stands, and the batch stays free
+    let twice =
+        "1970-01-01T00:00:00Z import/accounts/b2 \"authenticator,name\\nk6,A\\nk7,B\\nk6,C\\n\"\n1970-01-01T00:00:00Z import/accounts/b2 \"authenticator,name\\nk6,A\\nk7,B\\n\"\n";
+    let told =
+        "409 {\"error\":\"duplicate_name\",\"number\":15,\"row\":3}\n200 {\"batch\":\"b2\",\"kind\":\"accounts\",\"rows\":2}\n";
+    assert!(rt; answers_in_project(alloc, twice, told)?);
+    for (batch, text, told) in [
+        (
+            "versions/v1",
+            "app,platform,version_num\\ndock,linux,0\\n",
+            "400 {\"column\":3,\"error\":\"bad_csv\",\"number\":14,\"row\":1}",
+        ),
+        (
+            "versions/v1",
+            "app,platform,version_num\\nnope,linux,1\\n",
+            "409 {\"error\":\"unknown_reference\",\"number\":16,\"row\":1}",
+        ),
+        (
+            "versions/v1",
+            "app,platform,version_num\\nnope,linux,1\\ndock,linux,5\\ndock,linux,5\\n",
+            "409 {\"error\":\"duplicate_name\",\"number\":15,\"row\":3}",
+        ),
+        (
+            "apps/p1",
+            "",
+            "400 {\"column\":0,\"error\":\"bad_csv\",\"number\":14,\"row\":0}",
+        ),
+        (
+            "apps/p1",
+            "name,agreement",
+            "200 {\"batch\":\"p1\",\"kind\":\"apps\",\"rows\":0}",
+        ),
+        (
+            "units/u1",
+            "name,agreement",
+            "404 {\"error\":\"no_route\",\"number\":2}",
+        ),
+    ] {
+        let line = format!(in alloc; "1970-01-01T00:00:00Z import/{batch} \"{text}\"\n")?;
+        let answer = format!(in alloc; "{told}\n")?;
+        assert!(rt;
+            answers_in_project(alloc, line.as_str(), answer.as_str())?,
+            "{batch} {text}"
+        );
+    }
+    Ok(())
+}
+
+#[test]
+fn work_that_stands_is_not_handed_out_yet(rt: HostRuntime) -> Result<(), Fail> {
+    let alloc = rt.alloc();
+    let asking = call(alloc, "k1", "c1", 1, ",\"work_req_seconds\":3600")?;
+    let workunits =
+        "1970-01-01T00:00:00Z import/workunits/u4 \"name,app,min_quorum,target_nresults,max_error_results,max_total_results,max_success_results,delay_bound,rsc_fpops_est,rsc_memory_bound,rsc_disk_bound,credit\\nw1,dock,2,2,3,5,4,7200,3600000,1000,1000,5000\\n\"";
+    let reply =
+        "200 {\"end_word\":\"no_eligible_work\",\"host_total_credit\":0,\"hostid\":1,\"request_delay\":60,\"result_abort\":[],\"result_ack\":[],\"results\":[],\"rpc_seqno\":1,\"user_name\":\"Ann\",\"user_total_credit\":0}";
+    let lines = format!(in alloc; "{asking}{workunits}\n{asking}")?;
+    let told = format!(in alloc;
+        "{reply}\n200 {{\"batch\":\"u4\",\"kind\":\"workunits\",\"rows\":1}}\n{reply}\n"
+    )?;
+    assert!(rt; answers_in_project(alloc, lines.as_str(), told.as_str())?);
+    Ok(())
+}
+
+#[test]
+fn an_import_may_be_1_048_576_bytes_long(rt: HostRuntime) -> Result<(), Fail> {
+    let alloc = rt.alloc();
+    let start = "1970-01-01T00:00:00Z import/apps/p1 \"";
+    for (length, told) in [
+        (
+            1_048_576_usize,
+            "400 {\"column\":0,\"error\":\"bad_csv\",\"number\":14,\"row\":0}\n",
+        ),
+        (1_048_577, "413 {\"error\":\"too_large\",\"number\":5}\n"),
+    ] {
+        let mut line = String::from_str(alloc, start)?;
+        for _ in 0..length {
+            line.push_str("x")?;
+        }
+        line.push_str("\"\n")?;
+        let (printed, ended) = replayed(alloc, line.as_bytes())?;
+        assert_eq!(rt; ended, Ended::Good);
+        assert!(rt; printed.as_slice() == told.as_bytes(), "{told}");
+    }
+    Ok(())
+}
+
 #[test]
 fn lines_that_are_none_end_the_run(rt: HostRuntime) -> Result<(), Fail> {
     let alloc = rt.alloc();
@@ -256,6 +371,16 @@ fn lines_that_are_none_end_the_run(rt: HostRuntime) -> Result<(), Fail> {
         "1970-01-01T00:00:00Z account k 1",
         "1970-01-01T00:00:00Z account k1\r",
         "1970-01-01T00:00:00Z tick",
+        "1970-01-01T00:00:00Z import",
+        "1970-01-01T00:00:00Z import/accounts \"\"",
+        "1970-01-01T00:00:00Z import/accounts/ \"\"",
+        "1970-01-01T00:00:00Z import//b1 \"\"",
+        "1970-01-01T00:00:00Z import/accounts/b1/x \"\"",
+        "1970-01-01T00:00:00Z import/accounts/b1",
+        "1970-01-01T00:00:00Z import/accounts/b1 ",
+        "1970-01-01T00:00:00Z import/accounts/b1 x",
+        "1970-01-01T00:00:00Z import/accounts/b1 7",
+        "1970-01-01T00:00:00Z import/units/b1 x",
         "1970-01-01T00:00:00.5Z account k2",
         "1969-12-31T23:59:59Z account k2",
         "9892-03-08T12:26:41Z account k2",
@@ -304,13 +429,14 @@ impl Read for Broken {
 #[test]
 fn broken_streams_end_the_run(rt: HostRuntime) -> Result<(), Fail> {
     let alloc = rt.alloc();
+    let settings = default_settings(alloc)?;
     let lines = format!(in alloc; "{ACCOUNTS}{}", call(alloc, "k1", "c1", 1, "")?)?;
     let told = format!(in alloc; "{ACCOUNTS_ADDED}{}", good(alloc, 1, 1, "k1")?)?;
     for length in 0..lines.len() {
         let front = lines.as_bytes().get(..length).unwrap_or(&[]);
         let reader = BufReader::new(alloc, front.chain(Broken))?;
         let mut printed = Vec::new(alloc);
-        let ended = replay(alloc, &LIMITS, reader, &mut printed);
+        let ended = replay(alloc, &settings, reader, &mut printed);
         assert_eq!(rt; ended, Ended::File, "{length}");
         assert!(rt; told.as_bytes().starts_with(&printed), "{length}");
     }
@@ -318,7 +444,7 @@ fn broken_streams_end_the_run(rt: HostRuntime) -> Result<(), Fail> {
         let mut room = vec![in alloc; b' '; length]?;
         let ended = replay(
             alloc,
-            &LIMITS,
+            &settings,
             BufReader::new(alloc, lines.as_bytes())?,
             room.as_mut_slice(),
         );

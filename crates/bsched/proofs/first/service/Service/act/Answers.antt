@@ -21,7 +21,7 @@ returns-clause-exact c =
     let body : c.in_ok-body.body ≡ reply_body (limits_of old) (world_in old) request =
     c.in_ok-body.ensures
     ∙ ap reply_text_of (c.in_ok-reply.ensures
-    ∙ ap (λ n. reply_of (limits_of old) n request) (c.caller_number.ensures ∙ ap (λ o. unwrap_or o (length old.hosts + 1)) number)) in
+    ∙ ap (λ n. reply_of old.limits.request_delay request.authenticator n request) (c.caller_number.ensures ∙ ap (λ o. unwrap_or o (length old.hosts + 1)) number)) in
     let host : c.told_host-host.result ≡ host_told request (quota_at (host_number (key_of request) old.hosts) quota old.hosts) =
     c.told_host-host.ensures ∙ ap (host_told request) (c.quota.ensures ∙ ap (λ o. quota_at o quota old.hosts) number) in
     let hosts : with_host c.number_of-number.result c.told_host-host.result old.hosts ≡ with_caller request quota old.hosts =

@@ -1,7 +1,7 @@
 use Rattle.std.proofs.Common.{◌+◌, List, ◌∷◌, [], ◌++◌, take, sym, subst}
 use Rattle.std.proofs.lemmas.Result.{err_from_is_err_and}
 use Rattle.bsched.specs.Serves.{ServesAll}
-use Rattle.bsched.specs.declared.first.line.Answer.{Answer}
+use Rattle.bsched.specs.declared.answers.Answer.{Answer}
 use Rattle.bsched.proofs.Following.{serves_next, stands_some}
 use Rattle.bsched.proofs.first.service.Service.run.Goals as goal
 

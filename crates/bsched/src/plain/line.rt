@@ -1,0 +1,44 @@
+use sched_book::{Moment, Unavailable};
+use texts::{Listed, Memory, Text};
+
+/// A message.
+#[derive(Drop)]
+pub enum Line {
+    /// A batch of rows: the word of its kind, its name, and its text.
+    Import {
+        kind: Text,
+        batch: Text,
+        text: Listed<u8>,
+    },
+    /// The body of a scheduler_request.
+    Scheduler(Listed<u8>),
+}
+
+/// A message and the moment at which it came.
+#[derive(Drop)]
+pub struct Arrival {
+    pub now: Moment,
+    pub line: Line,
+}
+
+/// Why a message has no answer.
+#[derive(Clone, Copy, Debug, PartialEq, Eq)]
+pub enum Failure {
+    /// Memory was wanting, and nothing was changed.
+    Unavailable,
+    /// Memory was wanting when a call's host stood already and its reply was to be kept: the service is of no use
+    /// any more.
+    HalfDone,
+}
+
+impl From<Memory> for Failure {
+    fn from(_memory: Memory) -> Failure {
+        Failure::Unavailable
+    }
+}
+
+impl From<Unavailable> for Failure {
+    fn from(_unavailable: Unavailable) -> Failure {
+        Failure::Unavailable
+    }
+}
