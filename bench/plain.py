@@ -1,9 +1,12 @@
 #!/usr/bin/env python3
-"""A scheduler with no work, in plain Python: the twin that `bench/run` measures the program against.
+"""A scheduler that hands out no work, in plain Python: the twin that `bench/run` measures the program against.
 
-Reads the lines of a replay on standard input (`account` and `scheduler`, see docs/PROFILE.md), prints the answers.
+Reads the lines of a replay on standard input (see docs/PROFILE.md), prints the answers.
 """
+import csv
+import io
 import json
+import re
 import sys
 from datetime import datetime
 
@@ -90,22 +93,105 @@ def record_of(body):
     return record
 
 
+COUNT = re.compile(r"0|[1-9][0-9]*", re.ASCII)
+
+
+def whole(field, low, high):
+    return COUNT.fullmatch(field) is not None and low <= int(field) <= high
+
+
+def is_agreement(field):
+    return field == "exact" or (field.startswith("within:") and whole(field[7:], 0, 10**9))
+
+
+def range_of(low, high):
+    return lambda row, field: whole(field, low, high)
+
+
+def from_column(at, high):
+    return lambda row, field: whole(field, int(row[at]), high)
+
+
+def word_column(row, field):
+    return is_word(field)
+
+
+# of each kind: its header, the tests of its columns, how many columns are the name, the column of the app, the most rows
+KINDS = {
+    "accounts": (["authenticator", "name"], [word_column, lambda row, field: is_text(1, 64)(field)], 1, None, 10000),
+    "apps": (["name", "agreement"], [word_column, lambda row, field: is_agreement(field)], 1, None, 100),
+    "versions": (["app", "platform", "version_num"], [word_column, word_column, range_of(1, 10**6)], 3, 0, 1000),
+    "workunits": (
+        ["name", "app", "min_quorum", "target_nresults", "max_error_results", "max_total_results", "max_success_results",
+         "delay_bound", "rsc_fpops_est", "rsc_memory_bound", "rsc_disk_bound", "credit"],
+        [word_column, word_column, range_of(1, 100), from_column(2, 100), range_of(0, 100), from_column(3, 100),
+         range_of(0, 100), range_of(1, 10**8), range_of(1, 10**18), range_of(0, 10**18), range_of(0, 10**18),
+         range_of(0, 10**8)],
+        1, 1, 200000,
+    ),
+}
+
+
+def rows_of(kind, said):
+    header, tests, *_ = KINDS[kind]
+    records = [record for record in csv.reader(io.StringIO(said, newline="")) if record]
+    if not records or len(records[0]) != len(header):
+        raise Refused(400, 14, "bad_csv", row=0, column=0)
+    for column, (name, field) in enumerate(zip(header, records[0]), 1):
+        if field != name:
+            raise Refused(400, 14, "bad_csv", row=0, column=column)
+    for number, row in enumerate(records[1:], 1):
+        if len(row) != len(header):
+            raise Refused(400, 14, "bad_csv", row=number, column=0)
+        for column, (test, field) in enumerate(zip(tests, row), 1):
+            if not test(row, field):
+                raise Refused(400, 14, "bad_csv", row=number, column=column)
+    return records[1:]
+
+
 class Service:
     def __init__(self):
-        self.accounts = {}
+        self.rows = {kind: {} for kind in KINDS}
+        self.batches = {}
         self.hosts = {}
         self.kept = {}
 
-    def account(self, word):
-        if word not in self.accounts:
-            if len(self.accounts) >= 10000:
-                raise Refused(409, 18, "table_full")
-            self.accounts[word] = len(self.accounts) + 1
-        return text({"batch": word, "kind": "accounts", "rows": 1})
+    def rows_in(self, kind, said):
+        _, _, names, app, most = KINDS[kind]
+        rows = rows_of(kind, said)
+        new = set()
+        for number, row in enumerate(rows, 1):
+            name = tuple(row[:names])
+            if name in self.rows[kind] or name in new:
+                raise Refused(409, 15, "duplicate_name", row=number)
+            new.add(name)
+        for number, row in enumerate(rows, 1):
+            if app is not None and (row[app],) not in self.rows["apps"]:
+                raise Refused(409, 16, "unknown_reference", row=number)
+        if len(self.rows[kind]) + len(rows) > most:
+            raise Refused(409, 18, "table_full")
+        return {tuple(row[:names]): row for row in rows}
+
+    def imported(self, kind, batch, said):
+        if kind not in KINDS:
+            raise Refused(404, 2, "no_route")
+        if len(said.encode()) > 1048576:
+            raise Refused(413, 5, "too_large")
+        kept = self.batches.get((kind, batch))
+        if kept:
+            if kept[0] != said:
+                raise Refused(409, 17, "batch_reused")
+            return kept[1]
+        rows = self.rows_in(kind, said)
+        self.rows[kind].update(rows)
+        answer = text({"batch": batch, "kind": kind, "rows": len(rows)})
+        self.batches[(kind, batch)] = (said, answer)
+        return answer
 
     def scheduler(self, body):
         record = record_of(body)
-        if record["authenticator"] not in self.accounts:
+        account = self.rows["accounts"].get((record["authenticator"],))
+        if not account:
             raise Refused(403, 8, "bad_account")
         key = (record["authenticator"], record["host_info"]["host_cpid"])
         if record["hostid"] not in (0, self.hosts.get(key, 0)):
@@ -130,11 +216,21 @@ class Service:
             "result_ack": list(dict.fromkeys(r["name"] for r in record["results"])),
             "results": [],
             "rpc_seqno": seqno,
-            "user_name": record["authenticator"],
+            "user_name": account[1],
             "user_total_credit": 0,
         })
         self.kept[key] = (seqno, canonical, reply)
         return reply
+
+
+def answer_of(service, word, body):
+    if word == b"account":
+        name = body.decode()
+        return service.imported("accounts", name, f"authenticator,name\n{name},{name}\n")
+    if word == b"scheduler":
+        return service.scheduler(body)
+    _, kind, batch = word.decode().split("/")
+    return service.imported(kind, batch, json.loads(body))
 
 
 def main():
@@ -144,11 +240,10 @@ def main():
         instant, _, said = line.rstrip(b"\n").partition(b" ")
         word, _, body = said.partition(b" ")
         moment = datetime.fromisoformat(instant.decode())
-        if moment.timestamp() < 0 or word not in (b"account", b"scheduler"):
+        if moment.timestamp() < 0 or word.split(b"/")[0] not in (b"account", b"scheduler", b"import"):
             sys.exit(f"plain: line {number}")
         try:
-            answer = service.account(body.decode()) if word == b"account" else service.scheduler(body)
-            out.write(f"200 {answer}\n")
+            out.write(f"200 {answer_of(service, word, body)}\n")
         except Refused as refusal:
             out.write(f"{refusal.status} {refusal.body}\n")
 
