@@ -66,3 +66,8 @@ ServesAccount (Some account) old r answer new = ServesCaller old account r answe
 
 unfoldable pub ServesCall : Service → Request → Answer → Service → Type 0
 ServesCall old r answer new = ServesAccount (account_by_key old.desk r.authenticator) old r answer new
+
+-- What a call leaves where memory was wanting when its host stood and its reply was to be kept: the host of some call is renewed or
+-- made, and nothing else is changed.
+unfoldable pub IsHalfDone : Service → Service → Type 0
+IsHalfDone old new = (c : Caller) × (r : Request) × (new ≡ record old { desk = with_caller old.desk c r })

@@ -1,6 +1,5 @@
 pub mod FirstNames
 pub mod Recorded
 pub mod Rising
-pub mod Books
 pub mod FitReports
 pub mod LateOnes

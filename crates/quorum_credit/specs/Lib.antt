@@ -2,5 +2,4 @@ pub mod Settled
 pub mod Taken
 pub mod Touched
 pub mod Firsts
-pub mod Instances
 pub mod Limited

@@ -23,7 +23,9 @@ pub struct Patched<'a, D> {
 }
 
 impl<'a, D> Drop for Patched<'a, D> {
-    fn drop(self) {
+    fn drop(self)
+        ensures { self.exit.0.now ≡ self.entry.desk.now }
+    {
         let Patched { desk: _, delta: _ } = self;
     }
 }
@@ -302,7 +304,7 @@ impl<'a, D: Desk> Units for Patched<'a, D> {
 
     ghost well_kept = { λ p. D.well_kept p.desk.now };
 
-    ghost reads = { λ p q. D.reads p.desk.now q.desk.now × (q.delta.now ≡ p.delta.now) };
+    ghost reads = { λ p q. D.reads p.desk.now q.desk.now × (q.delta.now ≡ p.delta.now) × (q.desk.ghost_name ≡ p.desk.ghost_name) };
 
     fn unit_by_name(&mut self, name: &str) -> Result<Option<u32>, Unavailable> {
         let changes = self.delta.as_slice();
@@ -354,9 +356,9 @@ impl<'a, D: Desk> Units for Patched<'a, D> {
         }
     }
 
-    ghost reads_none = { λ p. (D.reads_none p.desk.now, Prim.search rules) };
+    ghost reads_none = { λ p. (D.reads_none p.desk.now, Prim.search rules, Prim.search rules) };
 
-    ghost reads_on = { λ a b c h k. (D.reads_on _ _ _ h.0 k.0, Prim.search rules) };
+    ghost reads_on = { λ a b c h k. (D.reads_on _ _ _ h.0 k.0, Prim.search rules, Prim.search rules) };
 
     ghost stays_honest = { λ a b h k. D.stays_honest _ _ h.0 k };
 

@@ -9,10 +9,9 @@ ghost use Rattle.bsched.specs.DeskCalls.{caller_of, quota_of, told_caller};
 
 use crate::answers::{Answer, refusal, told_beside};
 use crate::checks::{has_host_room, names_host};
-use crate::plain::line::Failure;
 use reply_register::Kept;
 use rpc_records::{Fault, Request};
-use sched_book::{Caller, Change, Delta, Desk, HostRow, ListDesk};
+use sched_book::{Caller, Change, Delta, Desk, HostRow, ListDesk, Unavailable};
 use std::alloc::Global;
 use texts::{Listed, Memory};
 
@@ -21,7 +20,7 @@ pub(crate) fn find_caller(
     desk: &mut ListDesk,
     account: u32,
     request: &Request,
-) -> Result<Caller, Failure>
+) -> Result<Caller, Unavailable>
     ensures same { desk.new ≡ desk.old }
     ensures caller { IfOk result (λ caller. caller ≡ caller_of desk.old account request.now) }
 {
@@ -38,7 +37,7 @@ pub(crate) fn told_caller(
     caller: &Caller,
     request: &Request,
     text: &str,
-) -> Result<Option<Answer>, Failure>
+) -> Result<Option<Answer>, Unavailable>
     requires text { text.now ≡ canonical_text request.now }
     ensures same { desk.new ≡ desk.old }
     ensures told { IfOk result (λ told. told ≡ told_caller desk.old (option_copied kept.entry) caller.now request.now) }
@@ -54,7 +53,7 @@ pub(crate) fn told_caller(
 }
 
 /// The number of the caller's host: its own, or the next.
-pub(crate) fn number_of(desk: &mut ListDesk, caller: &Caller) -> Result<u32, Failure>
+pub(crate) fn number_of(desk: &mut ListDesk, caller: &Caller) -> Result<u32, Unavailable>
     requires { ForNone caller.now.host (length desk.old.hosts + 1 < 2 ^ 32) }
     ensures same { desk.new ≡ desk.old }
     ensures number { IfOk result (λ number. number ≡ host_number desk.old caller.now) }
@@ -67,7 +66,11 @@ pub(crate) fn number_of(desk: &mut ListDesk, caller: &Caller) -> Result<u32, Fai
 
 /// The quota of the caller's host, which is the setting for a new one.
 #[tactic(auto, unfolding(crate::specs::DeskCalls::quota_of))]
-pub(crate) fn quota_of(alloc: Global, desk: &mut ListDesk, caller: &Caller) -> Result<u32, Failure>
+pub(crate) fn quota_of(
+    alloc: Global,
+    desk: &mut ListDesk,
+    caller: &Caller,
+) -> Result<u32, Unavailable>
     ensures same { desk.new ≡ desk.old }
     ensures quota { IfOk result (λ quota. quota ≡ quota_of desk.old caller.now.host) }
 {

@@ -1,3 +1,6 @@
+ghost use Rattle.std.specs.Prelude.{◌≡◌};
+ghost use Rattle.bsched.specs.declared.plain.line.Failure.TheVariants as failures;
+
 use sched_book::{Moment, Unavailable};
 use texts::{Listed, Memory, Text};
 
@@ -26,18 +29,22 @@ pub struct Arrival {
 pub enum Failure {
     /// Memory was wanting, and nothing was changed.
     Unavailable,
-    /// Memory was wanting when a call's host stood already and its reply was to be kept: the service is of no use
-    /// any more.
+    /// Memory was wanting when a call's host stood already and its reply was to be kept: nothing else was changed,
+    /// and the service is of no use any more.
     HalfDone,
 }
 
 impl From<Memory> for Failure {
+    ghost from_gives = { λ _ failure. failure ≡ failures.Unavailable };
+
     fn from(_memory: Memory) -> Failure {
         Failure::Unavailable
     }
 }
 
 impl From<Unavailable> for Failure {
+    ghost from_gives = { λ _ failure. failure ≡ failures.Unavailable };
+
     fn from(_unavailable: Unavailable) -> Failure {
         Failure::Unavailable
     }

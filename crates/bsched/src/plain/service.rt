@@ -6,7 +6,7 @@ ghost use Rattle.sched_book.specs.Delta.{put_nth, applied};
 ghost use Rattle.sched_book.specs.Imports.{fault_of_rows, shelf_of};
 ghost use Rattle.sched_book.specs.Step.{empty_world};
 ghost use Rattle.bsched.specs.Messages.{key_of};
-ghost use Rattle.bsched.specs.DeskCalls.{caller_of, told_caller, ServesTold, ServesCaller, ServesCall};
+ghost use Rattle.bsched.specs.DeskCalls.{caller_of, told_caller, ServesTold, ServesCaller, ServesCall, IsHalfDone};
 ghost use Rattle.bsched.specs.DeskImports.{ServesRows, ServesNew, ServesKind, ServesImport};
 ghost use Rattle.bsched.specs.DeskServes.{ServesBody, Serves};
 
@@ -22,7 +22,9 @@ use crate::replies::reply;
 use office_files::{RowsFault, check_rows};
 use reply_register::{Kept, Key, Register};
 use rpc_records::{Fault, Request, decode_request, reply_text, request_text};
-use sched_book::{Account, Caller, Delta, Desk, HostRow, ListDesk, Placed, Rows, Settings};
+use sched_book::{
+    Account, Caller, Delta, Desk, HostRow, ListDesk, Placed, Rows, Settings, Unavailable,
+};
 use std::alloc::Global;
 use texts::{Listed, Memory, Text};
 
@@ -56,23 +58,25 @@ impl Service {
     ///
     /// # Errors
     ///
-    /// [`Failure::Unavailable`] leaves all as it was. After [`Failure::HalfDone`] nothing is known of the service.
+    /// [`Failure::Unavailable`] leaves all as it was. [`Failure::HalfDone`] leaves the host of a call renewed or made,
+    /// and all else as it was.
     #[tactic(auto, unfolding(crate::specs::DeskServes::Serves))]
     pub fn answer(&mut self, line: &Line) -> Result<Answer, Failure>
         ensures exact { IfOk result (λ answer. Serves self.old line.now answer self.new) }
         ensures unavailable { IsErrOf result Failure.Unavailable → self.new ≡ self.old }
+        ensures half_done { IsErrOf result Failure.HalfDone → IsHalfDone self.old self.new }
     {
         match line {
-            Line::Import { kind, batch, text } => self.import(kind, batch, text.as_slice()),
+            Line::Import { kind, batch, text } => Ok(self.import(kind, batch, text.as_slice())?),
             Line::Scheduler(body) => self.hear(body.as_slice()),
         }
     }
 
     /// Imports a batch of this kind, a word, where that is one.
     #[tactic(auto, unfolding(crate::specs::DeskImports::ServesImport))]
-    fn import(&mut self, kind: &Text, batch: &Text, text: &[u8]) -> Result<Answer, Failure>
+    fn import(&mut self, kind: &Text, batch: &Text, text: &[u8]) -> Result<Answer, Unavailable>
         ensures exact { IfOk result (λ answer. ServesImport self.old kind.now batch.now text.now answer self.new) }
-        ensures unavailable { IsErrOf result Failure.Unavailable → self.new ≡ self.old }
+        ensures unavailable { OnErr result (self.new ≡ self.old) }
     {
         let Some(kind) = Kind::of(kind.as_str()) else {
             return Ok(refusal(self.alloc, Fault::NoRoute)?);
@@ -85,9 +89,9 @@ impl Service {
 
     /// Imports a batch, unless one of its kind and name is kept.
     #[tactic(auto, unfolding(crate::specs::DeskImports::ServesKind))]
-    fn import_batch(&mut self, kind: Kind, batch: &Text, text: &[u8]) -> Result<Answer, Failure>
+    fn import_batch(&mut self, kind: Kind, batch: &Text, text: &[u8]) -> Result<Answer, Unavailable>
         ensures exact { IfOk result (λ answer. ServesKind self.old kind batch.now text.now answer self.new) }
-        ensures unavailable { IsErrOf result Failure.Unavailable → self.new ≡ self.old }
+        ensures unavailable { OnErr result (self.new ≡ self.old) }
     {
         match find_batch(self.batches.as_slice(), kind, batch.as_str()) {
             Some(kept) => Ok(answer_again(self.alloc, kept, text)?),
@@ -97,13 +101,13 @@ impl Service {
 
     /// Imports a batch that is not kept.
     #[tactic(auto, unfolding(crate::specs::DeskImports::ServesNew, crate::specs::DeskImports::ServesRead))]
-    fn import_new(&mut self, kind: Kind, batch: &Text, text: &[u8]) -> Result<Answer, Failure>
+    fn import_new(&mut self, kind: Kind, batch: &Text, text: &[u8]) -> Result<Answer, Unavailable>
         ensures exact { IfOk result (λ answer. ServesNew self.old kind batch.now text.now answer self.new) }
-        ensures unavailable { IsErrOf result Failure.Unavailable → self.new ≡ self.old }
+        ensures unavailable { OnErr result (self.new ≡ self.old) }
     {
         match read_rows(self.alloc, kind, text) {
             Ok(rows) => self.import_rows(kind, batch, text, rows),
-            Err(RowsFault::Unavailable) => Err(Failure::Unavailable),
+            Err(RowsFault::Unavailable) => Err(Unavailable),
             Err(fault) => Ok(refusal(self.alloc, fault.fault())?),
         }
     }
@@ -116,14 +120,14 @@ impl Service {
         batch: &Text,
         text: &[u8],
         rows: Rows,
-    ) -> Result<Answer, Failure>
+    ) -> Result<Answer, Unavailable>
         ensures exact { IfOk result (λ answer.
             ServesRows (fault_of_rows (shelf_of self.old.desk) rows) self.old kind batch.now text.now rows answer self.new) }
-        ensures unavailable { IsErrOf result Failure.Unavailable → self.new ≡ self.old }
+        ensures unavailable { OnErr result (self.new ≡ self.old) }
     {
         match check_rows(self.alloc, &mut self.desk, &rows) {
             Ok(()) => self.add_rows(kind, batch, text, rows),
-            Err(RowsFault::Unavailable) => Err(Failure::Unavailable),
+            Err(RowsFault::Unavailable) => Err(Unavailable),
             Err(fault) => Ok(refusal(self.alloc, fault.fault())?),
         }
     }
@@ -136,9 +140,9 @@ impl Service {
         batch: &Text,
         text: &[u8],
         rows: Rows,
-    ) -> Result<Answer, Failure>
+    ) -> Result<Answer, Unavailable>
         ensures exact { IfOk result (λ answer. ServesRows None self.old kind batch.now text.now rows answer self.new) }
-        ensures unavailable { IsErrOf result Failure.Unavailable → self.new ≡ self.old }
+        ensures unavailable { OnErr result (self.new ≡ self.old) }
     {
         let body = imported(self.alloc, kind.name(), batch.as_str(), row_count(&rows))?;
         let kept = Batch {
@@ -153,19 +157,19 @@ impl Service {
     }
 
     /// Makes the changes of an import and keeps it: both or neither.
-    fn put_rows(&mut self, changes: &Delta, batch: Batch) -> Result<(), Failure>
+    fn put_rows(&mut self, changes: &Delta, batch: Batch) -> Result<(), Unavailable>
         ensures ok { OnOk result (self.new ≡ record self.old {
           desk = applied self.old.desk changes.now;
           batches = self.old.batches ++ batch ∷ [];
         }) }
-        ensures err { OnErr result (self.new ≡ self.old) }
+        ensures unavailable { OnErr result (self.new ≡ self.old) }
     {
         self.batches.push(batch)?;
         match self.desk.apply(changes) {
             Ok(()) => Ok(()),
             Err(_) => {
                 self.batches.drop_last();
-                Err(Failure::Unavailable)
+                Err(Unavailable)
             }
         }
     }
@@ -175,6 +179,7 @@ impl Service {
     fn hear(&mut self, body: &[u8]) -> Result<Answer, Failure>
         ensures exact { IfOk result (λ answer. ServesBody self.old body.now answer self.new) }
         ensures unavailable { IsErrOf result Failure.Unavailable → self.new ≡ self.old }
+        ensures half_done { IsErrOf result Failure.HalfDone → IsHalfDone self.old self.new }
     {
         if is_too_long(body) {
             return Ok(refusal(self.alloc, Fault::TooLarge)?);
@@ -191,6 +196,7 @@ impl Service {
     fn call(&mut self, request: Request) -> Result<Answer, Failure>
         ensures exact { IfOk result (λ answer. ServesCall self.old request answer self.new) }
         ensures unavailable { IsErrOf result Failure.Unavailable → self.new ≡ self.old }
+        ensures half_done { IsErrOf result Failure.HalfDone → IsHalfDone self.old self.new }
     {
         let account = self
             .desk
@@ -206,6 +212,7 @@ impl Service {
     fn call_of(&mut self, account: Placed<Account>, request: Request) -> Result<Answer, Failure>
         ensures exact { IfOk result (λ answer. ServesCaller self.old account request answer self.new) }
         ensures unavailable { IsErrOf result Failure.Unavailable → self.new ≡ self.old }
+        ensures half_done { IsErrOf result Failure.HalfDone → IsHalfDone self.old self.new }
     {
         let found = find_caller(&mut self.desk, account.place, &request)?;
         let key = key_of(&request)?;
@@ -226,7 +233,7 @@ impl Service {
     }
 
     /// Acts on a call that is first heard: renews its host or makes one, and keeps the call with its reply.
-    #[tactic(auto, unfolding(crate::specs::DeskCalls::ServesTold, crate::specs::DeskCalls::reply_body))]
+    #[tactic(auto, unfolding(crate::specs::DeskCalls::ServesTold, crate::specs::DeskCalls::reply_body, crate::specs::DeskCalls::IsHalfDone))]
     fn act(
         &mut self,
         account: &Account,
@@ -241,6 +248,7 @@ impl Service {
         requires text { text ≡ canonical_text request }
         ensures exact { IfOk result (λ answer. ServesTold None self.old account.now.name found.now request answer self.new) }
         ensures unavailable { IsErrOf result Failure.Unavailable → self.new ≡ self.old }
+        ensures half_done { IsErrOf result Failure.HalfDone → IsHalfDone self.old self.new }
     {
         let number = number_of(&mut self.desk, found)?;
         let quota = quota_of(self.alloc, &mut self.desk, found)?;
@@ -270,6 +278,8 @@ impl Service {
           register = map.insert self.old.register key kept;
         }) }
         ensures unavailable { IsErrOf result Failure.Unavailable → self.new ≡ self.old }
+        ensures half_done { IsErrOf result Failure.HalfDone →
+            self.new ≡ record self.old { desk = record self.old.desk { hosts = put_nth self.old.desk.hosts number row } } }
     {
         let delta = host_change(self.alloc, number, row)?;
         self.desk.apply(&delta)?;
