@@ -3,3 +3,5 @@ pub mod Taken
 pub mod Touched
 pub mod Firsts
 pub mod Limited
+pub mod Marks
+pub mod Settling

@@ -7,7 +7,10 @@
 #![tactic(auto)]
 
 mod changed;
+mod growth;
+mod host_quotas;
 mod late;
+mod marks;
 mod quota;
 mod reports;
 mod settlement;

@@ -1,0 +1,60 @@
+-- The steps from the world with its changes to the settled one. Of the workunits only those that the changes touch are looked at.
+use Rattle.std.specs.Prelude.{◌≡◌, ℕ, ◌≤◌, ◌==◌, Bool, true, false, if◌then◌else◌, List, map, Some, is_some, IsTrue}
+use Rattle.std.specs.List.{enumerate_from, list_any}
+use Rattle.sched_book.specs.Limits.{IsUnitInLimits, IsHostInLimits}
+use Rattle.sched_book.specs.Places.{nth, unit_at, host_at}
+use Rattle.sched_book.specs.Settle.{grown, next_quota}
+use Rattle.sched_book.specs.declared.delta.Change.{Change}
+use Rattle.sched_book.specs.declared.delta.Change.TheVariants as change
+use Rattle.sched_book.specs.declared.instance.UnitBook.{UnitBook}
+use Rattle.sched_book.specs.declared.rows.App.{App}
+use Rattle.sched_book.specs.declared.rows.HostRow.{HostRow}
+use Rattle.sched_book.specs.declared.world.World.{World}
+use Rattle.quorum_credit.specs.Marks.{charges_in, merits_in}
+use Rattle.quorum_credit.specs.Taken.{AreRising}
+use Rattle.quorum_credit.specs.declared.marks.Mark.{Mark}
+
+-- the place is one of these
+abbrev pub is_among : List ℕ → ℕ → Bool
+is_among units unit = list_any (λ n. n == unit) units
+
+-- the change puts a host or an instance, as those of a call and of a tick do
+abbrev pub puts_row : Change → Bool
+puts_row (change.Account a) = false
+puts_row (change.App a) = false
+puts_row (change.Version v) = false
+puts_row (change.Workunit u) = false
+puts_row (change.Host number h) = true
+puts_row (change.Instance p x) = true
+
+-- Between two worlds no workunit is touched but these, whose places rise.
+pub record TouchJust (units : List ℕ) (old changed : World) : Type 0 where
+  pub rising : AreRising units
+  pub settings : changed.settings ≡ old.settings
+  pub apps : changed.apps ≡ old.apps
+  pub others : (unit : ℕ) → is_among units unit ≡ false → unit_at changed unit ≡ unit_at old unit
+
+-- the workunit of a place, with the instances that it needs where the place is one of these
+abbrev pub grown_among : List App → List ℕ → ℕ × UnitBook → UnitBook
+grown_among apps units e = if is_among units e.0 then grown apps e.1 else e.1
+
+abbrev pub with_grown_among : List ℕ → World → World
+with_grown_among units w = record w { units = map (grown_among w.apps units) (enumerate_from 1 w.units) }
+
+-- each workunit's numbers are within limits
+abbrev pub AreUnitsInLimits : World → Type 0
+AreUnitsInLimits w = (unit : ℕ) (b : UnitBook) → unit_at w unit ≡ Some b → IsUnitInLimits b.unit
+
+-- each host is within limits, and its account stands
+abbrev pub AreHostsInLimits : World → Type 0
+AreHostsInLimits w =
+    (host : ℕ) (h : HostRow) → host_at w host ≡ Some h
+    → IsTrue (is_some (nth w.accounts h.account)) × IsHostInLimits w.settings.daily_result_quota h × (host ≤ w.settings.max_hosts)
+
+-- the host of a number, with the quota that these marks leave it
+abbrev pub quota_by : List Mark → ℕ → ℕ × HostRow → HostRow
+quota_by marks limit e =
+    record e.1 { quota = next_quota e.1.quota (charges_in marks e.0) (merits_in marks e.0) limit }
+
+abbrev pub with_quotas_by : List Mark → World → World
+with_quotas_by marks w = record w { hosts = map (quota_by marks w.settings.daily_result_quota) (enumerate_from 1 w.hosts) }

@@ -1,0 +1,1 @@
+//! The instances that workunits need after changes.

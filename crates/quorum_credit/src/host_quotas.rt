@@ -1,0 +1,1 @@
+//! The quotas of hosts after settlement.
