@@ -3,3 +3,5 @@ pub mod Recorded
 pub mod Rising
 pub mod FitReports
 pub mod LateOnes
+pub mod NewlyCounted
+pub mod SettledAll

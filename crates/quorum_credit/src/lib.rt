@@ -14,6 +14,7 @@ mod marks;
 mod quota;
 mod reports;
 mod settlement;
+mod settling;
 #[cfg(test)]
 mod tests;
 mod touched;
@@ -22,3 +23,4 @@ pub use late::{Lapsed, lapse_late};
 pub use quota::next_quota;
 pub use reports::{Taken, take_reports};
 pub use settlement::{Settled, Verdicts, agree, canonical, settle};
+pub use settling::{lapse, settle_all};
