@@ -1,6 +1,6 @@
 //! The instances that workunits need after changes.
 
-ghost use Rattle.std.specs.Prelude.{◌≡◌, IfOk};
+ghost use Rattle.std.specs.Prelude.{◌≡◌, true, IfOk};
 ghost use Rattle.std.specs.List.{list_all};
 ghost use Rattle.sched_book.specs.Delta.{applied, Fits};
 ghost use Rattle.quorum_credit.specs.Taken.{AreRising};
