@@ -5,3 +5,4 @@ pub mod FitReports
 pub mod LateOnes
 pub mod NewlyCounted
 pub mod SettledAll
+pub mod Quotas

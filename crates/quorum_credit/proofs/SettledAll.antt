@@ -1,27 +1,33 @@
 -- The steps of settlement come to the settled world.
-use Rattle.std.proofs.Common.{◌≡◌, ℕ, zero, suc, ◌+◌, ◌≤◌, Bool, true, false, cond, eqb, List, [], ◌∷◌, ◌++◌, length, Option, Some, None, sym, refl, ap, ◌∙◌, subst, arith}
-use Rattle.std.specs.Prelude.{◌&&◌, ◌||◌, IsTrue, map, option_map, replicate, sum_by}
+use Rattle.std.proofs.Common.{◌≡◌, ℕ, zero, suc, ◌+◌, ◌<◌, ◌≤◌, Bool, true, false, cond, eqb, List, [], ◌∷◌, ◌++◌, length, Option, Some, None, sym, refl, ap, ◌∙◌, subst, arith}
+use Rattle.std.specs.Prelude.{◌&&◌, ◌||◌, IsTrue, is_some, map, option_map, slice_get, replicate, sum_by}
 use Rattle.std.specs.List.{enumerate_from, list_any, list_all}
+use Rattle.std.proofs.lemmas.Bool.Decides.{nat_tests}
 use Rattle.std.proofs.lemmas.List.{append-nil}
+use Rattle.std.proofs.lemmas.Option.{slice_get_within}
 use Rattle.std.proofs.lemmas.List.Sums.{fold-append}
 use Rattle.sched_book.specs.Count.{is_open, need}
 use Rattle.sched_book.specs.Places.{nth, unit_at, book_status}
-use Rattle.sched_book.specs.Delta.{with_instance, applied_one, applied, Fits}
+use Rattle.sched_book.specs.Delta.{with_instance, applied_one, applied, FitsOne, Fits}
+use Rattle.sched_book.specs.Desk.{workunit_at}
+use Rattle.sched_book.specs.Limits.{IsHostInLimits, IsUnitInLimits}
 use Rattle.sched_book.specs.Settle.{fresh, grown, with_grown, charges, merits, next_quota, with_quota, settled}
-use Rattle.sched_book.specs.Sound.{IsSoundUnit, Sound}
+use Rattle.sched_book.specs.Sound.{IsSoundUnit, IsSoundHost, Sound}
 use Rattle.sched_book.specs.declared.delta.Change.{Change}
 use Rattle.sched_book.specs.declared.delta.Change.TheVariants as change
 use Rattle.sched_book.specs.declared.instance.UnitBook.{UnitBook}
 use Rattle.sched_book.specs.declared.rows.App.{App}
 use Rattle.sched_book.specs.declared.rows.HostRow.{HostRow}
 use Rattle.sched_book.specs.declared.world.World.{World}
-use Rattle.sched_book.proofs.PlacesOf.{nth-changed_nth}
+use Rattle.sched_book.proofs.PlacesOf.{nth-suc, nth-changed_nth}
 use Rattle.sched_book.proofs.Settling.{settlement_is_pointwise}
 use Rattle.quorum_credit.specs.Marks.{charges_in, merits_in, unit_charges, unit_merits}
-use Rattle.quorum_credit.specs.Settling.{is_among, puts_row, TouchJust, with_grown_among, quota_by, with_quotas_by, AreHostsInLimits}
+use Rattle.quorum_credit.specs.Settling.{is_among, puts_row, TouchJust, with_grown_among, quota_by, with_quotas_by, AreHostsInLimits, AreUnitsInLimits}
 use Rattle.quorum_credit.specs.Taken.{touches, AreTouched, AreRising}
 use Rattle.quorum_credit.specs.declared.marks.Mark.{Mark}
 use Rattle.quorum_credit.proofs.FitReports.{all_nth}
+use Rattle.quorum_credit.specs.Tallies.{number_got}
+use Rattle.quorum_credit.proofs.Quotas.{nth-put_nth}
 use Rattle.quorum_credit.proofs.NewlyCounted.{charges_touched, merits_touched}
 
 both_true : (a b : Bool) → (a && b) ≡ true → (a ≡ true) × (b ≡ true)
@@ -114,6 +120,10 @@ grown_touch_just units old changed sound touch = record {
   others = untouched_stays units old changed sound touch;
 }
 
+-- so that growing the touched ones alone is growing all
+others_need_nothing : (units : List ℕ) (old changed : World) → Sound old → TouchJust units old changed → with_grown_among units changed ≡ with_grown changed
+others_need_nothing units old changed sound touch = ?
+
 -- the hosts with their quotas, by the marks of the touched workunits
 quotas_settle : (units : List ℕ) (old changed : World) (marks : List Mark) → Sound old → TouchJust units old changed
     → ((host : ℕ) → charges_in marks host ≡ sum_by (unit_charges old (with_grown changed) host) units)
@@ -130,27 +140,127 @@ quotas_settle units old changed marks sound touch charged merited =
     let same : quota_by marks limit ≡ with_quota old new = λ i e. each e i in
     ap (λ f. record new { hosts = map f (enumerate_from 1 changed.hosts) }) same
 
--- what the three steps leave is the settled world
-pub settles : (w : World) (cs grows quotas : List Change) (units : List ℕ) (marks : List Mark)
-    → list_all puts_row cs ≡ true
-    → ((units : List ℕ) (old changed : World) → Sound old → TouchJust units old changed → with_grown_among units changed ≡ with_grown changed)
-    → ((w : World) (cs : List Change) → Sound w → Fits w cs → list_all puts_row cs ≡ true → AreHostsInLimits (applied w cs))
-    → (AreRising units → applied (applied w cs) grows ≡ with_grown_among units (applied w cs))
-    → ((host : ℕ) → charges_in marks host ≡ sum_by (unit_charges w (applied w (cs ++ grows)) host) units)
-    → ((host : ℕ) → merits_in marks host ≡ sum_by (unit_merits w (applied w (cs ++ grows)) host) units)
-    → (AreHostsInLimits (applied w (cs ++ grows)) → applied (applied w (cs ++ grows)) quotas ≡ with_quotas_by marks (applied w (cs ++ grows)))
-    → Sound w → Fits w cs → AreTouched cs units → applied w (cs ++ (grows ++ quotas)) ≡ settled w (applied w cs)
-settles w cs grows quotas units marks puts others_need_nothing hosts_in_limits grew charged merited quoted sound fits touched =
-    let changed = applied w cs in
-    let just = touch_just w cs units puts touched in
-    let split : applied w (cs ++ grows) ≡ applied changed grows = fold-append applied_one w cs grows in
-    let new : applied w (cs ++ grows) ≡ with_grown changed = split ∙ grew touched.rising ∙ others_need_nothing units w changed sound just in
-    let limits : AreHostsInLimits (with_grown changed) = hosts_in_limits w cs sound fits puts in
-    let by_quotas = subst (λ v. AreHostsInLimits v → applied v quotas ≡ with_quotas_by marks v) new quoted in
-    let by_charges = subst (λ v. (host : ℕ) → charges_in marks host ≡ sum_by (unit_charges w v host) units) new charged in
-    let by_merits = subst (λ v. (host : ℕ) → merits_in marks host ≡ sum_by (unit_merits w v host) units) new merited in
-    fold-append applied_one w cs (grows ++ quotas)
-    ∙ fold-append applied_one changed grows quotas
-    ∙ ap (λ v. applied v quotas) (sym split ∙ new)
-    ∙ by_quotas limits
-    ∙ quotas_settle units w changed marks sound just by_charges by_merits
+-- the hosts stay within limits
+host_within : (xs : List HostRow) (n : ℕ) (h : HostRow) → nth xs n ≡ Some h → (1 ≤ n) × (n ≤ length xs)
+host_within xs zero h stands = absurd cc
+host_within xs (suc i) h stands = let within : i < length xs = slice_get_within xs i h (sym (nth-suc xs i) ∙ stands) in (omega arith, omega arith)
+
+is_there : {X : Type 0} (xs : List X) (i : ℕ) → i < length xs → is_some (slice_get xs i) ≡ true
+is_there [] i within = absurd (omega arith)
+is_there (x ∷ xs) zero within = refl
+is_there (x ∷ xs) (suc i) within = is_there xs i (omega arith)
+
+pub sound_hosts_in_limits : (w : World) → Sound w → AreHostsInLimits w
+sound_hosts_in_limits w sound host h stands =
+    let each = all_nth (IsSoundHost (length w.accounts) w.settings.daily_result_quota) w.hosts host h sound.hosts stands in
+    let within = host_within w.hosts host h stands in
+    (stands_at w.accounts h.account each.account.0 each.account.1, each.limits, (let few : length w.hosts ≤ w.settings.max_hosts = sound.host_count in let here : host ≤ length w.hosts = within.1 in omega arith))
+  where
+    stands_at : {X : Type 0} (xs : List X) (n : ℕ) → 1 ≤ n → n ≤ length xs → IsTrue (is_some (nth xs n))
+    stands_at xs zero low high = absurd (omega arith)
+    stands_at xs (suc i) low high = ap is_some (nth-suc xs i) ∙ is_there xs i (omega arith)
+
+hosts_one : (w : World) (c : Change) → puts_row c ≡ true → AreHostsInLimits w → FitsOne w c → AreHostsInLimits (applied_one w c)
+hosts_one w (change.Account a) puts limits fits = absurd cc
+hosts_one w (change.App a) puts limits fits = absurd cc
+hosts_one w (change.Version v) puts limits fits = absurd cc
+hosts_one w (change.Workunit u) puts limits fits = absurd cc
+hosts_one w (change.Instance p x) puts limits fits = limits
+hosts_one w (change.Host number h) puts limits fits = λ host k stands. cases host k (eqb number 0) (eqb (number_got (length w.hosts) number) host) refl (sym (nth-put_nth w.hosts number h host) ∙ stands)
+  where
+    cases : (host : ℕ) (k : HostRow) (a b : Bool) → eqb (number_got (length w.hosts) number) host ≡ b → cond a (nth w.hosts host) (cond b (Some h) (nth w.hosts host)) ≡ Some k
+        → IsTrue (is_some (nth w.accounts k.account)) × IsHostInLimits w.settings.daily_result_quota k × (host ≤ w.settings.max_hosts)
+    cases host k true b at is = limits host k is
+    cases host k false true at is =
+        let same : h ≡ k = cc in
+        let got : number_got (length w.hosts) number ≡ host = grind (arith, nat_tests) in
+        let low : number ≤ w.settings.max_hosts = fits.2 in
+        subst (λ z. IsTrue (is_some (nth w.accounts z.account)) × IsHostInLimits w.settings.daily_result_quota z × (host ≤ w.settings.max_hosts)) same
+        (fits.3, fits.4, omega arith)
+    cases host k false false at is = limits host k is
+
+pub hosts_in_limits : (w : World) (cs : List Change) → list_all puts_row cs ≡ true → AreHostsInLimits w → Fits w cs → AreHostsInLimits (applied w cs)
+hosts_in_limits w [] puts limits fits = limits
+hosts_in_limits w (c ∷ cs) puts limits fits =
+    let parts = both_true (puts_row c) (list_all puts_row cs) puts in
+    hosts_in_limits (applied_one w c) cs parts.1 (hosts_one w c parts.0 limits fits.0) fits.1
+
+-- the rows of workunits stay
+row_stays : (w : World) (c : Change) (unit : ℕ) → puts_row c ≡ true → workunit_at (applied_one w c) unit ≡ workunit_at w unit
+row_stays w (change.Account a) unit puts = absurd cc
+row_stays w (change.App a) unit puts = absurd cc
+row_stays w (change.Version v) unit puts = absurd cc
+row_stays w (change.Workunit u) unit puts = absurd cc
+row_stays w (change.Host number h) unit puts = refl
+row_stays w (change.Instance p x) unit puts =
+    ap (option_map (λ (b : UnitBook). b.unit)) (nth-changed_nth (with_instance p.number x) w.units p.unit unit) ∙ cases (eqb p.unit unit) (nth w.units unit)
+  where
+    cases : (e : Bool) (o : Option UnitBook)
+        → option_map (λ (b : UnitBook). b.unit) (cond e (option_map (with_instance p.number x) o) o) ≡ option_map (λ (b : UnitBook). b.unit) o
+    cases true None = refl
+    cases true (Some b) = refl
+    cases false o = refl
+
+rows_stay : (w : World) (cs : List Change) (unit : ℕ) → list_all puts_row cs ≡ true → workunit_at (applied w cs) unit ≡ workunit_at w unit
+rows_stay w [] unit puts = refl
+rows_stay w (c ∷ cs) unit puts =
+    let parts = both_true (puts_row c) (list_all puts_row cs) puts in rows_stay (applied_one w c) cs unit parts.1 ∙ row_stays w c unit parts.0
+
+pub units_in_limits : (w : World) (cs : List Change) → Sound w → list_all puts_row cs ≡ true → AreUnitsInLimits (applied w cs)
+units_in_limits w cs sound puts unit b stands = cases (unit_at w unit) refl (sym (rows_stay w cs unit puts) ∙ ap (option_map (λ (c : UnitBook). c.unit)) stands)
+  where
+    cases : (o : Option UnitBook) → unit_at w unit ≡ o → option_map (λ (c : UnitBook). c.unit) o ≡ Some b.unit → IsUnitInLimits b.unit
+    cases None is none = absurd cc
+    cases (Some c) is row =
+        let same : c.unit ≡ b.unit = cc in
+        subst IsUnitInLimits same (all_nth (IsSoundUnit w.hosts w.apps) w.units unit c sound.units is).limits
+
+-- changes that fit, one list behind the other
+fits_both : (w : World) (cs ds : List Change) → Fits w cs → Fits (applied w cs) ds → Fits w (cs ++ ds)
+fits_both w [] ds first then = then
+fits_both w (c ∷ cs) ds first then = (first.0, fits_both (applied_one w c) cs ds first.1 then)
+
+-- The three steps: new instances, marks, and quotas, as the functions tell of them.
+pub record AreSteps (w : World) (cs grows quotas : List Change) (units : List ℕ) (marks : List Mark) : Type 0 where
+  pub puts : list_all puts_row cs ≡ true
+  pub grew : AreRising units → applied (applied w cs) grows ≡ with_grown_among units (applied w cs)
+  pub grew_fitting : AreRising units → AreUnitsInLimits (applied w cs) → Fits (applied w cs) grows
+  pub charged : (host : ℕ) → charges_in marks host ≡ sum_by (unit_charges w (applied w (cs ++ grows)) host) units
+  pub merited : (host : ℕ) → merits_in marks host ≡ sum_by (unit_merits w (applied w (cs ++ grows)) host) units
+  pub quoted : AreHostsInLimits (applied w (cs ++ grows))
+      → applied (applied w (cs ++ grows)) quotas ≡ with_quotas_by marks (applied w (cs ++ grows))
+  pub quoted_fitting : AreHostsInLimits (applied w (cs ++ grows)) → 1 ≤ w.settings.daily_result_quota → Fits (applied w (cs ++ grows)) quotas
+
+module _ (w : World) (cs grows quotas : List Change) (units : List ℕ) (marks : List Mark) (steps : AreSteps w cs grows quotas units marks)
+    (sound : Sound w) (fits : Fits w cs) (touched : AreTouched cs units) where
+  just : TouchJust units w (applied w cs)
+  just = touch_just w cs units steps.puts touched
+
+  split : applied w (cs ++ grows) ≡ applied (applied w cs) grows
+  split = fold-append applied_one w cs grows
+
+  -- the first step leaves each open workunit satisfied
+  all_grown : applied w (cs ++ grows) ≡ with_grown (applied w cs)
+  all_grown = split ∙ steps.grew touched.rising ∙ others_need_nothing units w (applied w cs) sound just
+
+  limits : AreHostsInLimits (applied w (cs ++ grows))
+  limits = subst AreHostsInLimits (sym all_grown) (hosts_in_limits w cs steps.puts (sound_hosts_in_limits w sound) fits)
+
+  -- what the three steps leave is the settled world
+  pub settles : applied w (cs ++ (grows ++ quotas)) ≡ settled w (applied w cs)
+  settles =
+      fold-append applied_one w cs (grows ++ quotas)
+      ∙ fold-append applied_one (applied w cs) grows quotas
+      ∙ ap (λ v. applied v quotas) (sym split)
+      ∙ steps.quoted limits
+      ∙ ap (with_quotas_by marks) all_grown
+      ∙ quotas_settle units w (applied w cs) marks sound just
+      (subst (λ v. (host : ℕ) → charges_in marks host ≡ sum_by (unit_charges w v host) units) all_grown steps.charged)
+      (subst (λ v. (host : ℕ) → merits_in marks host ≡ sum_by (unit_merits w v host) units) all_grown steps.merited)
+
+  -- and each change fits
+  pub settling_fits : Fits w (cs ++ (grows ++ quotas))
+  settling_fits =
+      fits_both w cs (grows ++ quotas) fits
+      (fits_both (applied w cs) grows quotas (steps.grew_fitting touched.rising (units_in_limits w cs sound steps.puts))
+      (subst (λ v. Fits v quotas) split (steps.quoted_fitting limits sound.settings.quota.0)))

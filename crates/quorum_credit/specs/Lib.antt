@@ -5,3 +5,4 @@ pub mod Firsts
 pub mod Limited
 pub mod Marks
 pub mod Settling
+pub mod Tallies

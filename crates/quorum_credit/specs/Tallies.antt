@@ -1,0 +1,75 @@
+-- The hosts that marks speak of, and what changes make of a single host.
+use Rattle.std.specs.Prelude.{◌≡◌, ℕ, ◌+◌, min, max, Bool, false, ◌==◌, if◌then◌else◌, List, [], ◌∷◌, filter_map, All, Option, None, Some, option_map}
+use Rattle.std.specs.BTreeMap as tree
+use Rattle.std.specs.BTreeMap.{BTreeMap}
+use Rattle.std.specs.List.{list_any}
+use Rattle.std.specs.Ordering.{nat_cmp}
+use Rattle.sched_book.specs.Places.{host_at}
+use Rattle.sched_book.specs.Settle.{next_quota}
+use Rattle.sched_book.specs.declared.delta.Change.{Change}
+use Rattle.sched_book.specs.declared.delta.Change.TheVariants as change
+use Rattle.sched_book.specs.declared.rows.HostRow.{HostRow}
+use Rattle.sched_book.specs.declared.world.World.{World}
+use Rattle.quorum_credit.specs.Marks.{charges_in, merits_in}
+use Rattle.quorum_credit.specs.declared.marks.Mark.{Mark}
+
+-- the number that a host gets that is put at a number, where `count` hosts stand: a new one is the next; at 0 none is put
+abbrev pub number_got : ℕ → ℕ → ℕ
+number_got count number = min number (count + 1)
+
+-- how many hosts stand after a change
+abbrev pub hosts_after : ℕ → Change → ℕ
+hosts_after count (change.Account a) = count
+hosts_after count (change.App a) = count
+hosts_after count (change.Version v) = count
+hosts_after count (change.Workunit u) = count
+hosts_after count (change.Host n h) = max count (number_got count n)
+hosts_after count (change.Instance p x) = count
+
+-- the host of a number after a change, where `count` hosts stand and `host` is the one of that number
+abbrev pub host_by : ℕ → ℕ → Option HostRow → Change → Option HostRow
+host_by number count host (change.Account a) = host
+host_by number count host (change.App a) = host
+host_by number count host (change.Version v) = host
+host_by number count host (change.Workunit u) = host
+host_by number count host (change.Host n h) = if n == 0 then host else if number_got count n == number then Some h else host
+host_by number count host (change.Instance p x) = host
+
+-- the same after several changes
+abbrev pub host_after : ℕ → ℕ → Option HostRow → List Change → Option HostRow
+host_after number count host [] = host
+host_after number count host (c ∷ cs) = host_after number (hosts_after count c) (host_by number count host c) cs
+
+-- a host with the quota that one mark leaves it
+abbrev pub with_quota_by : ℕ → Mark → HostRow → HostRow
+with_quota_by limit m h = record h { quota = next_quota h.quota m.charges m.merits limit }
+
+-- its host with that quota, as a change, where it stands
+abbrev pub new_quota : World → ℕ → Mark → Option Change
+new_quota w limit m = option_map (λ h. change.Host m.host (with_quota_by limit m h)) (host_at w m.host)
+
+abbrev pub new_quotas : World → ℕ → List Mark → List Change
+new_quotas w limit marks = filter_map (new_quota w limit) marks
+
+-- some mark is of this host
+abbrev pub is_named : List Mark → ℕ → Bool
+is_named marks host = list_any (λ (m : Mark). m.host == host) marks
+
+-- what was said of a host so far, and one mark more
+abbrev pub tally_with : Option Mark → Mark → Mark
+tally_with None m = m
+tally_with (Some s) m = record s { charges = s.charges + m.charges; merits = s.merits + m.merits }
+
+-- the same with the marks that are of the host
+abbrev pub tally_after : ℕ → Option Mark → List Mark → Option Mark
+tally_after host tally [] = tally
+tally_after host tally (m ∷ ms) = tally_after host (if m.host == host then Some (tally_with tally m) else tally) ms
+
+-- what is said of a host so far
+abbrev pub tally_in : BTreeMap ℕ Mark → ℕ → Option Mark
+tally_in tallies host = tree.get nat_cmp tallies host
+
+-- Each of these says all that the marks say of its host, and the marks say nothing of other hosts.
+pub record AreSums (marks sums : List Mark) : Type 0 where
+  pub each : All (λ (s : Mark). (s.charges ≡ charges_in marks s.host) × (s.merits ≡ merits_in marks s.host)) sums
+  pub others : (host : ℕ) → is_named sums host ≡ false → (charges_in marks host ≡ 0) × (merits_in marks host ≡ 0)
