@@ -22,18 +22,8 @@ use Rattle.sched_book.proofs.PlacesOf.{nth-changed_nth}
 use Rattle.sched_book.proofs.Recording.{instance_at-with_changed, is_same-true}
 use Rattle.quorum_credit.specs.Taken.{place_among, reported_in, change_by}
 use Rattle.quorum_credit.specs.Limited.{IsLimited, FitWithin}
+use Rattle.quorum_credit.proofs.ByPlace.{all_get, all_nth}
 use Rattle.quorum_credit.proofs.Recorded.{with_changed-is}
-
--- what holds of each holds of the one at a place
-pub all_get : {X : Type 0} (P : X → Type 0) (xs : List X) (i : ℕ) (x : X) → All P xs → slice_get xs i ≡ Some x → P x
-all_get P xs i x all is = subst P (get_or_from_slice_get xs i x x is) (all i x (slice_get_within xs i x is))
-
-pub all_nth : {X : Type 0} (P : X → Type 0) (xs : List X) (n : ℕ) (x : X) → All P xs → nth xs n ≡ Some x → P x
-all_nth {X} P xs n x all is = cases (eqb n 0) is
-  where
-    cases : (b : Bool) → cond b None (slice_get xs (n - 1)) ≡ Some x → P x
-    cases true none = absurd cc
-    cases false there = all_get P xs (n - 1) x all there
 
 pub limited_from_sound : (w : World) → Sound w → IsLimited w
 limited_from_sound w sound = record {

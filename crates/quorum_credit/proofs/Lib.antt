@@ -6,3 +6,8 @@ pub mod LateOnes
 pub mod NewlyCounted
 pub mod SettledAll
 pub mod Quotas
+pub mod ByPlace
+pub mod FreshOnes
+pub mod Grown
+pub mod GrownFits
+pub mod Marked

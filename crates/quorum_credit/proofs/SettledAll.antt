@@ -25,7 +25,8 @@ use Rattle.quorum_credit.specs.Marks.{charges_in, merits_in, unit_charges, unit_
 use Rattle.quorum_credit.specs.Settling.{is_among, puts_row, TouchJust, with_grown_among, quota_by, with_quotas_by, AreHostsInLimits, AreUnitsInLimits}
 use Rattle.quorum_credit.specs.Taken.{touches, AreTouched, AreRising}
 use Rattle.quorum_credit.specs.declared.marks.Mark.{Mark}
-use Rattle.quorum_credit.proofs.FitReports.{all_nth}
+use Rattle.quorum_credit.proofs.ByPlace.{all_nth}
+use Rattle.quorum_credit.proofs.Grown.{grown_sound, others_need_nothing}
 use Rattle.quorum_credit.specs.Tallies.{number_got}
 use Rattle.quorum_credit.proofs.Quotas.{nth-put_nth}
 use Rattle.quorum_credit.proofs.NewlyCounted.{charges_touched, merits_touched}
@@ -90,16 +91,7 @@ touch_just w cs units puts touched = record {
   others = λ unit other. others_stay w cs unit puts (sym (touched.just unit) ∙ other);
 }
 
--- an untouched workunit needs nothing, since it is as in a sound world
-grown_stays : (apps : List App) (hosts : List HostRow) (b : UnitBook) → IsSoundUnit hosts apps b → grown apps b ≡ b
-grown_stays apps hosts b sound = cases (is_open (book_status apps b)) refl
-  where
-    cases : (o : Bool) → is_open (book_status apps b) ≡ o → cond o (record b { instances = b.instances ++ replicate (need b.unit b.instances) fresh }) b ≡ b
-    cases true is =
-        let none : need b.unit b.instances ≡ 0 = sound.satisfied is in
-        ap (λ n. record b { instances = b.instances ++ replicate n fresh }) none ∙ ap (λ xs. record b { instances = xs }) (append-nil b.instances)
-    cases false is = refl
-
+-- an untouched workunit is as in the sound world, and needs nothing
 untouched_stays : (units : List ℕ) (old changed : World) → Sound old → TouchJust units old changed → (unit : ℕ) → is_among units unit ≡ false
     → unit_at (with_grown changed) unit ≡ unit_at old unit
 untouched_stays units old changed sound touch unit other =
@@ -110,7 +102,7 @@ untouched_stays units old changed sound touch unit other =
   where
     cases : (o : Option UnitBook) → unit_at old unit ≡ o → option_map (grown old.apps) o ≡ o
     cases None is = refl
-    cases (Some b) is = ap Some (grown_stays old.apps old.hosts b (all_nth (IsSoundUnit old.hosts old.apps) old.units unit b sound.units is))
+    cases (Some b) is = ap Some (grown_sound old unit b sound is)
 
 grown_touch_just : (units : List ℕ) (old changed : World) → Sound old → TouchJust units old changed → TouchJust units old (with_grown changed)
 grown_touch_just units old changed sound touch = record {
@@ -119,10 +111,6 @@ grown_touch_just units old changed sound touch = record {
   apps = touch.apps;
   others = untouched_stays units old changed sound touch;
 }
-
--- so that growing the touched ones alone is growing all
-others_need_nothing : (units : List ℕ) (old changed : World) → Sound old → TouchJust units old changed → with_grown_among units changed ≡ with_grown changed
-others_need_nothing units old changed sound touch = ?
 
 -- the hosts with their quotas, by the marks of the touched workunits
 quotas_settle : (units : List ℕ) (old changed : World) (marks : List Mark) → Sound old → TouchJust units old changed
@@ -230,6 +218,31 @@ pub record AreSteps (w : World) (cs grows quotas : List Change) (units : List �
   pub quoted : AreHostsInLimits (applied w (cs ++ grows))
       → applied (applied w (cs ++ grows)) quotas ≡ with_quotas_by marks (applied w (cs ++ grows))
   pub quoted_fitting : AreHostsInLimits (applied w (cs ++ grows)) → 1 ≤ w.settings.daily_result_quota → Fits (applied w (cs ++ grows)) quotas
+
+-- the same where each step was told of the world that the one before had left by reading it
+pub steps_in_turn : (w v u : World) (cs grows all quotas : List Change) (units : List ℕ) (marks : List Mark) → v ≡ w → u ≡ v → all ≡ cs ++ grows
+    → list_all puts_row cs ≡ true
+    → (AreRising units → applied (applied w cs) grows ≡ with_grown_among units (applied w cs))
+    → (AreRising units → AreUnitsInLimits (applied w cs) → Fits (applied w cs) grows)
+    → ((host : ℕ) → charges_in marks host ≡ sum_by (unit_charges v (applied v all) host) units)
+    → ((host : ℕ) → merits_in marks host ≡ sum_by (unit_merits v (applied v all) host) units)
+    → (AreHostsInLimits (applied u all) → applied (applied u all) quotas ≡ with_quotas_by marks (applied u all))
+    → (AreHostsInLimits (applied u all) → 1 ≤ u.settings.daily_result_quota → Fits (applied u all) quotas)
+    → AreSteps w cs grows quotas units marks
+steps_in_turn w v u cs grows all quotas units marks first second joined puts grew grew_fitting charged merited quoted quoted_fitting =
+    let last : u ≡ w = second ∙ first in
+    record {
+      puts = puts;
+      grew = grew;
+      grew_fitting = grew_fitting;
+      charged = subst (λ z. (host : ℕ) → charges_in marks host ≡ sum_by (unit_charges z.0 (applied z.0 z.1) host) units) (both first joined) charged;
+      merited = subst (λ z. (host : ℕ) → merits_in marks host ≡ sum_by (unit_merits z.0 (applied z.0 z.1) host) units) (both first joined) merited;
+      quoted = subst (λ z. AreHostsInLimits (applied z.0 z.1) → applied (applied z.0 z.1) quotas ≡ with_quotas_by marks (applied z.0 z.1)) (both last joined) quoted;
+      quoted_fitting = subst (λ z. AreHostsInLimits (applied z.0 z.1) → 1 ≤ z.0.settings.daily_result_quota → Fits (applied z.0 z.1) quotas) (both last joined) quoted_fitting;
+    }
+  where
+    both : {x y : World} {ds es : List Change} → x ≡ y → ds ≡ es → ◌≡◌ {A = World × List Change} (x, ds) (y, es)
+    both here there = λ i. (here i, there i)
 
 module _ (w : World) (cs grows quotas : List Change) (units : List ℕ) (marks : List Mark) (steps : AreSteps w cs grows quotas units marks)
     (sound : Sound w) (fits : Fits w cs) (touched : AreTouched cs units) where

@@ -6,3 +6,5 @@ pub mod Limited
 pub mod Marks
 pub mod Settling
 pub mod Tallies
+pub mod Growing
+pub mod Marking

@@ -1,12 +1,19 @@
 //! What settlement counts for the hosts of instances, and against them.
 
-ghost use Rattle.std.specs.Prelude.{◌≡◌, ℕ, IfOk, sum_by};
+ghost use Rattle.std.specs.Prelude.{◌≡◌, ◌≤◌, List, ◌++◌, ℕ, length, map, sum_by, IfOk, OnOk};
+ghost use Rattle.sched_book.specs.Count.{is_invalid};
+ghost use Rattle.sched_book.specs.Settle.{is_late};
 ghost use Rattle.sched_book.specs.Delta.{applied};
-ghost use Rattle.quorum_credit.specs.Marks.{charges_in, merits_in, unit_charges, unit_merits};
+ghost use Rattle.quorum_credit.specs.Marks.{standing_with, one_if_new, charges_between, merits_between, unit_charges, unit_merits, charges_in, merits_in};
+ghost use Rattle.quorum_credit.specs.Marking.{owned_standing, standings_by, standings_in, standings_at, standing_of, mark_of, with_mark, marks_from, marks_at, marks_of_units};
+ghost use Rattle.quorum_credit.specs.declared.marks.Mark.{Mark};
 
-use sched_book::{Delta, Desk, Unavailable, Verdict};
+use sched_book::{
+    Agreement, Delta, Desk, Instance, Lapse, Owner, Patched, Unavailable, Units, Verdict, Workunit,
+    count,
+};
 use std::alloc::Global;
-use texts::Listed;
+use texts::{Listed, Memory};
 
 /// How an instance stands.
 #[derive(Clone, Copy, Debug, PartialEq, Eq)]
@@ -28,9 +35,238 @@ pub(crate) struct Mark {
     pub merits: u32,
 }
 
+/// To which host an instance was given, and how it stands.
+#[derive(Clone, Copy)]
+struct OwnedStanding {
+    owner: Option<Owner>,
+    standing: Standing,
+}
+
+/// Whether a lapse is one at the deadline.
+fn is_late(lapse: Option<Lapse>) -> bool
+    ensures { result ≡ is_late lapse }
+{
+    match lapse {
+        Some(Lapse::Late) => true,
+        Some(Lapse::Dropped) | None => false,
+    }
+}
+
+/// How the instance stands, with this verdict on it.
+fn standing_with(verdict: Option<Verdict>, instance: &Instance) -> Standing
+    ensures { result ≡ standing_with verdict instance.now }
+{
+    Standing {
+        has_error: count::is_judged_error(instance),
+        is_late: is_late(instance.lapse),
+        verdict,
+    }
+}
+
+/// The same with its owner.
+fn owned_standing(verdict: Option<Verdict>, instance: &Instance) -> OwnedStanding
+    ensures { result ≡ owned_standing verdict instance.now }
+{
+    OwnedStanding {
+        owner: instance.owner,
+        standing: standing_with(verdict, instance),
+    }
+}
+
+/// How the instances of a workunit stand, by the number of its canonical result.
+fn standings_by(
+    alloc: Global,
+    agreement: &Agreement,
+    instances: &[Instance],
+    canonical: Option<usize>,
+) -> Result<Vec<OwnedStanding>, Memory>
+    ensures { IfOk result (λ rows. rows.items ≡ standings_by agreement.now instances.now canonical) }
+{
+    instances
+        .iter()
+        .map(|instance| {
+            owned_standing(
+                count::verdict_by(agreement, instances, canonical, instance),
+                instance,
+            )
+        })
+        .collect(alloc)
+}
+
+/// How the instances of a workunit stand.
+fn standings_in(
+    alloc: Global,
+    agreement: &Agreement,
+    unit: &Workunit,
+    instances: &[Instance],
+) -> Result<Vec<OwnedStanding>, Memory>
+    requires { length instances.now ≤ 100 }
+    ensures { IfOk result (λ rows. rows.items ≡ standings_in agreement.now unit.now instances.now) }
+{
+    let canonical = count::canonical(agreement, unit, instances);
+    standings_by(alloc, agreement, instances, canonical)
+}
+
+/// How the instances of the workunit at a place stand; none where it does not stand.
+fn standings_at<D: Units>(
+    alloc: Global,
+    desk: &mut D,
+    unit: u32,
+) -> Result<Vec<OwnedStanding>, Unavailable>
+    ensures reads { D.reads desk.old desk.new }
+    ensures answer { D.honest desk.new → D.well_kept desk.old → IfOk result (λ rows. rows.items ≡ standings_at (D.world desk.old) unit) }
+{
+    let Some(row) = desk.unit(alloc, unit)? else {
+        return Ok(Vec::new(alloc));
+    };
+    let Some(agreement) = desk.agreement_of(alloc, unit)? else {
+        return Ok(Vec::new(alloc));
+    };
+    let instances = desk.instances_of(alloc, unit)?;
+    Ok(standings_in(alloc, &agreement, &row, instances.as_slice())?)
+}
+
+/// How the instances of the workunit at a place stand after changes; none where it does not stand.
+fn standings_under<D: Desk>(
+    alloc: Global,
+    desk: &mut D,
+    delta: &Delta,
+    unit: u32,
+) -> Result<Vec<OwnedStanding>, Unavailable>
+    ensures reads { D.reads desk.old desk.new }
+    ensures answer { D.honest desk.new → D.well_kept desk.old →
+        IfOk result (λ rows. rows.items ≡ standings_at (applied (D.world desk.old) delta.now) unit) }
+{
+    let mut patched = Patched { desk, delta };
+    standings_at(alloc, &mut patched, unit)
+}
+
+/// How the instance of a number stands among these.
+fn standing_of(rows: &[OwnedStanding], number: usize) -> Standing
+    ensures { result ≡ standing_of rows.now number }
+{
+    match rows.get(number) {
+        None => Standing {
+            has_error: false,
+            is_late: false,
+            verdict: None,
+        },
+        Some(row) => row.standing,
+    }
+}
+
+/// One where a test passes that did not pass before.
+fn one_if_new(new: bool, old: bool) -> u32
+    ensures value { result ≡ one_if_new new old }
+    ensures small { result ≤ 1 }
+{
+    if new && !old { 1 } else { 0 }
+}
+
+/// Whether a verdict says that the result is invalid.
+fn is_invalid(verdict: Option<Verdict>) -> bool
+    ensures { result ≡ is_invalid verdict }
+{
+    match verdict {
+        Some(Verdict::Invalid) => true,
+        Some(Verdict::Valid) | None => false,
+    }
+}
+
+/// What is new and counts against the host.
+fn charges_between(old: Standing, new: Standing) -> u32
+    ensures { result ≡ charges_between old new }
+{
+    one_if_new(new.has_error, old.has_error)
+        + one_if_new(new.is_late, old.is_late)
+        + one_if_new(is_invalid(new.verdict), is_invalid(old.verdict))
+}
+
+/// What is new and counts for it.
+fn merits_between(old: Standing, new: Standing) -> u32
+    ensures { result ≡ merits_between old new }
+{
+    one_if_new(count::is_valid(new.verdict), count::is_valid(old.verdict))
+}
+
+/// What is new of an instance, where it has an owner.
+fn mark_of(old: Standing, new: &OwnedStanding) -> Option<Mark>
+    ensures { result ≡ mark_of old new.now }
+{
+    match new.owner {
+        None => None,
+        Some(owner) => Some(Mark {
+            host: owner.host,
+            charges: charges_between(old, new.standing),
+            merits: merits_between(old, new.standing),
+        }),
+    }
+}
+
+/// Puts a mark behind the others, where there is one.
+fn push_mark(marks: &mut Listed<Mark>, mark: Option<Mark>) -> Result<(), Memory>
+    ensures { OnOk result ((later : List Mark) → marks.new ++ later ≡ marks.old ++ with_mark mark later) }
+{
+    match mark {
+        None => Ok(()),
+        Some(mark) => marks.push(mark),
+    }
+}
+
+/// Puts the marks of a workunit's instances behind the others.
+fn push_marks(
+    marks: &mut Listed<Mark>,
+    old: &[OwnedStanding],
+    new: &[OwnedStanding],
+) -> Result<(), Memory>
+    ensures { OnOk result (marks.new ≡ marks.old ++ marks_from old.now 0 new.now) }
+{
+    for (number, row) in new.iter().enumerate() {
+        push_mark(marks, mark_of(standing_of(old, number), row))?;
+    }
+    Ok(())
+}
+
+/// Puts the marks of the workunit at a place behind the others.
+fn mark_unit<D: Desk>(
+    alloc: Global,
+    desk: &mut D,
+    delta: &Delta,
+    marks: &mut Listed<Mark>,
+    unit: u32,
+) -> Result<(), Unavailable>
+    ensures reads { D.reads desk.old desk.new }
+    ensures answer { D.honest desk.new → D.well_kept desk.old →
+        OnOk result (marks.new ≡ marks.old ++ marks_at (D.world desk.old) (applied (D.world desk.old) delta.now) unit) }
+{
+    let old = standings_at(alloc, desk, unit)?;
+    let new = standings_under(alloc, desk, delta, unit)?;
+    push_marks(marks, old.as_slice(), new.as_slice())?;
+    Ok(())
+}
+
+/// The marks of these workunits, in their order.
+fn marks_of_units<D: Desk>(
+    alloc: Global,
+    desk: &mut D,
+    delta: &Delta,
+    units: &[u32],
+) -> Result<Listed<Mark>, Unavailable>
+    ensures reads { D.reads desk.old desk.new }
+    ensures answer { D.honest desk.new → D.well_kept desk.old → IfOk result (λ marks.
+        marks ≡ marks_of_units (D.world desk.old) (applied (D.world desk.old) delta.now) units.now) }
+{
+    let mut marks = Listed::new(alloc);
+    for unit in units {
+        mark_unit(alloc, desk, delta, &mut marks, *unit)?;
+    }
+    Ok(marks)
+}
+
 /// What is new of the instances of these workunits after changes: a mark for each that has a host.
+#[tactic(auto, using(crate::proofs::Marked::marked_steps))]
 pub(crate) fn marks_of_touched<D: Desk>(
-    _alloc: Global,
+    alloc: Global,
     desk: &mut D,
     delta: &Delta,
     touched: &[u32],
@@ -41,6 +277,5 @@ pub(crate) fn marks_of_touched<D: Desk>(
     ensures merits { D.honest desk.new → D.well_kept desk.old → IfOk result (λ marks. (host : ℕ) →
         merits_in marks host ≡ sum_by (unit_merits (D.world desk.old) (applied (D.world desk.old) delta.now) host) touched.now) }
 {
-    desk.counts()?;
-    Err(Unavailable)
+    marks_of_units(alloc, desk, delta, touched)
 }

@@ -1,17 +1,27 @@
-use Rattle.std.proofs.Common.{rules, ◌≡◌, ◌++◌, true, IfOk, OnOk, ℕ, ◌+◌, ◌-◌, ◌*◌, ◌<◌, ◌≤◌, length, ◌/◌, ◌%◌, Bool, false, nat_eq, nat_lt, List, [], ◌∷◌, slice_index_or, slice_set, bit_and, bit_or, w8, w32, w64, Bor, MutBor}
-use Rattle.std.specs.List.{list_all}
+use Rattle.std.proofs.Common.{◌≡◌, ◌++◌, ap, subst, sym}
 use Rattle.sched_book.specs.Delta.{applied, Fits}
 use Rattle.sched_book.specs.Settle.{settled}
-use Rattle.sched_book.specs.Sound.{Sound}
-use Rattle.sched_book.specs.Step.{lapsed}
-use Rattle.quorum_credit.specs.Settling.{puts_row}
-use Rattle.quorum_credit.specs.Taken.{AreTouched}
+use Rattle.quorum_credit.proofs.SettledAll.{AreSteps, steps_in_turn, settles, settling_fits}
+use Rattle.quorum_credit.proofs.settling.settle_all.Given
 use Rattle.quorum_credit.proofs.settling.settle_all.Goals as goal
 
--- src/settling.rt:85:1
-pub returns-clause-settled : goal.returns-clause-settled
-returns-clause-settled g c = ?
+-- what the three steps told, of the first world
+steps : (g : Given.Over) (c : goal.After-drop-all-inside-2 g) → g.D.Units.honest c.new_quotas.new.desk → g.D.Units.well_kept c.args.desk.now
+    → AreSteps (g.D.Units.world c.args.desk.now) c.args.delta.now c.in_ok-more.more c.in_ok-quotas.quotas c.args.touched.now c.in_ok-marks.marks
+steps g c honest kept =
+    let honest_then = g.met.D.Units.stays_honest _ _ c.new_quotas.ensures.reads honest in
+    let honest_first = g.met.D.Units.stays_honest _ _ c.marks_of_touched.ensures.reads honest_then in
+    let kept_then = g.met.D.Units.stays_kept _ _ c.grow_touched.ensures.reads honest_first kept in
+    let kept_last = g.met.D.Units.stays_kept _ _ c.marks_of_touched.ensures.reads honest_then kept_then in
+    let same_then = g.met.D.Units.stays_same _ _ c.grow_touched.ensures.reads honest_first kept in
+    let same_last = g.met.D.Units.stays_same _ _ c.marks_of_touched.ensures.reads honest_then kept_then in
+    steps_in_turn _ _ _ _ _ _ _ _ _ same_then same_last c.in_ok-all.ensures.joined (c.in_ok-all.ensures.puts)
+    (c.in_ok-more.ensures.grown honest_first kept) (c.in_ok-more.ensures.fits honest_first kept)
+    (c.in_ok-marks.ensures.charges honest_then kept_then) (c.in_ok-marks.ensures.merits honest_then kept_then)
+    (c.in_ok-quotas.ensures.quotas honest kept_last) (c.in_ok-quotas.ensures.fits honest kept_last)
 
--- src/settling.rt:85:1
+pub returns-clause-settled : goal.returns-clause-settled
+returns-clause-settled g c = λ honest kept sound fits touched. ?
+
 pub returns-clause-fits : goal.returns-clause-fits
-returns-clause-fits g c = ?
+returns-clause-fits g c = λ honest kept sound fits touched. ?

@@ -1,0 +1,112 @@
+-- What workunits need fits, where their numbers are within limits.
+use Rattle.std.proofs.Common.{◌≡◌, ℕ, zero, suc, ◌+◌, ◌<◌, ◌≤◌, Bool, true, false, cond, eqb, List, [], ◌∷◌, ◌++◌, length, Option, Some, None, sym, refl, ap, ◌∙◌, subst, length-append, arith, IfSome}
+use Rattle.std.specs.Prelude.{◌||◌, nat_lt, IsTrue, is_some, option_map, unwrap_or}
+use Rattle.std.proofs.lemmas.Bool.{eq-eqb, ne_eqb}
+use borrow.Author.Tests.{ltb-false}
+use Rattle.sched_book.specs.Count.{canonical, errors, good, need, status, is_open}
+use Rattle.sched_book.specs.Places.{unit_at, agreement_of, book_status}
+use Rattle.sched_book.specs.Limits.{IsUnitInLimits, IsInstanceInLimits}
+use Rattle.sched_book.specs.Settle.{fresh}
+use Rattle.sched_book.specs.Patched.{book_after}
+use Rattle.sched_book.specs.Delta.{applied_one, applied, FitsOne, Fits}
+use Rattle.sched_book.specs.declared.delta.Change.{Change}
+use Rattle.sched_book.specs.declared.delta.Change.TheVariants as change
+use Rattle.sched_book.specs.declared.instance.Instance.{Instance}
+use Rattle.sched_book.specs.declared.instance.Status.TheVariants.{Open, Done, FailedErrors, FailedSuccess, FailedTotal}
+use Rattle.sched_book.specs.declared.instance.UnitBook.{UnitBook}
+use Rattle.sched_book.specs.declared.rows.Agreement.{Agreement}
+use Rattle.sched_book.specs.declared.rows.Workunit.{Workunit}
+use Rattle.sched_book.specs.declared.world.World.{World}
+use Rattle.sched_book.proofs.Patching.{unit_at-applied}
+use Rattle.quorum_credit.specs.Growing.{fresh_changes, growth_of, growth, all_growth}
+use Rattle.quorum_credit.specs.Settling.{is_among, AreUnitsInLimits}
+use Rattle.quorum_credit.specs.Taken.{AreRising}
+use Rattle.quorum_credit.proofs.Grown.{all_grown, one_behind, put_behind, above_others, growth_elsewhere}
+
+-- changes that fit behind others that do
+pub fits_then : (v : World) (cs ds : List Change) → Fits v cs → Fits (applied v cs) ds → Fits v (cs ++ ds)
+fits_then v [] ds front behind = behind
+fits_then v (c ∷ cs) ds front behind = (front.0, fits_then (applied_one v c) cs ds front.1 behind)
+
+-- an instance that nobody was given is within limits
+fresh_in_limits : IsInstanceInLimits fresh
+fresh_in_limits = record { sent = omega arith; deadline = omega arith; place = omega arith }
+
+-- so many fit behind a workunit's own, where they stay within a hundred
+fresh_fits : (v : World) (unit number many : ℕ) (b : UnitBook) → unit_at v unit ≡ Some b → number ≡ length b.instances → number + many ≤ 100
+    → Fits v (fresh_changes unit number many)
+fresh_fits v unit number zero b stands last few = tt
+fresh_fits v unit number (suc many) b stands last few =
+    let c = change.Instance (record { unit = unit; number = number }) fresh in (
+      (
+        subst (λ (o : Option UnitBook). IsTrue (is_some o)) (sym stands) refl,
+        (let low : number < 100 = omega arith in low),
+        subst (λ (o : Option UnitBook). IfSome o (λ (u : UnitBook). number ≤ length u.instances)) (sym stands)
+        (let low : number ≤ length b.instances = omega arith in low),
+        (λ given. absurd cc),
+        fresh_in_limits,
+      ),
+      fresh_fits (applied_one v c) unit (number + 1) many (one_behind b)
+      (unit_at-applied v unit (c ∷ [])
+      ∙ ap (λ o. book_after unit (length v.units) o (c ∷ [])) stands
+      ∙ put_behind unit number (length v.units) b last)
+      (let long : length (b.instances ++ fresh ∷ []) ≡ length b.instances + 1 = length-append b.instances (fresh ∷ []) in
+      omega arith)
+      (omega arith),
+    )
+
+-- an open workunit has, with what it needs, no more than it may
+open_total : (a : Agreement) (u : Workunit) (xs : List Instance) → is_open (status a u xs) ≡ true → length xs + need u xs ≤ u.max_total_results
+open_total a u xs is_it =
+    ltb-false u.max_total_results (length xs + need u xs)
+    (cases (is_some (canonical a u xs)) (nat_lt u.max_error_results (errors xs)) (nat_lt u.max_success_results (length (good xs)))
+    (nat_lt u.max_total_results (length xs + need u xs)) is_it)
+  where
+    cases : (done errors successes total : Bool)
+        → is_open (cond done Done (cond errors FailedErrors (cond successes FailedSuccess (cond total FailedTotal Open)))) ≡ true → total ≡ false
+    cases true errors successes total is_it = absurd cc
+    cases false true successes total is_it = absurd cc
+    cases false false true total is_it = absurd cc
+    cases false false false true is_it = absurd cc
+    cases false false false false is_it = refl
+
+module _ (w : World) (limits : AreUnitsInLimits w) where
+  growth_fits : (v : World) (unit : ℕ) → unit_at v unit ≡ unit_at w unit → Fits v (growth w unit)
+  growth_fits v unit same = cases (unit_at w unit) refl same
+    where
+      open_or_not : (b : UnitBook) → unit_at w unit ≡ Some b → unit_at v unit ≡ Some b
+          → (t : Bool) → is_open (book_status w.apps b) ≡ t → Fits v (fresh_changes unit (length b.instances) (cond t (need b.unit b.instances) 0))
+      open_or_not b here stands false is_it = tt
+      open_or_not b here stands true is_it =
+          let total : length b.instances + need b.unit b.instances ≤ b.unit.max_total_results = open_total (agreement_of w b) b.unit b.instances is_it in
+          let most : b.unit.max_total_results ≤ 100 = (limits unit b here).total.1 in
+          fresh_fits v unit (length b.instances) (need b.unit b.instances) b stands refl (omega arith)
+
+      cases : (o : Option UnitBook) → unit_at w unit ≡ o → unit_at v unit ≡ o → Fits v (unwrap_or (option_map (growth_of w unit) o) [])
+      cases None here stands = tt
+      cases (Some b) here stands = open_or_not b here stands (is_open (book_status w.apps b)) refl
+
+  -- those of several workunits fit, as long as none of these was changed
+  growth_all_fits : (v : World) (units : List ℕ) → AreRising units
+      → ((n : ℕ) → is_among units n ≡ true → unit_at v n ≡ unit_at w n) → Fits v (all_growth w units)
+  growth_all_fits v [] rising same = tt
+  growth_all_fits v (unit ∷ units) rising same =
+      fits_then v (growth w unit) (all_growth w units)
+      (growth_fits v unit (same unit (ap (λ t. t || is_among units unit) (eq-eqb unit unit refl))))
+      (growth_all_fits (applied v (growth w unit)) units rising.1
+      (λ n among.
+          unit_at-applied v n (growth w unit)
+          ∙ growth_elsewhere w n (length v.units) unit (unit_at v n)
+          (ne_eqb unit n (λ equal. let never : is_among units n ≡ false = above_others n unit units equal rising.0 in absurd cc))
+          ∙ same n (last_true (eqb unit n) (is_among units n) among)))
+    where
+      last_true : (a b : Bool) → b ≡ true → (a || b) ≡ true
+      last_true true b is = refl
+      last_true false b is = is
+
+-- the new instances of these workunits fit
+pub all_fit : (w : World) (units : List ℕ) (more : List Change) → more ≡ all_growth w units → AreRising units → AreUnitsInLimits w → Fits w more
+all_fit w units more is rising limits = subst (Fits w) (sym is) (growth_all_fits w limits w units rising (λ n among. refl))
+
+-- for the growth of touched workunits
+pub ruleset grown_steps = (all_grown, all_fit)

@@ -1,0 +1,57 @@
+-- The marks of workunits after changes, as they are made: instance by instance, workunit by workunit.
+use Rattle.std.specs.Prelude.{ℕ, ◌+◌, List, [], ◌∷◌, ◌++◌, map, Option, None, Some, option_map, unwrap_or, slice_get}
+use Rattle.sched_book.specs.Count.{verdict, verdict_by}
+use Rattle.sched_book.specs.Places.{unit_at, agreement_of}
+use Rattle.sched_book.specs.declared.instance.Instance.{Instance}
+use Rattle.sched_book.specs.declared.instance.UnitBook.{UnitBook}
+use Rattle.sched_book.specs.declared.instance.Verdict.{Verdict}
+use Rattle.sched_book.specs.declared.rows.Agreement.{Agreement}
+use Rattle.sched_book.specs.declared.rows.Workunit.{Workunit}
+use Rattle.sched_book.specs.declared.world.World.{World}
+use Rattle.quorum_credit.specs.Marks.{standing_with, no_standing, charges_between, merits_between}
+use Rattle.quorum_credit.specs.declared.marks.Mark.{Mark}
+use Rattle.quorum_credit.specs.declared.marks.OwnedStanding.{OwnedStanding}
+use Rattle.quorum_credit.specs.declared.marks.Standing.{Standing}
+
+-- an instance's owner, and how it stands with this verdict on it
+abbrev pub owned_standing : Option Verdict → Instance → OwnedStanding
+owned_standing v x = record { owner = x.owner; standing = standing_with v x }
+
+-- those of a workunit, by the number of its canonical result
+abbrev pub standings_by : Agreement → List Instance → Option ℕ → List OwnedStanding
+standings_by a xs canonical = map (λ x. owned_standing (verdict_by a xs canonical x) x) xs
+
+abbrev pub standings_in : Agreement → Workunit → List Instance → List OwnedStanding
+standings_in a u xs = map (λ x. owned_standing (verdict a u xs x) x) xs
+
+-- those of the workunit at a place, none where none stands
+abbrev pub standings_at : World → ℕ → List OwnedStanding
+standings_at w unit = unwrap_or (option_map (λ (b : UnitBook). standings_in (agreement_of w b) b.unit b.instances) (unit_at w unit)) []
+
+-- how the one of a number stands
+abbrev pub standing_of : List OwnedStanding → ℕ → Standing
+standing_of rows number = unwrap_or (option_map (λ (s : OwnedStanding). s.standing) (slice_get rows number)) no_standing
+
+-- what is new of an instance, where it has an owner
+abbrev pub mark_of : Standing → OwnedStanding → Option Mark
+mark_of old s =
+    option_map (λ o. record { host = o.host; charges = charges_between old s.standing; merits = merits_between old s.standing }) s.owner
+
+-- marks behind one that there may be
+abbrev pub with_mark : Option Mark → List Mark → List Mark
+with_mark None marks = marks
+with_mark (Some m) marks = m ∷ marks
+
+-- the marks of a workunit's instances, from a number on
+abbrev pub marks_from : List OwnedStanding → ℕ → List OwnedStanding → List Mark
+marks_from old number [] = []
+marks_from old number (s ∷ new) = with_mark (mark_of (standing_of old number) s) (marks_from old (number + 1) new)
+
+-- the marks of the workunit at a place
+abbrev pub marks_at : World → World → ℕ → List Mark
+marks_at old new unit = marks_from (standings_at old unit) 0 (standings_at new unit)
+
+-- the marks of these workunits
+abbrev pub marks_of_units : World → World → List ℕ → List Mark
+marks_of_units old new [] = []
+marks_of_units old new (unit ∷ units) = marks_at old new unit ++ marks_of_units old new units
