@@ -1,5 +1,5 @@
 -- New instances of one workunit, as changes.
-use Rattle.std.proofs.Common.{◌≡◌, ℕ, zero, suc, ◌+◌, ◌-◌, ◌<◌, ◌≤◌, Bool, true, false, cond, List, [], ◌∷◌, ◌++◌, length, Option, Some, None, sym, refl, ap, ◌∙◌, append_assoc, arith}
+use Rattle.std.proofs.Common.{◌≡◌, ℕ, zero, suc, ◌+◌, ◌-◌, ◌<◌, true, List, [], ◌∷◌, ◌++◌, length, Option, Some, None, sym, refl, ap, ◌∙◌, append_assoc, arith}
 use Rattle.std.specs.Prelude.{◌&&◌, option_map, unwrap_or}
 use Rattle.std.specs.List.{list_all}
 use Rattle.std.proofs.lemmas.List.Folds.{list_all-append}
@@ -50,11 +50,7 @@ growth_is w unit first end row a xs row_is a_is xs_is first_is end_is = cases (u
         let same_a : a ≡ agreement_of w b = cc in
         let same_xs : xs ≡ b.instances = xs_is in
         let count : end - first ≡ new_instances a row xs = omega arith in
-        ap (fresh_changes unit first) count
-        ∙ ap (λ n. fresh_changes unit n (new_instances a row xs)) first_is
-        ∙ ap (λ ys. fresh_changes unit (length ys) (new_instances a row ys)) same_xs
-        ∙ ap (λ u. fresh_changes unit (length b.instances) (new_instances a u b.instances)) same_row
-        ∙ ap (λ g. fresh_changes unit (length b.instances) (new_instances g b.unit b.instances)) same_a
+        cc
 
 -- new instances are instances
 fresh_puts : (unit number count : ℕ) → list_all puts_row (fresh_changes unit number count) ≡ true

@@ -1,6 +1,6 @@
 -- What the new instances of workunits make of a world.
-use Rattle.std.proofs.Common.{◌≡◌, ℕ, zero, suc, ◌+◌, ◌-◌, ◌<◌, ◌≤◌, Bool, true, false, cond, eqb, List, [], ◌∷◌, ◌++◌, length, Option, Some, None, sym, refl, ap, ◌∙◌, subst, append_assoc, length-append, arith}
-use Rattle.std.specs.Prelude.{◌||◌, map, replicate, option_map, unwrap_or, slice_set, IsTrue}
+use Rattle.std.proofs.Common.{◌≡◌, ℕ, zero, suc, ◌+◌, ◌<◌, Bool, true, false, cond, eqb, List, [], ◌∷◌, ◌++◌, length, Option, Some, None, sym, refl, ap, ◌∙◌, append_assoc, length-append, arith}
+use Rattle.std.specs.Prelude.{◌||◌, replicate, option_map, unwrap_or, slice_set}
 use Rattle.std.proofs.lemmas.Bool.{le-ltb, eq-eqb, ne_eqb, eqb-true}
 use Rattle.std.proofs.lemmas.List.{append-nil}
 use Rattle.sched_book.specs.Count.{is_open, need}
@@ -11,10 +11,7 @@ use Rattle.sched_book.specs.Patched.{book_after}
 use Rattle.sched_book.specs.Sound.{IsSoundUnit, Sound}
 use Rattle.sched_book.specs.declared.delta.Change.{Change}
 use Rattle.sched_book.specs.declared.delta.Change.TheVariants as change
-use Rattle.sched_book.specs.declared.instance.Instance.{Instance}
-use Rattle.sched_book.specs.declared.instance.Place.{Place}
 use Rattle.sched_book.specs.declared.instance.UnitBook.{UnitBook}
-use Rattle.sched_book.specs.declared.rows.App.{App}
 use Rattle.sched_book.specs.declared.world.World.{World}
 use Rattle.sched_book.proofs.Patching.{unit_at-applied}
 use Rattle.quorum_credit.specs.Growing.{fresh_changes, growth_of, growth, all_growth}
@@ -178,7 +175,7 @@ all_grown w units more is rising =
     ∙ ap (λ us. record w { units = us })
     (same_by_place (applied w (all_growth w units)).units (with_grown_among units w).units
     (λ n.
-        unit_at-applied w n (all_growth w units) ∙ all_here w n (length w.units) units rising ∙ sym (grown_at units w n)))
+    unit_at-applied w n (all_growth w units) ∙ all_here w n (length w.units) units rising ∙ sym (grown_at units w n)))
 
 -- a workunit that is as it was in a sound world needs nothing
 pub grown_sound : (old : World) (unit : ℕ) (b : UnitBook) → Sound old → unit_at old unit ≡ Some b → grown old.apps b ≡ b
@@ -198,9 +195,9 @@ others_need_nothing units old changed sound touch =
     ap (λ us. record changed { units = us })
     (same_by_place (with_grown_among units changed).units (with_grown changed).units
     (λ n.
-        grown_at units changed n
-        ∙ cases n (is_among units n) refl (unit_at changed n) refl
-        ∙ sym (nth-map (grown changed.apps) changed.units n)))
+    grown_at units changed n
+    ∙ cases n (is_among units n) refl (unit_at changed n) refl
+    ∙ sym (nth-map (grown changed.apps) changed.units n)))
   where
     cases : (n : ℕ) (t : Bool) → is_among units n ≡ t → (o : Option UnitBook) → unit_at changed n ≡ o
         → cond t (option_map (grown changed.apps) o) o ≡ option_map (grown changed.apps) o

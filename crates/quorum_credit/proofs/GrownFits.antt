@@ -5,10 +5,10 @@ use Rattle.std.proofs.lemmas.Bool.{eq-eqb, ne_eqb}
 use borrow.Author.Tests.{ltb-false}
 use Rattle.sched_book.specs.Count.{canonical, errors, good, need, status, is_open}
 use Rattle.sched_book.specs.Places.{unit_at, agreement_of, book_status}
-use Rattle.sched_book.specs.Limits.{IsUnitInLimits, IsInstanceInLimits}
+use Rattle.sched_book.specs.Limits.{IsInstanceInLimits}
 use Rattle.sched_book.specs.Settle.{fresh}
 use Rattle.sched_book.specs.Patched.{book_after}
-use Rattle.sched_book.specs.Delta.{applied_one, applied, FitsOne, Fits}
+use Rattle.sched_book.specs.Delta.{applied_one, applied, Fits}
 use Rattle.sched_book.specs.declared.delta.Change.{Change}
 use Rattle.sched_book.specs.declared.delta.Change.TheVariants as change
 use Rattle.sched_book.specs.declared.instance.Instance.{Instance}
@@ -42,17 +42,17 @@ fresh_fits v unit number (suc many) b stands last few =
         subst (λ (o : Option UnitBook). IsTrue (is_some o)) (sym stands) refl,
         (let low : number < 100 = omega arith in low),
         subst (λ (o : Option UnitBook). IfSome o (λ (u : UnitBook). number ≤ length u.instances)) (sym stands)
-        (let low : number ≤ length b.instances = omega arith in low),
+            (let low : number ≤ length b.instances = omega arith in low),
         (λ given. absurd cc),
         fresh_in_limits,
       ),
       fresh_fits (applied_one v c) unit (number + 1) many (one_behind b)
-      (unit_at-applied v unit (c ∷ [])
-      ∙ ap (λ o. book_after unit (length v.units) o (c ∷ [])) stands
-      ∙ put_behind unit number (length v.units) b last)
-      (let long : length (b.instances ++ fresh ∷ []) ≡ length b.instances + 1 = length-append b.instances (fresh ∷ []) in
-      omega arith)
-      (omega arith),
+          (unit_at-applied v unit (c ∷ [])
+          ∙ ap (λ o. book_after unit (length v.units) o (c ∷ [])) stands
+          ∙ put_behind unit number (length v.units) b last)
+          (let long : length (b.instances ++ fresh ∷ []) ≡ length b.instances + 1 = length-append b.instances (fresh ∷ []) in
+          omega arith)
+          (omega arith),
     )
 
 -- an open workunit has, with what it needs, no more than it may
@@ -95,10 +95,10 @@ module _ (w : World) (limits : AreUnitsInLimits w) where
       (growth_fits v unit (same unit (ap (λ t. t || is_among units unit) (eq-eqb unit unit refl))))
       (growth_all_fits (applied v (growth w unit)) units rising.1
       (λ n among.
-          unit_at-applied v n (growth w unit)
-          ∙ growth_elsewhere w n (length v.units) unit (unit_at v n)
-          (ne_eqb unit n (λ equal. let never : is_among units n ≡ false = above_others n unit units equal rising.0 in absurd cc))
-          ∙ same n (last_true (eqb unit n) (is_among units n) among)))
+      unit_at-applied v n (growth w unit)
+      ∙ growth_elsewhere w n (length v.units) unit (unit_at v n)
+      (ne_eqb unit n (λ equal. let never : is_among units n ≡ false = above_others n unit units equal rising.0 in absurd cc))
+      ∙ same n (last_true (eqb unit n) (is_among units n) among)))
     where
       last_true : (a b : Bool) → b ≡ true → (a || b) ≡ true
       last_true true b is = refl

@@ -29,6 +29,7 @@ use Rattle.quorum_credit.proofs.ByPlace.{all_nth}
 use Rattle.quorum_credit.proofs.Grown.{grown_sound, others_need_nothing}
 use Rattle.quorum_credit.specs.Tallies.{number_got}
 use Rattle.quorum_credit.proofs.Quotas.{nth-put_nth}
+use Rattle.quorum_credit.proofs.GrownFits.{fits_then}
 use Rattle.quorum_credit.proofs.NewlyCounted.{charges_touched, merits_touched}
 
 both_true : (a b : Bool) → (a && b) ≡ true → (a ≡ true) × (b ≡ true)
@@ -203,11 +204,6 @@ units_in_limits w cs sound puts unit b stands = cases (unit_at w unit) refl (sym
         let same : c.unit ≡ b.unit = cc in
         subst IsUnitInLimits same (all_nth (IsSoundUnit w.hosts w.apps) w.units unit c sound.units is).limits
 
--- changes that fit, one list behind the other
-fits_both : (w : World) (cs ds : List Change) → Fits w cs → Fits (applied w cs) ds → Fits w (cs ++ ds)
-fits_both w [] ds first then = then
-fits_both w (c ∷ cs) ds first then = (first.0, fits_both (applied_one w c) cs ds first.1 then)
-
 -- The three steps: new instances, marks, and quotas, as the functions tell of them.
 pub record AreSteps (w : World) (cs grows quotas : List Change) (units : List ℕ) (marks : List Mark) : Type 0 where
   pub puts : list_all puts_row cs ≡ true
@@ -274,6 +270,6 @@ module _ (w : World) (cs grows quotas : List Change) (units : List ℕ) (marks :
   -- and each change fits
   pub settling_fits : Fits w (cs ++ (grows ++ quotas))
   settling_fits =
-      fits_both w cs (grows ++ quotas) fits
-      (fits_both (applied w cs) grows quotas (steps.grew_fitting touched.rising (units_in_limits w cs sound steps.puts))
+      fits_then w cs (grows ++ quotas) fits
+      (fits_then (applied w cs) grows quotas (steps.grew_fitting touched.rising (units_in_limits w cs sound steps.puts))
       (subst (λ v. Fits v quotas) split (steps.quoted_fitting limits sound.settings.quota.0)))

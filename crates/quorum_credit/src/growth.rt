@@ -24,11 +24,7 @@ struct Numbers {
 }
 
 /// The numbers of the instances that a workunit with these is to get; none where they would be too many.
-fn numbers_for(
-    agreement: &Agreement,
-    unit: &Workunit,
-    instances: &[Instance],
-) -> Option<Numbers>
+fn numbers_for(agreement: &Agreement, unit: &Workunit, instances: &[Instance]) -> Option<Numbers>
     requires { length instances.now ≤ MOST_INSTANCES }
     ensures first { IfSome result (λ numbers. numbers.first ≡ length instances.now) }
     ensures end { IfSome result (λ numbers. numbers.end ≡ length instances.now + new_instances agreement.now unit.now instances.now) }
@@ -62,7 +58,7 @@ fn numbers_at<U: Units>(alloc: Global, units: &mut U, unit: u32) -> Result<Numbe
     }
 }
 
-/// The same after changes.
+/// The numbers of the instances that the workunit at a place is to get after changes.
 fn numbers_under<D: Desk>(
     alloc: Global,
     desk: &mut D,

@@ -64,13 +64,13 @@ fn push_all(delta: &mut Delta, changes: Delta) -> Result<(), Memory>
 }
 
 /// Copies of changes, one list behind the other.
-fn joined(alloc: Global, first: &[Change], then: &[Change]) -> Result<Delta, Unavailable>
+fn joined(alloc: Global, first: &Delta, then: &Delta) -> Result<Delta, Unavailable>
     ensures joined { IfOk result (λ delta. delta ≡ first.now ++ then.now) }
     ensures puts { OnOk result (list_all puts_row first.now ≡ true) }
 {
     let mut delta = Listed::new(alloc);
-    push_copies(&mut delta, first)?;
-    push_copies(&mut delta, then)?;
+    push_copies(&mut delta, first.as_slice())?;
+    push_copies(&mut delta, then.as_slice())?;
     Ok(delta)
 }
 
@@ -97,7 +97,7 @@ pub fn settle_all<D: Desk>(
         Fits (D.world desk.old) (delta.now ++ more)) }
 {
     let mut more = grow_touched(alloc, desk, delta, touched)?;
-    let all = joined(alloc, delta.as_slice(), more.as_slice())?;
+    let all = joined(alloc, delta, &more)?;
     let marks = marks_of_touched(alloc, desk, &all, touched)?;
     let quotas = new_quotas(alloc, desk, &all, marks.as_slice())?;
     push_all(&mut more, quotas)?;

@@ -1,6 +1,6 @@
-use Rattle.std.proofs.Common.{◌≡◌, ◌++◌, ap, subst, sym}
+use Rattle.std.proofs.Common.{◌≡◌, ◌++◌, ◌∙◌, ap, subst, sym}
 use Rattle.sched_book.specs.Delta.{applied, Fits}
-use Rattle.sched_book.specs.Settle.{settled}
+use Rattle.quorum_credit.specs.Settling.{with_quotas_by, AreHostsInLimits}
 use Rattle.quorum_credit.proofs.SettledAll.{AreSteps, steps_in_turn, settles, settling_fits}
 use Rattle.quorum_credit.proofs.settling.settle_all.Given
 use Rattle.quorum_credit.proofs.settling.settle_all.Goals as goal
@@ -18,10 +18,17 @@ steps g c honest kept =
     steps_in_turn _ _ _ _ _ _ _ _ _ same_then same_last c.in_ok-all.ensures.joined (c.in_ok-all.ensures.puts)
     (c.in_ok-more.ensures.grown honest_first kept) (c.in_ok-more.ensures.fits honest_first kept)
     (c.in_ok-marks.ensures.charges honest_then kept_then) (c.in_ok-marks.ensures.merits honest_then kept_then)
-    (c.in_ok-quotas.ensures.quotas honest kept_last) (c.in_ok-quotas.ensures.fits honest kept_last)
+    (subst (λ marks. AreHostsInLimits (applied (g.D.Units.world c.marks_of_touched.new.desk) c.in_ok-all.all)
+        → applied (applied (g.D.Units.world c.marks_of_touched.new.desk) c.in_ok-all.all) c.in_ok-quotas.quotas
+        ≡ with_quotas_by marks (applied (g.D.Units.world c.marks_of_touched.new.desk) c.in_ok-all.all)) c.as_slice.ensures (c.in_ok-quotas.ensures.quotas honest kept_last))
+    (c.in_ok-quotas.ensures.fits honest kept_last)
 
 pub returns-clause-settled : goal.returns-clause-settled
-returns-clause-settled g c = λ honest kept sound fits touched. ?
+returns-clause-settled g c = λ honest kept sound fits touched.
+    ap (λ more. applied (g.D.Units.world c.args.desk.now) (c.args.delta.now ++ more)) c.in_ok-push_all.ensures
+    ∙ settles _ _ _ _ _ _ (steps g c honest kept) sound fits touched
 
 pub returns-clause-fits : goal.returns-clause-fits
-returns-clause-fits g c = λ honest kept sound fits touched. ?
+returns-clause-fits g c = λ honest kept sound fits touched.
+    subst (λ more. Fits (g.D.Units.world c.args.desk.now) (c.args.delta.now ++ more)) (sym c.in_ok-push_all.ensures)
+    (settling_fits _ _ _ _ _ _ (steps g c honest kept) sound fits touched)
