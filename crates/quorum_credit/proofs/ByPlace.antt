@@ -2,9 +2,10 @@
 use Rattle.std.proofs.Common.{◌≡◌, ℕ, zero, suc, ◌+◌, ◌-◌, Bool, true, false, cond, eqb, List, [], ◌∷◌, Option, Some, None, sym, refl, ap, ◌∙◌, subst, arith}
 use Rattle.std.specs.Prelude.{All, map, option_map, slice_get}
 use Rattle.std.specs.List.{enumerate_from}
-use Rattle.std.proofs.lemmas.Option.{slice_get-map, slice_get_within, get_or_from_slice_get}
+use Rattle.std.proofs.lemmas.Option.{slice_get_within, get_or_from_slice_get}
 use Rattle.sched_book.specs.Places.{nth}
 use Rattle.sched_book.proofs.PlacesOf.{nth-suc}
+use Rattle.sched_book.proofs.Settling.{nth-map, nth-enumerate_from, twice}
 
 -- what holds of each holds of the one at an index, and of the one at a place
 pub all_get : {X : Type 0} (P : X → Type 0) (xs : List X) (i : ℕ) (x : X) → All P xs → slice_get xs i ≡ Some x → P x
@@ -31,28 +32,6 @@ same_by_index (x ∷ xs) (y ∷ ys) same =
 pub same_by_place : {X : Type 0} (xs ys : List X) → ((n : ℕ) → nth xs n ≡ nth ys n) → xs ≡ ys
 same_by_place xs ys same = same_by_index xs ys (λ i. sym (nth-suc xs i) ∙ same (suc i) ∙ nth-suc ys i)
 
--- what is made of each, and of each with its place
-pub nth-map : {X Y : Type 0} (f : X → Y) (xs : List X) (n : ℕ) → nth (map f xs) n ≡ option_map f (nth xs n)
-nth-map f xs zero = refl
-nth-map f xs (suc i) = nth-suc (map f xs) i ∙ slice_get-map f xs i ∙ ap (option_map f) (sym (nth-suc xs i))
-
-slice_get-enumerate_from : {X : Type 0} (m : ℕ) (xs : List X) (i : ℕ) → slice_get (enumerate_from m xs) i ≡ option_map (λ x. (m + i, x)) (slice_get xs i)
-slice_get-enumerate_from m [] i = refl
-slice_get-enumerate_from m (x ∷ xs) zero = ap (λ n. Some (n, x)) (let same : m ≡ m + 0 = omega arith in same)
-slice_get-enumerate_from m (x ∷ xs) (suc i) =
-    slice_get-enumerate_from (m + 1) xs i
-    ∙ ap (λ n. option_map (λ y. (n, y)) (slice_get xs i)) (let same : m + 1 + i ≡ m + suc i = omega arith in same)
-
-twice : {X Y Z : Type 0} (f : Y → Z) (g : X → Y) (o : Option X) → option_map f (option_map g o) ≡ option_map (λ x. f (g x)) o
-twice f g None = refl
-twice f g (Some x) = refl
-
+-- what is made of each row with its place
 pub nth-map_places : {X Y : Type 0} (f : ℕ × X → Y) (xs : List X) (n : ℕ) → nth (map f (enumerate_from 1 xs)) n ≡ option_map (λ x. f (n, x)) (nth xs n)
-nth-map_places f xs zero = refl
-nth-map_places f xs (suc i) =
-    nth-map f (enumerate_from 1 xs) (suc i)
-    ∙ ap (option_map f) (nth-suc (enumerate_from 1 xs) i)
-    ∙ ap (option_map f) (slice_get-enumerate_from 1 xs i)
-    ∙ twice f (λ x. (1 + i, x)) (slice_get xs i)
-    ∙ ap (λ m. option_map (λ x. f (m, x)) (slice_get xs i)) (let same : 1 + i ≡ suc i = omega arith in same)
-    ∙ ap (option_map (λ x. f (suc i, x))) (sym (nth-suc xs i))
+nth-map_places f xs n = nth-map f (enumerate_from 1 xs) n ∙ ap (option_map f) (nth-enumerate_from xs n) ∙ twice f (λ x. (n, x)) (nth xs n)

@@ -14,11 +14,12 @@ use Rattle.sched_book.specs.declared.delta.Change.TheVariants as change
 use Rattle.sched_book.specs.declared.instance.UnitBook.{UnitBook}
 use Rattle.sched_book.specs.declared.world.World.{World}
 use Rattle.sched_book.proofs.Patching.{unit_at-applied}
+use Rattle.sched_book.proofs.Settling.{nth-map}
 use Rattle.quorum_credit.specs.Growing.{fresh_changes, growth_of, growth, all_growth}
 use Rattle.quorum_credit.specs.Settled.{new_instances}
 use Rattle.quorum_credit.specs.Settling.{is_among, TouchJust, grown_among, with_grown_among}
 use Rattle.quorum_credit.specs.Taken.{AreAbove, AreRising}
-use Rattle.quorum_credit.proofs.ByPlace.{all_nth, same_by_place, nth-map, nth-map_places}
+use Rattle.quorum_credit.proofs.ByPlace.{all_nth, same_by_place, nth-map_places}
 
 -- one more instance behind a workunit's own
 abbrev pub one_behind : UnitBook → UnitBook

@@ -11,3 +11,7 @@ pub mod FreshOnes
 pub mod Grown
 pub mod GrownFits
 pub mod Marked
+pub mod Sums
+pub mod Numbered
+pub mod NewQuotas
+pub mod HostPuts

@@ -80,10 +80,10 @@ newly-sum t s none is old new host =
     sum_same (λ p. cond {A = ℕ} (passes new (λ b x. is_owned_by host x && t new b x) p && not (passes old (t old) p)) 1 0)
     (λ p. cond (passes new (λ b x. is_owned_by host x) p) (one_if_new (s (standing_at new p)) (s (standing_at old p))) 0)
     (λ p.
-        ap (λ b. cond {A = ℕ} (b && not (passes old (t old) p)) 1 0) (owned_and new host (t new) p)
-        ∙ one_of_owned (passes new (λ b x. is_owned_by host x) p) (passes new (t new) p) (passes old (t old) p)
-        ∙ ap (λ b. cond (passes new (λ b x. is_owned_by host x) p) (one_if_new b (passes old (t old) p)) 0) (by_standing new (t new) s none (is new) p)
-        ∙ ap (λ b. cond (passes new (λ b x. is_owned_by host x) p) (one_if_new (s (standing_at new p)) b) 0) (by_standing old (t old) s none (is old) p))
+    ap (λ b. cond {A = ℕ} (b && not (passes old (t old) p)) 1 0) (owned_and new host (t new) p)
+    ∙ one_of_owned (passes new (λ b x. is_owned_by host x) p) (passes new (t new) p) (passes old (t old) p)
+    ∙ ap (λ b. cond (passes new (λ b x. is_owned_by host x) p) (one_if_new b (passes old (t old) p)) 0) (by_standing new (t new) s none (is new) p)
+    ∙ ap (λ b. cond (passes new (λ b x. is_owned_by host x) p) (one_if_new (s (standing_at new p)) b) 0) (by_standing old (t old) s none (is old) p))
     (places new)
 
 three : (own : Bool) (a b c : ℕ) → cond own a 0 + cond own b 0 + cond own c 0 ≡ cond own (a + b + c) 0
@@ -242,9 +242,9 @@ module _ (units : List ℕ) (old new : World) (touch : TouchJust units old new) 
       sum_of_units f g new.units 1 (λ i b is. ap (λ o. sum_by f (places_in (1 + i) 0 (λ x. true) (unwrap_or (option_map (λ (c : UnitBook). c.instances) o) [])))
       (let place : 1 + i ≡ suc i = omega arith in ap (nth new.units) place ∙ nth-suc new.units i ∙ is))
       ∙ whole g refl (λ unit among.
-          sum_in-zero f unit 0 (instances_at new unit) (λ i.
-              zero_either (own (record { unit = unit; number = i })) _ (ap (between (standing_at old (record { unit = unit; number = i }))) (stands_as_before unit among i) ∙ none (standing_at old (record { unit = unit; number = i })))))
-          (λ m far. ap (λ o. sum_by f (places_in m 0 (λ x. true) (unwrap_or (option_map (λ (c : UnitBook). c.instances) o) []))) (nth_beyond m far))
+      sum_in-zero f unit 0 (instances_at new unit) (λ i.
+      zero_either (own (record { unit = unit; number = i })) _ (ap (between (standing_at old (record { unit = unit; number = i }))) (stands_as_before unit among i) ∙ none (standing_at old (record { unit = unit; number = i })))))
+      (λ m far. ap (λ o. sum_by f (places_in m 0 (λ x. true) (unwrap_or (option_map (λ (c : UnitBook). c.instances) o) []))) (nth_beyond m far))
     where
       nth_beyond : (m : ℕ) → length new.units < m → nth new.units m ≡ None
       nth_beyond zero far = absurd (omega arith)

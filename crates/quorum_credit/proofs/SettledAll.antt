@@ -28,8 +28,10 @@ use Rattle.quorum_credit.specs.declared.marks.Mark.{Mark}
 use Rattle.quorum_credit.proofs.ByPlace.{all_nth}
 use Rattle.quorum_credit.proofs.Grown.{grown_sound, others_need_nothing}
 use Rattle.quorum_credit.specs.Tallies.{number_got}
+use Rattle.quorum_credit.proofs.Numbered.{number_within}
 use Rattle.quorum_credit.proofs.Quotas.{nth-put_nth}
 use Rattle.quorum_credit.proofs.GrownFits.{fits_then}
+use Rattle.quorum_credit.proofs.NewQuotas.{all_settings_stay}
 use Rattle.quorum_credit.proofs.NewlyCounted.{charges_touched, merits_touched}
 
 both_true : (a b : Bool) → (a && b) ≡ true → (a ≡ true) × (b ≡ true)
@@ -41,14 +43,6 @@ both_false true b is = absurd cc
 both_false false b is = (refl, is)
 
 -- what changes that put hosts and instances leave
-settings_stay : (w : World) (c : Change) → (applied_one w c).settings ≡ w.settings
-settings_stay w (change.Account a) = refl
-settings_stay w (change.App a) = refl
-settings_stay w (change.Version v) = refl
-settings_stay w (change.Workunit u) = refl
-settings_stay w (change.Host number h) = refl
-settings_stay w (change.Instance p x) = refl
-
 apps_stay : (w : World) (c : Change) → puts_row c ≡ true → (applied_one w c).apps ≡ w.apps
 apps_stay w (change.Account a) puts = absurd cc
 apps_stay w (change.App a) puts = absurd cc
@@ -66,10 +60,6 @@ unit_stays w (change.Host number h) unit puts other = refl
 unit_stays w (change.Instance p x) unit puts other =
     nth-changed_nth (with_instance p.number x) w.units p.unit unit
     ∙ ap (λ b. cond b (option_map (with_instance p.number x) (nth w.units unit)) (nth w.units unit)) other
-
-all_settings_stay : (w : World) (cs : List Change) → (applied w cs).settings ≡ w.settings
-all_settings_stay w [] = refl
-all_settings_stay w (c ∷ cs) = all_settings_stay (applied_one w c) cs ∙ settings_stay w c
 
 all_apps_stay : (w : World) (cs : List Change) → list_all puts_row cs ≡ true → (applied w cs).apps ≡ w.apps
 all_apps_stay w [] puts = refl
@@ -123,17 +113,13 @@ quotas_settle units old changed marks sound touch charged merited =
     let just = grown_touch_just units old changed sound touch in
     let limit = changed.settings.daily_result_quota in
     let each : (e : ℕ × HostRow) → quota_by marks limit e ≡ with_quota old new e = λ e.
-        ap (λ n. record e.1 { quota = next_quota e.1.quota n (merits_in marks e.0) limit }) (charged e.0 ∙ charges_touched units old new just e.0)
-        ∙ ap (λ n. record e.1 { quota = next_quota e.1.quota (charges old new e.0) n limit }) (merited e.0 ∙ merits_touched units old new just e.0)
-        ∙ ap (λ s. record e.1 { quota = next_quota e.1.quota (charges old new e.0) (merits old new e.0) s.daily_result_quota }) touch.settings in
+    ap (λ n. record e.1 { quota = next_quota e.1.quota n (merits_in marks e.0) limit }) (charged e.0 ∙ charges_touched units old new just e.0)
+    ∙ ap (λ n. record e.1 { quota = next_quota e.1.quota (charges old new e.0) n limit }) (merited e.0 ∙ merits_touched units old new just e.0)
+    ∙ ap (λ s. record e.1 { quota = next_quota e.1.quota (charges old new e.0) (merits old new e.0) s.daily_result_quota }) touch.settings in
     let same : quota_by marks limit ≡ with_quota old new = λ i e. each e i in
     ap (λ f. record new { hosts = map f (enumerate_from 1 changed.hosts) }) same
 
 -- the hosts stay within limits
-host_within : (xs : List HostRow) (n : ℕ) (h : HostRow) → nth xs n ≡ Some h → (1 ≤ n) × (n ≤ length xs)
-host_within xs zero h stands = absurd cc
-host_within xs (suc i) h stands = let within : i < length xs = slice_get_within xs i h (sym (nth-suc xs i) ∙ stands) in (omega arith, omega arith)
-
 is_there : {X : Type 0} (xs : List X) (i : ℕ) → i < length xs → is_some (slice_get xs i) ≡ true
 is_there [] i within = absurd (omega arith)
 is_there (x ∷ xs) zero within = refl
@@ -142,7 +128,7 @@ is_there (x ∷ xs) (suc i) within = is_there xs i (omega arith)
 pub sound_hosts_in_limits : (w : World) → Sound w → AreHostsInLimits w
 sound_hosts_in_limits w sound host h stands =
     let each = all_nth (IsSoundHost (length w.accounts) w.settings.daily_result_quota) w.hosts host h sound.hosts stands in
-    let within = host_within w.hosts host h stands in
+    let within = number_within w.hosts host h stands in
     (stands_at w.accounts h.account each.account.0 each.account.1, each.limits, (let few : length w.hosts ≤ w.settings.max_hosts = sound.host_count in let here : host ≤ length w.hosts = within.1 in omega arith))
   where
     stands_at : {X : Type 0} (xs : List X) (n : ℕ) → 1 ≤ n → n ≤ length xs → IsTrue (is_some (nth xs n))

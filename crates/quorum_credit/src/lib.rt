@@ -7,6 +7,7 @@
 #![tactic(auto)]
 
 mod changed;
+mod copies;
 mod growth;
 mod host_quotas;
 mod late;

@@ -9,20 +9,14 @@ ghost use Rattle.sched_book.specs.Step.{lapsed};
 ghost use Rattle.quorum_credit.specs.Settling.{puts_row};
 ghost use Rattle.quorum_credit.specs.Taken.{AreTouched};
 
+use crate::copies::copy_of;
 use crate::growth::grow_touched;
 use crate::host_quotas::new_quotas;
 use crate::late::{Lapsed, lapse_late};
 use crate::marks::marks_of_touched;
 use sched_book::{Change, Delta, Desk, Moment, Unavailable};
 use std::alloc::Global;
-use texts::{Listed, Memory, Same};
-
-/// A copy of a row, which is equal to it.
-fn copy_of<T: Same>(row: &T) -> Result<T, Memory>
-    ensures { IfOk result (λ copy. copy ≡ row.now) }
-{
-    row.clone()
-}
+use texts::{Listed, Memory};
 
 /// A copy of a change that puts a host or an instance; any other is refused.
 fn copied_change(change: &Change) -> Result<Change, Unavailable>

@@ -114,7 +114,7 @@ fitting_keeps_one w (change.Instance p x) limit bounded fits = record {
 }
 
 -- the settings stay
-settings_stay : (w : World) (c : Change) → (applied_one w c).settings ≡ w.settings
+pub settings_stay : (w : World) (c : Change) → (applied_one w c).settings ≡ w.settings
 settings_stay w (change.Account a) = refl
 settings_stay w (change.App a) = refl
 settings_stay w (change.Version v) = refl

@@ -19,8 +19,8 @@ steps g c honest kept =
     (c.in_ok-more.ensures.grown honest_first kept) (c.in_ok-more.ensures.fits honest_first kept)
     (c.in_ok-marks.ensures.charges honest_then kept_then) (c.in_ok-marks.ensures.merits honest_then kept_then)
     (subst (λ marks. AreHostsInLimits (applied (g.D.Units.world c.marks_of_touched.new.desk) c.in_ok-all.all)
-        → applied (applied (g.D.Units.world c.marks_of_touched.new.desk) c.in_ok-all.all) c.in_ok-quotas.quotas
-        ≡ with_quotas_by marks (applied (g.D.Units.world c.marks_of_touched.new.desk) c.in_ok-all.all)) c.as_slice.ensures (c.in_ok-quotas.ensures.quotas honest kept_last))
+    → applied (applied (g.D.Units.world c.marks_of_touched.new.desk) c.in_ok-all.all) c.in_ok-quotas.quotas
+    ≡ with_quotas_by marks (applied (g.D.Units.world c.marks_of_touched.new.desk) c.in_ok-all.all)) c.as_slice.ensures (c.in_ok-quotas.ensures.quotas honest kept_last))
     (c.in_ok-quotas.ensures.fits honest kept_last)
 
 pub returns-clause-settled : goal.returns-clause-settled

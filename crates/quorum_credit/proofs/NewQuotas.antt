@@ -1,0 +1,187 @@
+-- The hosts of marks with their new quotas, put as changes.
+use Rattle.std.proofs.Common.{◌≡◌, ℕ, suc, ◌-◌, ◌*◌, ◌^◌, ◌≤◌, Bool, true, false, cond, eqb, List, [], ◌∷◌, length, Option, Some, None, sym, refl, ap, ◌∙◌, subst, arith}
+use Rattle.std.proofs.lemmas.Bool.{eqb-true}
+use Rattle.std.proofs.lemmas.Nat.{pow_pos}
+use Rattle.std.proofs.Math.Nat.{one-le-mul}
+use Rattle.std.specs.Prelude.{◌||◌, All, max, map, option_map}
+use Rattle.std.specs.List.{enumerate_from, cons_option}
+use Rattle.sched_book.specs.Places.{host_at}
+use Rattle.sched_book.specs.Settle.{next_quota}
+use Rattle.sched_book.specs.Delta.{applied_one, applied, FitsOne, Fits}
+use Rattle.sched_book.specs.declared.delta.Change.{Change}
+use Rattle.sched_book.specs.declared.delta.Change.TheVariants as change
+use Rattle.sched_book.specs.declared.rows.HostRow.{HostRow}
+use Rattle.sched_book.specs.declared.settings.Settings.{Settings}
+use Rattle.sched_book.specs.declared.world.World.{World}
+use Rattle.quorum_credit.specs.Marks.{charges_in, merits_in}
+use Rattle.quorum_credit.specs.Settling.{AreHostsInLimits, quota_by, with_quotas_by}
+use Rattle.quorum_credit.specs.Tallies.{with_quota_by, new_quotas, is_named, AreSums}
+use Rattle.quorum_credit.specs.declared.marks.Mark.{Mark}
+use Rattle.sched_book.proofs.Fitting.{settings_stay}
+use Rattle.quorum_credit.proofs.Numbered.{same_rows, same_row, number_within, length-numbered, put_row}
+
+-- the world with its hosts made anew, each from its number and row
+abbrev with_rows : World → (ℕ × HostRow → HostRow) → World
+with_rows w f = record w { hosts = map f (enumerate_from 1 w.hosts) }
+
+same_world : (w : World) (f g : ℕ × HostRow → HostRow) → ((n : ℕ) (h : HostRow) → host_at w n ≡ Some h → f (n, h) ≡ g (n, h))
+    → with_rows w f ≡ with_rows w g
+same_world w f g same = ap (λ hosts. record w { hosts = hosts }) (same_rows f g w.hosts same)
+
+-- the host of a mark put with its new quota
+abbrev with_one : ℕ → Mark → (ℕ × HostRow → HostRow) → ℕ × HostRow → HostRow
+with_one limit s f e = cond (eqb s.host e.0) (with_quota_by limit s e.1) (f e)
+
+put_one : (w : World) (limit : ℕ) (s : Mark) (f : ℕ × HostRow → HostRow) (h : HostRow) → host_at w s.host ≡ Some h
+    → applied_one (with_rows w f) (change.Host s.host (with_quota_by limit s h)) ≡ with_rows w (with_one limit s f)
+put_one w limit s f h stands = ap (λ hosts. record w { hosts = hosts }) (put_row f (with_quota_by limit s) w.hosts s.host h stands)
+
+abbrev quota_of : HostRow → ℕ → HostRow
+quota_of h quota = record h { quota = quota }
+
+module _ (marks : List Mark) (w : World) where
+  abbrev limit : ℕ
+  limit = w.settings.daily_result_quota
+
+  abbrev TellsAll : Mark → Type 0
+  TellsAll s = (s.charges ≡ charges_in marks s.host) × (s.merits ≡ merits_in marks s.host)
+
+  -- the quotas of these hosts are new, those of the others as they were
+  abbrev marked : (ℕ → Bool) → ℕ × HostRow → HostRow
+  marked p e = cond (p e.0) (quota_by marks limit e) e.1
+
+  -- one host more
+  put_marked : (p : ℕ → Bool) (s : Mark) (h : HostRow) → host_at w s.host ≡ Some h → TellsAll s
+      → applied_one (with_rows w (marked p)) (change.Host s.host (with_quota_by limit s h)) ≡ with_rows w (marked (λ n. eqb s.host n || p n))
+  put_marked p s h stands tells =
+      put_one w limit s (marked p) h stands
+      ∙ same_world w (with_one limit s (marked p)) (marked (λ n. eqb s.host n || p n)) (λ n g there. cases n g (eqb s.host n) refl)
+    where
+      cases : (n : ℕ) (g : HostRow) (b : Bool) → eqb s.host n ≡ b
+          → cond b (with_quota_by limit s g) (marked p (n, g)) ≡ cond (b || p n) (quota_by marks limit (n, g)) g
+      cases n g true is =
+          let same : s.host ≡ n = eqb-true s.host n is in
+          ap (λ c. quota_of g (next_quota g.quota c s.merits limit)) (tells.0 ∙ ap (charges_in marks) same)
+          ∙ ap (λ c. quota_of g (next_quota g.quota (charges_in marks n) c limit)) (tells.1 ∙ ap (merits_in marks) same)
+      cases n g false is = refl
+
+  all_first : (s : Mark) (ss : List Mark) → All TellsAll (s ∷ ss) → TellsAll s
+  all_first s ss all = all 0 s (omega arith)
+
+  all_rest : (s : Mark) (ss : List Mark) → All TellsAll (s ∷ ss) → All TellsAll ss
+  all_rest s ss all k d within = all (suc k) d (omega arith)
+
+  reordered : (a b c : Bool) → (a || (b || c)) ≡ ((b || a) || c)
+  reordered true true c = refl
+  reordered true false c = refl
+  reordered false true c = refl
+  reordered false false c = refl
+
+  -- all hosts of these marks
+  put_all : (sums : List Mark) → All TellsAll sums → (p : ℕ → Bool)
+      → applied (with_rows w (marked p)) (new_quotas w limit sums) ≡ with_rows w (marked (λ n. is_named sums n || p n))
+  put_all [] all p = refl
+  put_all (s ∷ ss) all p = cases (host_at w s.host) refl (put_all ss (all_rest s ss all))
+    where
+      cases : (o : Option HostRow) → host_at w s.host ≡ o
+          → ((p : ℕ → Bool) → applied (with_rows w (marked p)) (new_quotas w limit ss) ≡ with_rows w (marked (λ n. is_named ss n || p n)))
+          → applied (with_rows w (marked p)) (cons_option (option_map (λ h. change.Host s.host (with_quota_by limit s h)) o) (new_quotas w limit ss))
+          ≡ with_rows w (marked (λ n. (eqb s.host n || is_named ss n) || p n))
+      cases None none more =
+          more p
+          ∙ same_world w (marked (λ n. is_named ss n || p n)) (marked (λ n. (eqb s.host n || is_named ss n) || p n))
+          (λ n h there. apart n h there (eqb s.host n) refl)
+        where
+          apart : (n : ℕ) (h : HostRow) → host_at w n ≡ Some h → (b : Bool) → eqb s.host n ≡ b
+              → marked (λ n. is_named ss n || p n) (n, h) ≡ cond ((b || is_named ss n) || p n) (quota_by marks limit (n, h)) h
+          apart n h there true is = let same : s.host ≡ n = eqb-true s.host n is in absurd cc
+          apart n h there false is = refl
+      cases (Some h) stands more =
+          ap (λ v. applied v (new_quotas w limit ss)) (put_marked p s h stands (all_first s ss all))
+          ∙ more (λ n. eqb s.host n || p n)
+          ∙ same_world w (marked (λ n. is_named ss n || (eqb s.host n || p n))) (marked (λ n. (eqb s.host n || is_named ss n) || p n))
+          (λ n g there. ap (λ (b : Bool). cond b (quota_by marks limit (n, g)) g) (reordered (is_named ss n) (eqb s.host n) (p n)))
+
+  -- a host of which nothing is said keeps its quota
+  unmarked : AreHostsInLimits w → (n : ℕ) (h : HostRow) → host_at w n ≡ Some h → (charges_in marks n ≡ 0) × (merits_in marks n ≡ 0) → quota_by marks limit (n, h) ≡ h
+  unmarked limits n h there nothing =
+      let low : 1 ≤ h.quota = (limits n h there).1.quota.0 in
+      let high : h.quota ≤ limit = (limits n h there).1.quota.1 in
+      let kept : next_quota h.quota 0 0 limit ≡ h.quota = omega arith in
+      ap (λ c. quota_of h (next_quota h.quota c (merits_in marks n) limit)) nothing.0
+      ∙ ap (λ c. quota_of h (next_quota h.quota 0 c limit)) nothing.1
+      ∙ ap (quota_of h) kept
+
+  pub quotas_are_new : (sums : List Mark) → AreSums marks sums → AreHostsInLimits w → applied w (new_quotas w limit sums) ≡ with_quotas_by marks w
+  quotas_are_new sums are limits =
+      ap (λ hosts. applied (record w { hosts = hosts }) (new_quotas w limit sums)) (sym (same_row w.hosts))
+      ∙ put_all sums are.each (λ n. false)
+      ∙ same_world w (marked (λ n. is_named sums n || false)) (quota_by marks limit) (λ n h there. cases n h there (is_named sums n) refl)
+    where
+      cases : (n : ℕ) (h : HostRow) → host_at w n ≡ Some h → (b : Bool) → is_named sums n ≡ b → cond (b || false) (quota_by marks limit (n, h)) h ≡ quota_by marks limit (n, h)
+      cases n h there true is = refl
+      cases n h there false is = sym (unmarked limits n h there (are.others n is))
+
+-- a new quota is between 1 and the limit
+quota_within : (limit q e v : ℕ) → 1 ≤ limit → (1 ≤ next_quota q e v limit) × (next_quota q e v limit ≤ limit)
+quota_within limit q e v some =
+    let low : 1 ≤ max 1 (q - e) = omega arith in
+    let doubled : 1 ≤ max 1 (q - e) * 2 ^ v = one-le-mul low (pow_pos v) in
+    (omega arith, omega arith)
+
+module _ (w : World) (limits : AreHostsInLimits w) (some : 1 ≤ w.settings.daily_result_quota) where
+  put_fits : (s : Mark) (f : ℕ × HostRow → HostRow) (h : HostRow) → host_at w s.host ≡ Some h
+      → FitsOne (with_rows w f) (change.Host s.host (with_quota_by w.settings.daily_result_quota s h))
+  put_fits s f h stands =
+      let within = number_within w.hosts s.host h stands in
+      let long : length (map f (enumerate_from 1 w.hosts)) ≡ length w.hosts = length-numbered f w.hosts in
+      let good = limits s.host h stands in (
+        within.0,
+        omega arith,
+        good.2,
+        good.0,
+        record {
+          speed = good.1.speed;
+          memory = good.1.memory;
+          disk = good.1.disk;
+          platforms = good.1.platforms;
+          quota = quota_within w.settings.daily_result_quota h.quota s.charges s.merits some;
+        },
+      )
+
+  all_fit : (sums : List Mark) (f : ℕ × HostRow → HostRow) → Fits (with_rows w f) (new_quotas w w.settings.daily_result_quota sums)
+  all_fit [] f = tt
+  all_fit (s ∷ ss) f = cases (host_at w s.host) refl (all_fit ss)
+    where
+      cases : (o : Option HostRow) → host_at w s.host ≡ o
+          → ((f : ℕ × HostRow → HostRow) → Fits (with_rows w f) (new_quotas w w.settings.daily_result_quota ss))
+          → Fits (with_rows w f) (cons_option (option_map (λ h. change.Host s.host (with_quota_by w.settings.daily_result_quota s h)) o) (new_quotas w w.settings.daily_result_quota ss))
+      cases None none more = more f
+      cases (Some h) stands more =
+          let limit = w.settings.daily_result_quota in (
+            put_fits s f h stands,
+            subst (λ v. Fits v (new_quotas w limit ss)) (sym (put_one w limit s f h stands)) (more (with_one limit s f)),
+          )
+
+  pub quotas_fit : (sums : List Mark) → Fits w (new_quotas w w.settings.daily_result_quota sums)
+  quotas_fit sums =
+      subst (λ hosts. Fits (record w { hosts = hosts }) (new_quotas w w.settings.daily_result_quota sums)) (same_row w.hosts) (all_fit sums (λ e. e.1))
+
+-- the settings stay as they are
+pub all_settings_stay : (w : World) (cs : List Change) → (applied w cs).settings ≡ w.settings
+all_settings_stay w [] = refl
+all_settings_stay w (c ∷ cs) = all_settings_stay (applied_one w c) cs ∙ settings_stay w c
+
+-- the same after changes
+module _ (w : World) (cs more : List Change) (marks sums : List Mark) (are : AreSums marks sums)
+    (is : more ≡ new_quotas (applied w cs) w.settings.daily_result_quota sums) where
+  after : more ≡ new_quotas (applied w cs) (applied w cs).settings.daily_result_quota sums
+  after = is ∙ ap (λ (s : Settings). new_quotas (applied w cs) s.daily_result_quota sums) (sym (all_settings_stay w cs))
+
+  pub quotas_after : AreHostsInLimits (applied w cs) → applied (applied w cs) more ≡ with_quotas_by marks (applied w cs)
+  quotas_after limits = ap (applied (applied w cs)) after ∙ quotas_are_new marks (applied w cs) sums are limits
+
+  pub fits_after : AreHostsInLimits (applied w cs) → 1 ≤ w.settings.daily_result_quota → Fits (applied w cs) more
+  fits_after limits some =
+      subst (Fits (applied w cs)) (sym after)
+      (quotas_fit (applied w cs) limits (subst (λ (s : Settings). 1 ≤ s.daily_result_quota) (sym (all_settings_stay w cs)) some) sums)

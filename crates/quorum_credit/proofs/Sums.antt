@@ -1,0 +1,143 @@
+-- What marks say of each host, summed.
+use Rattle.std.proofs.Common.{◌≡◌, ℕ, zero, suc, ◌+◌, Bool, true, false, cond, eqb, List, [], ◌∷◌, Option, Some, None, sym, refl, ap, ◌∙◌, subst, arith, IfSome}
+use Rattle.std.proofs.lemmas.Bool.{eqb-true, eq-eqb}
+use Rattle.std.proofs.lemmas.Cmp.{nat_cmp_total, eq_by_cmp_equiv}
+use Rattle.std.proofs.lemmas.List.Sums.{sum_by-cons}
+use Rattle.std.proofs.lemmas.Map.Keys.{IsDistinct-from_sorted}
+use Rattle.std.proofs.lemmas.Map.Views.{All-values_from_lookup, IfSome-lookup_from_All}
+use Rattle.std.specs.Prelude.{◌||◌, All}
+use Rattle.std.specs.BTreeMap as tree
+use Rattle.std.specs.BTreeMap.{BTreeMap, is_at}
+use Rattle.std.specs.List.{list_any}
+use Rattle.std.specs.Map.{keys_of}
+use Rattle.std.specs.Ordering.{nat_cmp}
+use Rattle.quorum_credit.specs.Marks.{charges_in, merits_in}
+use Rattle.quorum_credit.specs.Tallies.{is_named, tally_after, tally_in, AreSums}
+use Rattle.quorum_credit.specs.declared.marks.Mark.{Mark}
+
+-- one mark more in front
+charges_cons : (m : Mark) (ms : List Mark) (host : ℕ) (b : Bool) → eqb m.host host ≡ b → charges_in (m ∷ ms) host ≡ cond b m.charges 0 + charges_in ms host
+charges_cons m ms host b is =
+    sum_by-cons (λ (m : Mark). cond (eqb m.host host) m.charges 0) m ms ∙ ap (λ (b : Bool). cond b m.charges 0 + charges_in ms host) is
+
+merits_cons : (m : Mark) (ms : List Mark) (host : ℕ) (b : Bool) → eqb m.host host ≡ b → merits_in (m ∷ ms) host ≡ cond b m.merits 0 + merits_in ms host
+merits_cons m ms host b is =
+    sum_by-cons (λ (m : Mark). cond (eqb m.host host) m.merits 0) m ms ∙ ap (λ (b : Bool). cond b m.merits 0 + merits_in ms host) is
+
+-- of another host
+charges_other : (m : Mark) (ms : List Mark) (host : ℕ) → eqb m.host host ≡ false → charges_in (m ∷ ms) host ≡ charges_in ms host
+charges_other m ms host is = let one = charges_cons m ms host false is in omega arith
+
+merits_other : (m : Mark) (ms : List Mark) (host : ℕ) → eqb m.host host ≡ false → merits_in (m ∷ ms) host ≡ merits_in ms host
+merits_other m ms host is = let one = merits_cons m ms host false is in omega arith
+
+-- what is said of a host where something was said before
+abbrev with_more : ℕ → Mark → List Mark → Mark
+with_more host s ms = record s { charges = s.charges + charges_in ms host; merits = s.merits + merits_in ms host }
+
+abbrev both : Mark → ℕ → ℕ → Mark
+both s charges merits = record s { charges = charges; merits = merits }
+
+tally_some : (host : ℕ) (s : Mark) (ms : List Mark) → tally_after host (Some s) ms ≡ Some (with_more host s ms)
+tally_some host s [] =
+    ap (λ c. Some (both s c s.merits)) (let same : s.charges ≡ s.charges + 0 = omega arith in same)
+    ∙ ap (λ m. Some (both s (s.charges + 0) m)) (let same : s.merits ≡ s.merits + 0 = omega arith in same)
+tally_some host s (m ∷ ms) = cases (λ s. tally_some host s ms) (eqb m.host host) refl
+  where
+    cases : ((s : Mark) → tally_after host (Some s) ms ≡ Some (with_more host s ms)) → (b : Bool) → eqb m.host host ≡ b
+        → tally_after host (cond b (Some (both s (s.charges + m.charges) (s.merits + m.merits))) (Some s)) ms ≡ Some (with_more host s (m ∷ ms))
+    cases more true is =
+        let charges : s.charges + m.charges + charges_in ms host ≡ s.charges + charges_in (m ∷ ms) host =
+        let one = charges_cons m ms host true is in omega arith in
+        let merits : s.merits + m.merits + merits_in ms host ≡ s.merits + merits_in (m ∷ ms) host =
+        let one = merits_cons m ms host true is in omega arith in
+        more (both s (s.charges + m.charges) (s.merits + m.merits))
+        ∙ ap (λ c. Some (both s c (s.merits + m.merits + merits_in ms host))) charges
+        ∙ ap (λ c. Some (both s (s.charges + charges_in (m ∷ ms) host) c)) merits
+    cases more false is =
+        more s
+        ∙ ap (λ c. Some (both s (s.charges + c) (s.merits + merits_in ms host))) (sym (charges_other m ms host is))
+        ∙ ap (λ c. Some (both s (s.charges + charges_in (m ∷ ms) host) (s.merits + c))) (sym (merits_other m ms host is))
+
+-- what is said of a host
+abbrev said : List Mark → ℕ → Mark
+said ms host = record { host = host; charges = charges_in ms host; merits = merits_in ms host }
+
+tally_none : (host : ℕ) (ms : List Mark) → tally_after host None ms ≡ cond (is_named ms host) (Some (said ms host)) None
+tally_none host [] = refl
+tally_none host (m ∷ ms) = cases (tally_none host ms) (eqb m.host host) refl
+  where
+    triple : ℕ → ℕ → ℕ → Option Mark
+    triple h c e = Some (record { host = h; charges = c; merits = e })
+
+    cases : tally_after host None ms ≡ cond (is_named ms host) (Some (said ms host)) None → (b : Bool) → eqb m.host host ≡ b
+        → tally_after host (cond b (Some m) None) ms ≡ cond (b || is_named ms host) (Some (said (m ∷ ms) host)) None
+    cases more true is =
+        tally_some host m ms
+        ∙ ap (λ h. triple h (m.charges + charges_in ms host) (m.merits + merits_in ms host)) (eqb-true m.host host is)
+        ∙ ap (λ c. triple host c (m.merits + merits_in ms host)) (sym (charges_cons m ms host true is))
+        ∙ ap (λ c. triple host (charges_in (m ∷ ms) host) c) (sym (merits_cons m ms host true is))
+    cases more false is =
+        more
+        ∙ ap (λ c. cond (is_named ms host) (triple host c (merits_in ms host)) None) (sym (charges_other m ms host is))
+        ∙ ap (λ c. cond (is_named ms host) (triple host (charges_in (m ∷ ms) host) c) None) (sym (merits_other m ms host is))
+
+-- nothing is said of a host that no mark names
+charges_none : (ms : List Mark) (host : ℕ) → is_named ms host ≡ false → (charges_in ms host ≡ 0) × (merits_in ms host ≡ 0)
+charges_none [] host none = (refl, refl)
+charges_none (m ∷ ms) host none = cases (charges_none ms host) (eqb m.host host) refl none
+  where
+    cases : (is_named ms host ≡ false → (charges_in ms host ≡ 0) × (merits_in ms host ≡ 0)) → (b : Bool) → eqb m.host host ≡ b → (b || is_named ms host) ≡ false → (charges_in (m ∷ ms) host ≡ 0) × (merits_in (m ∷ ms) host ≡ 0)
+    cases more true is none = absurd cc
+    cases more false is none = (charges_other m ms host is ∙ (more none).0, merits_other m ms host is ∙ (more none).1)
+
+-- none of these passes
+none_passes : {X : Type 0} (p : X → Bool) (xs : List X) → list_any p xs ≡ false → All (λ x. p x ≡ false) xs
+none_passes p [] none k d within = absurd (omega arith)
+none_passes p (x ∷ xs) none zero d within = first (p x) none
+  where
+    first : (b : Bool) → (b || list_any p xs) ≡ false → b ≡ false
+    first true none = none
+    first false none = refl
+none_passes p (x ∷ xs) none (suc k) d within = none_passes p xs (rest (p x) none) k d (omega arith)
+  where
+    rest : (b : Bool) → (b || list_any p xs) ≡ false → list_any p xs ≡ false
+    rest true none = absurd cc
+    rest false none = none
+
+module _ (marks : List Mark) (tallies : BTreeMap ℕ Mark) (ordered : tree.IsOrdered nat_cmp tallies)
+    (told : (host : ℕ) → tally_in tallies host ≡ tally_after host None marks) where
+  told_of : (host : ℕ) → tally_in tallies host ≡ cond (is_named marks host) (Some (said marks host)) None
+  told_of host = told host ∙ tally_none host marks
+
+  abbrev TellsAll : Mark → Type 0
+  TellsAll s = (s.charges ≡ charges_in marks s.host) × (s.merits ≡ merits_in marks s.host)
+
+  told_all : (host : ℕ) → IfSome (tally_in tallies host) TellsAll
+  told_all host = subst (λ (o : Option Mark). IfSome o TellsAll) (sym (told_of host)) (cases (is_named marks host))
+    where
+      cases : (b : Bool) → IfSome (cond b (Some (said marks host)) None) TellsAll
+      cases true = (refl, refl)
+      cases false = tt
+
+  abbrev IsOther : ℕ → Mark → Type 0
+  IsOther host s = eqb s.host host ≡ false
+
+  others : (host : ℕ) → is_named (tree.values tallies) host ≡ false → (charges_in marks host ≡ 0) × (merits_in marks host ≡ 0)
+  others host none = cases (is_named marks host) refl
+    where
+      cases : (b : Bool) → is_named marks host ≡ b → (charges_in marks host ≡ 0) × (merits_in marks host ≡ 0)
+      cases true is =
+          let found : tally_in tallies host ≡ Some (said marks host) = told_of host ∙ ap (λ (b : Bool). cond b (Some (said marks host)) None) is in
+          let other : IfSome (tally_in tallies host) (IsOther host) =
+          IfSome-lookup_from_All (IsOther host) (is_at (nat_cmp host)) tallies.entries (none_passes (λ (s : Mark). eqb s.host host) (tree.values tallies) none) in
+          let apart : eqb host host ≡ false = subst (λ (o : Option Mark). IfSome o (IsOther host)) found other in
+          let never : true ≡ false = sym (eq-eqb host host refl) ∙ apart in
+          absurd cc
+      cases false is = charges_none marks host is
+
+  pub sums_are : AreSums marks (tree.values tallies)
+  sums_are = record {
+    each = All-values_from_lookup (eq_by_cmp_equiv nat_cmp_total) TellsAll tallies.entries (IsDistinct-from_sorted nat_cmp (keys_of tallies.entries) ordered) told_all;
+    others = others;
+  }
