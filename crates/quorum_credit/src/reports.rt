@@ -3,7 +3,7 @@
 ghost use Rattle.std.specs.Prelude.{◌≡◌, List, ◌∷◌, ◌++◌, ◌==◌, ◌+◌, ◌≤◌, length, map, count_by, fold, IfOk, OnOk, unwrap_or, option_map, option_and_then};
 ghost use Rattle.rpc_records.specs.declared.request.Report.{Report};
 ghost use Rattle.sched_book.specs.Count.{is_judged, has_failed};
-ghost use Rattle.sched_book.specs.Places.{status_at, place_named, place_of_parts};
+ghost use Rattle.sched_book.specs.Places.{status_at};
 ghost use Rattle.sched_book.specs.Desk.{instances_at};
 ghost use Rattle.sched_book.specs.Reports.{first_reports, awaits_report, outcome_of, with_report, record_one, recorded};
 ghost use Rattle.sched_book.specs.Delta.{applied, Fits};
@@ -17,7 +17,7 @@ use crate::changed::instances_under;
 use crate::touched::touched_by;
 use rpc_records::{Report, Request};
 use sched_book::{
-    Change, Delta, Desk, Instance, Outcome, Place, Status, Unavailable, count, split_name,
+    Change, Delta, Desk, Instance, Outcome, Place, Unavailable, count, place_named, status_at,
 };
 use std::alloc::Global;
 use texts::{Listed, Memory, Seen, Text};
@@ -151,57 +151,6 @@ fn reported_in(
             let place = place_among(failed, instances);
             Ok(Some(with_report(report, place, instance)?))
         }
-    }
-}
-
-/// The status of the workunit at a place; one that does not stand counts as failed.
-fn status_at<D: Desk>(alloc: Global, desk: &mut D, unit: u32) -> Result<Status, Unavailable>
-    ensures reads { D.reads desk.old desk.new }
-    ensures answer { D.honest desk.new → D.well_kept desk.old → IfOk result (λ status. status ≡ status_at (D.world desk.old) unit) }
-{
-    let Some(row) = desk.unit(alloc, unit)? else {
-        return Ok(Status::FailedTotal);
-    };
-    let Some(agreement) = desk.agreement_of(alloc, unit)? else {
-        return Ok(Status::FailedTotal);
-    };
-    let instances = desk.instances_of(alloc, unit)?;
-    Ok(count::status(&agreement, &row, instances.as_slice()))
-}
-
-/// The place of the instance of this number of the workunit of this name, where it stands.
-fn place_of_parts<D: Desk>(
-    alloc: Global,
-    desk: &mut D,
-    name: &str,
-    number: u32,
-) -> Result<Option<Place>, Unavailable>
-    ensures reads { D.reads desk.old desk.new }
-    ensures answer { D.honest desk.new → D.well_kept desk.old →
-        IfOk result (λ place. place ≡ place_of_parts (D.world desk.old) (name.now, number)) }
-{
-    let Some(unit) = desk.unit_by_name(name)? else {
-        return Ok(None);
-    };
-    match desk.instance(alloc, unit, number)? {
-        None => Ok(None),
-        Some(_) => Ok(Some(Place { unit, number })),
-    }
-}
-
-/// The place of the instance that a name means.
-fn place_named<D: Desk>(
-    alloc: Global,
-    desk: &mut D,
-    name: &str,
-) -> Result<Option<Place>, Unavailable>
-    ensures reads { D.reads desk.old desk.new }
-    ensures answer { D.honest desk.new → D.well_kept desk.old →
-        IfOk result (λ place. place ≡ place_named (D.world desk.old) name.now) }
-{
-    match split_name(name) {
-        None => Ok(None),
-        Some((unit, number)) => place_of_parts(alloc, desk, unit, number),
     }
 }
 

@@ -21,6 +21,7 @@ mod offers;
 pub mod patched;
 pub mod rows;
 pub mod settings;
+pub mod standing;
 #[cfg(test)]
 mod tests;
 mod versions;
@@ -37,4 +38,5 @@ pub use names::{instance_name, split_name};
 pub use patched::Patched;
 pub use rows::{Account, Agreement, App, HostRow, Rows, Version, Workunit};
 pub use settings::Settings;
+pub use standing::{place_named, status_at};
 pub use world::World;
