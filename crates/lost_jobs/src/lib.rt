@@ -1,0 +1,2 @@
+//! The jobs that a client lost, and the names that it should no longer work on.
+#![tactic(auto)]

@@ -1,0 +1,49 @@
+-- How soundness is kept by the parts of a step.
+use Rattle.std.specs.Prelude.{◌≡◌, ℕ, ◌<◌, ◌≤◌, IsTrue, List, length, fold, All, Option, Some, None, is_some}
+use Rattle.rpc_records.specs.declared.request.Report.{Report}
+use Rattle.rpc_records.specs.declared.request.Request.{Request}
+use Rattle.sched_book.specs.Grant.{Asking, IsGrant}
+use Rattle.sched_book.specs.Limits.{AreRowsInLimits}
+use Rattle.sched_book.specs.Lost.{lost, resend_or_drop}
+use Rattle.sched_book.specs.Places.{host_at, is_owned_by, passes}
+use Rattle.sched_book.specs.Reports.{recorded}
+use Rattle.sched_book.specs.Settle.{settled}
+use Rattle.sched_book.specs.Sound.{Sound}
+use Rattle.sched_book.specs.Step.{IsCaller, at_entry, granted, lapsed, ImportStep}
+use Rattle.sched_book.specs.declared.machine.Caller.{Caller}
+use Rattle.sched_book.specs.declared.rows.HostRow.{HostRow}
+use Rattle.sched_book.specs.declared.rows.Rows.{Rows}
+use Rattle.sched_book.specs.declared.world.World.{World}
+use Rattle.sched_machine.specs.Well.{IsWell, IsRequestInLimits}
+
+-- the last moment, in seconds
+abbrev pub last_moment : ℕ
+last_moment = 250000000000
+
+-- the host of a call is renewed, or made where there is room
+abbrev pub EntryKeepsSound : Type 0
+EntryKeepsSound = (w : World) (c : Caller) (r : Request) → Sound w → IsCaller w c r → (c.host ≡ None → length w.hosts < w.settings.max_hosts)
+    → IsRequestInLimits r → Sound (at_entry w c r)
+
+-- reports, lapses and lost jobs leave all but the need of open workunits
+abbrev pub ReportsKeepWell : Type 0
+ReportsKeepWell = (w : World) (host : ℕ) (reports : List Report) → IsWell w → IsWell (recorded w host reports)
+
+abbrev pub LapsesKeepWell : Type 0
+LapsesKeepWell = (w : World) (now : ℕ) → IsWell w → IsWell (lapsed w now)
+
+abbrev pub LostJobsKeepWell : Type 0
+LostJobsKeepWell = (entry w : World) (h : HostRow) (now host : ℕ) (names : Option (List (List ℕ))) → IsWell entry → now ≤ last_moment → IsWell w
+    → IsWell (fold (resend_or_drop entry h now) w (lost w host names))
+
+-- settlement makes it whole again
+abbrev pub SettlementMakesSound : Type 0
+SettlementMakesSound = (old changed : World) → old.settings ≡ changed.settings → IsWell changed → Sound (settled old changed)
+
+-- a grant to a host that stands keeps it
+abbrev pub GrantKeepsSound : Type 0
+GrantKeepsSound = (w : World) (q : Asking) (jobs : List _) → Sound w → host_at w q.number ≡ Some q.host → q.now ≤ last_moment → IsGrant w q jobs
+    → Sound (granted w q.number q.now jobs)
+
+abbrev pub ImportKeepsSound : Type 0
+ImportKeepsSound = (w after : World) (new : Rows) (count : ℕ) → Sound w → ImportStep w new after count → Sound after

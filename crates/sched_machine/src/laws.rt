@@ -1,0 +1,38 @@
+//! Laws of the machine. Each function does nothing; its contract is the law.
+
+ghost use Rattle.sched_machine.specs.Laws.{EntryKeepsSound, ReportsKeepWell, LapsesKeepWell, LostJobsKeepWell, SettlementMakesSound, GrantKeepsSound, ImportKeepsSound};
+
+/// A sound world stays sound where a call's host is renewed, or made where there is room.
+pub fn entry_keeps_sound()
+    ensures { EntryKeepsSound }
+{}
+
+/// Reports leave a world in which all is sound but that open workunits may lack instances.
+pub fn reports_keep_well()
+    ensures { ReportsKeepWell }
+{}
+
+/// So do lapses at a deadline.
+pub fn lapses_keep_well()
+    ensures { LapsesKeepWell }
+{}
+
+/// So do lost jobs, which are sent again or dropped.
+pub fn lost_jobs_keep_well()
+    ensures { LostJobsKeepWell }
+{}
+
+/// Settlement makes such a world sound.
+pub fn settlement_makes_sound()
+    ensures { SettlementMakesSound }
+{}
+
+/// A grant to a host that stands leaves a sound world sound.
+pub fn grant_keeps_sound()
+    ensures { GrantKeepsSound }
+{}
+
+/// So does an import whose rows were checked.
+pub fn import_keeps_sound()
+    ensures { ImportKeepsSound }
+{}
