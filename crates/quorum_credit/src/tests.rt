@@ -1,5 +1,7 @@
 //! The worked examples, and what reports come to on the plain desk.
 
+mod rows;
+
 use crate::{Taken, agree, canonical, lapse_late, next_quota, settle, take_reports};
 use rpc_records::{HostInfo, Report, Request};
 use sched_book::{
