@@ -56,7 +56,7 @@ fresh_fits v unit number (suc many) b stands last few =
     )
 
 -- an open workunit has, with what it needs, no more than it may
-open_total : (a : Agreement) (u : Workunit) (xs : List Instance) → is_open (status a u xs) ≡ true → length xs + need u xs ≤ u.max_total_results
+pub open_total : (a : Agreement) (u : Workunit) (xs : List Instance) → is_open (status a u xs) ≡ true → length xs + need u xs ≤ u.max_total_results
 open_total a u xs is_it =
     ltb-false u.max_total_results (length xs + need u xs)
     (cases (is_some (canonical a u xs)) (nat_lt u.max_error_results (errors xs)) (nat_lt u.max_success_results (length (good xs)))

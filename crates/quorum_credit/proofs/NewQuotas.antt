@@ -123,7 +123,7 @@ module _ (marks : List Mark) (w : World) where
       cases n h there false is = sym (unmarked limits n h there (are.others n is))
 
 -- a new quota is between 1 and the limit
-quota_within : (limit q e v : ℕ) → 1 ≤ limit → (1 ≤ next_quota q e v limit) × (next_quota q e v limit ≤ limit)
+pub quota_within : (limit q e v : ℕ) → 1 ≤ limit → (1 ≤ next_quota q e v limit) × (next_quota q e v limit ≤ limit)
 quota_within limit q e v some =
     let low : 1 ≤ max 1 (q - e) = omega arith in
     let doubled : 1 ≤ max 1 (q - e) * 2 ^ v = one-le-mul low (pow_pos v) in

@@ -1,0 +1,114 @@
+-- Settlement makes a well world sound.
+use Rattle.std.proofs.Common.{◌≡◌, ◌≢◌, ℕ, ◌-◌, ◌*◌, ◌≤◌, Bool, true, false, cond, List, ◌++◌, length, Option, Some, None, sym, refl, ap, ◌∙◌, subst, arith}
+use Rattle.std.specs.Prelude.{◌^◌, max, map, replicate, is_some, option_map, unwrap_or}
+use Rattle.std.specs.List.{enumerate_from}
+use Rattle.std.proofs.Math.Nat.{one-le-mul}
+use Rattle.std.proofs.lemmas.Nat.{pow_pos}
+use Rattle.std.proofs.lemmas.List.{length-map}
+use Rattle.sched_book.specs.Count.{is_open, need}
+use Rattle.sched_book.specs.Places.{nth, book_status}
+use Rattle.sched_book.specs.Settle.{fresh, grown, with_grown, charges, merits, next_quota, with_quota, settled}
+use Rattle.sched_book.specs.Sound.{HaveOtherKeys, IsSoundHost, IsSoundUnit, Sound}
+use Rattle.sched_book.specs.declared.instance.UnitBook.{UnitBook}
+use Rattle.sched_book.specs.declared.rows.HostRow.{HostRow}
+use Rattle.sched_book.specs.declared.world.World.{World}
+use Rattle.quorum_credit.proofs.ByPlace.{nth-map_places}
+use Rattle.quorum_credit.proofs.Numbered.{length-numbered}
+use Rattle.sched_machine.specs.Laws.{SettlementMakesSound}
+use Rattle.sched_machine.specs.Well.{IsWellUnit, IsWell}
+use Rattle.sched_machine.proofs.UnitsAlike.{all_alike, pairs_alike, alike_map, alike_numbered}
+use Rattle.quorum_credit.proofs.NewQuotas.{quota_within}
+use Rattle.sched_machine.proofs.UnitsGrown.{HaveSameUsers, grown_sound}
+
+module _ (old changed : World) (same : old.settings ≡ changed.settings) (well : IsWell changed) where
+  abbrev quoted : ℕ × HostRow → HostRow
+  quoted = with_quota old (with_grown changed)
+
+  abbrev hosts_after : List HostRow
+  hosts_after = map quoted (enumerate_from 1 changed.hosts)
+
+  -- hosts keep their accounts and keys
+  same_users : HaveSameUsers changed.hosts hosts_after
+  same_users = record {
+    account = λ n. ap (λ o. unwrap_or (option_map (λ (h : HostRow). h.account) o) 0) (nth-map_places quoted changed.hosts n) ∙ account_of n (nth changed.hosts n);
+    stands = λ n. ap is_some (nth-map_places quoted changed.hosts n) ∙ still_some n (nth changed.hosts n);
+  }
+    where
+      account_of : (n : ℕ) (o : Option HostRow)
+          → unwrap_or (option_map (λ (h : HostRow). h.account) (option_map (λ h. quoted (n, h)) o)) 0 ≡ unwrap_or (option_map (λ (h : HostRow). h.account) o) 0
+      account_of n None = refl
+      account_of n (Some h) = refl
+
+      still_some : (n : ℕ) (o : Option HostRow) → is_some (option_map (λ h. quoted (n, h)) o) ≡ is_some o
+      still_some n None = refl
+      still_some n (Some h) = refl
+
+  abbrev HasSameKey : HostRow → HostRow → Type 0
+  HasSameKey h k = (k.account ≡ h.account) × (k.cpid ≡ h.cpid)
+
+  other_keys : (h k x y : HostRow) → HasSameKey h x → HasSameKey k y → HaveOtherKeys h k → HaveOtherKeys x y
+  other_keys h k x y first second apart = λ account cpid.
+      apart (sym first.0 ∙ account ∙ second.0) (sym first.1 ∙ cpid ∙ second.1)
+
+  -- hosts have quotas within the limit
+  abbrev IsSoundNow : HostRow → Type 0
+  IsSoundNow = IsSoundHost (length changed.accounts) changed.settings.daily_result_quota
+
+  host_sound : (n : ℕ) (h : HostRow) → IsSoundNow h → IsSoundNow (quoted (n, h))
+  host_sound n h sound =
+      let limit : old.settings.daily_result_quota ≡ changed.settings.daily_result_quota = ap (λ s. s.daily_result_quota) same in
+      let some : 1 ≤ changed.settings.daily_result_quota = well.rows.settings.quota.0 in
+      let quota = quota_within old.settings.daily_result_quota h.quota (charges old (with_grown changed) n) (merits old (with_grown changed) n) (omega arith) in
+      record {
+        account = sound.account;
+        limits = record {
+          speed = sound.limits.speed;
+          memory = sound.limits.memory;
+          disk = sound.limits.disk;
+          platforms = sound.limits.platforms;
+          quota = (quota.0, subst (λ m. (quoted (n, h)).quota ≤ m) limit quota.1);
+        };
+      }
+
+  -- all together
+  makes_sound : Sound (settled old changed)
+  makes_sound =
+      let row : UnitBook → UnitBook → Type 0 = λ b c. c.unit ≡ b.unit in
+      let whole : UnitBook → UnitBook → Type 0 = λ b c. IsWellUnit changed.hosts changed.apps b → IsSoundUnit hosts_after changed.apps c in
+      let carried : HostRow → HostRow → Type 0 = λ h k. IsSoundNow h → IsSoundNow k in
+      let units_after : List UnitBook = map (grown changed.apps) changed.units in
+      let many_units : length units_after ≡ length changed.units = length-map changed.units (grown changed.apps) in
+      let many_hosts : length hosts_after ≡ length changed.hosts = length-numbered quoted changed.hosts in
+      record {
+        settings = well.rows.settings;
+        units = all_alike (IsWellUnit changed.hosts changed.apps) (IsSoundUnit hosts_after changed.apps) whole changed.units units_after
+            (alike_map whole (grown changed.apps) changed.units (grown_sound changed.hosts hosts_after changed.apps same_users))
+            (λ b c carry unit. carry unit) well.units;
+        hosts = all_alike IsSoundNow IsSoundNow carried changed.hosts hosts_after
+            (alike_numbered carried quoted changed.hosts host_sound) (λ h k carry sound. carry sound) well.rows.hosts;
+        versions = well.rows.versions;
+        account_names = well.rows.account_names;
+        app_names = well.rows.app_names;
+        version_names = well.rows.version_names;
+        unit_names = pairs_alike (λ a b. a.unit.name ≢ b.unit.name) (λ a b. a.unit.name ≢ b.unit.name) row changed.units units_after
+            (alike_map row (grown changed.apps) changed.units grown_row)
+            (λ x y a b first second apart equal. apart (sym (ap (λ u. u.name) first) ∙ equal ∙ ap (λ u. u.name) second))
+            well.rows.unit_names;
+        host_keys = pairs_alike HaveOtherKeys HaveOtherKeys HasSameKey changed.hosts hosts_after
+            (alike_numbered HasSameKey quoted changed.hosts (λ n h. (refl, refl))) other_keys well.rows.host_keys;
+        account_count = well.rows.account_count;
+        app_count = well.rows.app_count;
+        version_count = well.rows.version_count;
+        unit_count = (let few : length changed.units ≤ 200000 = well.rows.unit_count in omega arith);
+        host_count = (let few : length changed.hosts ≤ changed.settings.max_hosts = well.rows.host_count in omega arith);
+      }
+    where
+      grown_row : (b : UnitBook) → (grown changed.apps b).unit ≡ b.unit
+      grown_row b = cases (is_open (book_status changed.apps b))
+        where
+          cases : (t : Bool) → (cond t (record b { instances = b.instances ++ replicate (need b.unit b.instances) fresh }) b).unit ≡ b.unit
+          cases true = refl
+          cases false = refl
+
+pub settlement_makes_sound : SettlementMakesSound
+settlement_makes_sound old changed same well = makes_sound old changed same well

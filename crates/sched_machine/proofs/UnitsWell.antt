@@ -1,0 +1,188 @@
+-- A world stays well where one instance is changed and keeps what is said of it.
+use Rattle.std.proofs.Common.{◌≡◌, ◌≢◌, ℕ, ◌+◌, ◌<◌, ◌≤◌, ◌⊎◌, inl, inr, Bool, true, false, ltb, List, length, Option, Some, None, sym, refl, ap, ◌∙◌, subst, arith}
+use Rattle.std.specs.Prelude.{◌&&◌, ◌==◌, All, IsTrue, count_by, is_some, slice_get}
+use borrow.Author.Tests.{ltb-true, ltb-false, eq-eqb}
+use Rattle.sched_book.specs.Count.{is_judged, told_place}
+use Rattle.sched_book.specs.Limits.{IsInstanceInLimits}
+use Rattle.sched_book.specs.Places.{nth, unit_at, owner_host, account_in}
+use Rattle.sched_book.specs.Reports.{changed_at, changed_nth, with_number, with_changed}
+use Rattle.sched_book.specs.Sound.{AreOfOtherUsers, IsBare, HasOwnerAmong, has_place}
+use Rattle.sched_book.specs.declared.instance.Instance.{Instance}
+use Rattle.sched_book.specs.declared.instance.Place.{Place}
+use Rattle.sched_book.specs.declared.instance.UnitBook.{UnitBook}
+use Rattle.sched_book.specs.declared.rows.App.{App}
+use Rattle.sched_book.specs.declared.rows.HostRow.{HostRow}
+use Rattle.sched_book.specs.declared.world.World.{World}
+use Rattle.sched_book.proofs.PlacesOf.{length-changed_nth}
+use Rattle.quorum_credit.proofs.ByPlace.{all_get}
+use Rattle.sched_machine.specs.Well.{IsWellUnit, IsWell}
+use Rattle.sched_machine.proofs.UnitsAlike.{Alike, all_alike, pairs_alike, alike_changed_at, alike_changed_nth, changed_at-none, length_changed, count_same, count_more, any_kept, any_here}
+
+-- the changed instance is with the same host, and stays bare and within limits
+pub record Keeps (x y : Instance) : Type 0 where
+  pub given : is_some y.owner ≡ is_some x.owner
+  pub host : owner_host y.owner ≡ owner_host x.owner
+  pub bare : IsBare x → IsBare y
+  pub limits : IsInstanceInLimits x → IsInstanceInLimits y
+
+-- it is judged as before, or newly at the place behind so many
+abbrev pub IsJudgedAlike : Instance → Instance → Type 0
+IsJudgedAlike x y = (is_judged y ≡ is_judged x) × (told_place y.report ≡ told_place x.report)
+
+abbrev pub IsNewlyJudged : ℕ → Instance → Instance → Type 0
+IsNewlyJudged n x y = (is_judged x ≡ false) × (is_judged y ≡ true) × (told_place y.report ≡ n + 1)
+
+abbrev pub IsGoodChange : UnitBook → Instance → Instance → Type 0
+IsGoodChange b x y = Keeps x y × (IsJudgedAlike x y ⊎ IsNewlyJudged (count_by is_judged b.instances) x y)
+
+-- the judged reports have the places up to their count
+pub record ArePlaced (xs : List Instance) : Type 0 where
+  pub places : (n : ℕ) → n < count_by is_judged xs → IsTrue (has_place xs (n + 1))
+  pub in_range : All (λ x. IsTrue (is_judged x) → told_place x.report ≤ count_by is_judged xs) xs
+
+abbrev IsInRange : ℕ → Instance → Type 0
+IsInRange n x = IsTrue (is_judged x) → told_place x.report ≤ n
+
+-- one is changed, which stands there
+module _ (f : Instance → Instance) (xs : List Instance) (i : ℕ) (x : Instance) (stands : slice_get xs i ≡ Some x) (placed : ArePlaced xs) where
+  in_range_after : (m : ℕ) → count_by is_judged xs ≤ m → IsInRange m (f x) → All (IsInRange m) (changed_at f xs i)
+  in_range_after m more now =
+      let n : ℕ = count_by is_judged xs in
+      let carried : Instance → Instance → Type 0 = λ y z. IsInRange n y → IsInRange m z in
+      all_alike (IsInRange n) (IsInRange m) carried xs (changed_at f xs i)
+      (alike_changed_at carried (λ y low judged. (let below : told_place y.report ≤ n = low judged in omega arith)) f xs i
+      (λ y is low. (let same : x ≡ y = cc in subst (λ z. IsInRange m (f z)) same now)))
+      (λ y z carry low. carry low) placed.in_range
+
+  placed_alike : IsJudgedAlike x (f x) → ArePlaced (changed_at f xs i)
+  placed_alike alike =
+      let many : count_by is_judged (changed_at f xs i) ≡ count_by is_judged xs = count_same is_judged f xs i x stands alike.0 in
+      record {
+        places = λ n within.
+            any_kept (λ y. is_judged y && (told_place y.report == n + 1)) f xs i
+            (λ y is passes.
+            (let same : x ≡ y = cc in
+            subst (λ z. (is_judged (f z) && (told_place (f z).report == n + 1)) ≡ true) same
+            (ap (λ (b : Bool). b && (told_place (f x).report == n + 1)) alike.0
+            ∙ ap (λ m. is_judged x && (m == n + 1)) alike.1
+            ∙ subst (λ z. (is_judged z && (told_place z.report == n + 1)) ≡ true) (sym same) passes)))
+            (placed.places n (omega arith));
+        in_range = subst (λ m. All (IsInRange m) (changed_at f xs i)) (sym many)
+            (in_range_after (count_by is_judged xs) (omega arith) (at_most (count_by is_judged xs) (all_here placed.in_range)));
+      }
+    where
+      all_here : All (IsInRange (count_by is_judged xs)) xs → IsInRange (count_by is_judged xs) x
+      all_here all = all_get (IsInRange (count_by is_judged xs)) xs i x all stands
+
+      at_most : (n : ℕ) → IsInRange n x → IsInRange n (f x)
+      at_most n low judged =
+          let below : told_place x.report ≤ n = low (sym alike.0 ∙ judged) in
+          let same : told_place (f x).report ≡ told_place x.report = alike.1 in
+          omega arith
+
+  placed_newly : IsNewlyJudged (count_by is_judged xs) x (f x) → ArePlaced (changed_at f xs i)
+  placed_newly new =
+      let many : count_by is_judged (changed_at f xs i) ≡ count_by is_judged xs + 1 = count_more is_judged f xs i x stands new.0 new.1 in
+      record {
+        places = λ n within. cases n (omega arith) (ltb n (count_by is_judged xs)) refl;
+        in_range = subst (λ m. All (IsInRange m) (changed_at f xs i)) (sym many)
+            (in_range_after (count_by is_judged xs + 1) (omega arith) (λ judged. (let last : told_place (f x).report ≡ count_by is_judged xs + 1 = new.2 in omega arith)));
+      }
+    where
+      cases : (n : ℕ) → n < count_by is_judged xs + 1 → (b : Bool) → ltb n (count_by is_judged xs) ≡ b → IsTrue (has_place (changed_at f xs i) (n + 1))
+      cases n within true below =
+          any_kept (λ y. is_judged y && (told_place y.report == n + 1)) f xs i
+          (λ y is passes.
+          (let same : x ≡ y = cc in
+          let never : (false && (told_place x.report == n + 1)) ≡ true =
+          sym (ap (λ (b : Bool). b && (told_place x.report == n + 1)) new.0)
+          ∙ subst (λ z. (is_judged z && (told_place z.report == n + 1)) ≡ true) (sym same) passes in
+          absurd cc))
+          (placed.places n (ltb-true n (count_by is_judged xs) below))
+      cases n within false past =
+          let low : count_by is_judged xs ≤ n = ltb-false n (count_by is_judged xs) past in
+          let last : told_place (f x).report ≡ count_by is_judged xs + 1 = new.2 in
+          any_here (λ y. is_judged y && (told_place y.report == n + 1)) f xs i x stands
+          (ap (λ (b : Bool). b && (told_place (f x).report == n + 1)) new.1
+          ∙ eq-eqb (told_place (f x).report) (n + 1) (omega arith))
+
+-- a changed instance, where one stands or not
+placed_after : (f : Instance → Instance) (xs : List Instance) (i : ℕ) → ArePlaced xs
+    → ((x : Instance) → slice_get xs i ≡ Some x → IsJudgedAlike x (f x) ⊎ IsNewlyJudged (count_by is_judged xs) x (f x))
+    → ArePlaced (changed_at f xs i)
+placed_after f xs i placed judged = cases (slice_get xs i) refl
+  where
+    cases : (o : Option Instance) → slice_get xs i ≡ o → ArePlaced (changed_at f xs i)
+    cases None is = subst ArePlaced (sym (changed_at-none f xs i is)) placed
+    cases (Some x) is = elim (judged x is) [
+      | inl alike ↦ placed_alike f xs i x is placed alike
+      | inr new ↦ placed_newly f xs i x is placed new
+    ]
+
+-- the owner's host is the same, so that its user is
+other_users : (hosts : List HostRow) (x y a b : Instance) → Keeps x a → Keeps y b → AreOfOtherUsers hosts x y → AreOfOtherUsers hosts a b
+other_users hosts x y a b first second others = λ given also same.
+    others (sym first.given ∙ given) (sym second.given ∙ also)
+    (sym (ap (account_in hosts) first.host) ∙ same ∙ ap (account_in hosts) second.host)
+
+owner_among : (hosts : List HostRow) (x y : Instance) → Keeps x y → HasOwnerAmong hosts x → HasOwnerAmong hosts y
+owner_among hosts x y keeps among = λ given.
+    ap (λ n. is_some (nth hosts n)) keeps.host ∙ among (sym keeps.given ∙ given)
+
+keeps_self : (x : Instance) → Keeps x x
+keeps_self x = record { given = refl; host = refl; bare = λ bare. bare; limits = λ limits. limits }
+
+-- a workunit with one instance changed
+unit_well : (hosts : List HostRow) (apps : List App) (f : Instance → Instance) (i : ℕ) (b : UnitBook) → IsWellUnit hosts apps b
+    → ((x : Instance) → slice_get b.instances i ≡ Some x → IsGoodChange b x (f x)) → IsWellUnit hosts apps (with_number f i b)
+unit_well hosts apps f i b well good =
+    let xs : List Instance = b.instances in
+    let ys : List Instance = changed_at f b.instances i in
+    let alike : Alike Keeps xs ys = alike_changed_at Keeps keeps_self f xs i (λ x is. (good x is).0) in
+    let placed : ArePlaced ys =
+    placed_after f xs i (record { places = well.places; in_range = well.in_range }) (λ x is. (good x is).1) in
+    record {
+      one_for_each_user = pairs_alike (AreOfOtherUsers hosts) (AreOfOtherUsers hosts) Keeps xs ys alike (other_users hosts) well.one_for_each_user;
+      places = placed.places;
+      in_range = placed.in_range;
+      bare = all_alike IsBare IsBare Keeps xs ys alike (λ x y keeps bare. keeps.bare bare) well.bare;
+      owners = all_alike (HasOwnerAmong hosts) (HasOwnerAmong hosts) Keeps xs ys alike (owner_among hosts) well.owners;
+      app = well.app;
+      few = (let few : length xs ≤ 100 = well.few in let same : length ys ≡ length xs = length_changed f xs i in omega arith);
+      limits = well.limits;
+      instances = all_alike IsInstanceInLimits IsInstanceInLimits Keeps xs ys alike (λ x y keeps limits. keeps.limits limits) well.instances;
+    }
+
+-- a world with the instance at a place changed
+pub changed_well : (f : Instance → Instance) (w : World) (p : Place) → IsWell w
+    → ((b : UnitBook) (x : Instance) → IsWellUnit w.hosts w.apps b → unit_at w p.unit ≡ Some b → slice_get b.instances p.number ≡ Some x → IsGoodChange b x (f x))
+    → IsWell (with_changed f w p)
+changed_well f w p well good =
+    let g : UnitBook → UnitBook = with_number f p.number in
+    let many : length (changed_nth g w.units p.unit) ≡ length w.units = length-changed_nth g w.units p.unit in
+    let row : UnitBook → UnitBook → Type 0 = λ b c. c.unit ≡ b.unit in
+    let carried : UnitBook → UnitBook → Type 0 = λ b c. IsWellUnit w.hosts w.apps b → IsWellUnit w.hosts w.apps c in
+    record {
+      rows = record {
+        settings = well.rows.settings;
+        hosts = well.rows.hosts;
+        versions = well.rows.versions;
+        account_names = well.rows.account_names;
+        app_names = well.rows.app_names;
+        version_names = well.rows.version_names;
+        unit_names = pairs_alike (λ a b. a.unit.name ≢ b.unit.name) (λ a b. a.unit.name ≢ b.unit.name) row w.units (changed_nth g w.units p.unit)
+            (alike_changed_nth row (λ b. refl) g w.units p.unit (λ b stands. refl))
+            (λ x y a b first second apart same. apart (sym (ap (λ u. u.name) first) ∙ same ∙ ap (λ u. u.name) second))
+            well.rows.unit_names;
+        host_keys = well.rows.host_keys;
+        account_count = well.rows.account_count;
+        app_count = well.rows.app_count;
+        version_count = well.rows.version_count;
+        unit_count = (let few : length w.units ≤ 200000 = well.rows.unit_count in omega arith);
+        host_count = well.rows.host_count;
+      };
+      units = all_alike (IsWellUnit w.hosts w.apps) (IsWellUnit w.hosts w.apps) carried w.units (changed_nth g w.units p.unit)
+          (alike_changed_nth carried (λ b is. is) g w.units p.unit
+          (λ b stands unit. unit_well w.hosts w.apps f p.number b unit (λ x is. good b x unit stands is)))
+          (λ b c carry unit. carry unit) well.units;
+    }
