@@ -6,3 +6,11 @@ pub mod UnitsReported
 pub mod UnitsLost
 pub mod UnitsGrown
 pub mod UnitsSettled
+pub mod RowsListed
+pub mod RowsCounted
+pub mod RowsGrant
+pub mod RowsEntry
+pub mod RowsFresh
+pub mod RowsNamed
+pub mod RowsImport
+pub mod RowsAdmitted

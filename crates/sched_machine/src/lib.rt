@@ -1,4 +1,7 @@
 //! The job machine: one step of it for each first-heard call, import and tick.
 #![tactic(auto)]
 
+mod admission;
 pub mod laws;
+
+pub use admission::{Refused, admit};

@@ -1,0 +1,22 @@
+-- The place of the row that a desk finds by its key.
+use Rattle.std.proofs.Common.{◌≡◌, ℕ, List, Bool, Option, Some, None, option_map, option_and_then, bytes_eq, refl, ap, ◌∙◌}
+use Rattle.sched_book.specs.Places.{place_where, account_place}
+use Rattle.sched_book.specs.Desk.{placed_at, placed_where, account_by_key}
+use Rattle.sched_book.specs.declared.desk.Placed.{Placed}
+use Rattle.sched_book.specs.declared.rows.Account.{Account}
+use Rattle.sched_book.specs.declared.world.World.{World}
+use Rattle.sched_machine.proofs.RowsListed.{place_found}
+
+placed-place : {X : Type 0} (p : X → Bool) (xs : List X) → option_map (λ (r : Placed X). r.place) (placed_where p xs) ≡ place_where p xs
+placed-place {X} p xs = cases (place_where p xs) refl
+  where
+    cases : (o : Option ℕ) → place_where p xs ≡ o → option_map (λ (r : Placed X). r.place) (option_and_then (placed_at xs) o) ≡ o
+    cases None is = refl
+    cases (Some n) is =
+        ap (λ q. option_map (λ (r : Placed X). r.place) (option_map (λ x. record { place = n; row = x }) q)) (place_found p xs n is).1
+
+-- of what is found, by its value
+pub account_is : (w : World) (authenticator : List ℕ) (found : Option (Placed Account)) → found ≡ account_by_key w authenticator
+    → option_map (λ (r : Placed Account). r.place) found ≡ account_place w authenticator
+account_is w authenticator found is =
+    ap (option_map (λ (r : Placed Account). r.place)) is ∙ placed-place (λ (a : Account). bytes_eq a.authenticator authenticator) w.accounts

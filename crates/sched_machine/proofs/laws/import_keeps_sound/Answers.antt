@@ -1,0 +1,5 @@
+use Rattle.sched_machine.proofs.RowsImport.{import_keeps_sound}
+use Rattle.sched_machine.proofs.laws.import_keeps_sound.Goals as goal
+
+pub returns : goal.returns
+returns c = import_keeps_sound

@@ -1,0 +1,86 @@
+//! Who makes a call, and why a call is refused before it is acted on.
+
+ghost use Rattle.std.specs.Prelude.{◌≡◌, ℕ, true, false, Some, None, IfOk, IsErrOf};
+ghost use Rattle.sched_book.specs.Places.{account_place, known_host};
+ghost use Rattle.sched_book.specs.Step.{IsCaller};
+ghost use Rattle.sched_machine.specs.Admission.{is_number, names_host};
+ghost use Rattle.sched_machine.specs.declared.admission.Refused.TheVariants as refused;
+
+use rpc_records::Request;
+use sched_book::{Caller, Desk, Unavailable};
+use std::alloc::Global;
+
+/// Why a call is refused before it is acted on.
+#[derive(Clone, Copy, Debug, PartialEq, Eq)]
+pub enum Refused {
+    /// No account has the authenticator.
+    BadAccount,
+    /// It tells a number that is not its host's.
+    BadHost,
+    /// No more hosts may stand.
+    HostsFull,
+    /// Memory, size or disk is wanting.
+    Unavailable,
+}
+
+impl From<Unavailable> for Refused {
+    ghost from_gives = { λ _ why. why ≡ refused.Unavailable };
+
+    fn from(_unavailable: Unavailable) -> Refused {
+        Refused::Unavailable
+    }
+}
+
+/// Whether a number is known and is this one.
+fn is_number(hostid: u32, number: Option<u32>) -> bool
+    ensures { result ≡ is_number hostid number }
+{
+    match number {
+        None => false,
+        Some(number) => hostid == number,
+    }
+}
+
+/// Whether a call tells no number, or that of its host.
+fn names_host(hostid: u32, number: Option<u32>) -> bool
+    ensures { result ≡ names_host hostid number }
+{
+    hostid == 0 || is_number(hostid, number)
+}
+
+/// The place of the account that a call names.
+#[tactic(auto, using(crate::proofs::RowsAdmitted::account_is))]
+fn account_of<D: Desk>(
+    alloc: Global,
+    desk: &mut D,
+    request: &Request,
+) -> Result<Option<u32>, Unavailable>
+    ensures reads { D.reads desk.old desk.new }
+    ensures answer { D.honest desk.new → D.well_kept desk.old →
+        IfOk result (λ account. account ≡ account_place (D.world desk.old) request.now.authenticator) }
+{
+    let found = desk.account_by_key(alloc, request.authenticator.as_str())?;
+    Ok(found.map(|account| account.place))
+}
+
+/// Who makes a call: the account that it names, and the number of its host, where the host is known.
+pub fn admit<D: Desk>(alloc: Global, desk: &mut D, request: &Request) -> Result<Caller, Refused>
+    ensures reads { D.reads desk.old desk.new }
+    ensures caller { D.honest desk.new → D.well_kept desk.old → IfOk result (λ caller.
+        IsCaller (D.world desk.old) caller request.now × (names_host request.now.hostid caller.host ≡ true)) }
+    ensures bad_account { D.honest desk.new → D.well_kept desk.old → IsErrOf result refused.BadAccount →
+        account_place (D.world desk.old) request.now.authenticator ≡ None }
+    ensures bad_host { D.honest desk.new → D.well_kept desk.old → IsErrOf result refused.BadHost →
+        (account : ℕ) → account_place (D.world desk.old) request.now.authenticator ≡ Some account →
+        names_host request.now.hostid (known_host (D.world desk.old) account request.now.host.host_cpid) ≡ false }
+    ensures never_full { IsErrOf result refused.HostsFull → ⊥ }
+{
+    let Some(account) = account_of(alloc, desk, request)? else {
+        return Err(Refused::BadAccount);
+    };
+    let host = desk.host_by_key(account, request.host.host_cpid.as_str())?;
+    if !names_host(request.hostid, host) {
+        return Err(Refused::BadHost);
+    }
+    Ok(Caller { account, host })
+}
