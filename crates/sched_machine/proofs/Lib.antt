@@ -14,3 +14,4 @@ pub mod RowsFresh
 pub mod RowsNamed
 pub mod RowsImport
 pub mod RowsAdmitted
+pub mod StepsSound

@@ -1,18 +1,23 @@
 -- How soundness is kept by the parts of a step.
-use Rattle.std.specs.Prelude.{◌≡◌, ℕ, ◌<◌, ◌≤◌, IsTrue, List, length, fold, All, Option, Some, None, is_some}
+use Rattle.std.specs.Prelude.{◌≡◌, ℕ, ◌<◌, ◌≤◌, List, [], ◌∷◌, length, fold, Option, Some, None}
 use Rattle.rpc_records.specs.declared.request.Report.{Report}
 use Rattle.rpc_records.specs.declared.request.Request.{Request}
 use Rattle.sched_book.specs.Grant.{Asking, IsGrant}
-use Rattle.sched_book.specs.Limits.{AreRowsInLimits}
+use Rattle.sched_book.specs.Limits.{AreSettingsInLimits}
 use Rattle.sched_book.specs.Lost.{lost, resend_or_drop}
-use Rattle.sched_book.specs.Places.{host_at, is_owned_by, passes}
+use Rattle.sched_book.specs.Places.{host_at}
 use Rattle.sched_book.specs.Reports.{recorded}
 use Rattle.sched_book.specs.Settle.{settled}
 use Rattle.sched_book.specs.Sound.{Sound}
-use Rattle.sched_book.specs.Step.{IsCaller, at_entry, granted, lapsed, ImportStep}
+use Rattle.sched_book.specs.Step.{IsCaller, at_entry, granted, lapsed, empty_world, ImportStep, Step, Trace}
+use Rattle.sched_book.specs.declared.machine.Answered.{Answered}
+use Rattle.sched_book.specs.declared.machine.Call.{Call}
+use Rattle.sched_book.specs.declared.machine.Call.TheVariants as call
 use Rattle.sched_book.specs.declared.machine.Caller.{Caller}
+use Rattle.sched_book.specs.declared.instance.Place.{Place}
 use Rattle.sched_book.specs.declared.rows.HostRow.{HostRow}
 use Rattle.sched_book.specs.declared.rows.Rows.{Rows}
+use Rattle.sched_book.specs.declared.settings.Settings.{Settings}
 use Rattle.sched_book.specs.declared.world.World.{World}
 use Rattle.sched_machine.specs.Well.{IsWell, IsRequestInLimits}
 
@@ -42,8 +47,37 @@ SettlementMakesSound = (old changed : World) → old.settings ≡ changed.settin
 
 -- a grant to a host that stands keeps it
 abbrev pub GrantKeepsSound : Type 0
-GrantKeepsSound = (w : World) (q : Asking) (jobs : List _) → Sound w → host_at w q.number ≡ Some q.host → q.now ≤ last_moment → IsGrant w q jobs
+GrantKeepsSound = (w : World) (q : Asking) (jobs : List Place) → Sound w → host_at w q.number ≡ Some q.host → q.now ≤ last_moment → IsGrant w q jobs
     → Sound (granted w q.number q.now jobs)
 
 abbrev pub ImportKeepsSound : Type 0
 ImportKeepsSound = (w after : World) (new : Rows) (count : ℕ) → Sound w → ImportStep w new after count → Sound after
+
+-- what a call tells is within limits
+abbrev pub IsCallInLimits : Call → Type 0
+IsCallInLimits (call.Rpc c r) = IsRequestInLimits r
+IsCallInLimits (call.Import new) = Unit {0}
+IsCallInLimits call.Tick = Unit {0}
+
+-- each step leaves a sound world sound
+abbrev pub StepKeepsSound : Type 0
+StepKeepsSound = (w after : World) (c : Call) (now : ℕ) (answer : Answered) → Sound w → IsCallInLimits c → now ≤ last_moment
+    → Step w c now after answer → Sound after
+
+-- the calls of a run, with their moments, are within limits
+abbrev pub AreCallsInLimits : List (Call × ℕ) → Type 0
+AreCallsInLimits [] = Unit {0}
+AreCallsInLimits (e ∷ es) = IsCallInLimits e.0 × (e.1 ≤ last_moment) × AreCallsInLimits es
+
+-- so does each run, at each of its worlds
+abbrev pub AllSound : List (Answered × World) → Type 0
+AllSound [] = Unit {0}
+AllSound (t ∷ ts) = Sound t.1 × AllSound ts
+
+abbrev pub RunsKeepSound : Type 0
+RunsKeepSound = (w : World) (calls : List (Call × ℕ)) (turns : List (Answered × World)) → Sound w → AreCallsInLimits calls → Trace w calls turns
+    → AllSound turns
+
+-- and it begins with a sound one
+abbrev pub EmptyIsSound : Type 0
+EmptyIsSound = (settings : Settings) → AreSettingsInLimits settings → Sound (empty_world settings)

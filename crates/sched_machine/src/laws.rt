@@ -1,6 +1,6 @@
 //! Laws of the machine. Each function does nothing; its contract is the law.
 
-ghost use Rattle.sched_machine.specs.Laws.{EntryKeepsSound, ReportsKeepWell, LapsesKeepWell, LostJobsKeepWell, SettlementMakesSound, GrantKeepsSound, ImportKeepsSound};
+ghost use Rattle.sched_machine.specs.Laws.{EntryKeepsSound, ReportsKeepWell, LapsesKeepWell, LostJobsKeepWell, SettlementMakesSound, GrantKeepsSound, ImportKeepsSound, StepKeepsSound, RunsKeepSound, EmptyIsSound};
 
 /// A sound world stays sound where a call's host is renewed, or made where there is room.
 pub fn entry_keeps_sound()
@@ -35,4 +35,19 @@ pub fn grant_keeps_sound()
 /// So does an import whose rows were checked.
 pub fn import_keeps_sound()
     ensures { ImportKeepsSound }
+{}
+
+/// Each step of the machine leaves a sound world sound, where what the call tells is within limits.
+pub fn step_keeps_sound()
+    ensures { StepKeepsSound }
+{}
+
+/// So does each run, at each of its worlds.
+pub fn runs_keep_sound()
+    ensures { RunsKeepSound }
+{}
+
+/// The world of new tables is sound.
+pub fn the_empty_world_is_sound()
+    ensures { EmptyIsSound }
 {}

@@ -1,0 +1,5 @@
+use Rattle.sched_machine.proofs.StepsSound.{step_keeps_sound}
+use Rattle.sched_machine.proofs.laws.step_keeps_sound.Goals as goal
+
+pub returns : goal.returns
+returns c = step_keeps_sound
