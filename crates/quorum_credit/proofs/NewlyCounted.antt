@@ -1,10 +1,9 @@
 -- What settlement counts over all instances is what it counts over those of the touched workunits.
-use Rattle.std.proofs.Common.{◌≡◌, ℕ, zero, suc, ◌+◌, ◌-◌, ◌<◌, ◌≤◌, Bool, true, false, cond, eqb, List, [], ◌∷◌, ◌++◌, length, Option, Some, None, sym, refl, ap, ◌∙◌, subst, arith}
+use Rattle.std.proofs.Common.{◌≡◌, ℕ, zero, suc, ◌+◌, ◌<◌, ◌≤◌, Bool, true, false, cond, eqb, List, [], ◌∷◌, length, Option, Some, None, sym, refl, ap, ◌∙◌, subst, arith}
 use Rattle.std.specs.Prelude.{◌&&◌, ◌||◌, not, sum_by, option_map, option_and_then, unwrap_or, slice_get}
 use Rattle.std.proofs.lemmas.Bool.Decides.{nat_tests}
 use Rattle.std.proofs.lemmas.List.Sums.{sum_by-cons, sum_by-append}
 use Rattle.std.proofs.lemmas.Option.{slice_get_past}
-use borrow.Author.Tests.{ltb-true}
 use Rattle.sched_book.specs.Count.{tells_error, is_valid, is_invalid}
 use Rattle.sched_book.specs.Desk.{instances_at}
 use Rattle.sched_book.specs.Places.{nth, unit_at, passes, places, places_in, places_among, is_owned_by, book_verdict, verdict_of}

@@ -1,10 +1,10 @@
 -- Lists whose rows are made from the rows of a list and their numbers, which count from 1.
-use Rattle.std.proofs.Common.{◌≡◌, ℕ, zero, suc, ◌+◌, ◌≤◌, Bool, true, false, cond, eqb, List, [], ◌∷◌, length, Option, Some, None, sym, refl, ap, ◌∙◌, arith}
+use Rattle.std.proofs.Common.{◌≡◌, ℕ, zero, suc, ◌≤◌, Bool, true, false, cond, eqb, List, length, Option, Some, None, sym, refl, ap, ◌∙◌, arith}
 use Rattle.std.proofs.lemmas.Bool.{eqb-true}
 use Rattle.std.proofs.lemmas.List.{length-map}
 use Rattle.std.proofs.lemmas.List.FromFn.{length-enumerate_from}
 use Rattle.std.proofs.lemmas.Option.{slice_get_within}
-use Rattle.std.specs.Prelude.{map, option_map, slice_get}
+use Rattle.std.specs.Prelude.{map, option_map}
 use Rattle.std.specs.List.{enumerate_from}
 use Rattle.sched_book.specs.Places.{nth}
 use Rattle.sched_book.specs.Delta.{put_nth}

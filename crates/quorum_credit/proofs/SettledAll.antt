@@ -1,22 +1,18 @@
 -- The steps of settlement come to the settled world.
-use Rattle.std.proofs.Common.{◌≡◌, ℕ, zero, suc, ◌+◌, ◌<◌, ◌≤◌, Bool, true, false, cond, eqb, List, [], ◌∷◌, ◌++◌, length, Option, Some, None, sym, refl, ap, ◌∙◌, subst, arith}
-use Rattle.std.specs.Prelude.{◌&&◌, ◌||◌, IsTrue, is_some, map, option_map, slice_get, replicate, sum_by}
+use Rattle.std.proofs.Common.{◌≡◌, ℕ, zero, suc, ◌<◌, ◌≤◌, Bool, true, false, cond, eqb, List, [], ◌∷◌, ◌++◌, length, Option, Some, None, sym, refl, ap, ◌∙◌, subst, arith}
+use Rattle.std.specs.Prelude.{◌&&◌, ◌||◌, IsTrue, is_some, map, option_map, slice_get, sum_by}
 use Rattle.std.specs.List.{enumerate_from, list_any, list_all}
 use Rattle.std.proofs.lemmas.Bool.Decides.{nat_tests}
-use Rattle.std.proofs.lemmas.List.{append-nil}
-use Rattle.std.proofs.lemmas.Option.{slice_get_within}
 use Rattle.std.proofs.lemmas.List.Sums.{fold-append}
-use Rattle.sched_book.specs.Count.{is_open, need}
-use Rattle.sched_book.specs.Places.{nth, unit_at, book_status}
+use Rattle.sched_book.specs.Places.{nth, unit_at}
 use Rattle.sched_book.specs.Delta.{with_instance, applied_one, applied, FitsOne, Fits}
 use Rattle.sched_book.specs.Desk.{workunit_at}
 use Rattle.sched_book.specs.Limits.{IsHostInLimits, IsUnitInLimits}
-use Rattle.sched_book.specs.Settle.{fresh, grown, with_grown, charges, merits, next_quota, with_quota, settled}
+use Rattle.sched_book.specs.Settle.{grown, with_grown, charges, merits, next_quota, with_quota, settled}
 use Rattle.sched_book.specs.Sound.{IsSoundUnit, IsSoundHost, Sound}
 use Rattle.sched_book.specs.declared.delta.Change.{Change}
 use Rattle.sched_book.specs.declared.delta.Change.TheVariants as change
 use Rattle.sched_book.specs.declared.instance.UnitBook.{UnitBook}
-use Rattle.sched_book.specs.declared.rows.App.{App}
 use Rattle.sched_book.specs.declared.rows.HostRow.{HostRow}
 use Rattle.sched_book.specs.declared.world.World.{World}
 use Rattle.sched_book.proofs.PlacesOf.{nth-suc, nth-changed_nth}

@@ -1,5 +1,5 @@
 -- What settlement counts for the hosts of instances, and against them.
-use Rattle.std.specs.Prelude.{◌≡◌, ℕ, ◌+◌, ◌==◌, Bool, true, false, not, ◌&&◌, if◌then◌else◌, List, sum_by, Option, None, option_map, option_and_then, unwrap_or, slice_get}
+use Rattle.std.specs.Prelude.{ℕ, ◌+◌, ◌==◌, Bool, true, false, not, ◌&&◌, if◌then◌else◌, List, sum_by, Option, None, option_map, unwrap_or, slice_get}
 use Rattle.sched_book.specs.Count.{tells_error, is_valid, is_invalid}
 use Rattle.sched_book.specs.Desk.{instances_at}
 use Rattle.sched_book.specs.Places.{unit_at, passes, places_in, is_owned_by, book_verdict}

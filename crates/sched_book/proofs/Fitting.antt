@@ -1,18 +1,17 @@
 -- Changes that fit keep every table within its bounds.
-use Rattle.std.proofs.Common.{◌≡◌, ◌≢◌, ℕ, zero, suc, ◌+◌, ◌-◌, ◌<◌, ◌≤◌, Bool, true, false, cond, eqb, ltb, List, [], ◌∷◌, ◌++◌, length, set, sym, refl, ap, ◌∙◌, subst, arith, length-append}
-use Rattle.std.specs.Prelude.{All, replicate, fold}
+use Rattle.std.proofs.Common.{◌≡◌, ℕ, zero, suc, ◌+◌, ◌-◌, ◌<◌, ◌≤◌, Bool, true, false, cond, eqb, ltb, List, [], ◌∷◌, ◌++◌, length, set, sym, refl, subst, arith, length-append}
+use Rattle.std.specs.Prelude.{All, replicate}
 use Rattle.std.proofs.lemmas.List.{length-set, length-replicate}
 use Rattle.std.proofs.lemmas.List.Elements.{All-append}
-use borrow.Author.Tests.{ltb-true, ltb-false}
+use borrow.Author.Tests.{ltb-false}
 use Rattle.sched_book.specs.Settle.{fresh}
 use Rattle.sched_book.specs.Imports.{new_unit}
 use Rattle.sched_book.specs.Limits.{IsBounded}
 use Rattle.sched_book.specs.Reports.{changed_at, changed_nth}
-use Rattle.sched_book.specs.Delta.{put_at, put_nth, with_instance, applied_one, applied, FitsOne, Fits}
+use Rattle.sched_book.specs.Delta.{put_at, put_nth, with_instance, applied_one, FitsOne}
 use Rattle.sched_book.specs.Laws.{FittingKeepsBounds}
 use Rattle.sched_book.specs.declared.delta.Change.{Change}
 use Rattle.sched_book.specs.declared.delta.Change.TheVariants as change
-use Rattle.sched_book.specs.declared.instance.Instance.{Instance}
 use Rattle.sched_book.specs.declared.instance.UnitBook.{UnitBook}
 use Rattle.sched_book.specs.declared.world.World.{World}
 use Rattle.sched_book.proofs.PlacesOf.{length-changed_nth}

@@ -11,13 +11,11 @@ use Rattle.sched_book.specs.Places.{host_at, nth, overdue, place_named, passes, 
 use Rattle.sched_book.specs.Reports.{awaits_report, judged_place, with_changed, with_report, record_at, record_one, recorded, first_reports}
 use Rattle.sched_book.specs.Settle.{with_grown, with_quota}
 use Rattle.sched_book.specs.Sound.{IsSoundUnit, IsSoundHost, IsSoundVersion, HaveOtherKeys, Sound}
-use Rattle.sched_book.specs.Step.{IsCaller, RpcStep, TickStep, ImportStep, Step, Trace, at_entry, after_reports, after_lost, after_settlement, host_number, host_told, lost_of, hosts_told, told_host, asking_of, lapsed}
+use Rattle.sched_book.specs.Step.{IsCaller, RpcStep, TickStep, at_entry, after_reports, after_lost, after_settlement, host_number, host_told, lost_of, hosts_told, told_host, asking_of, lapsed}
 use Rattle.sched_book.specs.declared.instance.Lapse.TheVariants.{Late, Dropped}
 use Rattle.sched_book.specs.declared.instance.Place.{Place}
 use Rattle.sched_book.specs.declared.instance.UnitBook.{UnitBook}
-use Rattle.sched_book.specs.declared.machine.Answered.{Answered}
 use Rattle.sched_book.specs.declared.machine.Answered.TheVariants as answered
-use Rattle.sched_book.specs.declared.machine.Call.{Call}
 use Rattle.sched_book.specs.declared.machine.Call.TheVariants as call
 use Rattle.sched_book.specs.declared.machine.Caller.{Caller}
 use Rattle.sched_book.specs.declared.rows.Account.{Account}
@@ -28,8 +26,8 @@ use Rattle.sched_book.specs.declared.settings.Settings.{Settings}
 use Rattle.sched_book.specs.declared.world.World.{World}
 use Rattle.sched_book.proofs.PlacesOf.{nth-push, nth-changed_nth}
 use Rattle.sched_book.proofs.Settling.{settlement_is_pointwise}
-use Rattle.sched_machine.specs.Laws.{last_moment, IsCallInLimits, AreCallsInLimits, StepKeepsSound, RunsKeepSound, AllSound, EmptyIsSound}
-use Rattle.sched_machine.specs.Well.{IsWellUnit, IsWell, AreRowsSound, IsRequestInLimits}
+use Rattle.sched_machine.specs.Laws.{last_moment, StepKeepsSound, RunsKeepSound, EmptyIsSound}
+use Rattle.sched_machine.specs.Well.{IsWellUnit, IsWell, IsRequestInLimits}
 use Rattle.sched_machine.proofs.RowsEntry.{entry_keeps_sound}
 use Rattle.sched_machine.proofs.RowsGrant.{grant_keeps_sound}
 use Rattle.sched_machine.proofs.RowsListed.{place_found}

@@ -1,6 +1,6 @@
 -- A well workunit with the instances that it needs is sound.
 use Rattle.std.proofs.Common.{◌≡◌, ℕ, zero, suc, ◌+◌, ◌-◌, ◌*◌, ◌≤◌, Bool, true, false, cond, List, [], ◌∷◌, ◌++◌, length, get_or, sym, refl, ap, ◌∙◌, subst, length-append, arith}
-use Rattle.std.specs.Prelude.{◌||◌, ◌&&◌, ◌==◌, All, AllPairs, IsTrue, count_by, fold, is_some, nat_le, nat_lt, replicate}
+use Rattle.std.specs.Prelude.{◌||◌, ◌&&◌, ◌==◌, All, AllPairs, IsTrue, count_by, fold, is_some, nat_le, replicate}
 use Rattle.std.specs.List.{list_any, prefix_len}
 use Rattle.std.proofs.lemmas.List.{length-replicate}
 use Rattle.std.proofs.lemmas.List.Edits.{length-insert}
@@ -8,16 +8,13 @@ use Rattle.std.proofs.lemmas.List.Elements.{All-append, All-replicate}
 use Rattle.std.proofs.lemmas.List.Folds.{list_any-append, sum_by-replicate}
 use Rattle.std.proofs.lemmas.List.Kept.{AllPairs-cons}
 use Rattle.std.proofs.lemmas.List.Sums.{sum_by-append, prefix_len-le-length}
-use borrow.Author.Tests.{ltb-false}
-use Rattle.sched_book.specs.Count.{tells_success, is_judged, told_place, is_live, place_of, numbers_from, put_by, good, errors, live, canonical, want, need, status, is_open}
+use Rattle.sched_book.specs.Count.{tells_success, is_judged, told_place, is_live, place_of, numbers_from, put_by, good, live, want, need, is_open}
 use Rattle.sched_book.specs.Limits.{IsInstanceInLimits}
 use Rattle.sched_book.specs.Places.{nth, agreement_by, book_status, account_in, owner_host}
 use Rattle.sched_book.specs.Settle.{fresh, grown}
 use Rattle.sched_book.specs.Sound.{AreOfOtherUsers, IsBare, HasOwnerAmong, IsSoundUnit}
 use Rattle.sched_book.specs.declared.instance.Instance.{Instance}
-use Rattle.sched_book.specs.declared.instance.Status.TheVariants.{Open, Done, FailedErrors, FailedSuccess, FailedTotal}
 use Rattle.sched_book.specs.declared.instance.UnitBook.{UnitBook}
-use Rattle.sched_book.specs.declared.rows.Agreement.{Agreement}
 use Rattle.sched_book.specs.declared.rows.App.{App}
 use Rattle.sched_book.specs.declared.rows.HostRow.{HostRow}
 use Rattle.sched_book.specs.declared.rows.Workunit.{Workunit}

@@ -1,13 +1,11 @@
 -- Settlement makes a well world sound.
-use Rattle.std.proofs.Common.{◌≡◌, ◌≢◌, ℕ, ◌-◌, ◌*◌, ◌≤◌, Bool, true, false, cond, List, ◌++◌, length, Option, Some, None, sym, refl, ap, ◌∙◌, subst, arith}
-use Rattle.std.specs.Prelude.{◌^◌, max, map, replicate, is_some, option_map, unwrap_or}
+use Rattle.std.proofs.Common.{◌≡◌, ◌≢◌, ℕ, ◌≤◌, Bool, true, false, cond, List, ◌++◌, length, Option, Some, None, sym, refl, ap, ◌∙◌, subst, arith}
+use Rattle.std.specs.Prelude.{map, replicate, is_some, option_map, unwrap_or}
 use Rattle.std.specs.List.{enumerate_from}
-use Rattle.std.proofs.Math.Nat.{one-le-mul}
-use Rattle.std.proofs.lemmas.Nat.{pow_pos}
 use Rattle.std.proofs.lemmas.List.{length-map}
 use Rattle.sched_book.specs.Count.{is_open, need}
 use Rattle.sched_book.specs.Places.{nth, book_status}
-use Rattle.sched_book.specs.Settle.{fresh, grown, with_grown, charges, merits, next_quota, with_quota, settled}
+use Rattle.sched_book.specs.Settle.{fresh, grown, with_grown, charges, merits, with_quota, settled}
 use Rattle.sched_book.specs.Sound.{HaveOtherKeys, IsSoundHost, IsSoundUnit, Sound}
 use Rattle.sched_book.specs.declared.instance.UnitBook.{UnitBook}
 use Rattle.sched_book.specs.declared.rows.HostRow.{HostRow}

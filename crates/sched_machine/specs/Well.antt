@@ -1,5 +1,5 @@
 -- Soundness, but that an open workunit may lack instances: what holds within a step, before settlement.
-use Rattle.std.specs.Prelude.{◌≡◌, ◌≢◌, ℕ, ◌+◌, ◌<◌, ◌≤◌, ◌^◌, IsTrue, List, length, count_by, All, AllPairs}
+use Rattle.std.specs.Prelude.{◌≢◌, ℕ, ◌+◌, ◌<◌, ◌≤◌, ◌^◌, IsTrue, List, length, count_by, All, AllPairs}
 use Rattle.rpc_records.specs.declared.request.Request.{Request}
 use Rattle.sched_book.specs.Count.{is_judged, told_place}
 use Rattle.sched_book.specs.Imports.{has_app, same_version}

@@ -66,11 +66,11 @@ fn push_unit(
     row.name = Text::copied(alloc, name)?;
     row.app = Text::copied(alloc, app)?;
     delta.push(Change::Workunit(row))?;
-    for (number, host) in hosts.iter().enumerate() {
+    for (number, host) in (0..100).zip(hosts.iter()) {
         delta.push(Change::Instance {
             place: Place {
                 unit: place,
-                number: number as u32,
+                number,
             },
             row: given(*host),
         })?;
