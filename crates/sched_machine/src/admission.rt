@@ -3,7 +3,7 @@
 ghost use Rattle.std.specs.Prelude.{◌≡◌, ℕ, true, false, Some, None, IfOk, IsErrOf};
 ghost use Rattle.sched_book.specs.Places.{account_place, known_host};
 ghost use Rattle.sched_book.specs.Step.{IsCaller};
-ghost use Rattle.sched_machine.specs.Admission.{is_number, names_host};
+ghost use Rattle.sched_machine.specs.Admission.{is_number, names_host, TellsWrongNumber};
 ghost use Rattle.sched_machine.specs.declared.admission.Refused.TheVariants as refused;
 
 use rpc_records::Request;
@@ -71,8 +71,7 @@ pub fn admit<D: Desk>(alloc: Global, desk: &mut D, request: &Request) -> Result<
     ensures bad_account { D.honest desk.new → D.well_kept desk.old → IsErrOf result refused.BadAccount →
         account_place (D.world desk.old) request.now.authenticator ≡ None }
     ensures bad_host { D.honest desk.new → D.well_kept desk.old → IsErrOf result refused.BadHost →
-        (account : ℕ) → account_place (D.world desk.old) request.now.authenticator ≡ Some account →
-        names_host request.now.hostid (known_host (D.world desk.old) account request.now.host.host_cpid) ≡ false }
+        TellsWrongNumber (D.world desk.old) request.now }
     ensures never_full { IsErrOf result refused.HostsFull → ⊥ }
 {
     let Some(account) = account_of(alloc, desk, request)? else {

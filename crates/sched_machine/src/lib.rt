@@ -3,5 +3,7 @@
 
 mod admission;
 pub mod laws;
+#[cfg(test)]
+mod tests;
 
 pub use admission::{Refused, admit};
