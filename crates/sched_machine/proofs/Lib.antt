@@ -15,3 +15,9 @@ pub mod RowsNamed
 pub mod RowsImport
 pub mod RowsAdmitted
 pub mod StepsSound
+pub mod AlikeLists
+pub mod AlikePlaces
+pub mod AlikeUnits
+pub mod AlikeCalls
+pub mod AlikeHosts
+pub mod AlikeSettled

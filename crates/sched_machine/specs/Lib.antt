@@ -1,3 +1,4 @@
 pub mod Laws
 pub mod Well
 pub mod Admission
+pub mod Alike

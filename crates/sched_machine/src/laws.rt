@@ -1,5 +1,6 @@
 //! Laws of the machine. Each function does nothing; its contract is the law.
 
+ghost use Rattle.sched_machine.specs.Alike.{SettledIsLike};
 ghost use Rattle.sched_machine.specs.Laws.{EntryKeepsSound, ReportsKeepWell, LapsesKeepWell, LostJobsKeepWell, SettlementMakesSound, GrantKeepsSound, ImportKeepsSound, StepKeepsSound, RunsKeepSound, EmptyIsSound};
 
 /// A sound world stays sound where a call's host is renewed, or made where there is room.
@@ -50,4 +51,10 @@ pub fn runs_keep_sound()
 /// The world of new tables is sound.
 pub fn the_empty_world_is_sound()
     ensures { EmptyIsSound }
+{}
+
+/// For the host that calls, the settled world is like the one before the call: a grant of one is a grant of the
+/// other.
+pub fn the_settled_world_is_like_the_first()
+    ensures { SettledIsLike }
 {}

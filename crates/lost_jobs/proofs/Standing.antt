@@ -1,0 +1,41 @@
+-- What stands at a place.
+use Rattle.std.proofs.Common.{◌≡◌, Bool, false, [], Option, Some, None, refl, ap, ◌∙◌}
+use Rattle.std.specs.Prelude.{option_map, unwrap_or}
+use Rattle.sched_book.specs.Names.{instance_name}
+use Rattle.sched_book.specs.Places.{unit_at, instance_at, passes, deadline_of, name_at}
+use Rattle.sched_book.specs.Desk.{workunit_at}
+use Rattle.sched_book.specs.Step.{deadline_at}
+use Rattle.sched_book.specs.declared.instance.Instance.{Instance}
+use Rattle.sched_book.specs.declared.instance.Place.{Place}
+use Rattle.sched_book.specs.declared.instance.UnitBook.{UnitBook}
+use Rattle.sched_book.specs.declared.rows.Workunit.{Workunit}
+use Rattle.sched_book.specs.declared.world.World.{World}
+use Rattle.sched_book.proofs.Recording.{passes-is}
+
+-- where nothing stands a test fails
+pub passes_none : (w : World) (g : Instance → Bool) (p : Place) → instance_at w p ≡ None → passes w (λ b x. g x) p ≡ false
+passes_none w g p none = passes-is w g p ∙ ap (λ o. unwrap_or (option_map g o) false) none
+
+-- where an instance stands it is tested
+pub passes_some : (w : World) (g : Instance → Bool) (p : Place) (x : Instance) → instance_at w p ≡ Some x → passes w (λ b x. g x) p ≡ g x
+passes_some w g p x stands = passes-is w g p ∙ ap (λ o. unwrap_or (option_map g o) false) stands
+
+-- its deadline
+pub deadline_none : (w : World) (p : Place) → instance_at w p ≡ None → deadline_at w p ≡ 0
+deadline_none w p none = ap (λ o. unwrap_or (option_map (λ (x : Instance). deadline_of x.owner) o) 0) none
+
+pub deadline_some : (w : World) (p : Place) (x : Instance) → instance_at w p ≡ Some x → deadline_at w p ≡ deadline_of x.owner
+deadline_some w p x stands = ap (λ o. unwrap_or (option_map (λ (x : Instance). deadline_of x.owner) o) 0) stands
+
+-- its name
+by_unit : (p : Place) (o : Option UnitBook)
+    → unwrap_or (option_map (λ (b : UnitBook). instance_name b.unit.name p.number) o) []
+    ≡ unwrap_or (option_map (λ (u : Workunit). instance_name u.name p.number) (option_map (λ (b : UnitBook). b.unit) o)) []
+by_unit p None = refl
+by_unit p (Some b) = refl
+
+pub name_none : (w : World) (p : Place) → workunit_at w p.unit ≡ None → name_at w p ≡ []
+name_none w p none = by_unit p (unit_at w p.unit) ∙ ap (λ o. unwrap_or (option_map (λ (u : Workunit). instance_name u.name p.number) o) []) none
+
+pub name_some : (w : World) (p : Place) (u : Workunit) → workunit_at w p.unit ≡ Some u → name_at w p ≡ instance_name u.name p.number
+name_some w p u stands = by_unit p (unit_at w p.unit) ∙ ap (λ o. unwrap_or (option_map (λ (u : Workunit). instance_name u.name p.number) o) []) stands

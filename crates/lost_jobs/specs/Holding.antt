@@ -1,0 +1,21 @@
+-- What a host holds, and what of it its client does not list.
+use Rattle.std.specs.Prelude.{◌≡◌, ℕ, Bool, true, not, ◌&&◌}
+use Rattle.sched_book.specs.Places.{passes, is_held_by, name_at}
+use Rattle.sched_book.specs.Step.{deadline_at}
+use Rattle.sched_book.specs.declared.instance.Place.{Place}
+use Rattle.sched_book.specs.declared.world.World.{World}
+use Rattle.lost_jobs.specs.NameSets.{has_name}
+use Rattle.lost_jobs.specs.declared.name_set.NameSet.{NameSet}
+
+-- each instance that the host holds after changes it held before
+abbrev pub HoldsNoMore : World → World → ℕ → Type 0
+HoldsNoMore before after host =
+    (p : Place) → passes after (λ b x. is_held_by host x) p ≡ true → passes before (λ b x. is_held_by host x) p ≡ true
+
+-- what the host holds after changes has the deadline that it had before
+abbrev pub KeepsDeadlines : World → World → ℕ → Type 0
+KeepsDeadlines before after host = (p : Place) → passes after (λ b x. is_held_by host x) p ≡ true → deadline_at after p ≡ deadline_at before p
+
+-- the host holds the instance at a place, and its name is not in the set
+abbrev pub is_missing : World → ℕ → NameSet → Place → Bool
+is_missing w host listed p = passes w (λ b x. is_held_by host x) p && not (has_name listed (name_at w p))

@@ -1,0 +1,18 @@
+//! Laws of the definitions. Each function does nothing; its contract is the law.
+
+ghost use Rattle.lost_jobs.specs.Laws.{ReportsHoldNoMore, ReportsKeepDeadlines, FatesResendOrDrop};
+
+/// What a host holds after the reports of its call it held before.
+pub fn reports_hold_no_more()
+    ensures { ReportsHoldNoMore }
+{}
+
+/// What a host holds after the reports of its call has the deadline that it had before.
+pub fn reports_keep_deadlines()
+    ensures { ReportsKeepDeadlines }
+{}
+
+/// The fates of the jobs that a client lost come to sending each of them again or dropping it.
+pub fn fates_resend_or_drop()
+    ensures { FatesResendOrDrop }
+{}

@@ -1,0 +1,94 @@
+-- Two lists, each element of one related to the one at its place in the other.
+use Rattle.std.proofs.Common.{◌≡◌, ℕ, zero, suc, ◌+◌, ◌-◌, Bool, true, false, cond, eqb, List, [], ◌∷◌, Option, Some, None, sym, refl, ap, ◌∙◌}
+use Rattle.std.specs.Prelude.{◌||◌, All, map, sum_by, slice_get}
+use Rattle.std.specs.List.{list_any}
+use Rattle.std.proofs.lemmas.List.Elements.{All-head, All-tail}
+use Rattle.std.proofs.lemmas.List.Sums.{sum_by-cons}
+use Rattle.sched_book.specs.Places.{nth}
+use Rattle.sched_book.specs.Reports.{changed_at, changed_nth}
+
+abbrev pub Along : {X : Type 0} → (X → X → Type 0) → List X → List X → Type 0
+Along R [] [] = Unit {0}
+Along R [] (y ∷ ys) = ⊥
+Along R (x ∷ xs) [] = ⊥
+Along R (x ∷ xs) (y ∷ ys) = R x y × Along R xs ys
+
+-- a list and itself
+pub along_same : {X : Type 0} (R : X → X → Type 0) → ((x : X) → R x x) → (xs : List X) → Along R xs xs
+along_same R same [] = tt
+along_same R same (x ∷ xs) = (same x, along_same R same xs)
+
+-- one element of the second changed
+along_changed_at : {X : Type 0} (R : X → X → Type 0) (f : X → X) (xs ys : List X) (i : ℕ) → Along R xs ys
+    → ((x y : X) → R x y → slice_get ys i ≡ Some y → R x (f y)) → Along R xs (changed_at f ys i)
+along_changed_at R f [] [] i along here = tt
+along_changed_at R f [] (y ∷ ys) i along here = absurd along
+along_changed_at R f (x ∷ xs) [] i along here = absurd along
+along_changed_at R f (x ∷ xs) (y ∷ ys) zero along here = (here x y along.0 refl, along.1)
+along_changed_at R f (x ∷ xs) (y ∷ ys) (suc i) along here = (along.0, along_changed_at R f xs ys i along.1 here)
+
+pub along_changed_nth : {X : Type 0} (R : X → X → Type 0) (f : X → X) (xs ys : List X) (n : ℕ) → Along R xs ys
+    → ((x y : X) → R x y → nth ys n ≡ Some y → R x (f y)) → Along R xs (changed_nth f ys n)
+along_changed_nth {X} R f xs ys n along here = cases (eqb n 0) here
+  where
+    cases : (b : Bool) → ((x y : X) → R x y → cond b None (slice_get ys (n - 1)) ≡ Some y → R x (f y))
+        → Along R xs (cond b ys (changed_at f ys (n - 1)))
+    cases true at = along
+    cases false at = along_changed_at R f xs ys (n - 1) along at
+
+-- each element of the second made into another
+pub along_map : {X : Type 0} (P : X → Type 0) (R Q : X → X → Type 0) (g : X → X) → ((x y : X) → P x → R x y → Q x (g y))
+    → (xs ys : List X) → All P xs → Along R xs ys → Along Q xs (map g ys)
+along_map P R Q g makes [] [] all along = tt
+along_map P R Q g makes [] (y ∷ ys) all along = absurd along
+along_map P R Q g makes (x ∷ xs) [] all along = absurd along
+along_map P R Q g makes (x ∷ xs) (y ∷ ys) all along =
+    (makes x y (All-head P x xs all) along.0, along_map P R Q g makes xs ys (All-tail P x xs all) along.1)
+
+-- what is said alike of what stands at a place in each
+along_get : {X Y : Type 0} (R : X → X → Type 0) (F G : Option X → Y) → G None ≡ F None → ((x y : X) → R x y → G (Some y) ≡ F (Some x))
+    → (xs ys : List X) (i : ℕ) → Along R xs ys → G (slice_get ys i) ≡ F (slice_get xs i)
+along_get R F G none some [] [] i along = none
+along_get R F G none some [] (y ∷ ys) i along = absurd along
+along_get R F G none some (x ∷ xs) [] i along = absurd along
+along_get R F G none some (x ∷ xs) (y ∷ ys) zero along = some x y along.0
+along_get R F G none some (x ∷ xs) (y ∷ ys) (suc i) along = along_get R F G none some xs ys i along.1
+
+pub along_nth : {X Y : Type 0} (R : X → X → Type 0) (F G : Option X → Y) → G None ≡ F None → ((x y : X) → R x y → G (Some y) ≡ F (Some x))
+    → (xs ys : List X) (n : ℕ) → Along R xs ys → G (nth ys n) ≡ F (nth xs n)
+along_nth R F G none some xs ys n along = cases (eqb n 0)
+  where
+    cases : (b : Bool) → G (cond b None (slice_get ys (n - 1))) ≡ F (cond b None (slice_get xs (n - 1)))
+    cases true = none
+    cases false = along_get R F G none some xs ys (n - 1) along
+
+-- what is the same of each pair sums up to the same
+pub along_sum : {X : Type 0} (R : X → X → Type 0) (f : X → ℕ) → ((x y : X) → R x y → f y ≡ f x)
+    → (xs ys : List X) → Along R xs ys → sum_by f ys ≡ sum_by f xs
+along_sum R f same [] [] along = refl
+along_sum R f same [] (y ∷ ys) along = absurd along
+along_sum R f same (x ∷ xs) [] along = absurd along
+along_sum R f same (x ∷ xs) (y ∷ ys) along =
+    sum_by-cons f y ys
+    ∙ ap (λ n. n + sum_by f ys) (same x y along.0)
+    ∙ ap (λ n. f x + n) (along_sum R f same xs ys along.1)
+    ∙ sym (sum_by-cons f x xs)
+
+-- two tests that say the same of each element, or of which one implies the other
+pub any_same : {X : Type 0} (P : X → Type 0) (p q : X → Bool) → ((x : X) → P x → p x ≡ q x) → (xs : List X) → All P xs
+    → list_any p xs ≡ list_any q xs
+any_same P p q same [] all = refl
+any_same P p q same (x ∷ xs) all =
+    ap (λ b. b || list_any p xs) (same x (All-head P x xs all)) ∙ ap (λ b. q x || b) (any_same P p q same xs (All-tail P x xs all))
+
+pub any_implied : {X : Type 0} (p q : X → Bool) → ((x : X) → p x ≡ true → q x ≡ true) → (xs : List X) → list_any p xs ≡ true → list_any q xs ≡ true
+any_implied p q also [] found = found
+any_implied p q also (x ∷ xs) found = cases (p x) refl (any_implied p q also xs) found
+  where
+    cases : (b : Bool) → p x ≡ b → (list_any p xs ≡ true → list_any q xs ≡ true) → (b || list_any p xs) ≡ true → (q x || list_any q xs) ≡ true
+    cases true is rest passes = ap (λ b. b || list_any q xs) (also x is)
+    cases false is rest passes = either (q x) (rest passes)
+      where
+        either : (b : Bool) → list_any q xs ≡ true → (b || list_any q xs) ≡ true
+        either true there = refl
+        either false there = there
