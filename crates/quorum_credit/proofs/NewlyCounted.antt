@@ -112,7 +112,7 @@ merits-sum : (old new : World) (host : ℕ) → merits old new host ≡ sum_by (
 merits-sum old new host = newly-sum (λ w b x. is_valid (verdict_of w b x)) (λ s. is_valid s.verdict) refl (λ w b x. refl) old new host
 
 -- the sum of g from n on, of so many
-sum_from : (ℕ → ℕ) → ℕ → ℕ → ℕ
+unfoldable pub sum_from : (ℕ → ℕ) → ℕ → ℕ → ℕ
 sum_from g n zero = 0
 sum_from g n (suc k) = g n + sum_from g (suc n) k
 
@@ -137,11 +137,11 @@ module _ (f : Place → ℕ) (g : ℕ → ℕ) where
       ∙ ap (λ m. g n + m) (sum_of_units bs (suc n) (λ i c is. subst (λ m. g m ≡ sum_by f (places_in m 0 (λ x. true) c.instances)) (let same : n + suc i ≡ suc n + i = omega arith in same) (each (suc i) c is)))
 
 -- all of these are m or more
-AreFrom : ℕ → List ℕ → Type 0
+pub AreFrom : ℕ → List ℕ → Type 0
 AreFrom m [] = Unit {0}
 AreFrom m (n ∷ ns) = (m ≤ n) × AreFrom m ns
 
-from_zero : (ns : List ℕ) → AreFrom 0 ns
+pub from_zero : (ns : List ℕ) → AreFrom 0 ns
 unfolding AreFrom
 from_zero [] = tt
 from_zero (n ∷ ns) = (omega arith, from_zero ns)
@@ -167,7 +167,7 @@ module _ (g : ℕ → ℕ) where
   all_zero (n ∷ ns) m from none =
       sum_by-cons g n ns ∙ ap (λ k. k + sum_by g ns) (none n from.0) ∙ ap (λ k. 0 + k) (all_zero ns m from.1 none)
 
-  sum_of_some : (k n : ℕ) (ns : List ℕ) → AreRising ns → AreFrom n ns → ((m : ℕ) → n ≤ m → is_among ns m ≡ false → g m ≡ 0)
+  pub sum_of_some : (k n : ℕ) (ns : List ℕ) → AreRising ns → AreFrom n ns → ((m : ℕ) → n ≤ m → is_among ns m ≡ false → g m ≡ 0)
       → ((m : ℕ) → n + k ≤ m → g m ≡ 0) → sum_from g n k ≡ sum_by g ns
   unfolding sum_from AreFrom
   sum_of_some zero n ns rising from others beyond = sym (all_zero ns n from (λ m far. beyond m (omega arith)))

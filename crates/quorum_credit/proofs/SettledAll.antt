@@ -62,7 +62,7 @@ all_apps_stay w [] puts = refl
 all_apps_stay w (c ∷ cs) puts =
     let parts = both_true (puts_row c) (list_all puts_row cs) puts in all_apps_stay (applied_one w c) cs parts.1 ∙ apps_stay w c parts.0
 
-others_stay : (w : World) (cs : List Change) (unit : ℕ) → list_all puts_row cs ≡ true → list_any (touches unit) cs ≡ false
+pub others_stay : (w : World) (cs : List Change) (unit : ℕ) → list_all puts_row cs ≡ true → list_any (touches unit) cs ≡ false
     → unit_at (applied w cs) unit ≡ unit_at w unit
 others_stay w [] unit puts other = refl
 others_stay w (c ∷ cs) unit puts other =

@@ -92,7 +92,11 @@ fn read_changed_host<D: Desk>(
 }
 
 /// The host of a number, after changes.
-fn host_under<D: Desk>(
+///
+/// # Errors
+///
+/// [`Unavailable`] where memory is wanting or the desk is unavailable.
+pub fn host_under<D: Desk>(
     alloc: Global,
     desk: &mut D,
     delta: &Delta,

@@ -20,6 +20,7 @@ mod settling;
 mod tests;
 mod touched;
 
+pub use host_quotas::host_under;
 pub use late::{Lapsed, lapse_late};
 pub use quota::next_quota;
 pub use reports::{Taken, take_reports};

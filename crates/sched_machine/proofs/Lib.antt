@@ -21,3 +21,5 @@ pub mod AlikeUnits
 pub mod AlikeCalls
 pub mod AlikeHosts
 pub mod AlikeSettled
+pub mod CreditUsers
+pub mod Credited

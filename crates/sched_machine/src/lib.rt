@@ -2,6 +2,7 @@
 #![tactic(auto)]
 
 mod admission;
+mod credits;
 pub mod laws;
 #[cfg(test)]
 mod tests;
