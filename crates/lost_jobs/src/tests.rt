@@ -190,12 +190,19 @@ fn is_only(names: &Listed<Text>, name: &str) -> bool {
     }
 }
 
-/// The deadline to which a lost job is sent again at this second, to a host with so much memory.
-fn resent(alloc: Global, place: Place, seconds: u64, m_nbytes: u64) -> Result<Option<u64>, Fail> {
+/// The deadline to which a lost job is sent again at this second, to a host of this speed and with so much memory.
+fn resent(
+    alloc: Global,
+    place: Place,
+    seconds: u64,
+    p_fpops: u64,
+    m_nbytes: u64,
+) -> Result<Option<u64>, Fail> {
     let Some(now) = Moment::new(seconds) else {
         return Ok(None);
     };
-    let host = host(alloc, "c1", m_nbytes)?;
+    let mut host = host(alloc, "c1", m_nbytes)?;
+    host.p_fpops = p_fpops;
     let fates = resend_or_drop(alloc, &mut desk(alloc)?, &host, &[place], now)?;
     match fates.as_slice() {
         [fate] => Ok(fate.resent),
@@ -264,22 +271,20 @@ fn a_job_that_is_reported_is_not_lost(rt: HostRuntime) -> Result<(), Fail> {
 fn a_deadline_stays_where_it_can_be_met(rt: HostRuntime) -> Result<(), Fail> {
     let alloc = rt.alloc();
     let place = Place { unit: 1, number: 1 };
-    assert_eq!(rt; resent(alloc, place, 4600, 8000)?, Some(8200));
-    assert_eq!(rt; resent(alloc, place, 4601, 8000)?, Some(11801));
+    assert_eq!(rt; resent(alloc, place, 4600, 1000, 8000)?, Some(8200));
+    assert_eq!(rt; resent(alloc, place, 4601, 1000, 8000)?, Some(11801));
     Ok(())
 }
 
 #[test]
 fn what_is_done_or_does_not_fit_is_dropped(rt: HostRuntime) -> Result<(), Fail> {
     let alloc = rt.alloc();
-    assert_eq!(rt;
-        resent(alloc, Place { unit: 2, number: 0 }, 2000, 8000)?,
-        None
-    );
-    assert_eq!(rt;
-        resent(alloc, Place { unit: 1, number: 1 }, 2000, 999)?,
-        None
-    );
+    let of_done = Place { unit: 2, number: 0 };
+    let of_open = Place { unit: 1, number: 1 };
+    assert_eq!(rt; resent(alloc, of_done, 2000, 1000, 8000)?, None);
+    assert_eq!(rt; resent(alloc, of_open, 2000, 1000, 999)?, None);
+    assert_eq!(rt; resent(alloc, of_open, 1000, 500, 8000)?, Some(8200));
+    assert_eq!(rt; resent(alloc, of_open, 1100, 499, 8000)?, None);
     Ok(())
 }
 
