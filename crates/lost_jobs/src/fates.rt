@@ -23,8 +23,8 @@ pub struct Fate {
     pub resent: Option<u64>,
 }
 
-/// The seconds that so many operations take at so many a second; 1 where the speed is not known.
-fn seconds_at(fpops: u64, p_fpops: u64) -> u64
+/// The seconds that so many operations take at so many a second, rounded up and at least 1; 1 where the speed is 0.
+pub fn seconds_at(fpops: u64, p_fpops: u64) -> u64
     ensures { result ≡ estimate fpops p_fpops }
 {
     if p_fpops == 0 {
@@ -77,9 +77,13 @@ fn deadline_at<D: Desk>(alloc: Global, desk: &mut D, place: Place) -> Result<u64
     }
 }
 
-/// The version that the host runs of the application of this name.
+/// The version that the host runs of the application of this name; none where there is no such application.
+///
+/// # Errors
+///
+/// [`Unavailable`] where memory is wanting or the desk is unavailable.
 #[tactic(auto, using(crate::proofs::Versions::version_none))]
-fn version_for<D: Desk>(
+pub fn version_for<D: Desk>(
     alloc: Global,
     desk: &mut D,
     host: &HostRow,

@@ -11,6 +11,6 @@ mod name_set;
 mod tests;
 
 pub use changes::lost_changes;
-pub use fates::{Fate, resend_or_drop};
+pub use fates::{Fate, resend_or_drop, seconds_at, version_for};
 pub use forgotten::aborts;
 pub use missing::lost;

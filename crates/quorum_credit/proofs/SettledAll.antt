@@ -57,7 +57,7 @@ unit_stays w (change.Instance p x) unit puts other =
     nth-changed_nth (with_instance p.number x) w.units p.unit unit
     ∙ ap (λ b. cond b (option_map (with_instance p.number x) (nth w.units unit)) (nth w.units unit)) other
 
-all_apps_stay : (w : World) (cs : List Change) → list_all puts_row cs ≡ true → (applied w cs).apps ≡ w.apps
+pub all_apps_stay : (w : World) (cs : List Change) → list_all puts_row cs ≡ true → (applied w cs).apps ≡ w.apps
 all_apps_stay w [] puts = refl
 all_apps_stay w (c ∷ cs) puts =
     let parts = both_true (puts_row c) (list_all puts_row cs) puts in all_apps_stay (applied_one w c) cs parts.1 ∙ apps_stay w c parts.0

@@ -23,3 +23,7 @@ pub mod AlikeHosts
 pub mod AlikeSettled
 pub mod CreditUsers
 pub mod Credited
+pub mod EntryHosts
+pub mod AskedSeconds
+pub mod GrantingDone
+pub mod JobsTold

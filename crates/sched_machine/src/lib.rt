@@ -2,7 +2,11 @@
 #![tactic(auto)]
 
 mod admission;
+mod asking;
 mod credits;
+mod entry;
+mod granting;
+mod jobs;
 pub mod laws;
 #[cfg(test)]
 mod tests;

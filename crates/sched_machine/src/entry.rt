@@ -1,0 +1,110 @@
+//! The host of a call: its number, and its row as the call tells it.
+
+ghost use Rattle.std.specs.Prelude.{◌≡◌, ◌<◌, ◌≤◌, ◌+◌, None, length, option_and_then, IfOk, IsErrOf};
+ghost use Rattle.sched_book.specs.Places.{host_at};
+ghost use Rattle.sched_book.specs.Step.{host_number, told_host};
+ghost use Rattle.sched_machine.specs.Entry.{quota_of};
+ghost use Rattle.sched_machine.specs.declared.admission.Refused.TheVariants as refused;
+
+use crate::admission::Refused;
+use rpc_records::Request;
+use sched_book::{Caller, Desk, HostRow, Unavailable};
+use std::alloc::Global;
+use texts::Memory;
+
+/// The number of the next host; it is refused where no more may stand.
+fn next_number<D: Desk>(alloc: Global, desk: &mut D) -> Result<u32, Refused>
+    ensures reads { D.reads desk.old desk.new }
+    ensures answer { D.honest desk.new → D.well_kept desk.old → IfOk result (λ n. n ≡ length (D.world desk.old).hosts + 1) }
+    ensures room { D.honest desk.new → D.well_kept desk.old →
+        IfOk result (λ n. length (D.world desk.old).hosts < (D.world desk.old).settings.max_hosts) }
+    ensures full { D.honest desk.new → D.well_kept desk.old → IsErrOf result refused.HostsFull →
+        (D.world desk.old).settings.max_hosts ≤ length (D.world desk.old).hosts }
+    ensures known { (IsErrOf result refused.BadAccount → ⊥) × (IsErrOf result refused.BadHost → ⊥) }
+{
+    let count = desk.counts()?.hosts;
+    let most = desk.settings(alloc)?.max_hosts;
+    if most <= count {
+        return Err(Refused::HostsFull);
+    }
+    Ok(count + 1)
+}
+
+/// The number of the caller's host: its own, or the next. A new host where no more may stand is refused.
+pub(crate) fn host_number<D: Desk>(
+    alloc: Global,
+    desk: &mut D,
+    caller: &Caller,
+) -> Result<u32, Refused>
+    ensures reads { D.reads desk.old desk.new }
+    ensures answer { D.honest desk.new → D.well_kept desk.old →
+        IfOk result (λ n. n ≡ host_number (D.world desk.old) caller.now) }
+    ensures room { D.honest desk.new → D.well_kept desk.old → IfOk result (λ n.
+        caller.now.host ≡ None → length (D.world desk.old).hosts < (D.world desk.old).settings.max_hosts) }
+    ensures full { D.honest desk.new → D.well_kept desk.old → IsErrOf result refused.HostsFull →
+        (caller.now.host ≡ None) × ((D.world desk.old).settings.max_hosts ≤ length (D.world desk.old).hosts) }
+    ensures known { (IsErrOf result refused.BadAccount → ⊥) × (IsErrOf result refused.BadHost → ⊥) }
+{
+    match caller.host {
+        Some(host) => Ok(host),
+        None => next_number(alloc, desk),
+    }
+}
+
+/// The row of a host where its number is known.
+fn known_row<D: Desk>(
+    alloc: Global,
+    desk: &mut D,
+    host: Option<u32>,
+) -> Result<Option<HostRow>, Unavailable>
+    ensures reads { D.reads desk.old desk.new }
+    ensures answer { D.honest desk.new → D.well_kept desk.old →
+        IfOk result (λ row. row ≡ option_and_then (host_at (D.world desk.old)) host) }
+{
+    match host {
+        None => Ok(None),
+        Some(host) => desk.host_by_id(alloc, host),
+    }
+}
+
+/// The quota of a host: its own, or the setting for a new one.
+fn quota_of<D: Desk>(alloc: Global, desk: &mut D, host: Option<u32>) -> Result<u32, Unavailable>
+    ensures reads { D.reads desk.old desk.new }
+    ensures answer { D.honest desk.new → D.well_kept desk.old →
+        IfOk result (λ quota. quota ≡ quota_of (D.world desk.old) host) }
+{
+    match known_row(alloc, desk, host)? {
+        Some(row) => Ok(row.quota),
+        None => Ok(desk.settings(alloc)?.daily_result_quota),
+    }
+}
+
+/// A host's row as its call tells it.
+fn told_host(caller: &Caller, request: &Request, quota: u32) -> Result<HostRow, Memory>
+    ensures { IfOk result (λ row. row ≡ told_host caller.now request.now quota) }
+{
+    Ok(HostRow {
+        account: caller.account,
+        cpid: request.host.host_cpid.clone()?,
+        p_fpops: request.host.p_fpops,
+        m_nbytes: request.host.m_nbytes,
+        d_free: request.host.d_free,
+        platforms: request.platforms.clone()?,
+        quota,
+    })
+}
+
+/// The caller's host as told now, with its quota: its own, or the setting for a new one.
+pub(crate) fn told_row<D: Desk>(
+    alloc: Global,
+    desk: &mut D,
+    caller: &Caller,
+    request: &Request,
+) -> Result<HostRow, Unavailable>
+    ensures reads { D.reads desk.old desk.new }
+    ensures answer { D.honest desk.new → D.well_kept desk.old → IfOk result (λ row.
+        row ≡ told_host caller.now request.now (quota_of (D.world desk.old) caller.now.host)) }
+{
+    let quota = quota_of(alloc, desk, caller.host)?;
+    Ok(told_host(caller, request, quota)?)
+}

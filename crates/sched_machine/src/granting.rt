@@ -1,0 +1,141 @@
+//! The jobs that a host is given, as changes.
+
+ghost use Rattle.std.specs.Prelude.{◌≡◌, ◌∷◌, ◌++◌, [], true, map, Some, is_some, IsTrue, IfOk, OnOk};
+ghost use Rattle.std.specs.List.{list_all};
+ghost use Rattle.sched_book.specs.Places.{host_at};
+ghost use Rattle.sched_book.specs.Delta.{applied};
+ghost use Rattle.sched_book.specs.Step.{with_owner, granted};
+ghost use Rattle.quorum_credit.specs.Limited.{IsLimited, FitWithin};
+ghost use Rattle.quorum_credit.specs.Settling.{AreUnitsInLimits, puts_row};
+ghost use Rattle.sched_machine.specs.Granting.{owner_for, given_at, given_change};
+
+use sched_book::{
+    Change, Delta, Desk, Instance, Moment, Owner, Patched, Place, Unavailable, Units,
+};
+use std::alloc::Global;
+use texts::{Listed, Memory};
+
+/// The owner that a host becomes at a moment, with a delay for its deadline.
+fn owner_for(host: u32, now: Moment, delay: u32) -> Owner
+    ensures { result ≡ owner_for host now delay }
+{
+    Owner {
+        host,
+        sent: now,
+        deadline: now.seconds() + u64::from(delay),
+    }
+}
+
+/// The instance, given to an owner.
+fn with_owner(instance: &Instance, owner: Owner) -> Result<Instance, Memory>
+    ensures { IfOk result (λ row. row ≡ with_owner owner instance.now) }
+{
+    let mut row = instance.clone()?;
+    row.owner = Some(owner);
+    Ok(row)
+}
+
+/// The instance at a place, given to a host; none where none stands.
+fn given_at<D: Units>(
+    alloc: Global,
+    desk: &mut D,
+    host: u32,
+    now: Moment,
+    place: Place,
+) -> Result<Option<Instance>, Unavailable>
+    ensures reads { D.reads desk.old desk.new }
+    ensures answer { D.honest desk.new → D.well_kept desk.old →
+        IfOk result (λ row. row ≡ given_at (D.world desk.old) host now place) }
+{
+    let Some(unit) = desk.unit(alloc, place.unit)? else {
+        return Ok(None);
+    };
+    match desk.instance(alloc, place.unit, place.number)? {
+        None => Ok(None),
+        Some(instance) => Ok(Some(with_owner(&instance, owner_for(host, now, unit.delay_bound))?)),
+    }
+}
+
+/// The same after changes.
+fn given_under<D: Desk>(
+    alloc: Global,
+    desk: &mut D,
+    delta: &Delta,
+    host: u32,
+    now: Moment,
+    place: Place,
+) -> Result<Option<Instance>, Unavailable>
+    ensures reads { D.reads desk.old desk.new }
+    ensures answer { D.honest desk.new → D.well_kept desk.old →
+        IfOk result (λ row. row ≡ given_at (applied (D.world desk.old) delta.now) host now place) }
+{
+    let mut patched = Patched { desk, delta };
+    given_at(alloc, &mut patched, host, now, place)
+}
+
+/// Puts the change that gives an instance to a host behind the others. A place where none stands is refused.
+#[tactic(auto, using(crate::proofs::GrantingDone::push_steps))]
+fn push_given<D: Desk>(
+    alloc: Global,
+    desk: &mut D,
+    delta: &Delta,
+    host: u32,
+    now: Moment,
+    place: Place,
+    more: &mut Delta,
+) -> Result<(), Unavailable>
+    ensures reads { D.reads desk.old desk.new }
+    ensures answer { D.honest desk.new → D.well_kept desk.old → OnOk result (map Some more.new ≡
+        map Some more.old ++ given_change (applied (D.world desk.old) delta.now) host now place ∷ []) }
+    ensures puts { OnOk result (list_all puts_row more.old ≡ true → list_all puts_row more.new ≡ true) }
+{
+    match given_under(alloc, desk, delta, host, now, place)? {
+        None => Err(Unavailable),
+        Some(row) => {
+            more.push(Change::Instance { place, row })?;
+            Ok(())
+        }
+    }
+}
+
+/// The changes that give each of these instances to a host, as they are after the changes before.
+fn given_in_turn<D: Desk>(
+    alloc: Global,
+    desk: &mut D,
+    delta: &Delta,
+    host: u32,
+    now: Moment,
+    jobs: &[Place],
+) -> Result<Delta, Unavailable>
+    ensures reads { D.reads desk.old desk.new }
+    ensures answer { D.honest desk.new → D.well_kept desk.old → IfOk result (λ more.
+        map Some more ≡ map (given_change (applied (D.world desk.old) delta.now) host now) jobs.now) }
+    ensures puts { IfOk result (λ more. list_all puts_row more ≡ true) }
+{
+    let mut more = Listed::new(alloc);
+    for place in jobs {
+        push_given(alloc, desk, delta, host, now, *place, &mut more)?;
+    }
+    Ok(more)
+}
+
+/// The changes that give these instances to a host, after changes. A place where none stands is refused.
+#[tactic(auto, using(crate::proofs::GrantingDone::grant_steps))]
+pub(crate) fn grant_changes<D: Desk>(
+    alloc: Global,
+    desk: &mut D,
+    delta: &Delta,
+    host: u32,
+    now: Moment,
+    jobs: &[Place],
+) -> Result<Delta, Unavailable>
+    ensures reads { D.reads desk.old desk.new }
+    ensures answer { D.honest desk.new → D.well_kept desk.old → IfOk result (λ more.
+        applied (applied (D.world desk.old) delta.now) more ≡ granted (applied (D.world desk.old) delta.now) host now jobs.now) }
+    ensures fits { D.honest desk.new → D.well_kept desk.old → IfOk result (λ more.
+        IsLimited (applied (D.world desk.old) delta.now) → AreUnitsInLimits (applied (D.world desk.old) delta.now)
+        → IsTrue (is_some (host_at (applied (D.world desk.old) delta.now) host)) → FitWithin (applied (D.world desk.old) delta.now) more) }
+    ensures puts { IfOk result (λ more. list_all puts_row more ≡ true) }
+{
+    given_in_turn(alloc, desk, delta, host, now, jobs)
+}
