@@ -6,7 +6,7 @@ use crate::{Taken, agree, canonical, lapse_late, next_quota, settle, take_report
 use rpc_records::{HostInfo, Report, Request};
 use sched_book::{
     Account, Agreement, App, Change, Delta, Desk, HostRow, Instance, Lapse, ListDesk, Moment,
-    Outcome, Owner, Place, Settings, Status, Units, Verdict, Workunit,
+    Outcome, Owner, Place, Settings, Status, Units, Verdict, Workunit, count,
 };
 use std::alloc::Global;
 use std::test::Fail;
@@ -278,6 +278,29 @@ fn two_equal_pairs_decide_nothing(rt: HostRuntime) -> Result<(), Fail> {
     let settled = settle(&Agreement::Exact, &unit, &four);
     assert_eq!(rt; settled.status, Status::Open);
     assert_eq!(rt; settled.new_instances, 1);
+    Ok(())
+}
+
+#[test]
+fn settling_is_counting_from_scratch(rt: HostRuntime) -> Result<(), Fail> {
+    let alloc = rt.alloc();
+    let unit = workunit(alloc, 2, 3, 6)?;
+    let instances = [
+        reported(alloc, 1, "10", 1)?,
+        held(2),
+        reported(alloc, 3, "13", 2)?,
+    ];
+    let agreement = Agreement::Within(2);
+    let settled = settle(&agreement, &unit, &instances);
+    assert_eq!(rt;
+        settled.status,
+        count::status(&agreement, &unit, &instances)
+    );
+    assert_eq!(rt; settled.new_instances, count::need(&unit, &instances));
+    assert_eq!(rt;
+        canonical(&agreement, &unit, &instances),
+        count::canonical(&agreement, &unit, &instances)
+    );
     Ok(())
 }
 

@@ -259,3 +259,18 @@ fn client_errors_lower_the_quota(rt: HostRuntime) -> Result<(), Fail> {
     assert_eq!(rt; instance_count(alloc, &mut desk, 2)?, 3);
     Ok(())
 }
+
+#[test]
+fn a_report_behind_the_quorum_may_disagree(rt: HostRuntime) -> Result<(), Fail> {
+    let alloc = rt.alloc();
+    let mut desk = desk_of(alloc, "w1", "dock", 2, 5, &[1, 2, 3])?;
+    report(alloc, &mut desk, 1, &[("w1_0", 0, "ok")])?;
+    report(alloc, &mut desk, 2, &[("w1_1", 0, "ok")])?;
+    assert_eq!(rt; status(alloc, &mut desk)?, Some(Status::Done));
+    report(alloc, &mut desk, 3, &[("w1_2", 0, "no")])?;
+    assert_eq!(rt; status(alloc, &mut desk)?, Some(Status::Done));
+    assert_eq!(rt; verdict_of(alloc, &mut desk, 0)?, Some(Verdict::Valid));
+    assert_eq!(rt; verdict_of(alloc, &mut desk, 2)?, Some(Verdict::Invalid));
+    assert_eq!(rt; quotas(alloc, &mut desk)?, (4, 4, 3));
+    Ok(())
+}
