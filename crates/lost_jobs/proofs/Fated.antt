@@ -75,7 +75,7 @@ module _ (w : World) (p : Place) where
       ∙ changed_nth-none w.units p.unit)
 
   -- where one stands it is put as it is changed
-  with_changed-is : (f : Instance → Instance) (x : Instance) → instance_at w p ≡ Some x → with_changed f w p ≡ applied_one w (change.Instance p (f x))
+  pub with_changed-is : (f : Instance → Instance) (x : Instance) → instance_at w p ≡ Some x → with_changed f w p ≡ applied_one w (change.Instance p (f x))
   with_changed-is f x stands =
       ap (λ units. record w { units = units })
       (changed_nth-same (with_number f p.number) (with_instance p.number (f x)) w.units p.unit
@@ -93,14 +93,14 @@ fated_twice (Some d) x = ap (λ o. record x { owner = o }) (moved x.owner)
     moved (Some o) = refl
 
 module _ (r : Place → Option ℕ) (before : World) where
-  abbrev by_place : Place → Fate
+  abbrev pub by_place : Place → Fate
   by_place p = record { place = p; resent = r p }
 
   -- the fate of what stands at each place is that of what stood there before any
-  abbrev Alike : World → Type 0
+  abbrev pub Alike : World → Type 0
   Alike w = (p : Place) → option_map (fated (r p)) (instance_at w p) ≡ option_map (fated (r p)) (instance_at before p)
 
-  stay_alike : (w : World) (q : Place) → Alike w → Alike (with_fate w (by_place q))
+  pub stay_alike : (w : World) (q : Place) → Alike w → Alike (with_fate w (by_place q))
   stay_alike w q alike p =
       ap (option_map (fated (r p))) (instance_at-with_changed (fated (r q)) w q p)
       ∙ cases (is_same q p) refl ∙ alike p

@@ -107,6 +107,8 @@ pub fn lost_changes<D: Desk>(
     ensures reads { D.reads desk.old desk.new }
     ensures answer { D.honest desk.new → D.well_kept desk.old → IfOk result (λ more. AreByPlace fates.now →
         applied (applied (D.world desk.old) delta.now) more ≡ fold with_fate (applied (D.world desk.old) delta.now) fates.now) }
+    ensures changes { D.honest desk.new → D.well_kept desk.old →
+        IfOk result (λ more. more ≡ filter_map (fate_change (applied (D.world desk.old) delta.now)) fates.now) }
 {
     fate_changes(alloc, desk, delta, fates)
 }

@@ -1,11 +1,12 @@
 //! The quotas of hosts after settlement.
 
-ghost use Rattle.std.specs.Prelude.{◌≡◌, ℕ, ◌<◌, ◌≤◌, ◌+◌, ◌-◌, ◌^◌, ◌==◌, if◌then◌else◌, None, Some, [], ◌∷◌, ◌++◌, length, filter, IfOk, OnOk};
+ghost use Rattle.std.specs.Prelude.{◌≡◌, ℕ, ◌<◌, ◌≤◌, ◌+◌, ◌-◌, ◌^◌, ◌==◌, true, if◌then◌else◌, None, Some, [], ◌∷◌, ◌++◌, length, filter, IfOk, OnOk};
 ghost use Rattle.std.specs.BTreeMap as tree;
+ghost use Rattle.std.specs.List.{list_all};
 ghost use Rattle.std.specs.Ordering.{nat_cmp};
 ghost use Rattle.sched_book.specs.Places.{host_at};
 ghost use Rattle.sched_book.specs.Delta.{applied, Fits};
-ghost use Rattle.quorum_credit.specs.Settling.{AreHostsInLimits, with_quotas_by};
+ghost use Rattle.quorum_credit.specs.Settling.{puts_row, AreHostsInLimits, with_quotas_by};
 ghost use Rattle.quorum_credit.specs.Tallies.{number_got, hosts_after, host_by, host_after, with_quota_by, new_quota, new_quotas, tally_with, tally_after, tally_in, puts_host, AreSums};
 
 use crate::copies::copy_of;
@@ -316,6 +317,7 @@ pub(crate) fn new_quotas<D: Desk>(
     ensures fits { D.honest desk.new → D.well_kept desk.old → IfOk result (λ more.
         AreHostsInLimits (applied (D.world desk.old) delta.now) → (1 ≤ (D.world desk.old).settings.daily_result_quota) →
         Fits (applied (D.world desk.old) delta.now) more) }
+    ensures puts { D.honest desk.new → D.well_kept desk.old → IfOk result (λ more. list_all puts_row more ≡ true) }
 {
     let sums = sums_of(alloc, marks)?;
     quotas_by(alloc, desk, delta, sums.as_slice())

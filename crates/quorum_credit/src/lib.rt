@@ -26,3 +26,4 @@ pub use quota::next_quota;
 pub use reports::{Taken, take_reports};
 pub use settlement::{Settled, Verdicts, agree, canonical, settle};
 pub use settling::{lapse, settle_all};
+pub use touched::touched_by;

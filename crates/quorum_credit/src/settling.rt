@@ -61,6 +61,7 @@ fn push_all(delta: &mut Delta, changes: Delta) -> Result<(), Memory>
 fn joined(alloc: Global, first: &Delta, then: &Delta) -> Result<Delta, Unavailable>
     ensures joined { IfOk result (λ delta. delta ≡ first.now ++ then.now) }
     ensures puts { OnOk result (list_all puts_row first.now ≡ true) }
+    ensures puts_then { OnOk result (list_all puts_row then.now ≡ true) }
 {
     let mut delta = Listed::new(alloc);
     push_copies(&mut delta, first.as_slice())?;
@@ -89,6 +90,7 @@ pub fn settle_all<D: Desk>(
     ensures fits { D.honest desk.new → D.well_kept desk.old → IfOk result (λ more.
         Sound (D.world desk.old) → Fits (D.world desk.old) delta.now → AreTouched delta.now touched.now →
         Fits (D.world desk.old) (delta.now ++ more)) }
+    ensures puts { D.honest desk.new → D.well_kept desk.old → IfOk result (λ more. list_all puts_row (delta.now ++ more) ≡ true) }
 {
     let mut more = grow_touched(alloc, desk, delta, touched)?;
     let all = joined(alloc, delta, &more)?;

@@ -62,8 +62,12 @@ fn touched_with(alloc: Global, units: Listed<u32>, change: &Change) -> Result<Li
 }
 
 /// The places of the workunits of which the changes put an instance, in their order and each once.
+///
+/// # Errors
+///
+/// [`Memory`] where memory is wanting.
 #[tactic(auto, using(crate::proofs::Rising::touched_steps))]
-pub(crate) fn touched_by(alloc: Global, changes: &[Change]) -> Result<Listed<u32>, Memory>
+pub fn touched_by(alloc: Global, changes: &[Change]) -> Result<Listed<u32>, Memory>
     ensures { IfOk result (λ units. AreTouched changes.now units) }
 {
     let mut units = Listed::new(alloc);

@@ -27,3 +27,4 @@ pub mod EntryHosts
 pub mod AskedSeconds
 pub mod GrantingDone
 pub mod JobsTold
+pub mod RowsAdded

@@ -6,3 +6,5 @@ pub mod Credits
 pub mod Entry
 pub mod Asked
 pub mod Granting
+pub mod Calling
+pub mod Importing

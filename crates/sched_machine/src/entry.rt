@@ -1,8 +1,10 @@
 //! The host of a call: its number, and its row as the call tells it.
 
 ghost use Rattle.std.specs.Prelude.{◌≡◌, ◌<◌, ◌≤◌, ◌+◌, None, length, option_and_then, IfOk, IsErrOf};
+ghost use Rattle.sched_book.specs.Sound.{Sound};
 ghost use Rattle.sched_book.specs.Places.{host_at};
 ghost use Rattle.sched_book.specs.Step.{host_number, told_host};
+ghost use Rattle.sched_machine.specs.Calling.{IsAdmitted, IsCalling, HasRoom};
 ghost use Rattle.sched_machine.specs.Entry.{quota_of};
 ghost use Rattle.sched_machine.specs.declared.admission.Refused.TheVariants as refused;
 
@@ -11,6 +13,16 @@ use rpc_records::Request;
 use sched_book::{Caller, Desk, HostRow, Unavailable};
 use std::alloc::Global;
 use texts::Memory;
+
+/// A call that is acted on.
+#[derive(Drop)]
+pub(crate) struct Calling {
+    pub(crate) caller: Caller,
+    /// The number of its host.
+    pub(crate) number: u32,
+    /// Its host's row, as it is told now, with the quota from before.
+    pub(crate) host: HostRow,
+}
 
 /// The number of the next host; it is refused where no more may stand.
 fn next_number<D: Desk>(alloc: Global, desk: &mut D) -> Result<u32, Refused>
@@ -107,4 +119,29 @@ pub(crate) fn told_row<D: Desk>(
 {
     let quota = quota_of(alloc, desk, caller.host)?;
     Ok(told_host(caller, request, quota)?)
+}
+
+/// The call of a caller, with its host. A new host where no more may stand is refused.
+pub(crate) fn call_of<D: Desk>(
+    alloc: Global,
+    desk: &mut D,
+    caller: &Caller,
+    request: &Request,
+) -> Result<Calling, Refused>
+    ensures reads { D.reads desk.old desk.new }
+    ensures call { D.honest desk.new → D.well_kept desk.old → IfOk result (λ call.
+        Sound (D.world desk.old) → IsAdmitted (D.world desk.old) caller.now request.now → IsCalling (D.world desk.old) request.now call) }
+    ensures caller { IfOk result (λ call. call.caller ≡ caller.now) }
+    ensures room { D.honest desk.new → D.well_kept desk.old → IfOk result (λ call. HasRoom (D.world desk.old) caller.now) }
+    ensures full { D.honest desk.new → D.well_kept desk.old → IsErrOf result refused.HostsFull →
+        (caller.now.host ≡ None) × ((D.world desk.old).settings.max_hosts ≤ length (D.world desk.old).hosts) }
+    ensures known { (IsErrOf result refused.BadAccount → ⊥) × (IsErrOf result refused.BadHost → ⊥) }
+{
+    let number = host_number(alloc, desk, caller)?;
+    let host = told_row(alloc, desk, caller, request)?;
+    Ok(Calling {
+        caller: *caller,
+        number,
+        host,
+    })
 }

@@ -3,7 +3,8 @@
 ghost use Rattle.std.specs.Prelude.{◌≡◌, ◌∷◌, ◌++◌, [], true, map, Some, is_some, IsTrue, IfOk, OnOk};
 ghost use Rattle.std.specs.List.{list_all};
 ghost use Rattle.sched_book.specs.Places.{host_at};
-ghost use Rattle.sched_book.specs.Delta.{applied};
+ghost use Rattle.sched_book.specs.Delta.{applied, Fits};
+ghost use Rattle.sched_book.specs.Sound.{Sound};
 ghost use Rattle.sched_book.specs.Step.{with_owner, granted};
 ghost use Rattle.quorum_credit.specs.Limited.{IsLimited, FitWithin};
 ghost use Rattle.quorum_credit.specs.Settling.{AreUnitsInLimits, puts_row};
@@ -138,4 +139,24 @@ pub(crate) fn grant_changes<D: Desk>(
     ensures puts { IfOk result (λ more. list_all puts_row more ≡ true) }
 {
     given_in_turn(alloc, desk, delta, host, now, jobs)
+}
+
+/// Puts behind changes what gives these instances to a host. A place where none stands is refused.
+pub(crate) fn give<D: Desk>(
+    alloc: Global,
+    desk: &mut D,
+    host: u32,
+    now: Moment,
+    jobs: &[Place],
+    delta: &mut Delta,
+) -> Result<(), Unavailable>
+    ensures reads { D.reads desk.old desk.new }
+    ensures left { D.honest desk.new → D.well_kept desk.old → OnOk result (
+        applied (D.world desk.old) delta.new ≡ granted (applied (D.world desk.old) delta.old) host now jobs.now) }
+    ensures fits { D.honest desk.new → D.well_kept desk.old → OnOk result (Sound (applied (D.world desk.old) delta.old) →
+        IsTrue (is_some (host_at (applied (D.world desk.old) delta.old) host)) →
+        Fits (D.world desk.old) delta.old → Fits (D.world desk.old) delta.new) }
+    ensures puts { OnOk result (list_all puts_row delta.old ≡ true → list_all puts_row delta.new ≡ true) }
+{
+    Err(Unavailable)
 }

@@ -3,12 +3,21 @@
 
 mod admission;
 mod asking;
+mod choosing;
 mod credits;
+mod entering;
 mod entry;
 mod granting;
+mod importing;
 mod jobs;
 pub mod laws;
+mod losing;
+mod machine;
+mod pushing;
+mod replying;
+mod settling;
 #[cfg(test)]
 mod tests;
 
 pub use admission::{Refused, admit};
+pub use machine::step;

@@ -1,6 +1,8 @@
 use Rattle.std.proofs.Common.{◌≡◌, ◌++◌, ◌∙◌, ap, subst, sym}
+use Rattle.std.specs.List.{list_all}
 use Rattle.sched_book.specs.Delta.{applied, Fits}
-use Rattle.quorum_credit.specs.Settling.{with_quotas_by, AreHostsInLimits}
+use Rattle.quorum_credit.specs.Settling.{puts_row, with_quotas_by, AreHostsInLimits}
+use Rattle.quorum_credit.proofs.NewQuotas.{all_put}
 use Rattle.quorum_credit.proofs.SettledAll.{AreSteps, steps_in_turn, settles, settling_fits}
 use Rattle.quorum_credit.proofs.settling.settle_all.Given
 use Rattle.quorum_credit.proofs.settling.settle_all.Goals as goal
@@ -32,3 +34,13 @@ pub returns-clause-fits : goal.returns-clause-fits
 returns-clause-fits g c = λ honest kept sound fits touched.
     subst (λ more. Fits (g.D.Units.world c.args.desk.now) (c.args.delta.now ++ more)) (sym c.in_ok-push_all.ensures)
     (settling_fits _ _ _ _ _ _ (steps g c honest kept) sound fits touched)
+
+pub returns-clause-puts : goal.returns-clause-puts
+returns-clause-puts g c = λ honest kept.
+    let honest_then = g.met.D.Units.stays_honest _ _ c.new_quotas.ensures.reads honest in
+    let honest_first = g.met.D.Units.stays_honest _ _ c.marks_of_touched.ensures.reads honest_then in
+    let kept_then = g.met.D.Units.stays_kept _ _ c.grow_touched.ensures.reads honest_first kept in
+    let kept_last = g.met.D.Units.stays_kept _ _ c.marks_of_touched.ensures.reads honest_then kept_then in
+    ap (λ more. list_all puts_row (c.args.delta.now ++ more)) c.in_ok-push_all.ensures
+    ∙ all_put c.args.delta.now c.in_ok-more.more c.in_ok-quotas.quotas c.in_ok-all.ensures.puts c.in_ok-all.ensures.puts_then
+    (c.in_ok-quotas.ensures.puts honest kept_last)

@@ -1,0 +1,103 @@
+//! One step of the job machine.
+
+ghost use Rattle.std.specs.Prelude.{◌≡◌, ◌≤◌, None, length, IfOk, IsErrOf};
+ghost use Rattle.sched_book.specs.Delta.{applied, Fits};
+ghost use Rattle.sched_book.specs.Imports.{AreChecked};
+ghost use Rattle.sched_book.specs.Sound.{Sound};
+ghost use Rattle.sched_book.specs.declared.world.World.{World};
+ghost use Rattle.sched_book.specs.Step.{IsCaller, RpcStep, TickStep, ImportStep, Step};
+ghost use Rattle.sched_machine.specs.Calling.{HasRoom, IsAdmitted, IsCalling, IsFull, MayBeTold};
+ghost use Rattle.sched_machine.specs.declared.admission.Refused.TheVariants as refused;
+
+use crate::admission::Refused;
+use crate::entry::Calling;
+use rpc_records::{Reply, Request};
+use sched_book::{Answered, Call, Caller, Delta, Desk, Moment, Rows, Unavailable};
+use std::alloc::Global;
+
+/// Acts on a call: its changes and its reply.
+fn act<D: Desk>(
+    alloc: Global,
+    desk: &mut D,
+    call: &Calling,
+    request: &Request,
+    now: Moment,
+) -> Result<(Delta, Reply), Unavailable>
+    ensures reads { D.reads desk.old desk.new }
+    ensures step { D.honest desk.new → D.well_kept desk.old → IfOk result (λ done. IsCalling (D.world desk.old) request.now call.now →
+        RpcStep (D.world desk.old) call.now.caller request.now now (applied (D.world desk.old) done.0) done.1) }
+    ensures fits { D.honest desk.new → D.well_kept desk.old → IfOk result (λ done. IsCalling (D.world desk.old) request.now call.now →
+        Fits (D.world desk.old) done.0) }
+{
+    Err(Unavailable)
+}
+
+/// A call of a host, unless it is of a new one and no more may stand.
+fn hear<D: Desk>(
+    alloc: Global,
+    desk: &mut D,
+    caller: &Caller,
+    request: &Request,
+    now: Moment,
+) -> Result<(Delta, Reply), Refused>
+    ensures reads { D.reads desk.old desk.new }
+    ensures step { D.honest desk.new → D.well_kept desk.old → IfOk result (λ done.
+        Sound (D.world desk.old) → IsAdmitted (D.world desk.old) caller.now request.now →
+        RpcStep (D.world desk.old) caller.now request.now now (applied (D.world desk.old) done.0) done.1) }
+    ensures fits { D.honest desk.new → D.well_kept desk.old → IfOk result (λ done.
+        Sound (D.world desk.old) → IsAdmitted (D.world desk.old) caller.now request.now → Fits (D.world desk.old) done.0) }
+    ensures room { D.honest desk.new → D.well_kept desk.old → IfOk result (λ done. HasRoom (D.world desk.old) caller.now) }
+    ensures full { D.honest desk.new → D.well_kept desk.old → IsErrOf result refused.HostsFull →
+        (caller.now.host ≡ None) × ((D.world desk.old).settings.max_hosts ≤ length (D.world desk.old).hosts) }
+    ensures known { (IsErrOf result refused.BadAccount → ⊥) × (IsErrOf result refused.BadHost → ⊥) }
+{
+    Err(Refused::Unavailable)
+}
+
+/// Adds the rows of an import.
+fn import(alloc: Global, rows: &Rows) -> Result<(Delta, u32), Unavailable>
+    ensures step { IfOk result (λ done. (w : World) → Sound w → AreChecked w rows.now → ImportStep w rows.now (applied w done.0) done.1) }
+    ensures fits { IfOk result (λ done. (w : World) → Sound w → AreChecked w rows.now → Fits w done.0) }
+{
+    Err(Unavailable)
+}
+
+/// Lets time go by.
+fn tick<D: Desk>(alloc: Global, desk: &mut D, now: Moment) -> Result<(Delta, u32), Unavailable>
+    ensures reads { D.reads desk.old desk.new }
+    ensures step { D.honest desk.new → D.well_kept desk.old → IfOk result (λ done. Sound (D.world desk.old) →
+        TickStep (D.world desk.old) now (applied (D.world desk.old) done.0) done.1) }
+    ensures fits { D.honest desk.new → D.well_kept desk.old → IfOk result (λ done. Sound (D.world desk.old) → Fits (D.world desk.old) done.0) }
+{
+    Err(Unavailable)
+}
+
+/// One step of the job machine: what a call, an import or the time changes, and the answer. The desk is only read.
+///
+/// A call is one that is first heard, of the caller that [`admit`](crate::admit) names; rows are such as were
+/// checked. The machine knows nothing of sequence numbers, nor of calls before.
+///
+/// # Errors
+///
+/// [`Refused::HostsFull`] where the call is of a new host and no more may stand; [`Refused::Unavailable`] where memory
+/// is wanting or the desk is unavailable. Nothing else is told here.
+pub fn step<D: Desk>(
+    alloc: Global,
+    desk: &mut D,
+    call: &Call,
+    now: Moment,
+) -> Result<(Delta, Answered), Refused>
+    ensures reads { D.reads desk.old desk.new }
+    ensures step { D.honest desk.new → D.well_kept desk.old → IfOk result (λ done.
+        Sound (D.world desk.old) → MayBeTold (D.world desk.old) call.now →
+        Step (D.world desk.old) call.now now (applied (D.world desk.old) done.0) done.1) }
+    ensures sound { D.honest desk.new → D.well_kept desk.old → IfOk result (λ done.
+        Sound (D.world desk.old) → MayBeTold (D.world desk.old) call.now → Sound (applied (D.world desk.old) done.0)) }
+    ensures fits { D.honest desk.new → D.well_kept desk.old → IfOk result (λ done.
+        Sound (D.world desk.old) → MayBeTold (D.world desk.old) call.now → Fits (D.world desk.old) done.0) }
+    ensures full { D.honest desk.new → D.well_kept desk.old → IsErrOf result refused.HostsFull → IsFull (D.world desk.old) call.now }
+    ensures room { D.honest desk.new → D.well_kept desk.old → IfOk result (λ done. IsFull (D.world desk.old) call.now → ⊥) }
+    ensures known { (IsErrOf result refused.BadAccount → ⊥) × (IsErrOf result refused.BadHost → ⊥) }
+{
+    Err(Refused::Unavailable)
+}
