@@ -108,7 +108,7 @@ module _ (w : World) (hosts : List HostRow) (units : List UnitBook) (q : Asking)
   }
 
 -- what reports and lost jobs leave
-before_settlement : (w : World) (c : Caller) (r : Request) (now : ℕ) → IsFrom (host_number w c) (at_entry w c r) (after_lost w c r now)
+pub before_settlement : (w : World) (c : Caller) (r : Request) (now : ℕ) → IsFrom (host_number w c) (at_entry w c r) (after_lost w c r now)
 before_settlement w c r now =
     let entry : World = at_entry w c r in
     let host : ℕ = host_number w c in

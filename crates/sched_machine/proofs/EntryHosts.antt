@@ -1,7 +1,7 @@
 -- The row of a call's host, put behind what the call's reports change.
 use Rattle.std.proofs.Common.{◌≡◌, ℕ, ◌+◌, ◌-◌, ◌<◌, ◌≤◌, Bool, true, false, cond, eqb, ltb, List, [], ◌∷◌, ◌++◌, length, Option, Some, None, sym, refl, ap, ◌∙◌, subst, arith, set}
 use Rattle.std.specs.Prelude.{IsTrue, bytes_eq, fold, is_some, option_map, unwrap_or}
-use Rattle.std.proofs.lemmas.Bool.{eqb-true}
+use Rattle.std.proofs.lemmas.Bool.{eqb-true, eq-eqb}
 use Rattle.std.proofs.lemmas.List.Sums.{fold-append}
 use Rattle.rpc_records.specs.declared.request.Report.{Report}
 use Rattle.rpc_records.specs.declared.request.Request.{Request}
@@ -10,7 +10,7 @@ use Rattle.sched_book.specs.Delta.{put_at, put_nth, applied_one, applied, FitsOn
 use Rattle.sched_book.specs.Limits.{IsHostInLimits}
 use Rattle.sched_book.specs.Reports.{changed_nth, with_changed, awaits_report, with_report, judged_place, record_at, record_one, recorded, first_reports}
 use Rattle.sched_book.specs.Sound.{IsSoundHost, Sound}
-use Rattle.sched_book.specs.Step.{IsCaller, host_number, told_host, hosts_told, at_entry, after_reports}
+use Rattle.sched_book.specs.Step.{IsCaller, host_number, told_host, hosts_told, at_entry, host_told, after_reports}
 use Rattle.sched_book.specs.declared.delta.Change.{Change}
 use Rattle.sched_book.specs.declared.delta.Change.TheVariants as change
 use Rattle.sched_book.specs.declared.instance.Place.{Place}
@@ -18,14 +18,16 @@ use Rattle.sched_book.specs.declared.machine.Caller.{Caller}
 use Rattle.sched_book.specs.declared.rows.Account.{Account}
 use Rattle.sched_book.specs.declared.rows.HostRow.{HostRow}
 use Rattle.sched_book.specs.declared.world.World.{World}
-use Rattle.sched_book.proofs.PlacesOf.{nth-changed_nth}
+use Rattle.sched_book.proofs.PlacesOf.{nth-push, nth-changed_nth}
 use Rattle.quorum_credit.specs.Tallies.{number_got}
 use Rattle.quorum_credit.proofs.ByPlace.{same_by_place, all_nth}
 use Rattle.quorum_credit.proofs.GrownFits.{fits_then}
 use Rattle.quorum_credit.proofs.Numbered.{number_within}
 use Rattle.quorum_credit.proofs.Quotas.{nth-put_nth}
+use Rattle.sched_machine.specs.Calling.{IsCalling}
 use Rattle.sched_machine.specs.Entry.{quota_of}
 use Rattle.sched_machine.specs.Well.{IsRequestInLimits}
+use Rattle.sched_machine.specs.declared.entry.Calling.{Calling}
 use Rattle.sched_machine.proofs.RowsListed.{place_found}
 
 -- a world with the settings, the accounts and the hosts of another, of which reports know nothing
@@ -104,6 +106,26 @@ module _ (w : World) (c : Caller) (r : Request) (caller : IsCaller w c r) where
           ap (λ quota. put_nth w.hosts host (told_host c r quota)) (quota_at host found.0 found.1)
           ∙ put_changed (λ (h : HostRow). told_host c r h.quota) w.hosts host found.0 found.1
 
+  -- it is the caller's host as told now
+  pub row_told : told_host c r (quota_of w c.host) ≡ host_told w c r
+  row_told = cases c.host caller.host
+    where
+      cases : (o : Option ℕ) → known_host w c.account r.host.host_cpid ≡ o
+          → told_host c r (quota_of w o) ≡ unwrap_or (nth (hosts_told w c r o) (unwrap_or o (length w.hosts + 1))) (told_host c r 1)
+      cases None is =
+          let told = told_host c r w.settings.daily_result_quota in
+          sym (ap (λ (o : Option HostRow). unwrap_or o (told_host c r 1)) (
+          nth-push w.hosts told (length w.hosts + 1)
+          ∙ ap (λ (b : Bool). cond b (Some told) (nth w.hosts (length w.hosts + 1))) (eq-eqb (length w.hosts + 1) (length w.hosts + 1) refl)))
+      cases (Some host) is =
+          let found = place_found (is_host_of c.account r.host.host_cpid) w.hosts host is in
+          let renewed : HostRow → HostRow = λ (h : HostRow). told_host c r h.quota in
+          ap (told_host c r) (quota_at host found.0 found.1)
+          ∙ sym (ap (λ (o : Option HostRow). unwrap_or o (told_host c r 1)) (
+          nth-changed_nth renewed w.hosts host host
+          ∙ ap (λ (b : Bool). cond b (option_map renewed (nth w.hosts host)) (nth w.hosts host)) (eq-eqb host host refl)
+          ∙ ap (option_map renewed) found.1))
+
 -- reports and then the caller's row are the row and then the reports
 pub entered : (w : World) (c : Caller) (r : Request) → Sound w → IsCaller w c r → (cs : List Change)
     → applied w cs ≡ recorded w (host_number w c) r.results
@@ -160,3 +182,22 @@ module _ (w : World) (c : Caller) (r : Request) (sound : Sound w) (caller : IsCa
       let row = change.Host (host_number w c) (told_host c r (quota_of w c.host)) in
       fits_then w cs (row ∷ []) fits
       (subst (λ v. FitsOne v row) (sym (are ∙ recorded_as_in w (host_number w c) w r.results)) (told_fits room), tt)
+
+-- the same of a call that is acted on
+module _ (w : World) (r : Request) (k : Calling) (calling : IsCalling w r k) (cs : List Change) (are : applied w cs ≡ recorded w k.number r.results) where
+  row_is : told_host k.caller r (quota_of w k.caller.host) ≡ k.host
+  row_is = row_told w k.caller r calling.admitted.caller ∙ sym calling.host
+
+  change_is : change.Host (host_number w k.caller) (told_host k.caller r (quota_of w k.caller.host)) ≡ change.Host k.number k.host
+  change_is = ap (change.Host (host_number w k.caller)) row_is ∙ ap (λ n. change.Host n k.host) (sym calling.number)
+
+  told : applied w cs ≡ recorded w (host_number w k.caller) r.results
+  told = are ∙ ap (λ n. recorded w n r.results) calling.number
+
+  pub enters : applied w (cs ++ change.Host k.number k.host ∷ []) ≡ after_reports w k.caller r
+  enters = ap (λ c. applied w (cs ++ c ∷ [])) (sym change_is) ∙ entered w k.caller r calling.sound calling.admitted.caller cs told
+
+  pub enters_fit : Fits w cs → Fits w (cs ++ change.Host k.number k.host ∷ [])
+  enters_fit fits =
+      subst (λ c. Fits w (cs ++ c ∷ [])) change_is
+      (entered_fits w k.caller r calling.sound calling.admitted.caller calling.admitted.limits calling.room cs told fits)

@@ -21,6 +21,8 @@ pub mod AlikeUnits
 pub mod AlikeCalls
 pub mod AlikeHosts
 pub mod AlikeSettled
+pub mod SettledHolds
+pub mod SettledAsking
 pub mod CreditUsers
 pub mod Credited
 pub mod EntryHosts
@@ -28,3 +30,7 @@ pub mod AskedSeconds
 pub mod GrantingDone
 pub mod JobsTold
 pub mod RowsAdded
+pub mod SettledCalls
+pub mod CallsDone
+pub mod JobsLost
+pub mod JobsFit

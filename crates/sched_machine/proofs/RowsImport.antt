@@ -162,7 +162,7 @@ module _ (w : World) (sound : Sound w) where
           length-map (w.units ++ map new_unit us) (λ (b : UnitBook). b.unit) in
           omega arith
 
-rows_added : (w : World) (new : Rows) → Sound w → AreChecked w new → Sound (with_rows w new)
+pub rows_added : (w : World) (new : Rows) → Sound w → AreChecked w new → Sound (with_rows w new)
 rows_added w (rows.Accounts xs) sound checked = accounts_added w sound xs checked
 rows_added w (rows.Apps xs) sound checked = apps_added w sound xs checked
 rows_added w (rows.Versions xs) sound checked = versions_added w sound xs checked

@@ -79,7 +79,7 @@ lapses_stay : (w : World) (now : ℕ) → frame (lapsed w now) ≡ frame w
 lapses_stay w now = fold_stays (with_changed (with_lapse Late)) (λ v p. refl) (overdue w now) w
 
 -- a sound world is sound but for what open workunits may lack
-sound_is_well : (w : World) → Sound w → IsWell w
+pub sound_is_well : (w : World) → Sound w → IsWell w
 sound_is_well w sound = record {
   rows = record {
     settings = sound.settings;
@@ -139,7 +139,7 @@ module _ (w : World) (c : Caller) (r : Request) (now : ℕ) (sound : Sound w) (c
   entered : Sound (at_entry w c r)
   entered = entry_keeps_sound w c r sound caller room limits
 
-  reported : IsWell (after_reports w c r)
+  pub reported : IsWell (after_reports w c r)
   reported = reports_keep_well (at_entry w c r) (host_number w c) r.results (sound_is_well (at_entry w c r) entered)
 
   left_well : IsWell (after_lost w c r now)
@@ -152,10 +152,10 @@ module _ (w : World) (c : Caller) (r : Request) (now : ℕ) (sound : Sound w) (c
       lost_jobs_stay (at_entry w c r) (host_told w c r) now (lost_of w c r) (after_reports w c r)
       ∙ reports_stay (at_entry w c r) (host_number w c) r.results
 
-  settled_sound : Sound (after_settlement w c r now)
+  pub settled_sound : Sound (after_settlement w c r now)
   settled_sound = settlement_makes_sound (at_entry w c r) (after_lost w c r now) (ap (λ f. f.0) (sym same_frame)) left_well
 
-  host_stands : host_at (after_settlement w c r now) (host_number w c) ≡ Some (asking_of w c r now).host
+  pub host_stands : host_at (after_settlement w c r now) (host_number w c) ≡ Some (asking_of w c r now).host
   host_stands =
       some_or (host_at (after_settlement w c r now) (host_number w c)) (host_told w c r)
       (ap is_some ((settlement_is_pointwise (at_entry w c r) (after_lost w c r now)).host (host_number w c))

@@ -64,7 +64,7 @@ module _ (f : ℕ → ℕ) where
   deadline_low low None was = was
   deadline_low low (Some o) was = low o.deadline was
 
-  deadline_keeps : ((d : ℕ) → d ≤ 250100000000 → f d ≤ 250100000000) → (x : Instance) → Keeps x (with_deadline f x)
+  pub deadline_keeps : ((d : ℕ) → d ≤ 250100000000 → f d ≤ 250100000000) → (x : Instance) → Keeps x (with_deadline f x)
   deadline_keeps low x = record {
     given = still_some x.owner;
     host = same_host x.owner;
@@ -77,14 +77,14 @@ module _ (f : ℕ → ℕ) where
   }
 
 -- a workunit's delay keeps a deadline within limits
-delay_is_low : (w : World) (p : Place) → IsWell w → delay_at w p ≤ 100000000
+pub delay_is_low : (w : World) (p : Place) → IsWell w → delay_at w p ≤ 100000000
 delay_is_low w p well = cases (unit_at w p.unit) refl
   where
     cases : (o : Option UnitBook) → unit_at w p.unit ≡ o → unwrap_or (option_map (λ (b : UnitBook). b.unit.delay_bound) o) 0 ≤ 100000000
     cases None stands = omega arith
     cases (Some b) stands = (all_nth (IsWellUnit w.hosts w.apps) w.units p.unit b well.units stands).limits.delay.1
 
-deadline_is_low : (now seconds delay : ℕ) → now ≤ 250000000000 → delay ≤ 100000000 → (d : ℕ) → d ≤ 250100000000
+pub deadline_is_low : (now seconds delay : ℕ) → now ≤ 250000000000 → delay ≤ 100000000 → (d : ℕ) → d ≤ 250100000000
     → deadline_after now seconds delay d ≤ 250100000000
 deadline_is_low now seconds delay early short d low = cases (nat_le (now + seconds) d)
   where

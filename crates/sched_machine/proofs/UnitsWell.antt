@@ -125,7 +125,7 @@ other_users hosts x y a b first second others = λ given also same.
     others (sym first.given ∙ given) (sym second.given ∙ also)
     (sym (ap (account_in hosts) first.host) ∙ same ∙ ap (account_in hosts) second.host)
 
-owner_among : (hosts : List HostRow) (x y : Instance) → Keeps x y → HasOwnerAmong hosts x → HasOwnerAmong hosts y
+pub owner_among : (hosts : List HostRow) (x y : Instance) → Keeps x y → HasOwnerAmong hosts x → HasOwnerAmong hosts y
 owner_among hosts x y keeps among = λ given.
     ap (λ n. is_some (nth hosts n)) keeps.host ∙ among (sym keeps.given ∙ given)
 

@@ -1,17 +1,19 @@
 //! What a call's host holds, and the seconds of the jobs that are sent to it again.
 
-ghost use Rattle.std.specs.Prelude.{◌≡◌, filter, length, sum_by, IfOk};
+ghost use Rattle.std.specs.Prelude.{◌≡◌, [], ◌++◌, filter, length, sum_by, IfOk, OnOk};
+ghost use Rattle.std.specs.List.{cons_option};
 ghost use Rattle.sched_book.specs.Fits.{estimate};
 ghost use Rattle.sched_book.specs.Places.{is_held_by, held_by};
 ghost use Rattle.sched_book.specs.Lost.{estimate_at};
 ghost use Rattle.sched_book.specs.Delta.{applied};
 ghost use Rattle.lost_jobs.specs.Holding.{HoldsNoMore};
-ghost use Rattle.sched_machine.specs.Asked.{holds, count_with, fate_seconds, resent_places};
+ghost use Rattle.sched_machine.specs.Asked.{holds, count_with, fate_seconds, place_resent, resent_places};
 
 use job_choice::estimate;
 use lost_jobs::Fate;
 use sched_book::{Delta, Desk, HostRow, Instance, Patched, Place, Unavailable, Units, count};
 use std::alloc::Global;
+use texts::{Listed, Memory};
 
 /// Whether the host holds the instance.
 fn is_held_by(host: u32, instance: &Instance) -> bool
@@ -182,4 +184,25 @@ pub(crate) fn resent_seconds<D: Desk>(
         seconds ≡ sum_by (estimate_at (D.world desk.old) host.now) (resent_places fates.now)) }
 {
     all_seconds(alloc, desk, host, fates)
+}
+
+/// Puts the place of a lost job behind the others, where it is sent again.
+fn add_resent(places: &mut Listed<Place>, fate: Fate) -> Result<(), Memory>
+    ensures { OnOk result (places.new ≡ places.old ++ cons_option (place_resent fate.resent fate.place) []) }
+{
+    match fate.resent {
+        None => Ok(()),
+        Some(_) => places.push(fate.place),
+    }
+}
+
+/// The places of the jobs that are sent again.
+pub(crate) fn resent_places(alloc: Global, fates: &[Fate]) -> Result<Listed<Place>, Memory>
+    ensures { IfOk result (λ places. places ≡ resent_places fates.now) }
+{
+    let mut places = Listed::new(alloc);
+    for fate in fates {
+        add_resent(&mut places, *fate)?;
+    }
+    Ok(places)
 }

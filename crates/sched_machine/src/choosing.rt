@@ -1,19 +1,80 @@
 //! The choice of new jobs for a call.
 
-ghost use Rattle.std.specs.Prelude.{◌≡◌, IfOk};
-ghost use Rattle.job_choice.specs.Chosen.{places_of};
+ghost use Rattle.std.specs.Prelude.{◌≡◌, length, sum_by, unwrap_or, IfOk};
+ghost use Rattle.job_choice.specs.Chosen.{IsChoice, places_of};
+ghost use Rattle.lost_jobs.specs.Holding.{HoldsNoMore};
 ghost use Rattle.sched_book.specs.Delta.{applied};
 ghost use Rattle.sched_book.specs.Grant.{IsGrant, end_word};
+ghost use Rattle.sched_book.specs.Lost.{estimate_at};
+ghost use Rattle.sched_book.specs.Places.{host_at, held_by};
 ghost use Rattle.sched_book.specs.Step.{after_settlement, asking_of, resent_of};
 ghost use Rattle.sched_machine.specs.Asked.{resent_places};
 ghost use Rattle.sched_machine.specs.Calling.{IsCalling};
 
+use crate::asking::{held_after, resent_seconds};
 use crate::entry::Calling;
-use job_choice::Grant;
+use job_choice::{Grant, Granted, choose};
 use lost_jobs::Fate;
+use quorum_credit::host_under;
 use rpc_records::Request;
-use sched_book::{Delta, Desk, Moment, Unavailable};
+use sched_book::{Delta, Desk, HostRow, Moment, Place, Unavailable};
 use std::alloc::Global;
+use texts::{Listed, Memory};
+
+/// The row of a call's host after changes; where none stands, as the call tells it.
+fn host_row<D: Desk>(
+    alloc: Global,
+    desk: &mut D,
+    call: &Calling,
+    delta: &Delta,
+) -> Result<HostRow, Unavailable>
+    ensures reads { D.reads desk.old desk.new }
+    ensures answer { D.honest desk.new → D.well_kept desk.old → IfOk result (λ row.
+        row ≡ unwrap_or (host_at (applied (D.world desk.old) delta.now) call.now.number) call.now.host) }
+{
+    match host_under(alloc, desk, delta, call.number)? {
+        Some(row) => Ok(row),
+        None => Ok(call.host.clone()?),
+    }
+}
+
+/// Chooses new jobs for a call's host by its row, where these changes leave it holding no more than before, and its
+/// lost jobs have these fates.
+fn choose_by_row<D: Desk>(
+    alloc: Global,
+    desk: &mut D,
+    call: &Calling,
+    row: &HostRow,
+    request: &Request,
+    now: Moment,
+    delta: &Delta,
+    fates: &[Fate],
+) -> Result<Grant, Unavailable>
+    ensures reads { D.reads desk.old desk.new }
+    ensures answer { D.honest desk.new → D.well_kept desk.old → IfOk result (λ grant.
+        HoldsNoMore (D.world desk.old) (applied (D.world desk.old) delta.now) call.now.number →
+        IsChoice (D.world desk.old) (record {
+          number = call.now.number;
+          host = row.now;
+          before = sum_by (estimate_at (D.world desk.old) call.now.host) (resent_places fates.now);
+          held = length (held_by (applied (D.world desk.old) delta.now) call.now.number);
+          asked = request.now.asked;
+          now = now;
+        }) grant) }
+{
+    let held = held_after(alloc, desk, delta, call.number)?;
+    let before = resent_seconds(alloc, desk, &call.host, fates)?;
+    choose(
+        alloc,
+        desk,
+        call.number,
+        row,
+        before,
+        held,
+        request.asked,
+        now,
+    )
+}
 
 /// Chooses new jobs for a call, where the changes up to settlement are these and its lost jobs have these fates. The
 /// candidates are read before the changes: for the caller they are the same.
@@ -38,5 +99,17 @@ pub(crate) fn choose_jobs<D: Desk>(
         grant.end_word ≡ end_word (after_settlement (D.world desk.old) call.now.caller request.now now)
         (asking_of (D.world desk.old) call.now.caller request.now now) (places_of grant.jobs)) }
 {
-    Err(Unavailable)
+    let row = host_row(alloc, desk, call, delta)?;
+    choose_by_row(alloc, desk, call, &row, request, now, delta, fates)
+}
+
+/// The places of jobs.
+pub(crate) fn places_of(alloc: Global, jobs: &[Granted]) -> Result<Listed<Place>, Memory>
+    ensures { IfOk result (λ places. places ≡ places_of jobs.now) }
+{
+    let mut places = Listed::new(alloc);
+    for job in jobs {
+        places.push(job.place)?;
+    }
+    Ok(places)
 }

@@ -1,10 +1,11 @@
 //! What a call's reports change, and its host behind them.
 
-ghost use Rattle.std.specs.Prelude.{◌≡◌, map, IfOk};
+ghost use Rattle.std.specs.Prelude.{◌≡◌, [], ◌∷◌, ◌++◌, map, IfOk, OnOk};
 ghost use Rattle.rpc_records.specs.declared.request.Report.{Report};
 ghost use Rattle.sched_book.specs.Delta.{applied, Fits};
 ghost use Rattle.sched_book.specs.Reports.{first_reports};
 ghost use Rattle.sched_book.specs.Step.{after_reports};
+ghost use Rattle.sched_book.specs.declared.delta.Change.TheVariants as change;
 ghost use Rattle.sched_machine.specs.Calling.{IsCalling};
 
 use crate::entry::Calling;
@@ -12,7 +13,7 @@ use quorum_credit::{Taken, take_reports};
 use rpc_records::Request;
 use sched_book::{Change, Delta, Desk, Unavailable};
 use std::alloc::Global;
-use texts::{Listed, Text};
+use texts::{Listed, Memory, Text};
 
 /// What a call's reports and its host's row change.
 #[derive(Drop)]
@@ -20,6 +21,16 @@ pub(crate) struct Entered {
     pub(crate) delta: Delta,
     /// The names that are acknowledged, in their order.
     pub(crate) acked: Listed<Text>,
+}
+
+/// Puts a call's host, as it is told now, behind changes.
+fn push_host(delta: &mut Delta, call: &Calling) -> Result<(), Memory>
+    ensures { OnOk result (delta.new ≡ delta.old ++ change.Host call.now.number call.now.host ∷ []) }
+{
+    delta.push(Change::Host {
+        number: call.number,
+        row: call.host.clone()?,
+    })
 }
 
 /// Takes the reports of a call, and puts its host's row as it is told now behind what they change.
@@ -41,9 +52,6 @@ pub(crate) fn enter<D: Desk>(
         acked,
         touched: _,
     } = take_reports(alloc, desk, call.number, request)?;
-    delta.push(Change::Host {
-        number: call.number,
-        row: call.host.clone()?,
-    })?;
+    push_host(&mut delta, call)?;
     Ok(Entered { delta, acked })
 }

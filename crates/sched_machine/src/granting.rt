@@ -10,6 +10,7 @@ ghost use Rattle.quorum_credit.specs.Limited.{IsLimited, FitWithin};
 ghost use Rattle.quorum_credit.specs.Settling.{AreUnitsInLimits, puts_row};
 ghost use Rattle.sched_machine.specs.Granting.{owner_for, given_at, given_change};
 
+use crate::pushing::push_all;
 use sched_book::{
     Change, Delta, Desk, Instance, Moment, Owner, Patched, Place, Unavailable, Units,
 };
@@ -158,5 +159,7 @@ pub(crate) fn give<D: Desk>(
         Fits (D.world desk.old) delta.old → Fits (D.world desk.old) delta.new) }
     ensures puts { OnOk result (list_all puts_row delta.old ≡ true → list_all puts_row delta.new ≡ true) }
 {
-    Err(Unavailable)
+    let more = grant_changes(alloc, desk, delta, host, now, jobs)?;
+    push_all(delta, more)?;
+    Ok(())
 }

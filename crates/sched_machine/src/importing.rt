@@ -86,7 +86,7 @@ fn rows_added(alloc: Global, rows: &Rows) -> Result<Delta, Memory>
 }
 
 /// The changes that add these rows, which fit a sound world where they were checked beside it.
-#[tactic(auto, using(crate::proofs::RowsAdded::added))]
+#[tactic(auto, using(crate::proofs::RowsAdded::import_steps))]
 pub(crate) fn changes_of(alloc: Global, rows: &Rows) -> Result<Delta, Memory>
     ensures left { IfOk result (λ delta. (w : World) → applied w delta ≡ with_rows w rows.now) }
     ensures fits { IfOk result (λ delta. (w : World) → Sound w → AreChecked w rows.now → Fits w delta) }

@@ -10,7 +10,14 @@ ghost use Rattle.sched_machine.specs.Calling.{HasRoom, IsAdmitted, IsCalling, Is
 ghost use Rattle.sched_machine.specs.declared.admission.Refused.TheVariants as refused;
 
 use crate::admission::Refused;
-use crate::entry::Calling;
+use crate::asking::resent_places;
+use crate::entry::{Calling, call_of};
+use crate::giving::{NewJobs, give_jobs};
+use crate::importing::{changes_of, row_count};
+use crate::preparing::{Prepared, prepare};
+use crate::replying::{Said, reply_to};
+use crate::settling::settle;
+use quorum_credit::{Lapsed, lapse_late};
 use rpc_records::{Reply, Request};
 use sched_book::{Answered, Call, Caller, Delta, Desk, Moment, Rows, Unavailable};
 use std::alloc::Global;
@@ -29,7 +36,38 @@ fn act<D: Desk>(
     ensures fits { D.honest desk.new → D.well_kept desk.old → IfOk result (λ done. IsCalling (D.world desk.old) request.now call.now →
         Fits (D.world desk.old) done.0) }
 {
-    Err(Unavailable)
+    let Prepared {
+        mut delta,
+        acked,
+        aborted,
+        fates,
+    } = prepare(alloc, desk, call, request, now)?;
+    let NewJobs { places, end_word } = give_jobs(
+        alloc,
+        desk,
+        call,
+        request,
+        now,
+        fates.as_slice(),
+        &mut delta,
+    )?;
+    let resent = resent_places(alloc, fates.as_slice())?;
+    let said = Said {
+        acked,
+        aborted,
+        end_word,
+    };
+    let reply = reply_to(
+        alloc,
+        desk,
+        call,
+        request,
+        said,
+        resent.as_slice(),
+        places.as_slice(),
+        &delta,
+    )?;
+    Ok((delta, reply))
 }
 
 /// A call of a host, unless it is of a new one and no more may stand.
@@ -51,7 +89,8 @@ fn hear<D: Desk>(
         (caller.now.host ≡ None) × ((D.world desk.old).settings.max_hosts ≤ length (D.world desk.old).hosts) }
     ensures known { (IsErrOf result refused.BadAccount → ⊥) × (IsErrOf result refused.BadHost → ⊥) }
 {
-    Err(Refused::Unavailable)
+    let call = call_of(alloc, desk, caller, request)?;
+    Ok(act(alloc, desk, &call, request, now)?)
 }
 
 /// Adds the rows of an import.
@@ -59,7 +98,8 @@ fn import(alloc: Global, rows: &Rows) -> Result<(Delta, u32), Unavailable>
     ensures step { IfOk result (λ done. (w : World) → Sound w → AreChecked w rows.now → ImportStep w rows.now (applied w done.0) done.1) }
     ensures fits { IfOk result (λ done. (w : World) → Sound w → AreChecked w rows.now → Fits w done.0) }
 {
-    Err(Unavailable)
+    let delta = changes_of(alloc, rows)?;
+    Ok((delta, row_count(rows)?))
 }
 
 /// Lets time go by.
@@ -69,7 +109,13 @@ fn tick<D: Desk>(alloc: Global, desk: &mut D, now: Moment) -> Result<(Delta, u32
         TickStep (D.world desk.old) now (applied (D.world desk.old) done.0) done.1) }
     ensures fits { D.honest desk.new → D.well_kept desk.old → IfOk result (λ done. Sound (D.world desk.old) → Fits (D.world desk.old) done.0) }
 {
-    Err(Unavailable)
+    let Lapsed {
+        mut delta,
+        count,
+        touched: _,
+    } = lapse_late(alloc, desk, now)?;
+    settle(alloc, desk, &mut delta)?;
+    Ok((delta, count))
 }
 
 /// One step of the job machine: what a call, an import or the time changes, and the answer. The desk is only read.
@@ -99,5 +145,18 @@ pub fn step<D: Desk>(
     ensures room { D.honest desk.new → D.well_kept desk.old → IfOk result (λ done. IsFull (D.world desk.old) call.now → ⊥) }
     ensures known { (IsErrOf result refused.BadAccount → ⊥) × (IsErrOf result refused.BadHost → ⊥) }
 {
-    Err(Refused::Unavailable)
+    match call {
+        Call::Rpc(caller, request) => {
+            let (delta, reply) = hear(alloc, desk, caller, request, now)?;
+            Ok((delta, Answered::Rpc(reply)))
+        }
+        Call::Import(rows) => {
+            let (delta, count) = import(alloc, rows)?;
+            Ok((delta, Answered::Imported(count)))
+        }
+        Call::Tick => {
+            let (delta, count) = tick(alloc, desk, now)?;
+            Ok((delta, Answered::Lapsed(count)))
+        }
+    }
 }

@@ -1,0 +1,121 @@
+//! All that a call comes to before new jobs are chosen: reports, lost jobs, settlement.
+
+ghost use Rattle.std.specs.Prelude.{◌≡◌, true, map, IfOk};
+ghost use Rattle.std.specs.List.{list_all};
+ghost use Rattle.quorum_credit.specs.Settling.{puts_row};
+ghost use Rattle.rpc_records.specs.declared.request.Report.{Report};
+ghost use Rattle.sched_book.specs.Delta.{applied, Fits};
+ghost use Rattle.sched_book.specs.Lost.{aborts};
+ghost use Rattle.sched_book.specs.Reports.{first_reports};
+ghost use Rattle.sched_book.specs.Step.{host_number, after_reports, after_lost, after_settlement, resent_of};
+ghost use Rattle.sched_machine.specs.Asked.{resent_places};
+ghost use Rattle.sched_machine.specs.Calling.{IsCalling};
+
+use crate::entering::{Entered, enter};
+use crate::entry::Calling;
+use crate::losing::lose;
+use crate::settling::settle;
+use lost_jobs::{Fate, aborts};
+use rpc_records::Request;
+use sched_book::{Delta, Desk, Moment, Patched, Unavailable};
+use std::alloc::Global;
+use texts::{Listed, Text};
+
+/// What a call comes to up to settlement.
+#[derive(Drop)]
+struct Settled {
+    delta: Delta,
+    acked: Listed<Text>,
+    fates: Listed<Fate>,
+}
+
+/// What a call comes to before new jobs are chosen.
+#[derive(Drop)]
+pub(crate) struct Prepared {
+    /// All changes up to settlement.
+    pub(crate) delta: Delta,
+    /// The names that are acknowledged.
+    pub(crate) acked: Listed<Text>,
+    /// The names that the client may forget.
+    pub(crate) aborted: Listed<Text>,
+    /// What becomes of each lost job.
+    pub(crate) fates: Listed<Fate>,
+}
+
+/// The names of a call's list that its client may forget, after changes.
+fn aborts_after<D: Desk>(
+    alloc: Global,
+    desk: &mut D,
+    delta: &Delta,
+    host: u32,
+    request: &Request,
+) -> Result<Listed<Text>, Unavailable>
+    ensures reads { D.reads desk.old desk.new }
+    ensures answer { D.honest desk.new → D.well_kept desk.old → IfOk result (λ names.
+        names ≡ aborts (applied (D.world desk.old) delta.now) host request.now.other_results) }
+{
+    let mut patched = Patched { desk, delta };
+    aborts(alloc, &mut patched, host, request)
+}
+
+/// Takes the reports of a call, sends its lost jobs again or drops them, and settles what all this touches.
+fn settle_call<D: Desk>(
+    alloc: Global,
+    desk: &mut D,
+    call: &Calling,
+    request: &Request,
+    now: Moment,
+) -> Result<Settled, Unavailable>
+    ensures reads { D.reads desk.old desk.new }
+    ensures left { D.honest desk.new → D.well_kept desk.old → IfOk result (λ settled. IsCalling (D.world desk.old) request.now call.now →
+        applied (D.world desk.old) settled.delta ≡ after_settlement (D.world desk.old) call.now.caller request.now now) }
+    ensures fits { D.honest desk.new → D.well_kept desk.old → IfOk result (λ settled. IsCalling (D.world desk.old) request.now call.now →
+        Fits (D.world desk.old) settled.delta) }
+    ensures puts { D.honest desk.new → D.well_kept desk.old → IfOk result (λ settled. list_all puts_row settled.delta ≡ true) }
+    ensures acked { IfOk result (λ settled. settled.acked ≡ map (λ (r : Report). r.name) (first_reports request.now.results)) }
+    ensures resent { D.honest desk.new → D.well_kept desk.old → IfOk result (λ settled. IsCalling (D.world desk.old) request.now call.now →
+        resent_places settled.fates ≡ resent_of (D.world desk.old) call.now.caller request.now) }
+{
+    let Entered { mut delta, acked } = enter(alloc, desk, call, request)?;
+    let fates = lose(alloc, desk, call, request, now, &mut delta)?;
+    settle(alloc, desk, &mut delta)?;
+    Ok(Settled {
+        delta,
+        acked,
+        fates,
+    })
+}
+
+/// The same, with the names that the client may forget then.
+pub(crate) fn prepare<D: Desk>(
+    alloc: Global,
+    desk: &mut D,
+    call: &Calling,
+    request: &Request,
+    now: Moment,
+) -> Result<Prepared, Unavailable>
+    ensures reads { D.reads desk.old desk.new }
+    ensures left { D.honest desk.new → D.well_kept desk.old → IfOk result (λ prepared. IsCalling (D.world desk.old) request.now call.now →
+        applied (D.world desk.old) prepared.delta ≡ after_settlement (D.world desk.old) call.now.caller request.now now) }
+    ensures fits { D.honest desk.new → D.well_kept desk.old → IfOk result (λ prepared. IsCalling (D.world desk.old) request.now call.now →
+        Fits (D.world desk.old) prepared.delta) }
+    ensures puts { D.honest desk.new → D.well_kept desk.old → IfOk result (λ prepared. list_all puts_row prepared.delta ≡ true) }
+    ensures acked { IfOk result (λ prepared. prepared.acked ≡ map (λ (r : Report). r.name) (first_reports request.now.results)) }
+    ensures aborted { D.honest desk.new → D.well_kept desk.old → IfOk result (λ prepared.
+        prepared.aborted ≡ aborts (applied (D.world desk.old) prepared.delta) call.now.number request.now.other_results) }
+    ensures resent { D.honest desk.new → D.well_kept desk.old → IfOk result (λ prepared. IsCalling (D.world desk.old) request.now call.now →
+        resent_places prepared.fates ≡ resent_of (D.world desk.old) call.now.caller request.now) }
+{
+    let Settled {
+        delta,
+        acked,
+        fates,
+    } = settle_call(alloc, desk, call, request, now)?;
+    let aborted = aborts_after(alloc, desk, &delta, call.number, request)?;
+    Ok(Prepared {
+        delta,
+        acked,
+        aborted,
+        fates,
+    })
+}
