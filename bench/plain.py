@@ -1,251 +1,477 @@
 #!/usr/bin/env python3
-"""A scheduler that hands out no work, in plain Python: the twin that `bench/run` measures the program against.
+"""The scheduler in plain Python, over lists and dicts: the twin that `bench/run` measures the program against.
 
-Reads the lines of a replay on standard input (see docs/PROFILE.md), prints the answers.
+usage: plain.py [SETTING=NUMBER..]
+Reads the lines of a replay on standard input and prints the answers; docs/PROFILE.md states the formats and the rules.
+It is written from these, not from the program. plain_formats.py has the formats. The word `hosts/ID` it does not know.
 """
-import csv
-import io
-import json
 import re
 import sys
-from datetime import datetime
+from bisect import bisect_left
+from collections import Counter
+from dataclasses import dataclass, field
 
-MAX_HOSTS = int(sys.argv[1]) if len(sys.argv) > 1 else 3
-REQUEST_DELAY = 60
-WORD = set("abcdefghijklmnopqrstuvwxyzABCDEFGHIJKLMNOPQRSTUVWXYZ0123456789_-.")
-MISSING = object()
+from plain_formats import KINDS, NUMBER, Refused, is_word, moment, read_json, record_of, rows_of, text
 
-
-class Refused(Exception):
-    def __init__(self, status, number, name, **more):
-        self.status = status
-        self.body = text({"error": name, "number": number, **more})
-
-
-def text(value):
-    return json.dumps(value, ensure_ascii=False, sort_keys=True, separators=(",", ":"))
-
-
-def faulty(member):
-    return Refused(400, 7, "bad_member", member=member)
-
-
-def is_word(value):
-    return isinstance(value, str) and 1 <= len(value) <= 64 and WORD.issuperset(value)
-
-
-def is_text(low, high):
-    return lambda value: isinstance(value, str) and low <= len(value.encode()) <= high
-
-
-def is_whole(low, high):
-    return lambda value: type(value) is int and low <= value <= high
-
-
-def is_list(most, test):
-    return lambda value: isinstance(value, list) and len(value) <= most and all(map(test, value))
-
-
-def member(values, name, test, default=MISSING, told=None):
-    value = values.get(name, default) if isinstance(values, dict) else MISSING
-    if value is MISSING or (value is not default and not test(value)):
-        raise faulty(told or name)
-    return value
-
-
-def is_report(value):
-    if not isinstance(value, dict):
-        return False
-    value.setdefault("output", "")
-    return (
-        is_text(1, 254)(value.get("name"))
-        and is_whole(-(2**31), 2**31 - 1)(value.get("exit_status"))
-        and is_text(0, 1024)(value["output"])
-    )
-
-
-def record_of(body):
-    if len(body) > 262144:
-        raise Refused(413, 5, "too_large")
-    try:
-        said = json.loads(body.decode())
-    except ValueError:
-        raise Refused(400, 6, "bad_json") from None
-    if not isinstance(said, dict):
-        raise Refused(400, 6, "bad_json")
-    record = {"authenticator": member(said, "authenticator", is_word)}
-    record["hostid"] = member(said, "hostid", is_whole(0, 2**31 - 1), 0)
-    record["rpc_seqno"] = member(said, "rpc_seqno", is_whole(0, 2**31 - 1))
-    info = member(said, "host_info", lambda value: isinstance(value, dict))
-    record["host_info"] = {
-        "host_cpid": member(info, "host_cpid", is_word, told="host_info.host_cpid"),
-        "p_fpops": member(info, "p_fpops", is_whole(1, 10**18), told="host_info.p_fpops"),
-        "m_nbytes": member(info, "m_nbytes", is_whole(0, 10**18), told="host_info.m_nbytes"),
-        "d_free": member(info, "d_free", is_whole(0, 10**18), told="host_info.d_free"),
-    }
-    record["platform_name"] = member(said, "platform_name", is_word)
-    record["alt_platforms"] = member(said, "alt_platforms", is_list(7, is_word), [])
-    record["work_req_seconds"] = member(said, "work_req_seconds", is_whole(0, 10**9), 0)
-    if "other_results" in said:
-        record["other_results"] = member(said, "other_results", is_list(1024, is_text(1, 254)))
-    results = member(said, "results", is_list(256, is_report), [])
-    record["results"] = [{k: r[k] for k in ("exit_status", "name", "output")} for r in results]
-    return record
-
-
-COUNT = re.compile(r"0|[1-9][0-9]*", re.ASCII)
-
-
-def whole(field, low, high):
-    return COUNT.fullmatch(field) is not None and low <= int(field) <= high
-
-
-def is_agreement(field):
-    return field == "exact" or (field.startswith("within:") and whole(field[7:], 0, 10**9))
-
-
-def range_of(low, high):
-    return lambda row, field: whole(field, low, high)
-
-
-def from_column(at, high):
-    return lambda row, field: whole(field, int(row[at]), high)
-
-
-def word_column(row, field):
-    return is_word(field)
-
-
-# of each kind: its header, the tests of its columns, how many columns are the name, the column of the app, the most rows
-KINDS = {
-    "accounts": (["authenticator", "name"], [word_column, lambda row, field: is_text(1, 64)(field)], 1, None, 10000),
-    "apps": (["name", "agreement"], [word_column, lambda row, field: is_agreement(field)], 1, None, 100),
-    "versions": (["app", "platform", "version_num"], [word_column, word_column, range_of(1, 10**6)], 3, 0, 1000),
-    "workunits": (
-        ["name", "app", "min_quorum", "target_nresults", "max_error_results", "max_total_results", "max_success_results",
-         "delay_bound", "rsc_fpops_est", "rsc_memory_bound", "rsc_disk_bound", "credit"],
-        [word_column, word_column, range_of(1, 100), from_column(2, 100), range_of(0, 100), from_column(3, 100),
-         range_of(0, 100), range_of(1, 10**8), range_of(1, 10**18), range_of(0, 10**18), range_of(0, 10**18),
-         range_of(0, 10**8)],
-        1, 1, 200000,
-    ),
+SETTINGS = {
+    "daily_result_quota": 4,
+    "max_hosts": 3,
+    "max_wus_in_progress": 3,
+    "max_wus_to_send": 2,
+    "request_delay": 60,
+    "resend_lost_results": True,
 }
 
 
-def rows_of(kind, said):
-    header, tests, *_ = KINDS[kind]
-    records = [record for record in csv.reader(io.StringIO(said, newline="")) if record]
-    if not records or len(records[0]) != len(header):
-        raise Refused(400, 14, "bad_csv", row=0, column=0)
-    for column, (name, field) in enumerate(zip(header, records[0]), 1):
-        if field != name:
-            raise Refused(400, 14, "bad_csv", row=0, column=column)
-    for number, row in enumerate(records[1:], 1):
-        if len(row) != len(header):
-            raise Refused(400, 14, "bad_csv", row=number, column=0)
-        for column, (test, field) in enumerate(zip(tests, row), 1):
-            if not test(row, field):
-                raise Refused(400, 14, "bad_csv", row=number, column=column)
-    return records[1:]
+# ---- What the scheduler knows
+
+
+@dataclass(eq=False, slots=True)
+class Account:
+    """A user."""
+
+    name: str
+    hosts: list = field(default_factory=list)
+    units: set = field(default_factory=set)  # the names of workunits of which a host of the account ever had an instance
+
+
+@dataclass(eq=False, slots=True)
+class Host:
+    """A volunteer's machine."""
+
+    number: int
+    account: Account
+    quota: int
+    facts: dict = None
+    platforms: list = None
+    held: list = field(default_factory=list)  # the instances with neither report nor lapse
+    sent: Counter = field(default_factory=Counter)  # how many instances were sent on a day
+    credit: int = 0
+    kept: tuple = None  # the number, the canonical text and the reply of the last call
+
+
+class Unit:
+    """A workunit; its limits and its credit are named as the columns of an import."""
+
+    def __init__(self, place, row):
+        self.place, self.name, self.app = place, row[0], row[1]
+        for column, said in zip(list(KINDS["workunits"][0])[2:], row[2:]):
+            setattr(self, column, int(said))
+        self.status = "open"  # open, done, errors, success or total: the last three are failures
+        self.instances = []
+        self.judged = []  # the instances whose reports were judged, by the places of these
+        self.add(self.target_nresults)
+
+    def failed(self):
+        """Whether the workunit failed."""
+        return self.status not in ("open", "done")
+
+    def add(self, count):
+        """New instances, numbered on."""
+        for _ in range(count):
+            self.instances.append(Instance(self, len(self.instances)))
+
+    def unsent(self):
+        """The first instance that nobody owns."""
+        return next((instance for instance in self.instances if instance.host is None), None)
+
+
+@dataclass(eq=False, slots=True)
+class Instance:
+    """One result of a workunit."""
+
+    unit: Unit
+    number: int
+    host: Host = None
+    sent: int = None
+    deadline: int = None
+    lapse: str = None  # late or dropped
+    exit_status: int = None  # of the report
+    output: str = None
+    verdict: bool = None  # valid or invalid
+
+    def name(self):
+        """The name of the result."""
+        return f"{self.unit.name}_{self.number}"
+
+    def place(self):
+        """Where the instance stands among all."""
+        return self.unit.place, self.number
+
+    def held(self):
+        """Whether it has an owner and neither report nor lapse."""
+        return self.host is not None and self.exit_status is None and self.lapse is None
+
+
+# ---- Counting a workunit
+
+
+def agree(agreement, one, other):
+    """Whether two outputs agree."""
+    if one == other:
+        return True
+    if agreement == "exact" or not (NUMBER.fullmatch(one) and NUMBER.fullmatch(other)):
+        return False
+    return abs(int(one) - int(other)) <= int(agreement.removeprefix("within:"))
+
+
+def canonical(agreement, unit, good):
+    """The first report of the least front of good ones in which enough agree with it."""
+    enough = unit.min_quorum // 2 + 1
+    for size in range(unit.min_quorum, len(good) + 1):
+        for one in good[:size]:
+            if sum(agree(agreement, one.output, other.output) for other in good[:size]) >= enough:
+                return one
+    return None
+
+
+def status(unit, good, need, best):
+    """What becomes of a workunit with these good reports, this need and this canonical result."""
+    if best is not None:
+        return "done"
+    if len(unit.judged) - len(good) > unit.max_error_results:
+        return "errors"
+    if len(good) > unit.max_success_results:
+        return "success"
+    if len(unit.instances) + need > unit.max_total_results:
+        return "total"
+    return "open"
+
+
+def settle(agreement, unit):
+    """Counts a workunit anew and gives it the instances that it needs; the instances with a new verdict."""
+    good = [instance for instance in unit.judged if instance.exit_status == 0]
+    live = sum(instance.host is None or instance.held() for instance in unit.instances)
+    want = max(unit.target_nresults, len(good) + 1 if len(good) >= unit.min_quorum else 0)
+    need = max(0, want - live - len(good))
+    best = canonical(agreement, unit, good)
+    unit.status = status(unit, good, need, best)
+    if unit.status == "open":
+        unit.add(need)
+    fresh = [instance for instance in good if unit.status == "done" and instance.verdict is None]
+    for instance in fresh:
+        instance.verdict = agree(agreement, best.output, instance.output)
+    return fresh
+
+
+def estimate(unit, host):
+    """The seconds that a job takes on a host, rounded up."""
+    return max(1, -(-unit.rsc_fpops_est // host.facts["p_fpops"]))
+
+
+# ---- The job machine
+
+
+class Machine:
+    """The world: rows, and how a call, a tick and an import change them."""
+
+    def __init__(self, settings):
+        self.settings = settings
+        self.hosts = {}  # by key
+        self.rows = {kind: {} for kind in KINDS}  # what stands of each kind, by name
+        self.newest = {}  # the greatest number of a version by app and platform
+        self.places = []  # the workunits by place
+        self.queued = []  # the places of open workunits with an instance that nobody owns, in order
+
+    def add_row(self, kind, name, row):
+        """One more account, application, version or workunit."""
+        if kind == "accounts":
+            self.rows[kind][name] = Account(row[1])
+        elif kind == "apps":
+            self.rows[kind][name] = row[1]
+        elif kind == "versions":
+            self.rows[kind][name] = number = int(row[2])
+            self.newest[row[0], row[1]] = max(number, self.newest.get((row[0], row[1]), 0))
+        else:
+            self.rows[kind][name] = unit = Unit(len(self.places), row)
+            self.places.append(unit)
+            self.requeue(unit)
+
+    def requeue(self, unit):
+        """Puts a workunit into the queue or takes it out, as it now is."""
+        at = bisect_left(self.queued, unit.place)
+        stands = at < len(self.queued) and self.queued[at] == unit.place
+        waits = unit.status == "open" and unit.unsent() is not None
+        if waits and not stands:
+            self.queued.insert(at, unit.place)
+        if stands and not waits:
+            del self.queued[at]
+
+    def instance(self, host, name):
+        """The instance of that name, where the host owns it."""
+        unit_name, _, number = name.rpartition("_")
+        unit = self.rows["workunits"].get(unit_name)
+        if unit is None or not re.fullmatch("0|[1-9][0-9]?", number) or int(number) >= len(unit.instances):
+            return None
+        instance = unit.instances[int(number)]
+        return instance if instance.host is host else None
+
+    def version(self, host, app):
+        """The newest version at the first of the host's platforms that has any, and that platform."""
+        for platform in host.platforms:
+            if (app, platform) in self.newest:
+                return self.newest[app, platform], platform
+        return None
+
+    def fits(self, host, unit):
+        """Whether the host can run the workunit in time."""
+        return (
+            unit.rsc_memory_bound <= host.facts["m_nbytes"]
+            and unit.rsc_disk_bound <= host.facts["d_free"]
+            and estimate(unit, host) <= unit.delay_bound
+            and self.version(host, unit.app) is not None
+        )
+
+    def settle_all(self, touched, charges):
+        """Settles the workunits that were touched, then moves credits and quotas; charges are those before verdicts."""
+        merits = Counter()
+        for unit in dict.fromkeys(touched):
+            for instance in settle(self.rows["apps"][unit.app], unit):
+                (merits if instance.verdict else charges)[instance.host] += 1
+                instance.host.credit += unit.credit if instance.verdict else 0
+            self.requeue(unit)
+        for host in {**charges, **merits}:
+            quota = max(1, host.quota - charges[host]) * 2 ** merits[host]
+            host.quota = min(self.settings["daily_result_quota"], quota)
+
+    def take_reports(self, host, results, charges):
+        """Records what the host reports of its own; the workunits that this touches."""
+        touched = []
+        for report in results:
+            instance = self.instance(host, report["name"])
+            if instance is None or instance.exit_status is not None:
+                continue
+            if instance.held():
+                host.held.remove(instance)
+            instance.exit_status, instance.output = report["exit_status"], report["output"]
+            if not instance.unit.failed():
+                instance.unit.judged.append(instance)
+                charges[host] += instance.exit_status != 0
+            touched.append(instance.unit)
+        return touched
+
+    def take_lost(self, host, listed, now):
+        """Sends again or drops what the host holds and does not list; the jobs, and the workunits that this touches."""
+        resent, touched = [], []
+        for instance in [instance for instance in host.held if instance.name() not in listed]:
+            unit = instance.unit
+            if unit.status == "open" and self.fits(host, unit):
+                if now + estimate(unit, host) > instance.deadline:
+                    instance.deadline = now + unit.delay_bound
+                resent.append(instance)
+            else:
+                instance.lapse = "dropped"
+                host.held.remove(instance)
+                touched.append(unit)
+        return sorted(resent, key=Instance.place), touched
+
+    def aborts(self, host, names):
+        """The names that the host may forget, each once."""
+        told = []
+        for name in dict.fromkeys(names):
+            instance = self.instance(host, name)
+            if instance is None or instance.exit_status is not None or instance.unit.failed():
+                told.append(name)
+        return told
+
+    def choose(self, host, seconds, asked, now):
+        """The jobs for the host, by place, and the word that tells why there are no more."""
+        jobs = []
+        queue = iter(self.queued)
+        while True:
+            if seconds >= asked:
+                return jobs, "enough"
+            if len(jobs) >= self.settings["max_wus_to_send"]:
+                return jobs, "reply_limit"
+            if len(host.held) + len(jobs) >= self.settings["max_wus_in_progress"]:
+                return jobs, "in_progress_limit"
+            if host.sent[now // 86400] + len(jobs) >= host.quota:
+                return jobs, "daily_quota"
+            units = (self.places[place] for place in queue)
+            unit = next((unit for unit in units if unit.name not in host.account.units and self.fits(host, unit)), None)
+            if unit is None:
+                return jobs, "no_eligible_work"
+            jobs.append(unit.unsent())
+            seconds += estimate(unit, host)
+
+    def send(self, host, instance, now):
+        """The host becomes the owner of the instance."""
+        instance.host, instance.sent, instance.deadline = host, now, now + instance.unit.delay_bound
+        host.held.append(instance)
+        host.sent[now // 86400] += 1
+        host.account.units.add(instance.unit.name)
+        self.requeue(instance.unit)
+
+    def job(self, host, instance, resent):
+        """What a reply says of a job."""
+        number, platform = self.version(host, instance.unit.app)
+        return {
+            "app_name": instance.unit.app,
+            "estimate": estimate(instance.unit, host),
+            "name": instance.name(),
+            "platform": platform,
+            "report_deadline": instance.deadline,
+            "resent": resent,
+            "version_num": number,
+            "wu_name": instance.unit.name,
+        }
+
+    def call(self, host, record, now):
+        """A fresh call of a host: its reply."""
+        host.facts = record["host_info"]
+        host.platforms = [record["platform_name"], *record["alt_platforms"]]
+        listed, charges, resent, dropped = record.get("other_results"), Counter(), [], []
+        touched = self.take_reports(host, record["results"], charges)
+        if listed is not None and self.settings["resend_lost_results"]:
+            resent, dropped = self.take_lost(host, set(listed), now)
+        self.settle_all(touched + dropped, charges)
+        aborts = self.aborts(host, listed or [])
+        seconds = sum(estimate(instance.unit, host) for instance in resent)
+        jobs, end_word = self.choose(host, seconds, record["work_req_seconds"], now)
+        for instance in jobs:
+            self.send(host, instance, now)
+        return {
+            "end_word": end_word,
+            "host_total_credit": host.credit,
+            "hostid": host.number,
+            "request_delay": self.settings["request_delay"],
+            "result_abort": aborts,
+            "result_ack": list(dict.fromkeys(report["name"] for report in record["results"])),
+            "results": [self.job(host, instance, True) for instance in resent]
+            + [self.job(host, instance, False) for instance in jobs],
+            "rpc_seqno": record["rpc_seqno"],
+            "user_name": host.account.name,
+            "user_total_credit": sum(other.credit for other in host.account.hosts),
+        }
+
+    def tick(self, now):
+        """Every held instance that is past its deadline lapses; how many."""
+        charges, touched = Counter(), []
+        for host in self.hosts.values():
+            for instance in [instance for instance in host.held if instance.deadline < now]:
+                instance.lapse = "late"
+                host.held.remove(instance)
+                charges[host] += 1
+                touched.append(instance.unit)
+        self.settle_all(touched, charges)
+        return len(touched)
+
+
+# ---- The service: what is kept of calls and imports, and the refusals
 
 
 class Service:
-    def __init__(self):
-        self.rows = {kind: {} for kind in KINDS}
-        self.batches = {}
-        self.hosts = {}
-        self.kept = {}
+    """What answers the lines of a replay."""
 
-    def rows_in(self, kind, said):
-        _, _, names, app, most = KINDS[kind]
-        rows = rows_of(kind, said)
-        new = set()
+    def __init__(self, settings=SETTINGS):
+        self.machine = Machine(settings)
+        self.batches = {}
+
+    def new_rows(self, kind, said):
+        """The rows of an import by their names, which are new."""
+        _, names, app, most = KINDS[kind]
+        stand, rows, new = self.machine.rows[kind], rows_of(kind, said), {}
         for number, row in enumerate(rows, 1):
-            name = tuple(row[:names])
-            if name in self.rows[kind] or name in new:
+            name = " ".join(row[:names])
+            if name in stand or name in new:
                 raise Refused(409, 15, "duplicate_name", row=number)
-            new.add(name)
+            new[name] = row
         for number, row in enumerate(rows, 1):
-            if app is not None and (row[app],) not in self.rows["apps"]:
+            if app is not None and row[app] not in self.machine.rows["apps"]:
                 raise Refused(409, 16, "unknown_reference", row=number)
-        if len(self.rows[kind]) + len(rows) > most:
+        if len(stand) + len(rows) > most:
             raise Refused(409, 18, "table_full")
-        return {tuple(row[:names]): row for row in rows}
+        return new
 
     def imported(self, kind, batch, said):
+        """The answer to an import."""
         if kind not in KINDS:
             raise Refused(404, 2, "no_route")
         if len(said.encode()) > 1048576:
             raise Refused(413, 5, "too_large")
-        kept = self.batches.get((kind, batch))
-        if kept:
-            if kept[0] != said:
+        if (kind, batch) in self.batches:
+            kept, answer = self.batches[kind, batch]
+            if kept != said:
                 raise Refused(409, 17, "batch_reused")
-            return kept[1]
-        rows = self.rows_in(kind, said)
-        self.rows[kind].update(rows)
+            return answer
+        rows = self.new_rows(kind, said)
+        for name, row in rows.items():
+            self.machine.add_row(kind, name, row)
         answer = text({"batch": batch, "kind": kind, "rows": len(rows)})
-        self.batches[(kind, batch)] = (said, answer)
+        self.batches[kind, batch] = said, answer
         return answer
 
-    def scheduler(self, body):
+    def scheduler(self, body, now):
+        """The answer to a call."""
         record = record_of(body)
-        account = self.rows["accounts"].get((record["authenticator"],))
-        if not account:
+        hosts, account = self.machine.hosts, self.machine.rows["accounts"].get(record["authenticator"])
+        if account is None:
             raise Refused(403, 8, "bad_account")
-        key = (record["authenticator"], record["host_info"]["host_cpid"])
-        if record["hostid"] not in (0, self.hosts.get(key, 0)):
+        key = record["authenticator"], record["host_info"]["host_cpid"]
+        host = hosts.get(key)
+        if record["hostid"] != 0 and (host is None or record["hostid"] != host.number):
             raise Refused(409, 9, "bad_host")
-        seqno, canonical = record["rpc_seqno"], text(record)
-        last = self.kept.get(key)
-        if last and seqno < last[0]:
-            raise Refused(409, 10, "stale", last=last[0])
-        if last and seqno == last[0]:
-            if canonical == last[1]:
-                return last[2]
-            raise Refused(409, 11, "reused", last=last[0])
-        if key not in self.hosts and len(self.hosts) >= MAX_HOSTS:
+        seqno, said = record["rpc_seqno"], text(record)
+        if host is not None:
+            last, kept, reply = host.kept
+            if (seqno, said) == (last, kept):
+                return reply
+            if seqno <= last:
+                raise Refused(409, *((11, "reused") if seqno == last else (10, "stale")), last=last)
+        elif len(hosts) >= self.machine.settings["max_hosts"]:
             raise Refused(409, 12, "hosts_full")
-        host = self.hosts.setdefault(key, len(self.hosts) + 1)
-        reply = text({
-            "end_word": "enough" if record["work_req_seconds"] == 0 else "no_eligible_work",
-            "host_total_credit": 0,
-            "hostid": host,
-            "request_delay": REQUEST_DELAY,
-            "result_abort": list(dict.fromkeys(record.get("other_results", []))),
-            "result_ack": list(dict.fromkeys(r["name"] for r in record["results"])),
-            "results": [],
-            "rpc_seqno": seqno,
-            "user_name": account[1],
-            "user_total_credit": 0,
-        })
-        self.kept[key] = (seqno, canonical, reply)
+        else:
+            host = hosts[key] = Host(len(hosts) + 1, account, self.machine.settings["daily_result_quota"])
+            account.hosts.append(host)
+        reply = text(self.machine.call(host, record, now))
+        host.kept = seqno, said, reply
         return reply
 
+    def answer(self, line):
+        """The status and the body for a line; a ValueError where it is none."""
+        instant, _, rest = line.partition(b" ")
+        word, space, body = rest.partition(b" ")
+        now = moment(instant.decode())
+        parts = word.decode().split("/")
+        try:
+            if parts == ["scheduler"]:
+                return 200, self.scheduler(body, now)
+            if parts == ["tick"] and not space:
+                return 200, text({"lapsed": self.machine.tick(now)})
+            if parts == ["account"] and is_word(name := body.decode()):
+                return 200, self.imported("accounts", name, f"authenticator,name\n{name},{name}\n")
+            if parts[0] == "import" and len(parts) == 3 and all(map(is_word, parts)):
+                if isinstance(said := read_json(body.decode()), str):
+                    return 200, self.imported(parts[1], parts[2], said)
+        except Refused as refusal:
+            return refusal.status, refusal.body
+        raise ValueError(line)
 
-def answer_of(service, word, body):
-    if word == b"account":
-        name = body.decode()
-        return service.imported("accounts", name, f"authenticator,name\n{name},{name}\n")
-    if word == b"scheduler":
-        return service.scheduler(body)
-    _, kind, batch = word.decode().split("/")
-    return service.imported(kind, batch, json.loads(body))
+
+# ---- The replay
+
+
+def settings_of(words):
+    """The settings, with those that the command line names."""
+    told = dict(word.split("=") for word in words)
+    if not told.keys() <= SETTINGS.keys():
+        sys.exit(__doc__)
+    return {**SETTINGS, **{name: int(value) for name, value in told.items()}}
 
 
 def main():
-    service = Service()
-    out = sys.stdout
+    """Answers the lines of standard input."""
+    service = Service(settings_of(sys.argv[1:]))
     for number, line in enumerate(sys.stdin.buffer, 1):
-        instant, _, said = line.rstrip(b"\n").partition(b" ")
-        word, _, body = said.partition(b" ")
-        moment = datetime.fromisoformat(instant.decode())
-        if moment.timestamp() < 0 or word.split(b"/")[0] not in (b"account", b"scheduler", b"import"):
-            sys.exit(f"plain: line {number}")
+        line = line.removesuffix(b"\n")
         try:
-            out.write(f"200 {answer_of(service, word, body)}\n")
-        except Refused as refusal:
-            out.write(f"{refusal.status} {refusal.body}\n")
+            if number > 1_000_000 or len(line) > 1_100_000:
+                raise ValueError(number)
+            status, body = service.answer(line)
+        except ValueError:
+            sys.exit(f"plain: line {number}")
+        sys.stdout.write(f"{status} {body}\n")
 
 
-main()
+if __name__ == "__main__":
+    main()

@@ -1,0 +1,200 @@
+"""Makes the lines of a project's life for `bench/run`: hosts ask for work, report it, and lose replies.
+
+The lines are answered by plain.py as they are made, so that reports name jobs that were really granted.
+"""
+import json
+import random
+import time
+from collections import Counter
+
+import plain
+
+SETTINGS = {"daily_result_quota": 12, "max_hosts": 100, "max_wus_in_progress": 8, "max_wus_to_send": 4}
+HOUR = 3600
+START = 1000
+VERSIONS = ["dock,linux,101", "dock,linux,102", "dock,windows,101", "dock,mac,103", "fold,linux,7", "fold,windows,9",
+            "wave,windows,1", "wave,windows,2"]
+PLATFORMS = [["linux"], ["linux"], ["windows"], ["windows", "linux"], ["mac", "linux"], ["mac"]]
+# application, min_quorum, target_nresults, max_error_results, max_total_results, max_success_results
+LIMITS = ["dock,2,2,3,6,5", "dock,2,2,3,6,5", "dock,1,1,2,4,3", "fold,3,3,3,7,6", "fold,2,3,1,5,4", "wave,2,3,2,5,4",
+          "dock,2,2,0,3,2"]
+
+
+class Client:
+    """A host, as its own software sees it."""
+
+    def __init__(self, number, pick):
+        self.authenticator, self.cpid = f"user{number // 2}", f"host{number}"
+        self.host_info = {
+            "host_cpid": self.cpid,
+            "p_fpops": pick.choice([3, 8, 10, 10, 12]) * 10**8,
+            "m_nbytes": pick.choice([2, 4, 8]) * 10**9,
+            "d_free": pick.choice([5, 50]) * 10**9,
+        }
+        self.platforms = pick.choice(PLATFORMS)
+        self.faulty = 0.97 if number % 10 == 7 else 0.04  # the share of its jobs that end in a client error
+        self.buffer = pick.choice([4, 8, 20, 20, 60]) * HOUR  # the seconds of work that it wants to have
+        self.hostid = self.seqno = 0
+        self.jobs = {}  # when each job is finished, by name
+        self.idle_from = START
+        self.unheard = None  # the request whose reply was lost
+
+
+class Project:
+    """The service, its clients, and the lines so far."""
+
+    def __init__(self, calls):
+        self.pick = random.Random(1)
+        self.now, self.calls, self.lines, self.seen = START, calls, [], Counter()
+        self.service = plain.Service({**plain.SETTINGS, **SETTINGS})
+        hosts = max(20, min(SETTINGS["max_hosts"], calls // 200))
+        self.pace = 2 * 6000 // hosts  # a host calls every 6,000 seconds or so
+        self.bring_rows(hosts // 2, max(150, calls // 10))
+        self.clients = [Client(number, self.pick) for number in range(hosts)]
+
+    def send(self, said):
+        """One more line, and its answer."""
+        instant = time.strftime("%Y-%m-%dT%H:%M:%SZ", time.gmtime(self.now))
+        line = f"{instant} {said}".encode()
+        self.lines.append(line + b"\n")
+        return self.service.answer(line)
+
+    def bring(self, kind, header, rows):
+        """An import of rows."""
+        said = json.dumps("\n".join([header, *rows, ""]))
+        assert self.send(f"import/{kind}/b1 {said}")[0] == 200
+
+    def bring_rows(self, users, units):
+        """All rows of the project, in four imports."""
+        self.bring("accounts", "authenticator,name", [f"user{number},User {number}" for number in range(users)])
+        self.bring("apps", "name,agreement", ["dock,exact", "fold,within:2", "wave,exact"])
+        self.bring("versions", ",".join(plain.KINDS["versions"][0]), VERSIONS)
+        rows = []
+        for number in range(units):
+            days, hours = self.pick.choice([1, 2, 3]), self.pick.choice([3, 4, 5, 6])
+            memory, disk = self.pick.choice([1, 1, 1, 3, 6]), self.pick.choice([1, 1, 10])
+            rows.append(
+                f"unit-{number:05},{self.pick.choice(LIMITS)},{days * 24 * HOUR},{hours * HOUR * 10**9 + number},"
+                f"{memory}000000000,{disk}000000000,{self.pick.randrange(1000, 9000)}"
+            )
+        self.bring("workunits", ",".join(plain.KINDS["workunits"][0]), rows)
+
+    def output(self, name):
+        """What a job gives: mostly what the others of its workunit give, and of some workunits never."""
+        number = int(name.split("_")[0].removeprefix("unit-"))
+        right = number * 37 % 1000
+        if number % 15 == 0:
+            return str(right + 10 * self.pick.randrange(1000))
+        if self.pick.random() < 0.05:
+            return str(right + self.pick.randrange(3, 9))
+        return str(right + (self.pick.randrange(3) if self.is_fold(name) else 0))
+
+    def is_fold(self, name):
+        """Whether outputs of the job's application agree by nearness."""
+        return self.service.machine.rows["workunits"][name.split("_")[0]].app == "fold"
+
+    def report(self, client, name):
+        """What the client tells of a finished job."""
+        if self.pick.random() < client.faulty:
+            return {"name": name, "exit_status": self.pick.choice([1, -9, 195])}
+        return {"name": name, "exit_status": 0, "output": self.output(name)}
+
+    def request(self, client):
+        """The client's next request: what it finished, what it has, and what it wants."""
+        client.seqno += 1
+        finished = [name for name, until in client.jobs.items() if until <= self.now]
+        said = {
+            "authenticator": client.authenticator,
+            "hostid": client.hostid if self.pick.random() < 0.5 else 0,
+            "rpc_seqno": client.seqno,
+            "host_info": {**client.host_info, **({"d_free": 0} if self.pick.random() < 0.02 else {})},
+            "platform_name": client.platforms[0],
+            "alt_platforms": client.platforms[1:],
+            "work_req_seconds": max(0, client.buffer - max(0, client.idle_from - self.now)),
+            "results": [self.report(client, name) for name in finished],
+        }
+        if self.pick.random() < 0.9:
+            said["other_results"] = [name for name in client.jobs if name not in finished]
+        return json.dumps(said, separators=(",", ":"))
+
+    def take(self, client, reply):
+        """What the client does with a reply: it forgets jobs and begins new ones."""
+        client.hostid, client.unheard = reply["hostid"], None
+        for name in reply["result_ack"] + reply["result_abort"]:
+            client.jobs.pop(name, None)
+        for job in reply["results"]:
+            begin = max(client.idle_from, self.now)
+            client.idle_from = begin + job["estimate"]
+            late = self.pick.random() < 0.08
+            until = job["report_deadline"] + self.pick.randrange(40 * HOUR) if late else client.idle_from
+            client.jobs[job["name"]] = until
+
+    def call(self, client):
+        """A call: a new one, or the same again where its reply was lost."""
+        again = client.unheard is not None and self.pick.random() < 0.5
+        said = client.unheard if again else self.request(client)
+        status, body = self.send(f"scheduler {said}")
+        assert status == 200, body
+        reply = json.loads(body)
+        self.seen["repeats" if again else "fresh calls"] += 1
+        if not again:
+            self.seen["jobs granted"] += sum(not job["resent"] for job in reply["results"])
+            self.seen["jobs sent again"] += sum(job["resent"] for job in reply["results"])
+            self.seen["names to forget"] += len(reply["result_abort"])
+            self.seen["end word " + reply["end_word"]] += 1
+        if self.pick.random() < 0.05:
+            client.unheard = said
+            self.seen["replies lost"] += 1
+            self.seen["replies lost that had jobs"] += reply["results"] != []
+        else:
+            self.take(client, reply)
+
+    def refused_call(self, client):
+        """A call with an older number, or with the last number and another text."""
+        older = self.pick.random() < 0.5
+        said = {**json.loads(self.request(client)), "rpc_seqno": client.seqno - 2 if older else client.seqno - 1}
+        client.seqno -= 1
+        status, body = self.send(f"scheduler {json.dumps({**said, 'work_req_seconds': 999_999_999})}")
+        self.seen[f"refused as {json.loads(body)['error']}"] += 1
+
+    def live(self):
+        """All the calls, and now and then a tick."""
+        for _ in range(self.calls):
+            self.now += self.pick.randrange(1, self.pace)
+            client = self.pick.choice(self.clients)
+            if self.pick.random() < 0.003:
+                client.jobs, client.idle_from = {}, self.now  # the machine lost what it had
+                self.seen["hosts that forgot their jobs"] += 1
+            if client.seqno > 1 and self.pick.random() < 0.01:
+                self.refused_call(client)
+            else:
+                self.call(client)
+            if self.pick.random() < 0.01:
+                self.seen["ticks"] += 1
+                self.seen["lapsed at ticks"] += json.loads(self.send("tick")[1])["lapsed"]
+
+    def mix(self):
+        """How many of each kind of thing came about."""
+        machine, mix = self.service.machine, Counter(self.seen)
+        for unit in machine.places:
+            mix["workunits " + (f"failed by {unit.status}" if unit.failed() else unit.status)] += 1
+            for instance in unit.instances:
+                mix["instances"] += 1
+                mix["reported"] += instance.exit_status is not None
+                mix["client errors"] += instance.exit_status not in (None, 0)
+                mix["reported and not judged"] += instance.exit_status is not None and instance not in unit.judged
+                mix["reported after a lapse"] += instance.exit_status is not None and instance.lapse is not None
+                mix["dropped"] += instance.lapse == "dropped"
+                mix["valid"] += instance.verdict is True
+                mix["invalid"] += instance.verdict is False
+                mix["held at the end"] += instance.held()
+        mix["hosts"] = len(machine.hosts)
+        mix["hosts with a quota of 1"] = sum(host.quota == 1 for host in machine.hosts.values())
+        return dict(sorted(mix.items()))
+
+
+def lines(calls):
+    """The lines of a project with so many calls, and their mix."""
+    project = Project(calls)
+    project.live()
+    return b"".join(project.lines), project.mix()
