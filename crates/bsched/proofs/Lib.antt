@@ -5,4 +5,3 @@ pub mod Rising
 pub mod IsRun
 pub mod Carried
 pub mod Following
-pub mod AddedRows

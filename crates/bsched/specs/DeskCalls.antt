@@ -1,23 +1,21 @@
--- What a call of a host does to a service over a desk: it is answered as where no workunit stands.
-use Rattle.std.specs.Prelude.{◌≡◌, ℕ, List, length, Option, Some, None, option_map, option_and_then, unwrap_or, if◌then◌else◌}
+-- What a call of a host does to a service over a desk.
+use Rattle.std.specs.Prelude.{◌≡◌, ℕ, Bool, true, false, length, Option, Some, None}
 use Rattle.std.specs.FinMap as map
 use Rattle.reply_register.specs.declared.kept.Kept.{Kept}
 use Rattle.rpc_records.specs.Replies.{reply_text_of}
 use Rattle.rpc_records.specs.Spelling.{canonical_text}
 use Rattle.rpc_records.specs.declared.fault.Fault.TheVariants as fault
+use Rattle.rpc_records.specs.declared.reply.Reply.{Reply}
 use Rattle.rpc_records.specs.declared.request.Request.{Request}
-use Rattle.sched_book.specs.Desk.{account_by_key}
-use Rattle.sched_book.specs.Places.{host_at, known_host}
-use Rattle.sched_book.specs.Delta.{put_nth}
-use Rattle.sched_book.specs.Step.{host_number, told_host}
-use Rattle.sched_book.specs.declared.desk.Placed.{Placed}
+use Rattle.sched_book.specs.Places.{account_place, known_host}
+use Rattle.sched_book.specs.Step.{RpcStep}
 use Rattle.sched_book.specs.declared.machine.Caller.{Caller}
-use Rattle.sched_book.specs.declared.rows.Account.{Account}
-use Rattle.sched_book.specs.declared.rows.HostRow.{HostRow}
 use Rattle.sched_book.specs.declared.world.World.{World}
-use Rattle.bsched.specs.FirstHeard.{names_host, has_host_room}
+use Rattle.sched_machine.specs.Admission.{names_host}
+use Rattle.bsched.specs.DeskImports.{IsRefused}
+use Rattle.bsched.specs.FirstHeard.{has_host_room}
 use Rattle.bsched.specs.Messages.{key_of}
-use Rattle.bsched.specs.Replies.{good, refusal, reply_of}
+use Rattle.bsched.specs.Replies.{good}
 use Rattle.bsched.specs.Told.{kept_call, told_beside}
 use Rattle.bsched.specs.declared.answers.Answer.{Answer}
 use Rattle.bsched.specs.declared.plain.service.Service.{Service}
@@ -26,48 +24,50 @@ use Rattle.bsched.specs.declared.plain.service.Service.{Service}
 abbrev pub caller_of : World → ℕ → Request → Caller
 caller_of w account r = record { account = account; host = known_host w account r.host.host_cpid }
 
--- the quota of the caller's host, which is the setting for a new one
-unfoldable pub quota_of : World → Option ℕ → ℕ
-quota_of w number = unwrap_or (option_map (λ (h : HostRow). h.quota) (option_and_then (host_at w) number)) w.settings.daily_result_quota
+-- whether there is room for the caller's host
+abbrev pub has_room : World → Caller → Bool
+has_room w c = has_host_room w.settings.max_hosts c.host (length w.hosts)
 
--- the world with the caller's host as its call tells it: over the one that has its number, or as the next
-abbrev pub with_caller : World → Caller → Request → World
-with_caller w c r = record w { hosts = put_nth w.hosts (host_number w c) (told_host c r (quota_of w c.host)) }
+-- what a call that tells no wrong number is told without a step: by its place among the host's calls, and then by room
+abbrev pub told_caller : World → Option Kept → Caller → Request → Option Answer
+told_caller w kept c r = told_beside (has_room w c) kept r.rpc_seqno (canonical_text r)
 
--- what a call of an account that stands is told without a step: the first that fails of number, place among the host's calls, and room
-unfoldable pub told_caller : World → Option Kept → Caller → Request → Option Answer
-told_caller w kept c r =
-    if names_host r.hostid c.host
-    then told_beside (has_host_room w.settings.max_hosts c.host (length w.hosts)) kept r.rpc_seqno (canonical_text r)
-    else Some (refusal fault.BadHost)
+-- A first-heard call is a step of the job machine, and is kept with its reply.
+pub record ServesStep (old : Service) (c : Caller) (r : Request) (now : ℕ) (answer : Answer) (new : Service) : Type 0 where
+  pub reply : Reply
+  pub step : RpcStep old.desk c r now new.desk reply
+  pub answer_is : answer ≡ good (reply_text_of reply)
+  pub left : new ≡ record old { desk = new.desk; register = map.insert old.register (key_of r) (kept_call r (reply_text_of reply)) }
 
--- the reply to a first-heard call
-unfoldable pub reply_body : World → List ℕ → Caller → Request → List ℕ
-reply_body w user_name c r = reply_text_of (reply_of w.settings.request_delay user_name (host_number w c) r)
+-- A call that is told something changes nothing. One that is told nothing is first heard.
+unfoldable pub ServesTold : Option Answer → Service → Caller → Request → ℕ → Answer → Service → Type 0
+ServesTold (Some told) old c r now answer new = (answer ≡ told) × (new ≡ old)
+ServesTold None old c r now answer new = ServesStep old c r now answer new
 
--- A call that is told something changes nothing. One that is told nothing is first heard: its host is renewed or made, and the call is
--- kept with its reply.
-unfoldable pub ServesTold : Option Answer → Service → List ℕ → Caller → Request → Answer → Service → Type 0
-ServesTold (Some told) old user_name c r answer new = (answer ≡ told) × (new ≡ old)
-ServesTold None old user_name c r answer new =
-    let reply = reply_body old.desk user_name c r in
-    (answer ≡ good reply)
-    × (new ≡ record old { desk = with_caller old.desk c r; register = map.insert old.register (key_of r) (kept_call r reply) })
+-- a call that tells no wrong number
+unfoldable pub ServesCaller : Service → Caller → Request → ℕ → Answer → Service → Type 0
+ServesCaller old c r now answer new = ServesTold (told_caller old.desk (map.get old.register (key_of r)) c r) old c r now answer new
 
-unfoldable pub ServesCaller : Service → Placed Account → Request → Answer → Service → Type 0
-ServesCaller old account r answer new =
-    let c = caller_of old.desk account.place r in
-    ServesTold (told_caller old.desk (map.get old.register (key_of r)) c r) old account.row.name c r answer new
+-- a wrong number is refused
+unfoldable pub ServesNamed : Bool → Service → Caller → Request → ℕ → Answer → Service → Type 0
+ServesNamed false old c r now answer new = IsRefused fault.BadHost old answer new
+ServesNamed true old c r now answer new = ServesCaller old c r now answer new
 
--- the account is looked at first
-abbrev pub ServesAccount : Option (Placed Account) → Service → Request → Answer → Service → Type 0
-ServesAccount None old r answer new = (answer ≡ refusal fault.BadAccount) × (new ≡ old)
-ServesAccount (Some account) old r answer new = ServesCaller old account r answer new
+-- the account is looked at first, and then the number
+unfoldable pub ServesAccount : Option ℕ → Service → Request → ℕ → Answer → Service → Type 0
+ServesAccount None old r now answer new = IsRefused fault.BadAccount old answer new
+ServesAccount (Some account) old r now answer new =
+    let c = caller_of old.desk account r in
+    ServesNamed (names_host r.hostid c.host) old c r now answer new
 
-unfoldable pub ServesCall : Service → Request → Answer → Service → Type 0
-ServesCall old r answer new = ServesAccount (account_by_key old.desk r.authenticator) old r answer new
+unfoldable pub ServesCall : Service → Request → ℕ → Answer → Service → Type 0
+ServesCall old r now answer new = ServesAccount (account_place old.desk r.authenticator) old r now answer new
 
--- What a call leaves where memory was wanting when its host stood and its reply was to be kept: the host of some call is renewed or
--- made, and nothing else is changed.
-unfoldable pub IsHalfDone : Service → Service → Type 0
-IsHalfDone old new = (c : Caller) × (r : Request) × (new ≡ record old { desk = with_caller old.desk c r })
+-- What a call leaves where memory was wanting when its step was made and its reply was to be kept: a step of some call of this moment
+-- is made, and nothing else is changed.
+pub record IsHalfDone (old : Service) (now : ℕ) (new : Service) : Type 0 where
+  pub caller : Caller
+  pub request : Request
+  pub reply : Reply
+  pub step : RpcStep old.desk caller request now new.desk reply
+  pub left : new ≡ record old { desk = new.desk }

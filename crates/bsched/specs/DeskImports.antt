@@ -1,6 +1,6 @@
 -- What an import does to a service over a desk. An import is known by its kind and the name of its batch; one that is kept is not read
 -- again. (This profile's.)
-use Rattle.std.specs.Prelude.{◌≡◌, ℕ, Bool, true, false, nat_lt, List, [], ◌∷◌, ◌++◌, length, map, find, Option, Some, None, Result, Ok, Err, if◌then◌else◌}
+use Rattle.std.specs.Prelude.{◌≡◌, ℕ, Bool, true, false, nat_lt, List, [], ◌∷◌, ◌++◌, length, find, Option, Some, None, Result, Ok, Err, if◌then◌else◌}
 use Rattle.std.specs.Str.{bytes_eq}
 use Rattle.office_files.specs.Faults.{refusal_of}
 use Rattle.office_files.specs.Importing.{accounts_in, apps_in, versions_in, workunits_in, Says}
@@ -9,10 +9,7 @@ use Rattle.office_files.specs.declared.fault.RowsFault.{RowsFault}
 use Rattle.rpc_records.specs.declared.fault.Fault.{Fault}
 use Rattle.rpc_records.specs.declared.fault.Fault.TheVariants as fault
 use Rattle.sched_book.specs.Imports.{fault_of_rows, shelf_of, with_rows, row_count}
-use Rattle.sched_book.specs.declared.delta.Change.{Change}
-use Rattle.sched_book.specs.declared.delta.Change.TheVariants as change
 use Rattle.sched_book.specs.declared.rows.Rows.{Rows}
-use Rattle.sched_book.specs.declared.rows.Rows.TheVariants as rows
 use Rattle.bsched.specs.Kinds.{kind_name, kind_of, is_batch}
 use Rattle.bsched.specs.Replies.{good, refusal, imported_text}
 use Rattle.bsched.specs.declared.answers.Answer.{Answer}
@@ -31,13 +28,6 @@ reading_of Accounts = accounts_in
 reading_of Apps = apps_in
 reading_of Versions = versions_in
 reading_of Workunits = workunits_in
-
--- the changes that add rows
-abbrev pub changes_of : Rows → List Change
-changes_of (rows.Accounts xs) = map change.Account xs
-changes_of (rows.Apps xs) = map change.App xs
-changes_of (rows.Versions xs) = map change.Version xs
-changes_of (rows.Workunits xs) = map change.Workunit xs
 
 -- the longest text of an import, in bytes
 abbrev pub max_import : ℕ

@@ -1,11 +1,12 @@
 -- What one message does to a service over a desk.
-use Rattle.std.specs.Prelude.{◌≡◌, ℕ, List, Result, Ok, Err, if◌then◌else◌}
+use Rattle.std.specs.Prelude.{ℕ, List, Result, Ok, Err, if◌then◌else◌}
 use Rattle.rpc_records.specs.Reading.{meaning}
 use Rattle.rpc_records.specs.declared.fault.Fault.{Fault}
 use Rattle.rpc_records.specs.declared.fault.Fault.TheVariants as fault
 use Rattle.rpc_records.specs.declared.request.Request.{Request}
 use Rattle.bsched.specs.DeskCalls.{ServesCall}
 use Rattle.bsched.specs.DeskImports.{IsRefused, ServesImport}
+use Rattle.bsched.specs.DeskTicks.{ServesTick}
 use Rattle.bsched.specs.Messages.{is_too_long}
 use Rattle.bsched.specs.declared.answers.Answer.{Answer}
 use Rattle.bsched.specs.declared.plain.line.Line.{Line}
@@ -13,15 +14,16 @@ use Rattle.bsched.specs.declared.plain.line.Line.TheVariants as lines
 use Rattle.bsched.specs.declared.plain.service.Service.{Service}
 
 -- a request is a call, and a body that means none is refused
-abbrev pub ServesMeaning : Result Request Fault → Service → Answer → Service → Type 0
-ServesMeaning (Ok request) old answer new = ServesCall old request answer new
-ServesMeaning (Err fault) old answer new = IsRefused fault old answer new
+abbrev pub ServesMeaning : Result Request Fault → Service → ℕ → Answer → Service → Type 0
+ServesMeaning (Ok request) old now answer new = ServesCall old request now answer new
+ServesMeaning (Err fault) old now answer new = IsRefused fault old answer new
 
 -- the body of a scheduler_request, which is not read where it is too long
-unfoldable pub ServesBody : Service → List ℕ → Answer → Service → Type 0
-ServesBody old body answer new = ServesMeaning (if is_too_long body then Err fault.TooLarge else meaning body) old answer new
+unfoldable pub ServesBody : Service → List ℕ → ℕ → Answer → Service → Type 0
+ServesBody old body now answer new = ServesMeaning (if is_too_long body then Err fault.TooLarge else meaning body) old now answer new
 
--- what any message does, whatever stands in the service
-unfoldable pub Serves : Service → Line → Answer → Service → Type 0
-Serves old (lines.Import kind batch text) answer new = ServesImport old kind batch text answer new
-Serves old (lines.Scheduler body) answer new = ServesBody old body answer new
+-- what any message of this moment does, whatever stands in the service
+unfoldable pub Serves : Service → ℕ → Line → Answer → Service → Type 0
+Serves old now (lines.Import kind batch text) answer new = ServesImport old kind batch text answer new
+Serves old now (lines.Scheduler body) answer new = ServesBody old body now answer new
+Serves old now lines.Tick answer new = ServesTick old now answer new

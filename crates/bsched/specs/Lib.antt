@@ -15,4 +15,5 @@ pub mod Endings
 pub mod Kinds
 pub mod DeskCalls
 pub mod DeskImports
+pub mod DeskTicks
 pub mod DeskServes

@@ -1,5 +1,5 @@
 -- A line of a replay: INSTANT, one space, a word and, where a body follows, one space and the body. (This profile.)
-use Rattle.std.specs.Prelude.{ℕ, ℤ, pos, negsuc, ◌+◌, ◌*◌, ◌/◌, ◌%◌, ◌==◌, ◌&&◌, Bool, nat_le, if◌then◌else◌, List, [], ◌∷◌, ◌++◌, codes, take, drop, Option, Some, None, option_and_then, option_map, unwrap_or, position}
+use Rattle.std.specs.Prelude.{ℕ, ℤ, pos, negsuc, ◌+◌, ◌/◌, ◌%◌, ◌==◌, ◌&&◌, nat_le, if◌then◌else◌, List, [], ◌∷◌, ◌++◌, codes, take, drop, Option, Some, None, option_and_then, option_map, unwrap_or, position}
 use Rattle.std.specs.Result.{result_ok}
 use Rattle.std.specs.Str.{bytes_eq, is_utf8}
 use Rattle.jiff.specs.Words.{parse_timestamp}
@@ -8,7 +8,7 @@ use Rattle.serde_json.specs.Find.{as_str}
 use Rattle.rpc_records.specs.Reading.{json_of}
 use Rattle.bsched.specs.declared.plain.line.Arrival.{Arrival}
 use Rattle.bsched.specs.declared.plain.line.Line.{Line}
-use Rattle.bsched.specs.declared.plain.line.Line.TheVariants.{Import, Scheduler}
+use Rattle.bsched.specs.declared.plain.line.Line.TheVariants.{Import, Scheduler, Tick}
 
 -- the latest moment of an arrival, in seconds since 1970-01-01T00:00:00Z
 abbrev pub last_moment : ℕ
@@ -73,13 +73,19 @@ import_line None body = None
 import_line (Some names) body =
     import_by (word_in (first_part slash names)) (option_and_then word_in (second_part slash names)) (option_and_then text_told body)
 
+-- `tick` has no body, nor a space for one
+abbrev pub tick_line : Option (List ℕ) → Option Line
+tick_line None = Some Tick
+tick_line (Some body) = None
+
 -- `scheduler` takes any bytes, and none where it has no body
 abbrev pub line_by : List ℕ → Option (List ℕ) → Option Line
 line_by word body =
     if bytes_eq word (codes "account") then account_line body
     else (if bytes_eq word (codes "scheduler") then Some (Scheduler (unwrap_or body []))
+    else (if bytes_eq word (codes "tick") then tick_line body
     else (if bytes_eq (first_part slash word) (codes "import") then import_line (second_part slash word) body
-    else None))
+    else None)))
 
 abbrev pub line_of : List ℕ → Option Line
 line_of text = line_by (first_part space text) (second_part space text)

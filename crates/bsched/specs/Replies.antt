@@ -12,7 +12,6 @@ use Rattle.rpc_records.specs.declared.request.Report.{Report}
 use Rattle.rpc_records.specs.declared.request.Request.{Request}
 use Rattle.bsched.specs.Names.{distinct}
 use Rattle.bsched.specs.declared.answers.Answer.{Answer}
-use Rattle.bsched.specs.declared.first.line.Limits.{Limits}
 
 -- A good answer with this body.
 abbrev pub good : List ℕ → Answer
@@ -33,6 +32,14 @@ imported_json kind batch rows = object (
 -- Its text.
 unfoldable pub imported_text : List ℕ → List ℕ → ℕ → List ℕ
 imported_text kind batch rows = compact_text (imported_json kind batch rows)
+
+-- The answer to a tick: how many instances lapsed.
+abbrev pub lapsed_json : ℕ → Data
+lapsed_json count = object (member (codes "lapsed") (whole count) no_members)
+
+-- Its text.
+unfoldable pub lapsed_text : ℕ → List ℕ
+lapsed_text count = compact_text (lapsed_json count)
 
 -- The answer to the import of one account, by the batch of its name.
 abbrev pub account_text : List ℕ → List ℕ

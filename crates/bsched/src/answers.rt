@@ -1,7 +1,7 @@
 ghost use Rattle.std.specs.Prelude.{◌≡◌, None, IsTrue, IfOk};
 ghost use Rattle.std.specs.Option.{option_copied};
 ghost use Rattle.serde_json.specs.View.{view};
-ghost use Rattle.bsched.specs.Replies.{good, refusal, imported_json, imported_text};
+ghost use Rattle.bsched.specs.Replies.{good, refusal, imported_json, imported_text, lapsed_json, lapsed_text};
 ghost use Rattle.bsched.specs.Told.{told_fresh, told_beside};
 
 use reply_register::{Heard, Kept, classify};
@@ -46,6 +46,22 @@ pub(crate) fn imported(alloc: Global, kind: &str, batch: &str, rows: u64) -> Res
     ensures { IfOk result (λ text. text ≡ imported_text kind.now batch.now rows) }
 {
     let value = imported_value(alloc, kind, batch, rows)?;
+    Ok(Text::of(value.to_string(alloc)?))
+}
+
+/// The JSON of an answer to a tick.
+fn lapsed_value(alloc: Global, count: u32) -> Result<Value, Memory>
+    ensures { IfOk result (λ value. view value ≡ lapsed_json count) }
+{
+    json!(in alloc; {"lapsed": count})
+}
+
+/// The body that tells how many instances lapsed at a tick.
+#[tactic(auto, unfolding(crate::specs::Replies::lapsed_text))]
+pub(crate) fn lapsed(alloc: Global, count: u32) -> Result<Text, Memory>
+    ensures { IfOk result (λ text. text ≡ lapsed_text count) }
+{
+    let value = lapsed_value(alloc, count)?;
     Ok(Text::of(value.to_string(alloc)?))
 }
 

@@ -1,14 +1,14 @@
 //! The scheduler over plain lists: a desk in memory, the kept calls and the kept imports.
 //!
-//! Accounts, applications, versions and workunits come in by imports. Work is not handed out yet: a call of a host
-//! is answered as where no workunit stands.
+//! Accounts, applications, versions and workunits come in by imports. Each import, each tick and each first-heard
+//! call of a host is one step of the job machine.
 
 mod batches;
-mod calls;
 mod imports;
 mod kind;
 mod line;
 mod service;
+mod steps;
 
 pub use batches::Batch;
 pub use kind::Kind;

@@ -140,6 +140,6 @@ fn answer_line(
 ) -> Result<Option<Answer>, Failure> {
     match arrival_of(alloc, text)? {
         None => Ok(None),
-        Some(arrival) => Ok(Some(service.answer(&arrival.line)?)),
+        Some(arrival) => Ok(Some(service.answer(arrival.now, &arrival.line)?)),
     }
 }

@@ -15,6 +15,8 @@ pub enum Line {
     },
     /// The body of a scheduler_request.
     Scheduler(Listed<u8>),
+    /// Time goes by.
+    Tick,
 }
 
 /// A message and the moment at which it came.
@@ -29,7 +31,7 @@ pub struct Arrival {
 pub enum Failure {
     /// Memory was wanting, and nothing was changed.
     Unavailable,
-    /// Memory was wanting when a call's host stood already and its reply was to be kept: nothing else was changed,
+    /// Memory was wanting when a call's step was made and its reply was to be kept: nothing else was changed,
     /// and the service is of no use any more.
     HalfDone,
 }

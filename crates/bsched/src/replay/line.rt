@@ -14,7 +14,7 @@ use texts::{Listed, Memory, Text, utf8_text, word_of};
 
 /// What arrives by a line of a replay, `INSTANT WORD BODY` without its line feed, or `None` where the line
 /// has not that form. The words are `account`, whose body is a word; `import/KIND/BATCH`, whose body is a JSON
-/// string; and `scheduler`, whose body is a request's bytes, none where it is left out.
+/// string; `scheduler`, whose body is a request's bytes, none where it is left out; and `tick`, which has no body.
 pub fn arrival_of(alloc: Global, text: &[u8]) -> Result<Option<Arrival>, Memory>
     ensures { IfOk result (λ arrival. arrival ≡ spec.arrival_of text.now) }
 {
@@ -47,10 +47,23 @@ fn line_by(alloc: Global, word: &[u8], body: Option<&[u8]>) -> Result<Option<Lin
         let body = body.unwrap_or(&[]);
         return Ok(Some(Line::Scheduler(Listed::of(body.to_vec(alloc)?))));
     }
+    if word == b"tick".as_slice() {
+        return Ok(tick_line(body));
+    }
     if first_part(word, b'/') == b"import".as_slice() {
         return import_line(alloc, second_part(word, b'/'), body);
     }
     Ok(None)
+}
+
+/// A tick, which has no body.
+fn tick_line(body: Option<&[u8]>) -> Option<Line>
+    ensures { result ≡ spec.tick_line (option_map (λ b. b.now) body.entry) }
+{
+    match body {
+        None => Some(Line::Tick),
+        Some(_) => None,
+    }
 }
 
 /// The import of the account of this name.

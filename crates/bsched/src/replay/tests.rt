@@ -315,7 +315,7 @@ fn a_faulty_import_is_refused_whole(rt: HostRuntime) -> Result<(), Fail> {
 }
 
 #[test]
-fn work_that_stands_is_not_handed_out_yet(rt: HostRuntime) -> Result<(), Fail> {
+fn a_repeat_is_told_the_same_though_work_has_come(rt: HostRuntime) -> Result<(), Fail> {
     let alloc = rt.alloc();
     let asking = call(alloc, "k1", "c1", 1, ",\"work_req_seconds\":3600")?;
     let workunits =
@@ -370,7 +370,9 @@ fn lines_that_are_none_end_the_run(rt: HostRuntime) -> Result<(), Fail> {
         "1970-01-01T00:00:00Z account ",
         "1970-01-01T00:00:00Z account k 1",
         "1970-01-01T00:00:00Z account k1\r",
-        "1970-01-01T00:00:00Z tick",
+        "1970-01-01T00:00:00Z tick ",
+        "1970-01-01T00:00:00Z tick x",
+        "1970-01-01T00:00:00Z tick/x",
         "1970-01-01T00:00:00Z import",
         "1970-01-01T00:00:00Z import/accounts \"\"",
         "1970-01-01T00:00:00Z import/accounts/ \"\"",
