@@ -34,3 +34,8 @@ pub mod SettledCalls
 pub mod CallsDone
 pub mod JobsLost
 pub mod JobsFit
+pub mod RunKept
+pub mod RunLasting
+pub mod RunOne
+pub mod RunUsers
+pub mod RunDeadlines

@@ -8,3 +8,4 @@ pub mod Asked
 pub mod Granting
 pub mod Calling
 pub mod Importing
+pub mod Runs

@@ -2,6 +2,7 @@
 
 ghost use Rattle.sched_machine.specs.Alike.{SettledIsLike};
 ghost use Rattle.sched_machine.specs.Laws.{EntryKeepsSound, ReportsKeepWell, LapsesKeepWell, LostJobsKeepWell, SettlementMakesSound, GrantKeepsSound, ImportKeepsSound, StepKeepsSound, RunsKeepSound, EmptyIsSound};
+ghost use Rattle.sched_machine.specs.Runs.{HoldsInRuns, OwnersStay, ReportsStay, LapsesStay, StepIsDetermined, RunIsDetermined, HoldsAlways, OneForEachUser, DeadlinesMoveByResends};
 
 /// A sound world stays sound where a call's host is renewed, or made where there is room.
 pub fn entry_keeps_sound()
@@ -57,4 +58,40 @@ pub fn the_empty_world_is_sound()
 /// other.
 pub fn the_settled_world_is_like_the_first()
     ensures { SettledIsLike }
+{}
+
+/// Through each run from a sound world an instance that was given to a host stays that host's, with its moment of
+/// sending.
+pub fn owners_stay()
+    ensures { HoldsInRuns OwnersStay }
+{}
+
+/// What was reported of an instance stays.
+pub fn reports_stay()
+    ensures { HoldsInRuns ReportsStay }
+{}
+
+/// An instance that lapsed keeps its lapse.
+pub fn lapses_stay()
+    ensures { HoldsInRuns LapsesStay }
+{}
+
+/// A call at a moment leaves one world and gives one answer.
+pub fn a_step_is_determined()
+    ensures { StepIsDetermined }
+{}
+
+/// So a list of calls has one run.
+pub fn a_run_is_determined()
+    ensures { RunIsDetermined }
+{}
+
+/// In no world of a run from a sound world has a workunit two instances that were given to hosts of one user.
+pub fn one_for_each_user()
+    ensures { HoldsAlways OneForEachUser }
+{}
+
+/// A step leaves the deadline of an instance that was given to a host, or sends it again to that host, which calls.
+pub fn deadlines_move_by_resends_alone()
+    ensures { DeadlinesMoveByResends }
 {}

@@ -1,0 +1,5 @@
+use Rattle.sched_machine.proofs.RunLasting.{lapses_stay}
+use Rattle.sched_machine.proofs.laws.lapses_stay.Goals as goal
+
+pub returns : goal.returns
+returns c = lapses_stay
