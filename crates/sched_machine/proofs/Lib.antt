@@ -39,3 +39,10 @@ pub mod RunLasting
 pub mod RunOne
 pub mod RunUsers
 pub mod RunDeadlines
+pub mod DecidedGood
+pub mod DecidedUnits
+pub mod DecidedChanges
+pub mod DecidedSteps
+pub mod DecidedWorlds
+pub mod DecidedRuns
+pub mod DecidedSums

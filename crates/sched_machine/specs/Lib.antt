@@ -9,3 +9,4 @@ pub mod Granting
 pub mod Calling
 pub mod Importing
 pub mod Runs
+pub mod Decisions

@@ -1,6 +1,7 @@
 //! Laws of the machine. Each function does nothing; its contract is the law.
 
 ghost use Rattle.sched_machine.specs.Alike.{SettledIsLike};
+ghost use Rattle.sched_machine.specs.Decisions.{CanonicalsStay, VerdictsStay, StatusesStay, CreditsStay, CreditsAddUp};
 ghost use Rattle.sched_machine.specs.Laws.{EntryKeepsSound, ReportsKeepWell, LapsesKeepWell, LostJobsKeepWell, SettlementMakesSound, GrantKeepsSound, ImportKeepsSound, StepKeepsSound, RunsKeepSound, EmptyIsSound};
 ghost use Rattle.sched_machine.specs.Runs.{HoldsInRuns, OwnersStay, ReportsStay, LapsesStay, StepIsDetermined, RunIsDetermined, HoldsAlways, OneForEachUser, DeadlinesMoveByResends};
 
@@ -94,4 +95,30 @@ pub fn one_for_each_user()
 /// A step leaves the deadline of an instance that was given to a host, or sends it again to that host, which calls.
 pub fn deadlines_move_by_resends_alone()
     ensures { DeadlinesMoveByResends }
+{}
+
+/// In every run a canonical result stays the canonical one.
+pub fn canonicals_stay()
+    ensures { HoldsInRuns CanonicalsStay }
+{}
+
+/// So does each verdict.
+pub fn verdicts_stay()
+    ensures { HoldsInRuns VerdictsStay }
+{}
+
+/// What is done stays done, and what failed stays failed, for the same reason.
+pub fn statuses_stay()
+    ensures { HoldsInRuns StatusesStay }
+{}
+
+/// The credit of no host and no user falls.
+pub fn credits_never_fall()
+    ensures { HoldsInRuns CreditsStay }
+{}
+
+/// In each world of a run from a sound world the hosts together, and the users together, have the credit of all valid
+/// results.
+pub fn credits_add_up()
+    ensures { HoldsAlways CreditsAddUp }
 {}

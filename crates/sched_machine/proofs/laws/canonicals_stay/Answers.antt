@@ -1,0 +1,5 @@
+use Rattle.sched_machine.proofs.DecidedRuns.{canonicals_stay}
+use Rattle.sched_machine.proofs.laws.canonicals_stay.Goals as goal
+
+pub returns : goal.returns
+returns c = canonicals_stay

@@ -1,0 +1,5 @@
+use Rattle.sched_machine.proofs.DecidedRuns.{credits_never_fall}
+use Rattle.sched_machine.proofs.laws.credits_never_fall.Goals as goal
+
+pub returns : goal.returns
+returns c = credits_never_fall
