@@ -2,15 +2,13 @@
 
 ghost use Rattle.std.specs.Prelude.{◌≡◌, [], ◌++◌, filter, length, sum_by, IfOk, OnOk};
 ghost use Rattle.std.specs.List.{cons_option};
-ghost use Rattle.sched_book.specs.Fits.{estimate};
 ghost use Rattle.sched_book.specs.Places.{is_held_by, held_by};
 ghost use Rattle.sched_book.specs.Lost.{estimate_at};
 ghost use Rattle.sched_book.specs.Delta.{applied};
 ghost use Rattle.lost_jobs.specs.Holding.{HoldsNoMore};
 ghost use Rattle.sched_machine.specs.Asked.{holds, count_with, fate_seconds, place_resent, resent_places};
 
-use job_choice::estimate;
-use lost_jobs::Fate;
+use lost_jobs::{Fate, seconds_at};
 use sched_book::{Delta, Desk, HostRow, Instance, Patched, Place, Unavailable, Units, count};
 use std::alloc::Global;
 use texts::{Listed, Memory};
@@ -103,16 +101,6 @@ pub(crate) fn held_after<D: Desk>(
 {
     let held = desk.held_by(alloc, host)?;
     held_among(alloc, desk, delta, host, held.as_slice())
-}
-
-/// The seconds that so many operations take at so many a second; 1 where the speed is not known.
-fn seconds_at(fpops: u64, p_fpops: u64) -> u64
-    ensures { result ≡ estimate fpops p_fpops }
-{
-    if p_fpops == 0 {
-        return 1;
-    }
-    estimate(fpops, p_fpops)
 }
 
 /// The seconds that the job at a place takes the host; none where no workunit stands.
