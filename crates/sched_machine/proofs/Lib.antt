@@ -46,3 +46,10 @@ pub mod DecidedSteps
 pub mod DecidedWorlds
 pub mod DecidedRuns
 pub mod DecidedSums
+pub mod HeldLists
+pub mod HeldLost
+pub mod HeldGranted
+pub mod HeldReported
+pub mod HeldJobs
+pub mod HeldTold
+pub mod HeldNamed

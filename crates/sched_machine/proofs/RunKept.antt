@@ -114,7 +114,7 @@ elsewhere P f w p q before holds y stands =
     holds y (sym (instance_at-with_changed f w p q ∙ ap (λ b. cond b (option_map f (instance_at w q)) (instance_at w q)) (other_place p q before)) ∙ stands)
 
 -- what stands in a list stands there with more behind it
-front_stays : {X : Type 0} (xs more : List X) (i : ℕ) (x : X) → slice_get xs i ≡ Some x → slice_get (xs ++ more) i ≡ Some x
+pub front_stays : {X : Type 0} (xs more : List X) (i : ℕ) (x : X) → slice_get xs i ≡ Some x → slice_get (xs ++ more) i ≡ Some x
 front_stays [] more i x is = absurd cc
 front_stays (y ∷ xs) more zero x is = is
 front_stays (y ∷ xs) more (suc i) x is = front_stays xs more i x is

@@ -28,11 +28,11 @@ use Rattle.sched_machine.proofs.AlikeSettled.{before_settlement, the_settled_wor
 use Rattle.sched_machine.proofs.SettledHolds.{after_settlement_holds}
 
 -- two workunits with one row
-abbrev SameRow : UnitBook → UnitBook → Type 0
+abbrev pub SameRow : UnitBook → UnitBook → Type 0
 SameRow b d = d.unit ≡ b.unit
 
 -- the rows of the workunits stay through a call up to its settlement
-rows_settled : (w : World) (c : Caller) (r : Request) (now : ℕ) → Along SameRow w.units (after_settlement w c r now).units
+pub rows_settled : (w : World) (c : Caller) (r : Request) (now : ℕ) → Along SameRow w.units (after_settlement w c r now).units
 rows_settled w c r now =
     let left : World = after_lost w c r now in
     along_map (λ b. Unit {0}) (IsKept (host_number w c)) SameRow (grown left.apps) (λ b d any kept. row_grown left.apps d ∙ kept.row)

@@ -23,7 +23,7 @@ use Rattle.lost_jobs.specs.Holding.{HoldsNoMore}
 use Rattle.lost_jobs.proofs.Reported.{reports_hold_no_more}
 
 -- an instance that the host holds stands
-abbrev is_held_in : ℕ → Option Instance → Bool
+abbrev pub is_held_in : ℕ → Option Instance → Bool
 is_held_in host o = unwrap_or (option_map (is_held_by host) o) false
 
 -- a change after which the host holds an instance only where it held it before
@@ -43,7 +43,7 @@ changed_holds host f v q new p holds =
     cases false o held = held
 
 -- who lost an instance for good does not hold it
-dropped_not_held : (host : ℕ) (x : Instance) → is_held_by host (with_lapse Dropped x) ≡ false
+pub dropped_not_held : (host : ℕ) (x : Instance) → is_held_by host (with_lapse Dropped x) ≡ false
 dropped_not_held host x = both (is_owned_by host x) (is_some x.owner) (is_none x.report)
   where
     both : (a b c : Bool) → (a && ((b && c) && false)) ≡ false
@@ -53,7 +53,7 @@ dropped_not_held host x = both (is_owned_by host x) (is_some x.owner) (is_none x
     both false b c = refl
 
 -- a new deadline changes nothing in who holds it
-deadline_holds : (host : ℕ) (f : ℕ → ℕ) (x : Instance) → is_held_by host (with_deadline f x) ≡ is_held_by host x
+pub deadline_holds : (host : ℕ) (f : ℕ → ℕ) (x : Instance) → is_held_by host (with_deadline f x) ≡ is_held_by host x
 deadline_holds host f x = cases x.owner
   where
     cases : (o : Option Owner)
@@ -92,7 +92,7 @@ behind_holds host many [] m = fresh_not_held host many m
 behind_holds host many (x ∷ xs) zero = refl
 behind_holds host many (x ∷ xs) (suc m) = behind_holds host many xs m
 
-grown_holds : (host : ℕ) (apps : List App) (b : UnitBook) (m : ℕ)
+pub grown_holds : (host : ℕ) (apps : List App) (b : UnitBook) (m : ℕ)
     → is_held_in host (slice_get (grown apps b).instances m) ≡ is_held_in host (slice_get b.instances m)
 grown_holds host apps b m = cases (is_open (book_status apps b)) (need b.unit b.instances)
   where

@@ -10,3 +10,4 @@ pub mod Calling
 pub mod Importing
 pub mod Runs
 pub mod Decisions
+pub mod Held

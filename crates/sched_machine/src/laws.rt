@@ -2,6 +2,7 @@
 
 ghost use Rattle.sched_machine.specs.Alike.{SettledIsLike};
 ghost use Rattle.sched_machine.specs.Decisions.{CanonicalsStay, VerdictsStay, StatusesStay, CreditsStay, CreditsAddUp};
+ghost use Rattle.sched_machine.specs.Held.{ReportsEndHolding, HeldByPlaces, HoldsWhatIsListedOrNamed};
 ghost use Rattle.sched_machine.specs.Laws.{EntryKeepsSound, ReportsKeepWell, LapsesKeepWell, LostJobsKeepWell, SettlementMakesSound, GrantKeepsSound, ImportKeepsSound, StepKeepsSound, RunsKeepSound, EmptyIsSound};
 ghost use Rattle.sched_machine.specs.Runs.{HoldsInRuns, OwnersStay, ReportsStay, LapsesStay, StepIsDetermined, RunIsDetermined, HoldsAlways, OneForEachUser, DeadlinesMoveByResends};
 
@@ -95,6 +96,22 @@ pub fn one_for_each_user()
 /// A step leaves the deadline of an instance that was given to a host, or sends it again to that host, which calls.
 pub fn deadlines_move_by_resends_alone()
     ensures { DeadlinesMoveByResends }
+{}
+
+/// After the reports of a call its host holds just what it held and did not report.
+pub fn reports_end_holding()
+    ensures { ReportsEndHolding }
+{}
+
+/// After a call that lists what its client has, where lost jobs are sent again, its host holds just what it held, lists
+/// and did not report, what is sent again, and what is granted.
+pub fn held_jobs_by_place()
+    ensures { HeldByPlaces }
+{}
+
+/// So it holds just what it held, lists and did not report, and what the reply names.
+pub fn a_host_holds_what_is_listed_or_named()
+    ensures { HoldsWhatIsListedOrNamed }
 {}
 
 /// In every run a canonical result stays the canonical one.

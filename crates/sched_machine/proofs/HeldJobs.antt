@@ -1,0 +1,220 @@
+-- What a host holds after its call, by places.
+use Rattle.std.proofs.Common.{◌≡◌, ◌⊎◌, inl, inr, ℕ, Bool, true, false, cond, not, List, [], Option, Some, None, sym, refl, ap, ◌∙◌, subst}
+use Rattle.std.specs.Prelude.{◌&&◌, ◌==◌, Contains, filter, is_none, is_some, option_map, option_and_then, slice_get, unwrap_or}
+use Rattle.std.specs.List.{list_any}
+use Rattle.std.specs.Str.{bytes_eq}
+use Rattle.std.proofs.lemmas.List.Elements.{All-contains}
+use Rattle.rpc_records.specs.declared.request.Request.{Request}
+use Rattle.sched_book.specs.Count.{is_held}
+use Rattle.sched_book.specs.Fits.{is_eligible, is_for}
+use Rattle.sched_book.specs.Lost.{is_listed, is_resent, unlisted}
+use Rattle.sched_book.specs.Names.{instance_name}
+use Rattle.sched_book.specs.Places.{instance_at, held_by, is_held_by, is_owned_by, name_at, owner_host}
+use Rattle.sched_book.specs.Reports.{first_reports}
+use Rattle.sched_book.specs.Sound.{IsBare, IsSoundUnit, Sound}
+use Rattle.sched_book.specs.Step.{after_lost, after_reports, after_settlement, asking_of, at_entry, granted, host_number, host_told, lost_of, resent_of}
+use Rattle.sched_book.specs.declared.instance.Instance.{Instance}
+use Rattle.sched_book.specs.declared.instance.Owner.{Owner}
+use Rattle.sched_book.specs.declared.instance.Place.{Place}
+use Rattle.sched_book.specs.declared.instance.UnitBook.{UnitBook}
+use Rattle.sched_book.specs.declared.machine.Caller.{Caller}
+use Rattle.sched_book.specs.declared.settings.Settings.{Settings}
+use Rattle.sched_book.specs.declared.world.World.{World}
+use Rattle.sched_book.proofs.Newest.{in_filter, passed_filter, passes_filter}
+use Rattle.sched_book.proofs.Recording.{passes-is, reports_are_recorded_by_place}
+use Rattle.job_choice.proofs.Candidates.{Stood, stood}
+use Rattle.quorum_credit.proofs.ByPlace.{all_get, all_nth}
+use Rattle.sched_machine.specs.Asked.{holds}
+use Rattle.sched_machine.specs.Held.{HeldByPlaces, IsHeldByPlace, IsRetained}
+use Rattle.sched_machine.proofs.AlikeCalls.{from_reports}
+use Rattle.sched_machine.proofs.AlikeLists.{along_nth, along_same}
+use Rattle.sched_machine.proofs.AlikeSettled.{the_settled_world_is_like_the_first}
+use Rattle.sched_machine.proofs.AlikeUnits.{IsFrom, IsKept, kept_self}
+use Rattle.sched_machine.proofs.HeldGranted.{IsUnspoiled, grant_gives, grant_keeps, granted_is_held}
+use Rattle.sched_machine.proofs.HeldLists.{held_is_listed, listed_is_held}
+use Rattle.sched_machine.proofs.HeldLost.{lost_elsewhere, lost_held, lost_resent, settled_same, settled_stands}
+use Rattle.sched_machine.proofs.HeldReported.{reports_end_holding}
+use Rattle.sched_machine.proofs.SettledHolds.{is_held_in, lost_hold_no_more}
+use Rattle.sched_machine.proofs.UnitsGiven.{first_true}
+
+-- nobody owns or holds what was given to nobody
+free_not_owned : (host : ℕ) (x : Instance) → x.owner ≡ None → is_owned_by host x ≡ false
+free_not_owned host x free = ap (λ (o : Option Owner). is_some o && (owner_host o == host)) free
+
+free_not_held : (host : ℕ) (x : Instance) → x.owner ≡ None → is_held_by host x ≡ true → ⊥
+free_not_held host x free held =
+    let never : false ≡ true = sym (free_not_owned host x free) ∙ first_true (is_owned_by host x) (is_held x) held in
+    absurd cc
+
+module _ (w : World) (c : Caller) (r : Request) where
+  -- the call's host, and the world after its reports
+  abbrev host : ℕ
+  host = host_number w c
+
+  abbrev reported : World
+  reported = after_reports w c r
+
+  -- the rows of workunits and the settings stay through the reports
+  from_entry : IsFrom host (at_entry w c r) reported
+  from_entry =
+      from_reports (at_entry w c r) (at_entry w c r) host (first_reports r.results) (at_entry w c r)
+      (record { units = along_same (IsKept host) (kept_self host) w.units; rest = refl })
+
+  -- so do the names
+  name_stays : (p : Place) → name_at reported p ≡ name_at w p
+  name_stays p =
+      along_nth (IsKept host)
+      (λ o. unwrap_or (option_map (λ (b : UnitBook). instance_name b.unit.name p.number) o) [])
+      (λ o. unwrap_or (option_map (λ (b : UnitBook). instance_name b.unit.name p.number) o) [])
+      refl (λ b d kept. ap (λ u. instance_name u.name p.number) kept.row) w.units reported.units p.unit from_entry.units
+
+  -- and what is listed
+  listed_stays : (names : List (List ℕ)) (p : Place) → is_listed reported names p ≡ is_listed w names p
+  listed_stays names p = ap (λ name. list_any (bytes_eq name) names) (name_stays p)
+
+  -- the settings too
+  settings_stay : reported.settings ≡ w.settings
+  settings_stay = ap (λ (v : World). v.settings) from_entry.rest
+
+  -- what is lost, where lost jobs are sent again and the client lists what it has
+  module _ (names : List (List ℕ)) (resends : w.settings.resend_lost_results ≡ true) (lists : r.other_results ≡ Some names) where
+    -- it is what is held after the reports and not listed
+    lost_are : lost_of w c r ≡ filter (λ p. not (is_listed reported names p)) (held_by reported host)
+    lost_are =
+        ap (λ (s : Settings). cond s.resend_lost_results (unlisted reported host r.other_results) []) settings_stay
+        ∙ ap (λ (b : Bool). cond b (unlisted reported host r.other_results) []) resends
+        ∙ ap (unlisted reported host) lists
+
+    -- so it was held
+    lost_was_held : (p : Place) → Contains (lost_of w c r) p → holds reported host p ≡ true
+    lost_was_held p there =
+        listed_is_held reported host p
+        (in_filter (λ p. not (is_listed reported names p)) (held_by reported host) p (subst (λ ps. Contains ps p) lost_are there))
+
+    -- and not listed
+    lost_not_listed : (p : Place) → Contains (lost_of w c r) p → is_listed reported names p ≡ true → ⊥
+    lost_not_listed p there listed =
+        let fails : not (is_listed reported names p) ≡ true =
+        passed_filter (λ p. not (is_listed reported names p)) (held_by reported host) p (subst (λ ps. Contains ps p) lost_are there) in
+        let never : false ≡ true = sym (ap not listed) ∙ fails in
+        absurd cc
+
+    -- and what is held and not listed is lost
+    held_and_unlisted : (p : Place) → holds reported host p ≡ true → is_listed reported names p ≡ false → Contains (lost_of w c r) p
+    held_and_unlisted p held unlisted =
+        subst (λ ps. Contains ps p) (sym lost_are)
+        (passes_filter (λ p. not (is_listed reported names p)) (held_by reported host) p (held_is_listed reported host p held) (ap not unlisted))
+
+    module _ (now : ℕ) where
+      -- what the lost jobs leave, and what settlement makes of it
+      abbrev left : World
+      left = after_lost w c r now
+
+      abbrev settlement : World
+      settlement = after_settlement w c r now
+
+      -- what is held after settlement is retained, or sent again
+      settled_from : (p : Place) → holds settlement host p ≡ true → IsRetained w c r names p ⊎ Contains (resent_of w c r) p
+      settled_from p held = cases (is_listed reported names p) refl
+        where
+          then : holds left host p ≡ true
+          then = sym (settled_same (at_entry w c r) left host p) ∙ held
+
+          before : holds reported host p ≡ true
+          before = lost_hold_no_more (at_entry w c r) (host_told w c r) now host (lost_of w c r) reported p then
+
+          cases : (b : Bool) → is_listed reported names p ≡ b → IsRetained w c r names p ⊎ Contains (resent_of w c r) p
+          cases true listed =
+              inl (record { kept = (reports_end_holding w c r p).0 before; listed = sym (listed_stays names p) ∙ listed })
+          cases false unlisted =
+              let there : Contains (lost_of w c r) p = held_and_unlisted p before unlisted in
+              inr (passes_filter (is_resent (at_entry w c r) (host_told w c r)) (lost_of w c r) p there
+              (lost_held (at_entry w c r) (host_told w c r) now host p (lost_of w c r) reported there then))
+
+      -- what is retained is held
+      settled_retained : (p : Place) → IsRetained w c r names p → holds settlement host p ≡ true
+      settled_retained p kept =
+          settled_same (at_entry w c r) left host p
+          ∙ passes-is left (is_held_by host) p
+          ∙ ap (is_held_in host) (lost_elsewhere (at_entry w c r) (host_told w c r) now host p (lost_of w c r) reported nowhere)
+          ∙ sym (passes-is reported (is_held_by host) p)
+          ∙ (reports_end_holding w c r p).1 kept.kept
+        where
+          nowhere : Contains (lost_of w c r) p → ⊥
+          nowhere there = lost_not_listed p there (listed_stays names p ∙ kept.listed)
+
+      -- so is what is sent again
+      settled_resent : (p : Place) → Contains (resent_of w c r) p → holds settlement host p ≡ true
+      settled_resent p there =
+          settled_same (at_entry w c r) left host p
+          ∙ lost_resent (at_entry w c r) (host_told w c r) now host p (lost_of w c r) reported
+          (passed_filter (is_resent (at_entry w c r) (host_told w c r)) (lost_of w c r) p there)
+          ∙ lost_was_held p (in_filter (is_resent (at_entry w c r) (host_told w c r)) (lost_of w c r) p there)
+
+      -- what is eligible is neither reported nor lapsed
+      eligible_is_unspoiled : Sound w → (p : Place) → is_eligible w (asking_of w c r now).host p ≡ true → IsUnspoiled settlement p
+      eligible_is_unspoiled sound p eligible =
+          record { x = at.x; stands = settled_stands (at_entry w c r) left p at.x (lost_stands (reports_stand)); report = bare.1; lapse = bare.0 }
+        where
+          at : Stood w (λ b x. is_none x.owner && is_for w (asking_of w c r now).host b) p
+          at = stood w (λ b x. is_none x.owner && is_for w (asking_of w c r now).host b) p eligible
+
+          stands : instance_at w p ≡ Some at.x
+          stands = ap (option_and_then (λ (b : UnitBook). slice_get b.instances p.number)) at.at ∙ at.stands
+
+          none_of : (o : Option Owner) → is_none o ≡ true → o ≡ None
+          none_of None is = refl
+          none_of (Some o) is = absurd cc
+
+          free : at.x.owner ≡ None
+          free = none_of at.x.owner (first_true (is_none at.x.owner) (is_for w (asking_of w c r now).host at.book) at.passed)
+
+          bare : (at.x.lapse ≡ None) × (at.x.report ≡ None)
+          bare =
+              all_get IsBare at.book.instances p.number at.x
+              (all_nth (IsSoundUnit w.hosts w.apps) w.units p.unit at.book sound.units at.at).bare at.stands free
+
+          reports_stand : instance_at reported p ≡ Some at.x
+          reports_stand = elim (reports_are_recorded_by_place (at_entry w c r) host r.results p).stays_or_recorded [
+            | inl same ↦ same ∙ stands
+            | inr told ↦ (
+                let equal : told.before ≡ at.x = (let both : Some told.before ≡ Some at.x = sym told.stood ∙ stands in cc) in
+                let owned : is_owned_by host told.before ≡ true = first_true (is_owned_by host told.before) (is_none told.before.report) told.awaited in
+                let never : false ≡ true =
+                sym (free_not_owned host told.before (ap (λ (z : Instance). z.owner) equal ∙ free)) ∙ owned in
+                absurd cc)
+          ]
+
+          lost_stands : instance_at reported p ≡ Some at.x → instance_at left p ≡ Some at.x
+          lost_stands there =
+              lost_elsewhere (at_entry w c r) (host_told w c r) now host p (lost_of w c r) reported
+              (λ lost.
+              free_not_held host at.x free
+              (sym (passes-is reported (is_held_by host) p ∙ ap (is_held_in host) there) ∙ lost_was_held p lost))
+              ∙ there
+
+-- the law: a grant adds its jobs, and takes away nothing
+pub held_jobs_by_place : HeldByPlaces
+held_jobs_by_place w after c r now reply names step sound resends lists p =
+    subst (λ v. IsHeldByPlace w v c r names step.jobs p) (sym step.left) (record {
+      from = λ held. elim (grant_gives (host_number w c) now p step.jobs settlement held) [
+        | inr job ↦ inr (inr job)
+        | inl before ↦ elim (settled_from w c r names resends lists now p before) [
+          | inl kept ↦ inl kept
+          | inr sent ↦ inr (inl sent)
+        ]
+      ];
+      retained = λ kept. keeps (settled_retained w c r names resends lists now p kept);
+      resent = λ sent. keeps (settled_resent w c r names resends lists now p sent);
+      granted = λ job.
+          granted_is_held (host_number w c) now p step.jobs settlement job
+          (eligible_is_unspoiled w c r names resends lists now sound p
+          (sym ((the_settled_world_is_like_the_first w c r now sound step.caller step.room).eligible p)
+          ∙ All-contains (λ q. is_eligible settlement (asking_of w c r now).host q ≡ true) step.jobs p step.grant.eligible job));
+    })
+  where
+    settlement : World
+    settlement = after_settlement w c r now
+
+    keeps : holds settlement (host_number w c) p ≡ true → holds (granted settlement (host_number w c) now step.jobs) (host_number w c) p ≡ true
+    keeps = grant_keeps (host_number w c) now p step.jobs settlement
