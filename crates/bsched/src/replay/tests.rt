@@ -1,5 +1,10 @@
 //! The worked rows of the first path: lines in, answers out.
 
+mod jobs;
+mod mixed;
+mod quorums;
+mod rows;
+
 use super::{Ended, replay};
 use crate::default_settings;
 use std::alloc::Global;
