@@ -4,6 +4,7 @@ mod jobs;
 mod mixed;
 mod quorums;
 mod rows;
+mod spellings;
 
 use super::{Ended, replay};
 use crate::default_settings;
