@@ -1,4 +1,4 @@
-ghost use Rattle.std.specs.Prelude.{◌≡◌, [], map, unwrap_or, IfOk, OnOk, OnErr};
+ghost use Rattle.std.specs.Prelude.{◌≡◌, [], map, unwrap_or, IfOk, OnOk};
 ghost use Rattle.rpc_records.specs.declared.request.Report.{Report};
 ghost use Rattle.bsched.specs.Names.{has_name, distinct, with_name, AreSeen};
 ghost use Rattle.bsched.specs.Replies.{end_word, reply_of};

@@ -3,7 +3,6 @@
 ghost use Rattle.std.specs.Prelude.{◌≡◌, ◌-◌, ◌++◌, IfOk, OnOk};
 ghost use Rattle.std.specs.Option.{option_to_list};
 ghost use Rattle.sched_book.specs.Desk.{units_of_user};
-ghost use Rattle.sched_book.specs.Grant.{Asking};
 ghost use Rattle.job_choice.specs.Chosen.{IsChoice};
 ghost use Rattle.job_choice.specs.Choosing.{versions_known};
 ghost use Rattle.job_choice.specs.Offered.{HasJust, limits_on, IsBegun, IsOffered};

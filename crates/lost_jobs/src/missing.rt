@@ -5,7 +5,6 @@ ghost use Rattle.sched_book.specs.Places.{passes, is_held_by, name_at};
 ghost use Rattle.sched_book.specs.Lost.{unlisted, lost};
 ghost use Rattle.sched_book.specs.Delta.{applied};
 ghost use Rattle.sched_book.specs.declared.instance.Place.{Place};
-ghost use Rattle.lost_jobs.specs.NameSets.{has_name};
 ghost use Rattle.lost_jobs.specs.Holding.{HoldsNoMore, is_missing};
 
 use crate::name_set::NameSet;

@@ -1,6 +1,6 @@
 //! The rows of an import beside what stands at a desk.
 
-ghost use Rattle.std.specs.Prelude.{◌≡◌, ◌≢◌, ◌≤◌, ◌+◌, ◌||◌, not, ℕ, List, nat_le, None, Some, length, map, IfOk, IfErr, OnOk};
+ghost use Rattle.std.specs.Prelude.{◌≡◌, ◌≢◌, ◌≤◌, ◌+◌, ◌||◌, not, nat_le, None, Some, IfOk, IfErr, OnOk};
 ghost use Rattle.std.specs.List.{list_any};
 ghost use Rattle.sched_book.specs.Imports.{shelf_of, shelved, first_known, duplicate_at, unknown_at, has_app, has_room, fault_of_rows};
 ghost use Rattle.sched_book.specs.Places.{place_where};

@@ -1,6 +1,6 @@
 //! The readers of the four imports.
 
-ghost use Rattle.std.specs.Prelude.{◌≡◌, ◌+◌, All, IfOk, IfErr, Ok, Err, map, length};
+ghost use Rattle.std.specs.Prelude.{◌+◌, All, IfOk, IfErr, Ok, Err, map};
 ghost use Rattle.csv.specs.Records.{fields_of};
 ghost use Rattle.sched_book.specs.Limits.{AreRowsInLimits};
 ghost use Rattle.office_files.specs.Faults.{Gives};

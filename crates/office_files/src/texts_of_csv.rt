@@ -1,4 +1,4 @@
-ghost use Rattle.std.specs.Prelude.{◌≡◌, IfOk, map};
+ghost use Rattle.std.specs.Prelude.{IfOk, map};
 ghost use Rattle.csv.specs.Records.{fields_of};
 ghost use Rattle.office_files.specs.Records.{AreRecordsOf};
 

@@ -1,6 +1,6 @@
 //! How many jobs a host may get on a day.
 
-ghost use Rattle.std.specs.Prelude.{◌≡◌, ◌≤◌, ◌<◌, ◌*◌, ◌^◌, ◌-◌, min, max};
+ghost use Rattle.std.specs.Prelude.{◌≡◌, ◌≤◌, ◌*◌, ◌^◌, ◌-◌, min, max};
 ghost use Rattle.sched_book.specs.Settle.{next_quota};
 
 /// A quota less what counts against its host, at least one.

@@ -1,6 +1,6 @@
 //! The reports of a call.
 
-ghost use Rattle.std.specs.Prelude.{◌≡◌, List, ◌∷◌, ◌++◌, ◌==◌, ◌+◌, ◌≤◌, length, map, count_by, fold, IfOk, OnOk, unwrap_or, option_map, option_and_then};
+ghost use Rattle.std.specs.Prelude.{◌≡◌, List, ◌∷◌, ◌++◌, ◌==◌, ◌+◌, ◌≤◌, length, map, count_by, fold, IfOk, OnOk};
 ghost use Rattle.rpc_records.specs.declared.request.Report.{Report};
 ghost use Rattle.sched_book.specs.Count.{is_judged, has_failed};
 ghost use Rattle.sched_book.specs.Places.{status_at};

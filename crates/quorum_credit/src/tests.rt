@@ -308,11 +308,19 @@ fn settling_is_counting_from_scratch(rt: HostRuntime) -> Result<(), Fail> {
 fn the_first_report_of_a_name_counts(rt: HostRuntime) -> Result<(), Fail> {
     let alloc = rt.alloc();
     let mut desk = desk(alloc, 6)?;
+    let _ = report(alloc, &mut desk, 2, [("f1_1", 0, "10"), ("f1_1", 1, "")])?;
+    assert_eq!(rt; report_of(alloc, &mut desk, 1)?, Some((Some(1), true)));
+    Ok(())
+}
+
+#[test]
+fn a_name_reported_twice_is_acknowledged_once(rt: HostRuntime) -> Result<(), Fail> {
+    let alloc = rt.alloc();
+    let mut desk = desk(alloc, 6)?;
     let taken = report(alloc, &mut desk, 2, [("f1_1", 0, "10"), ("f1_1", 1, "")])?;
     assert_eq!(rt; taken.acked.len(), 1);
     assert_eq!(rt; times_acked(&taken, "f1_1"), 1);
     assert_eq!(rt; taken.touched.as_slice(), [1].as_slice());
-    assert_eq!(rt; report_of(alloc, &mut desk, 1)?, Some((Some(1), true)));
     Ok(())
 }
 

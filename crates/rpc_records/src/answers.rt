@@ -2,7 +2,7 @@
 
 ghost use Rattle.std.specs.Prelude.{◌≡◌, [], ◌∷◌, codes, IfOk, OnOk};
 ghost use Rattle.serde_json.specs.Data.{boolean, string};
-ghost use Rattle.serde_json.specs.View.{view, members_view};
+ghost use Rattle.serde_json.specs.View.{members_view};
 ghost use Rattle.rpc_records.specs.Spelling.{whole, list_json, with_members};
 ghost use Rattle.rpc_records.specs.Replies.{end_word_of, job_json, reply_json, reply_text_of, details_of, fault_json, fault_text_of};
 

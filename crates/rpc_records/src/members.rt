@@ -1,10 +1,9 @@
 //! The members of an object, one at a time: what each says, or the refusal that tells it.
 
-ghost use Rattle.std.specs.Prelude.{◌≡◌, ◌≤◌, [], None, IfOk, option_map, option_and_then, ok_or};
+ghost use Rattle.std.specs.Prelude.{◌≡◌, ◌≤◌, None, IfOk, ok_or};
 ghost use Rattle.std.specs.Result.{result_map_both};
 ghost use Rattle.serde_json.specs.Find.{get};
 ghost use Rattle.serde_json.specs.View.{view, items_view};
-ghost use Rattle.rpc_records.specs.Members.{key_of};
 ghost use Rattle.rpc_records.specs.Values.{text_in, whole_in, object_in, all_in, list_in};
 ghost use Rattle.rpc_records.specs.Reading.{Gives, needed, defaulted};
 

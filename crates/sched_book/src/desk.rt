@@ -1,6 +1,6 @@
 //! What a desk is: who stands for a world, and answers what that world says.
 
-ghost use Rattle.std.specs.Prelude.{◌≡◌, ◌≤◌, List, length, IfOk, OnOk, OnErr};
+ghost use Rattle.std.specs.Prelude.{◌≡◌, ◌≤◌, length, IfOk, OnOk, OnErr};
 ghost use Rattle.sched_book.specs.Places.{instance_at, host_at, unit_named, known_host, held_by, owned_by, overdue, sent_on_day};
 ghost use Rattle.sched_book.specs.Fits.{version_at};
 ghost use Rattle.sched_book.specs.Offers.{unsent, OffersAll, OffersSome};

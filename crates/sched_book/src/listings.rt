@@ -1,6 +1,6 @@
 //! Listings over all workunits.
 
-ghost use Rattle.std.specs.Prelude.{◌≡◌, ◌≤◌, ◌*◌, ◌++◌, List, All, length, count_by, sum_by, IfOk, OnOk};
+ghost use Rattle.std.specs.Prelude.{◌≡◌, ◌≤◌, ◌*◌, ◌++◌, All, length, count_by, sum_by, IfOk, OnOk};
 ghost use Rattle.std.specs.List.{list_any};
 ghost use Rattle.sched_book.specs.Places.{account_in, is_of_user, is_overdue, was_sent, places_in, places_among};
 ghost use Rattle.sched_book.specs.Desk.{is_listed_in, units_from};

@@ -1,6 +1,6 @@
 //! Offers to a taker, one candidate at a time.
 
-ghost use Rattle.std.specs.Prelude.{◌≡◌, ◌≤◌, ◌&&◌, not, is_none, List, All, length, IfOk, OnOk, OnErr};
+ghost use Rattle.std.specs.Prelude.{◌≡◌, ◌≤◌, ◌&&◌, not, is_none, All, length, IfOk, OnOk, OnErr};
 ghost use Rattle.sched_book.specs.Places.{is_before};
 ghost use Rattle.sched_book.specs.Offers.{unsent, unsent_in, OffersAll, OffersSome, Offered, OfferedSome};
 ghost use Rattle.sched_book.specs.declared.instance.UnitBook.{UnitBook};

@@ -1,8 +1,7 @@
 //! The version that a host runs.
 
-ghost use Rattle.std.specs.Prelude.{◌≡◌, List, ℕ, filter, IfOk};
+ghost use Rattle.std.specs.Prelude.{◌≡◌, filter, IfOk};
 ghost use Rattle.std.specs.Option.{option_copied};
-ghost use Rattle.std.specs.Str.{bytes_eq};
 ghost use Rattle.sched_book.specs.Fits.{is_version_for, newest, version_among};
 
 use crate::rows::Version;

@@ -1,7 +1,7 @@
 //! Who makes a call, and why a call is refused before it is acted on.
 
-ghost use Rattle.std.specs.Prelude.{◌≡◌, ℕ, true, false, Some, None, IfOk, IsErrOf};
-ghost use Rattle.sched_book.specs.Places.{account_place, known_host};
+ghost use Rattle.std.specs.Prelude.{◌≡◌, true, false, Some, None, IfOk, IsErrOf};
+ghost use Rattle.sched_book.specs.Places.{account_place};
 ghost use Rattle.sched_book.specs.Step.{IsCaller};
 ghost use Rattle.sched_machine.specs.Admission.{is_number, names_host, TellsWrongNumber};
 ghost use Rattle.sched_machine.specs.declared.admission.Refused.TheVariants as refused;

@@ -1,6 +1,6 @@
 //! The rows of an import, as changes.
 
-ghost use Rattle.std.specs.Prelude.{◌≡◌, length, map, IfOk};
+ghost use Rattle.std.specs.Prelude.{◌≡◌, map, IfOk};
 ghost use Rattle.sched_book.specs.Delta.{applied, Fits};
 ghost use Rattle.sched_book.specs.Imports.{AreChecked, with_rows, row_count};
 ghost use Rattle.sched_book.specs.Sound.{Sound};

@@ -1,6 +1,6 @@
 //! What a reply says of the jobs that a host is given or sent again.
 
-ghost use Rattle.std.specs.Prelude.{◌≡◌, List, [], ◌∷◌, ◌++◌, true, filter_map, option_map, unwrap_or, IfOk, OnOk};
+ghost use Rattle.std.specs.Prelude.{◌≡◌, [], ◌++◌, true, filter_map, option_map, unwrap_or, IfOk, OnOk};
 ghost use Rattle.std.specs.List.{list_all, cons_option};
 ghost use Rattle.sched_book.specs.Delta.{applied};
 ghost use Rattle.sched_book.specs.Desk.{workunit_at};

@@ -18,8 +18,6 @@ mod preparing;
 mod pushing;
 mod replying;
 mod settling;
-#[cfg(test)]
-mod tests;
 
 pub use admission::{Refused, admit};
 pub use machine::step;

@@ -5,7 +5,7 @@ ghost use Rattle.sched_book.specs.Delta.{applied, Fits};
 ghost use Rattle.sched_book.specs.Imports.{AreChecked};
 ghost use Rattle.sched_book.specs.Sound.{Sound};
 ghost use Rattle.sched_book.specs.declared.world.World.{World};
-ghost use Rattle.sched_book.specs.Step.{IsCaller, RpcStep, TickStep, ImportStep, Step};
+ghost use Rattle.sched_book.specs.Step.{RpcStep, TickStep, ImportStep, Step};
 ghost use Rattle.sched_machine.specs.Calling.{HasRoom, IsAdmitted, IsCalling, IsFull, MayBeTold};
 ghost use Rattle.sched_machine.specs.declared.admission.Refused.TheVariants as refused;
 

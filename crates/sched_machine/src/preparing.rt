@@ -7,7 +7,7 @@ ghost use Rattle.rpc_records.specs.declared.request.Report.{Report};
 ghost use Rattle.sched_book.specs.Delta.{applied, Fits};
 ghost use Rattle.sched_book.specs.Lost.{aborts};
 ghost use Rattle.sched_book.specs.Reports.{first_reports};
-ghost use Rattle.sched_book.specs.Step.{host_number, after_reports, after_lost, after_settlement, resent_of};
+ghost use Rattle.sched_book.specs.Step.{after_settlement, resent_of};
 ghost use Rattle.sched_machine.specs.Asked.{resent_places};
 ghost use Rattle.sched_machine.specs.Calling.{IsCalling};
 

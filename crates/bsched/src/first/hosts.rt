@@ -1,4 +1,4 @@
-ghost use Rattle.std.specs.Prelude.{◌≡◌, ◌+◌, ◌-◌, ◌<◌, ◌≤◌, ◌^◌, [], ◌∷◌, ◌++◌, length, take, slice_get, slice_set, position, option_map, Some, IfSome, IfOk, OnOk, OnErr};
+ghost use Rattle.std.specs.Prelude.{◌≡◌, ◌+◌, ◌-◌, ◌<◌, ◌≤◌, ◌^◌, [], ◌∷◌, ◌++◌, length, take, slice_get, slice_set, position, Some, IfSome, OnOk, OnErr};
 ghost use Rattle.bsched.specs.Messages.{key_of};
 ghost use Rattle.reply_register.specs.Keys.{same_key};
 ghost use Rattle.bsched.specs.World.{host_number, host_told};

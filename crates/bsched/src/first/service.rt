@@ -1,11 +1,11 @@
-ghost use Rattle.std.specs.Prelude.{◌≡◌, ◌+◌, ◌<◌, ◌≤◌, ◌^◌, ℕ, List, [], ◌∷◌, ◌++◌, length, take, None, unwrap_or, IfOk, OnOk, OnErr};
+ghost use Rattle.std.specs.Prelude.{◌≡◌, ◌+◌, ◌<◌, ◌≤◌, ◌^◌, ℕ, List, [], length, take, None, unwrap_or, IfOk, OnOk, OnErr};
 ghost use Rattle.std.specs.Option.{ForNone, ForSome};
 ghost use Rattle.std.specs.FinMap as map;
 ghost use Rattle.rpc_records.specs.Spelling.{canonical_text};
 ghost use Rattle.bsched.specs.Messages.{Account, Call, said, said_body, key_of};
 ghost use Rattle.bsched.specs.Names.{has_name};
 ghost use Rattle.bsched.specs.Pasts.{Past, then_heard, followed};
-ghost use Rattle.bsched.specs.Serves.{limits_of, world_in, kept_in, told_by, ServesAs, Serves, ServesAll};
+ghost use Rattle.bsched.specs.Serves.{limits_of, world_in, told_by, ServesAs, Serves, ServesAll};
 ghost use Rattle.bsched.specs.Stands.{Stands};
 ghost use Rattle.bsched.specs.World.{host_number};
 ghost use Rattle.bsched.specs.HostRows.{quota_at, with_host};

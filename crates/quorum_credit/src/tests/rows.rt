@@ -5,7 +5,7 @@ use crate::{Settled, lapse, settle, settle_all, take_reports};
 use rpc_records::{HostInfo, Report, Request};
 use sched_book::{
     Account, Agreement, App, Change, Delta, Desk, Instance, ListDesk, Moment, Owner, Place, Status,
-    Units, Verdict,
+    Unavailable, Units, Verdict,
 };
 use std::alloc::Global;
 use std::test::Fail;
@@ -131,6 +131,24 @@ fn request(alloc: Global, reports: &[(&str, i32, &str)]) -> Result<Request, Memo
     })
 }
 
+/// What a host's reports come to, and what settles them. Over any desk, with no clause: a caller that names a desk would
+/// carry the whole statement of settlement.
+fn reported<D: Desk>(
+    alloc: Global,
+    desk: &mut D,
+    host: u32,
+    request: &Request,
+) -> Result<(Delta, Delta), Unavailable> {
+    let taken = take_reports(alloc, desk, host, request)?;
+    let more = settle_all(alloc, desk, &taken.delta, taken.touched.as_slice())?;
+    Ok((taken.delta, more))
+}
+
+/// What is late at a moment, and what settles it; in the same way.
+fn lapsed<D: Desk>(alloc: Global, desk: &mut D, now: Moment) -> Result<Delta, Unavailable> {
+    lapse(alloc, desk, now)
+}
+
 /// Takes reports of the host of this number, and settles.
 fn report(
     alloc: Global,
@@ -139,9 +157,8 @@ fn report(
     reports: &[(&str, i32, &str)],
 ) -> Result<(), Fail> {
     let request = request(alloc, reports)?;
-    let taken = take_reports(alloc, desk, host, &request)?;
-    let more = settle_all(alloc, desk, &taken.delta, taken.touched.as_slice())?;
-    desk.apply(&taken.delta)?;
+    let (taken, more) = reported(alloc, desk, host, &request)?;
+    desk.apply(&taken)?;
     desk.apply(&more)?;
     Ok(())
 }
@@ -151,7 +168,7 @@ fn tick(alloc: Global, desk: &mut ListDesk, seconds: u64) -> Result<(), Fail> {
     let Some(now) = Moment::new(seconds) else {
         return Ok(());
     };
-    let delta = lapse(alloc, desk, now)?;
+    let delta = lapsed(alloc, desk, now)?;
     desk.apply(&delta)?;
     Ok(())
 }
@@ -164,15 +181,34 @@ fn quota_of(alloc: Global, desk: &mut ListDesk, host: u32) -> Result<u32, Fail> 
     }
 }
 
-fn quotas(alloc: Global, desk: &mut ListDesk) -> Result<(u32, u32, u32), Fail> {
-    let first = quota_of(alloc, desk, 1)?;
-    let second = quota_of(alloc, desk, 2)?;
-    let third = quota_of(alloc, desk, 3)?;
-    Ok((first, second, third))
+/// A step of an example, or what stands behind it.
+#[derive(Clone, Copy)]
+enum Step<'a> {
+    /// The host of this number reports these results.
+    Report(u32, &'a [(&'a str, i32, &'a str)]),
+    /// What is late at this moment lapses.
+    Tick(u64),
+    /// The hosts have these quotas, from the first on.
+    Quotas([u32; 3]),
+    /// The workunit of this number has so many instances.
+    Instances(u32, usize),
+    /// The first workunit has this status.
+    Status(Status),
+    /// The instance of this number of the first workunit has this verdict.
+    Verdict(usize, Verdict),
+    /// The instance of this number of the first workunit has a report: its place among the judged ones, and whether
+    /// it is a success.
+    Reported(u32, Option<u32>, bool),
 }
 
-fn instance_count(alloc: Global, desk: &mut ListDesk, unit: u32) -> Result<usize, Fail> {
-    Ok(desk.instances_of(alloc, unit)?.len())
+/// The hosts have these quotas.
+fn have_quotas(alloc: Global, desk: &mut ListDesk, quotas: [u32; 3]) -> Result<bool, Fail> {
+    for (host, quota) in (1..4).zip(quotas) {
+        if quota_of(alloc, desk, host)? != quota {
+            return Ok(false);
+        }
+    }
+    Ok(true)
 }
 
 /// What the first workunit comes to, counted from scratch.
@@ -187,33 +223,73 @@ fn settled(alloc: Global, desk: &mut ListDesk) -> Result<Option<Settled>, Fail> 
     Ok(Some(settle(&agreement, &row, instances.as_slice())))
 }
 
-/// The verdict on the instance of this number of the first workunit.
-fn verdict_of(alloc: Global, desk: &mut ListDesk, number: usize) -> Result<Option<Verdict>, Fail> {
+/// The instance of this number of the first workunit has this verdict.
+fn has_verdict(
+    alloc: Global,
+    desk: &mut ListDesk,
+    number: usize,
+    verdict: Verdict,
+) -> Result<bool, Fail> {
     match settled(alloc, desk)? {
-        None => Ok(None),
-        Some(settled) => Ok(settled.verdicts.as_slice().get(number).copied().flatten()),
+        None => Ok(false),
+        Some(settled) => Ok(settled.verdicts.as_slice().get(number) == Some(&Some(verdict))),
     }
 }
 
-fn status(alloc: Global, desk: &mut ListDesk) -> Result<Option<Status>, Fail> {
+/// The first workunit has this status.
+fn has_status(alloc: Global, desk: &mut ListDesk, status: Status) -> Result<bool, Fail> {
     match settled(alloc, desk)? {
-        None => Ok(None),
-        Some(settled) => Ok(Some(settled.status)),
+        None => Ok(false),
+        Some(settled) => Ok(settled.status == status),
     }
+}
+
+/// Takes a step, and tells whether what it says stands.
+fn stands(alloc: Global, desk: &mut ListDesk, step: Step) -> Result<bool, Fail> {
+    match step {
+        Step::Report(host, reports) => {
+            report(alloc, desk, host, reports)?;
+            Ok(true)
+        }
+        Step::Tick(seconds) => {
+            tick(alloc, desk, seconds)?;
+            Ok(true)
+        }
+        Step::Quotas(quotas) => have_quotas(alloc, desk, quotas),
+        Step::Instances(unit, count) => Ok(desk.instances_of(alloc, unit)?.len() == count),
+        Step::Status(status) => has_status(alloc, desk, status),
+        Step::Verdict(number, verdict) => has_verdict(alloc, desk, number, verdict),
+        Step::Reported(number, place, success) => {
+            Ok(report_of(alloc, desk, number)? == Some((place, success)))
+        }
+    }
+}
+
+/// The number, from 0 on, of the first of these steps that says what does not stand.
+fn first_wrong(alloc: Global, desk: &mut ListDesk, steps: &[Step]) -> Result<Option<usize>, Fail> {
+    for (number, step) in steps.iter().enumerate() {
+        if !stands(alloc, desk, *step)? {
+            return Ok(Some(number));
+        }
+    }
+    Ok(None)
 }
 
 #[test]
 fn one_of_three_disagrees(rt: HostRuntime) -> Result<(), Fail> {
     let alloc = rt.alloc();
     let mut desk = desk_of(alloc, "f1", "fold", 3, 6, &[1, 2, 3])?;
-    report(alloc, &mut desk, 1, &[("f1_0", 0, "10")])?;
-    report(alloc, &mut desk, 2, &[("f1_1", 0, "13")])?;
-    report(alloc, &mut desk, 3, &[("f1_2", 0, "12")])?;
-    assert_eq!(rt; verdict_of(alloc, &mut desk, 0)?, Some(Verdict::Valid));
-    assert_eq!(rt; verdict_of(alloc, &mut desk, 1)?, Some(Verdict::Invalid));
-    assert_eq!(rt; verdict_of(alloc, &mut desk, 2)?, Some(Verdict::Valid));
-    assert_eq!(rt; quotas(alloc, &mut desk)?, (4, 3, 4));
-    assert_eq!(rt; instance_count(alloc, &mut desk, 1)?, 3);
+    let steps = [
+        Step::Report(1, &[("f1_0", 0, "10")]),
+        Step::Report(2, &[("f1_1", 0, "13")]),
+        Step::Report(3, &[("f1_2", 0, "12")]),
+        Step::Verdict(0, Verdict::Valid),
+        Step::Verdict(1, Verdict::Invalid),
+        Step::Verdict(2, Verdict::Valid),
+        Step::Quotas([4, 3, 4]),
+        Step::Instances(1, 3),
+    ];
+    assert_eq!(rt; first_wrong(alloc, &mut desk, &steps)?, None);
     Ok(())
 }
 
@@ -221,17 +297,20 @@ fn one_of_three_disagrees(rt: HostRuntime) -> Result<(), Fail> {
 fn a_late_job_is_replaced_and_then_counts(rt: HostRuntime) -> Result<(), Fail> {
     let alloc = rt.alloc();
     let mut desk = desk_of(alloc, "w1", "dock", 2, 5, &[1, 2])?;
-    report(alloc, &mut desk, 2, &[("w1_1", 0, "ok")])?;
-    tick(alloc, &mut desk, 8200)?;
-    assert_eq!(rt; instance_count(alloc, &mut desk, 1)?, 2);
-    tick(alloc, &mut desk, 8201)?;
-    assert_eq!(rt; instance_count(alloc, &mut desk, 1)?, 3);
-    assert_eq!(rt; quotas(alloc, &mut desk)?, (3, 4, 4));
-    report(alloc, &mut desk, 1, &[("w1_0", 0, "ok")])?;
-    assert_eq!(rt; quotas(alloc, &mut desk)?, (4, 4, 4));
-    assert_eq!(rt; verdict_of(alloc, &mut desk, 0)?, Some(Verdict::Valid));
-    report(alloc, &mut desk, 1, &[("w1_0", 0, "no")])?;
-    assert_eq!(rt; verdict_of(alloc, &mut desk, 0)?, Some(Verdict::Valid));
+    let steps = [
+        Step::Report(2, &[("w1_1", 0, "ok")]),
+        Step::Tick(8200),
+        Step::Instances(1, 2),
+        Step::Tick(8201),
+        Step::Instances(1, 3),
+        Step::Quotas([3, 4, 4]),
+        Step::Report(1, &[("w1_0", 0, "ok")]),
+        Step::Quotas([4, 4, 4]),
+        Step::Verdict(0, Verdict::Valid),
+        Step::Report(1, &[("w1_0", 0, "no")]),
+        Step::Verdict(0, Verdict::Valid),
+    ];
+    assert_eq!(rt; first_wrong(alloc, &mut desk, &steps)?, None);
     Ok(())
 }
 
@@ -239,13 +318,16 @@ fn a_late_job_is_replaced_and_then_counts(rt: HostRuntime) -> Result<(), Fail> {
 fn a_workunit_fails_by_its_total(rt: HostRuntime) -> Result<(), Fail> {
     let alloc = rt.alloc();
     let mut desk = desk_of(alloc, "t1", "dock", 2, 2, &[1, 2])?;
-    tick(alloc, &mut desk, 8201)?;
-    assert_eq!(rt; status(alloc, &mut desk)?, Some(Status::FailedTotal));
-    assert_eq!(rt; instance_count(alloc, &mut desk, 1)?, 2);
-    assert_eq!(rt; quotas(alloc, &mut desk)?, (3, 3, 4));
-    report(alloc, &mut desk, 1, &[("t1_0", 0, "ok")])?;
-    assert_eq!(rt; report_of(alloc, &mut desk, 0)?, Some((None, true)));
-    assert_eq!(rt; quotas(alloc, &mut desk)?, (3, 3, 4));
+    let steps = [
+        Step::Tick(8201),
+        Step::Status(Status::FailedTotal),
+        Step::Instances(1, 2),
+        Step::Quotas([3, 3, 4]),
+        Step::Report(1, &[("t1_0", 0, "ok")]),
+        Step::Reported(0, None, true),
+        Step::Quotas([3, 3, 4]),
+    ];
+    assert_eq!(rt; first_wrong(alloc, &mut desk, &steps)?, None);
     Ok(())
 }
 
@@ -253,10 +335,13 @@ fn a_workunit_fails_by_its_total(rt: HostRuntime) -> Result<(), Fail> {
 fn client_errors_lower_the_quota(rt: HostRuntime) -> Result<(), Fail> {
     let alloc = rt.alloc();
     let mut desk = desk_of_two(alloc)?;
-    report(alloc, &mut desk, 1, &[("w1_0", 1, ""), ("w2_0", 1, "")])?;
-    assert_eq!(rt; quotas(alloc, &mut desk)?, (2, 4, 4));
-    assert_eq!(rt; instance_count(alloc, &mut desk, 1)?, 3);
-    assert_eq!(rt; instance_count(alloc, &mut desk, 2)?, 3);
+    let steps = [
+        Step::Report(1, &[("w1_0", 1, ""), ("w2_0", 1, "")]),
+        Step::Quotas([2, 4, 4]),
+        Step::Instances(1, 3),
+        Step::Instances(2, 3),
+    ];
+    assert_eq!(rt; first_wrong(alloc, &mut desk, &steps)?, None);
     Ok(())
 }
 
@@ -264,13 +349,16 @@ fn client_errors_lower_the_quota(rt: HostRuntime) -> Result<(), Fail> {
 fn a_report_behind_the_quorum_may_disagree(rt: HostRuntime) -> Result<(), Fail> {
     let alloc = rt.alloc();
     let mut desk = desk_of(alloc, "w1", "dock", 2, 5, &[1, 2, 3])?;
-    report(alloc, &mut desk, 1, &[("w1_0", 0, "ok")])?;
-    report(alloc, &mut desk, 2, &[("w1_1", 0, "ok")])?;
-    assert_eq!(rt; status(alloc, &mut desk)?, Some(Status::Done));
-    report(alloc, &mut desk, 3, &[("w1_2", 0, "no")])?;
-    assert_eq!(rt; status(alloc, &mut desk)?, Some(Status::Done));
-    assert_eq!(rt; verdict_of(alloc, &mut desk, 0)?, Some(Verdict::Valid));
-    assert_eq!(rt; verdict_of(alloc, &mut desk, 2)?, Some(Verdict::Invalid));
-    assert_eq!(rt; quotas(alloc, &mut desk)?, (4, 4, 3));
+    let steps = [
+        Step::Report(1, &[("w1_0", 0, "ok")]),
+        Step::Report(2, &[("w1_1", 0, "ok")]),
+        Step::Status(Status::Done),
+        Step::Report(3, &[("w1_2", 0, "no")]),
+        Step::Status(Status::Done),
+        Step::Verdict(0, Verdict::Valid),
+        Step::Verdict(2, Verdict::Invalid),
+        Step::Quotas([4, 4, 3]),
+    ];
+    assert_eq!(rt; first_wrong(alloc, &mut desk, &steps)?, None);
     Ok(())
 }
