@@ -2,6 +2,7 @@ pub mod Reports
 pub mod SplitNames
 pub mod Credits
 pub mod PlaceLists
+pub mod Givens
 pub mod Offering
 pub mod Changes
 pub mod PlacesOf

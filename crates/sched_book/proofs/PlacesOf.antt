@@ -15,7 +15,7 @@ nth-suc xs i =
     ap (λ (b : Bool). cond b None (slice_get xs (suc i - 1))) (eqb-suc-zero i)
     ∙ ap (slice_get xs) (let same : suc i - 1 ≡ i = omega arith in same)
 
-changed_nth-suc : {X : Type 0} (f : X → X) (xs : List X) (i : ℕ) → changed_nth f xs (suc i) ≡ changed_at f xs i
+pub changed_nth-suc : {X : Type 0} (f : X → X) (xs : List X) (i : ℕ) → changed_nth f xs (suc i) ≡ changed_at f xs i
 changed_nth-suc f xs i =
     ap (λ (b : Bool). cond b xs (changed_at f xs (suc i - 1))) (eqb-suc-zero i)
     ∙ ap (changed_at f xs) (let same : suc i - 1 ≡ i = omega arith in same)

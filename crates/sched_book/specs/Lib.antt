@@ -14,5 +14,6 @@ pub mod Sound
 pub mod Offers
 pub mod Delta
 pub mod Desk
+pub mod Given
 pub mod Patched
 pub mod Laws

@@ -9,6 +9,7 @@
 pub mod count;
 pub mod delta;
 pub mod desk;
+mod given;
 pub mod instance;
 pub mod laws;
 pub mod list_desk;

@@ -1,14 +1,17 @@
 //! The plain desk, which keeps a world as lists and looks through them.
 
-ghost use Rattle.std.specs.Prelude.{◌≡◌, ⊤, IfOk, OnOk, OnErr};
+ghost use Rattle.std.specs.Prelude.{◌≡◌, ◌≤◌, ⊤, length, IfOk, IfSome, OnOk, OnErr};
 ghost use Rattle.sched_book.specs.Delta.{applied};
-ghost use Rattle.sched_book.specs.Places.{unit_named, known_host, sent_on_day};
+ghost use Rattle.sched_book.specs.Given.{given_among};
+ghost use Rattle.sched_book.specs.Limits.{IsBounded};
+ghost use Rattle.sched_book.specs.Places.{is_owned_by, is_of_user, unit_named, known_host, sent_on_day};
 ghost use Rattle.sched_book.specs.Desk.{counts, agreement_at};
 ghost use Rattle.sched_book.specs.Step.{empty_world};
 
 use crate::count::agreement_by;
 use crate::delta::{Delta, changed_world, is_bounded};
 use crate::desk::{Counts, Desk, Placed, Taker, Unavailable, Units};
+use crate::given::{By, Given, count_on_day, held_places, lists_by, places_of, units_of};
 use crate::instance::{Instance, Place};
 use crate::listings::{Listing, count_sent_on_day, list_places, list_units_of_user};
 use crate::look_ups::{
@@ -24,15 +27,21 @@ use std::alloc::Global;
 use std::marker::Model;
 use texts::{Listed, Memory};
 
-/// A desk over lists in memory. Every call takes time in proportion to the rows that it looks through. A call that
+/// A desk over lists in memory. Every call takes time in proportion to the rows that it looks through: of one host or
+/// one user these are its own instances. To change the world takes time in proportion to all of it. A call that
 /// answers no row and no list takes no memory, and always succeeds.
 #[derive(Drop)]
 pub struct ListDesk {
     alloc: Global,
     world: World,
+    /// What each host was given.
+    by_host: Listed<Listed<Given>>,
+    /// What the hosts of each account were given.
+    by_user: Listed<Listed<Given>>,
 }
 
 impl Model for ListDesk {
+    ghost use Rattle.sched_book.specs.Given.{IsListed};
     ghost use Rattle.sched_book.specs.Limits.{IsBounded};
     ghost use Rattle.sched_book.specs.declared.world.World.{World};
 
@@ -40,29 +49,42 @@ impl Model for ListDesk {
 
     ghost view = { λ d. d.world };
 
-    ghost invariant = { λ d. IsBounded d.world };
+    ghost invariant = { λ d. IsBounded d.world × IsListed d.world d.by_host d.by_user };
 }
 
 impl ListDesk {
+    /// The desk of a world.
+    fn of(alloc: Global, world: World) -> Result<ListDesk, Memory>
+        requires { IsBounded world }
+        ensures { IfOk result (λ d. d ≡ world) }
+    {
+        let hosts = world.hosts.as_slice();
+        let units = world.units.as_slice();
+        let by_host = lists_by(alloc, By::Host, hosts, units, hosts.len())?;
+        let by_user = lists_by(alloc, By::User, hosts, units, world.accounts.len())?;
+        Ok(ListDesk {
+            alloc,
+            world,
+            by_host,
+            by_user,
+        })
+    }
+
     /// The desk of the world that has these settings and nothing else.
     pub fn new(alloc: Global, settings: &Settings) -> Result<ListDesk, Memory>
         ensures { IfOk result (λ d. d ≡ empty_world settings.now) }
     {
-        Ok(ListDesk {
-            alloc,
-            world: World {
-                settings: settings.clone()?,
-                accounts: Listed::new(alloc),
-                apps: Listed::new(alloc),
-                versions: Listed::new(alloc),
-                units: Listed::new(alloc),
-                hosts: Listed::new(alloc),
-            },
-        })
+        let world = World {
+            settings: settings.clone()?,
+            accounts: Listed::new(alloc),
+            apps: Listed::new(alloc),
+            versions: Listed::new(alloc),
+            units: Listed::new(alloc),
+            hosts: Listed::new(alloc),
+        };
+        ListDesk::of(alloc, world)
     }
-}
 
-impl ListDesk {
     /// Makes all changes, or none. Changes that would make a list longer than its table may be are refused.
     pub fn apply(&mut self, delta: &Delta) -> Result<(), Unavailable>
         ensures ok { OnOk result (self.new ≡ applied self.old delta.now) }
@@ -72,8 +94,29 @@ impl ListDesk {
         if !is_bounded(&changed) {
             return Err(Unavailable);
         }
-        self.world = changed;
+        *self = ListDesk::of(self.alloc, changed)?;
         Ok(())
+    }
+
+    /// What the host of this number was given, in order; `None` where no host of it stands.
+    fn given_to_host(&self, host: u32) -> Option<&[Given]>
+        ensures value { IfSome result (λ given. given.now ≡ given_among 1 (is_owned_by host) self.now.units) }
+        ensures few { IfSome result (λ given. length given.now ≤ 20000000) }
+    {
+        match nth(self.by_host.as_slice(), host) {
+            None => None,
+            Some(given) => Some(given.as_slice()),
+        }
+    }
+
+    /// What the hosts of the account at this place were given, in order; `None` where no account stands there.
+    fn given_to_user(&self, account: u32) -> Option<&[Given]>
+        ensures { IfSome result (λ given. given.now ≡ given_among 1 (is_of_user self.now.hosts account) self.now.units) }
+    {
+        match nth(self.by_user.as_slice(), account) {
+            None => None,
+            Some(given) => Some(given.as_slice()),
+        }
     }
 }
 
@@ -195,22 +238,38 @@ impl Desk for ListDesk {
         Ok(copy_nth(self.world.hosts.as_slice(), host)?)
     }
 
+    #[tactic(auto, using(crate::proofs::Givens::held_listed))]
     fn held_by(&mut self, alloc: Global, host: u32) -> Result<Listed<Place>, Unavailable> {
+        if let Some(given) = self.given_to_host(host) {
+            return Ok(held_places(alloc, given)?);
+        }
         Ok(list_places(alloc, &Listing::Held(host), self.world.units.as_slice())?)
     }
 
+    #[tactic(auto, using(crate::proofs::Givens::owned_listed))]
     fn owned_by(&mut self, alloc: Global, host: u32) -> Result<Listed<Place>, Unavailable> {
+        if let Some(given) = self.given_to_host(host) {
+            return Ok(places_of(alloc, given)?);
+        }
         Ok(list_places(alloc, &Listing::Owned(host), self.world.units.as_slice())?)
     }
 
+    #[tactic(auto, using(crate::proofs::Givens::sent_listed))]
     fn sent_on_day(&mut self, host: u32, day: u64) -> Result<u32, Unavailable>
         ensures reads { self.new ≡ self.old }
         ensures answer { result ≡ Ok (sent_on_day self.old host day) }
     {
+        if let Some(given) = self.given_to_host(host) {
+            return Ok(count_on_day(given, day) as u32);
+        }
         Ok(count_sent_on_day(self.world.units.as_slice(), host, day))
     }
 
+    #[tactic(auto, using(crate::proofs::Givens::units_listed))]
     fn units_of_user(&mut self, alloc: Global, account: u32) -> Result<Listed<u32>, Unavailable> {
+        if let Some(given) = self.given_to_user(account) {
+            return Ok(units_of(alloc, given)?);
+        }
         Ok(list_units_of_user(
             alloc,
             self.world.hosts.as_slice(),

@@ -122,7 +122,7 @@ pub(crate) fn count_sent_on_day(books: &[UnitBook], host: u32, day: u64) -> u32
 }
 
 /// The account that a host belongs to, 0 where none stands.
-fn account_of(hosts: &[HostRow], host: u32) -> u32
+pub(crate) fn account_of(hosts: &[HostRow], host: u32) -> u32
     ensures { result ≡ account_in hosts.now host }
 {
     match nth(hosts, host) {

@@ -1,0 +1,28 @@
+use Rattle.std.proofs.Common.{◌≡◌, length, Some, sym, ap, ◌∙◌, arith}
+use Rattle.std.specs.Option.{option_copied}
+use Rattle.sched_book.specs.Given.{given_among}
+use Rattle.sched_book.specs.Places.{nth, is_owned_by}
+use Rattle.sched_book.specs.declared.given.By.TheVariants.{Host}
+use Rattle.sched_book.specs.declared.world.World.{World}
+use Rattle.sched_book.proofs.Givens.{nth-lists_by, few_given}
+use Rattle.sched_book.proofs.list_desk.ListDesk.given_to_host.Goals as goal
+
+-- what is listed of the host
+listed : (c : goal.After-as_slice-in-Some) → c.as_slice-in-Some.result.now ≡ given_among 1 (is_owned_by c.args.host) c.self.inside.world.units
+listed c =
+    let w = c.self.inside.world in
+    let found : nth c.self.inside.by_host c.args.host ≡ Some c.in-Some.given.now =
+        ap (λ xs. nth xs c.args.host) (sym c.as_slice.ensures) ∙ sym c.nth.ensures ∙ ap option_copied c.in-Some.is in
+    c.as_slice-in-Some.ensures
+    ∙ nth-lists_by Host w.hosts w.units (length w.hosts) c.args.host c.in-Some.given.now (ap (λ xs. nth xs c.args.host) (sym c.self.invariant.1.of_hosts) ∙ found)
+
+pub returns-in-Some-clause-value : goal.returns-in-Some-clause-value
+returns-in-Some-clause-value c = listed c ∙ ap (λ (w : World). given_among 1 (is_owned_by c.args.host) w.units) c.self.view_is
+
+pub returns-in-Some-clause-few : goal.returns-in-Some-clause-few
+returns-in-Some-clause-few c =
+    let w = c.self.inside.world in
+    let same = ap length (listed c) in
+    let few = few_given (is_owned_by c.args.host) 1 w.units c.self.invariant.0.instances in
+    let units = c.self.invariant.0.units in
+    omega arith
