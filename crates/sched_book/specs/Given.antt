@@ -5,6 +5,7 @@ use Rattle.sched_book.specs.Places.{account_in, is_of_user, is_owned_by, sent_at
 use Rattle.sched_book.specs.declared.given.By.{By}
 use Rattle.sched_book.specs.declared.given.By.TheVariants.{Host, User}
 use Rattle.sched_book.specs.declared.given.Given.{Given}
+use Rattle.sched_book.specs.declared.given.Lists.{Lists}
 use Rattle.sched_book.specs.declared.instance.Instance.{Instance}
 use Rattle.sched_book.specs.declared.instance.Owner.{Owner}
 use Rattle.sched_book.specs.declared.instance.Place.{Place}
@@ -59,6 +60,6 @@ units_in last [] = []
 units_in last (g ∷ gs) = if g.place.unit == last then units_in last gs else g.place.unit ∷ units_in g.place.unit gs
 
 -- what the plain desk lists beside a world: what each host and what each user was given
-pub record IsListed (w : World) (by_host by_user : List (List Given)) : Type 0 where
-  pub of_hosts : by_host ≡ lists_by Host w.hosts w.units (length w.hosts)
-  pub of_users : by_user ≡ lists_by User w.hosts w.units (length w.accounts)
+pub record IsListed (w : World) (lists : Lists) : Type 0 where
+  pub of_hosts : lists.by_host ≡ lists_by Host w.hosts w.units (length w.hosts)
+  pub of_users : lists.by_user ≡ lists_by User w.hosts w.units (length w.accounts)

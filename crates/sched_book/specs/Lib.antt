@@ -15,5 +15,6 @@ pub mod Offers
 pub mod Delta
 pub mod Desk
 pub mod Given
+pub mod Undo
 pub mod Patched
 pub mod Laws

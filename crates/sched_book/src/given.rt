@@ -2,7 +2,8 @@
 
 ghost use Rattle.std.specs.Prelude.{◌≡◌, ◌≤◌, ◌==◌, ◌++◌, [], ◌∷◌, List, All, length, map, filter, count_by, replicate, IfOk, OnOk};
 ghost use Rattle.sched_book.specs.Reports.{changed_nth};
-ghost use Rattle.sched_book.specs.Given.{map_from, given_in, is_listed_by, number_by, with_given, lists_by, units_in};
+ghost use Rattle.sched_book.specs.Given.{map_from, given_in, is_listed_by, number_by, with_given, lists_by, units_in, IsListed};
+ghost use Rattle.sched_book.specs.Limits.{IsBounded};
 ghost use Rattle.sched_book.specs.declared.given.Given.{Given};
 ghost use Rattle.sched_book.specs.declared.instance.UnitBook.{UnitBook};
 
@@ -10,6 +11,7 @@ use crate::count::is_held;
 use crate::instance::{Instance, Owner, Place, UnitBook};
 use crate::listings::account_of;
 use crate::rows::HostRow;
+use crate::world::World;
 use std::alloc::Global;
 use texts::{Listed, Memory};
 
@@ -100,6 +102,13 @@ fn list_instances(
     Ok(())
 }
 
+/// What each host and what each user was given.
+#[derive(Drop)]
+pub struct Lists {
+    pub by_host: Listed<Listed<Given>>,
+    pub by_user: Listed<Listed<Given>>,
+}
+
 /// So many empty lists.
 fn empty_lists(alloc: Global, count: usize) -> Result<Vec<Listed<Given>>, Memory>
     ensures { IfOk result (λ lists. lists.items ≡ replicate count []) }
@@ -112,7 +121,7 @@ fn empty_lists(alloc: Global, count: usize) -> Result<Vec<Listed<Given>>, Memory
 }
 
 /// What was given to each number, from 1 on.
-pub(crate) fn lists_by(
+fn lists_by(
     alloc: Global,
     by: By,
     hosts: &[HostRow],
@@ -135,6 +144,21 @@ pub(crate) fn lists_by(
         )?;
     }
     Ok(Listed::of(lists))
+}
+
+impl Lists {
+    /// What each host and what each user was given in a world.
+    pub(crate) fn of(alloc: Global, world: &World) -> Result<Lists, Memory>
+        requires { IsBounded world.now }
+        ensures { IfOk result (λ lists. IsListed world.now lists) }
+    {
+        let hosts = world.hosts.as_slice();
+        let units = world.units.as_slice();
+        Ok(Lists {
+            by_host: lists_by(alloc, By::Host, hosts, units, hosts.len())?,
+            by_user: lists_by(alloc, By::User, hosts, units, world.accounts.len())?,
+        })
+    }
 }
 
 /// The places of these instances, in order.

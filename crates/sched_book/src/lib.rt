@@ -6,6 +6,7 @@
 //! A [`Desk`] stands for a [`World`] and answers what that world says.
 #![tactic(auto)]
 
+mod changing;
 pub mod count;
 pub mod delta;
 pub mod desk;

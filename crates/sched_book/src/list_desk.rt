@@ -2,16 +2,18 @@
 
 ghost use Rattle.std.specs.Prelude.{◌≡◌, ◌≤◌, ⊤, length, IfOk, IfSome, OnOk, OnErr};
 ghost use Rattle.sched_book.specs.Delta.{applied};
-ghost use Rattle.sched_book.specs.Given.{given_among};
+ghost use Rattle.sched_book.specs.Given.{given_among, IsListed};
+ghost use Rattle.sched_book.specs.Undo.{undone};
 ghost use Rattle.sched_book.specs.Limits.{IsBounded};
 ghost use Rattle.sched_book.specs.Places.{is_owned_by, is_of_user, unit_named, known_host, sent_on_day};
 ghost use Rattle.sched_book.specs.Desk.{counts, agreement_at};
 ghost use Rattle.sched_book.specs.Step.{empty_world};
 
+use crate::changing::{Undo, change_all, undo_all};
 use crate::count::agreement_by;
-use crate::delta::{Delta, changed_world, is_bounded};
+use crate::delta::{Change, Delta, is_bounded};
 use crate::desk::{Counts, Desk, Placed, Taker, Unavailable, Units};
-use crate::given::{By, Given, count_on_day, held_places, lists_by, places_of, units_of};
+use crate::given::{Given, Lists, count_on_day, held_places, places_of, units_of};
 use crate::instance::{Instance, Place};
 use crate::listings::{Listing, count_sent_on_day, list_places, list_units_of_user};
 use crate::look_ups::{
@@ -28,16 +30,13 @@ use std::marker::Model;
 use texts::{Listed, Memory};
 
 /// A desk over lists in memory. Every call takes time in proportion to the rows that it looks through: of one host or
-/// one user these are its own instances. To change the world takes time in proportion to all of it. A call that
+/// one user these are its own instances. After changes it lists anew who was given what, through all instances. A call that
 /// answers no row and no list takes no memory, and always succeeds.
 #[derive(Drop)]
 pub struct ListDesk {
     alloc: Global,
     world: World,
-    /// What each host was given.
-    by_host: Listed<Listed<Given>>,
-    /// What the hosts of each account were given.
-    by_user: Listed<Listed<Given>>,
+    lists: Lists,
 }
 
 impl Model for ListDesk {
@@ -49,27 +48,29 @@ impl Model for ListDesk {
 
     ghost view = { λ d. d.world };
 
-    ghost invariant = { λ d. IsBounded d.world × IsListed d.world d.by_host d.by_user };
+    ghost invariant = { λ d. IsBounded d.world × IsListed d.world d.lists };
+}
+
+/// Makes changes, and lists what each host and each user was given then. Where it fails, what was done stands in the log.
+fn remade(
+    alloc: Global,
+    world: &mut World,
+    changes: &[Change],
+    log: &mut Vec<Undo>,
+) -> Result<Lists, Unavailable>
+    ensures ok { OnOk result (world.new ≡ applied world.old changes.now) }
+    ensures log { undone world.new log.new.items ≡ undone world.old log.old.items }
+    ensures bounded { OnOk result (IsBounded world.new) }
+    ensures lists { IfOk result (λ lists. IsListed world.new lists) }
+{
+    change_all(alloc, world, changes, log)?;
+    if !is_bounded(world) {
+        return Err(Unavailable);
+    }
+    Ok(Lists::of(alloc, world)?)
 }
 
 impl ListDesk {
-    /// The desk of a world.
-    fn of(alloc: Global, world: World) -> Result<ListDesk, Memory>
-        requires { IsBounded world }
-        ensures { IfOk result (λ d. d ≡ world) }
-    {
-        let hosts = world.hosts.as_slice();
-        let units = world.units.as_slice();
-        let by_host = lists_by(alloc, By::Host, hosts, units, hosts.len())?;
-        let by_user = lists_by(alloc, By::User, hosts, units, world.accounts.len())?;
-        Ok(ListDesk {
-            alloc,
-            world,
-            by_host,
-            by_user,
-        })
-    }
-
     /// The desk of the world that has these settings and nothing else.
     pub fn new(alloc: Global, settings: &Settings) -> Result<ListDesk, Memory>
         ensures { IfOk result (λ d. d ≡ empty_world settings.now) }
@@ -82,7 +83,12 @@ impl ListDesk {
             units: Listed::new(alloc),
             hosts: Listed::new(alloc),
         };
-        ListDesk::of(alloc, world)
+        let lists = Lists::of(alloc, &world)?;
+        Ok(ListDesk {
+            alloc,
+            world,
+            lists,
+        })
     }
 
     /// Makes all changes, or none. Changes that would make a list longer than its table may be are refused.
@@ -90,12 +96,17 @@ impl ListDesk {
         ensures ok { OnOk result (self.new ≡ applied self.old delta.now) }
         ensures err { OnErr result (self.new ≡ self.old) }
     {
-        let changed = changed_world(self.alloc, &self.world, delta.as_slice())?;
-        if !is_bounded(&changed) {
-            return Err(Unavailable);
+        let mut log = Vec::new(self.alloc);
+        match remade(self.alloc, &mut self.world, delta.as_slice(), &mut log) {
+            Ok(lists) => {
+                self.lists = lists;
+                Ok(())
+            }
+            Err(unavailable) => {
+                undo_all(&mut self.world, log);
+                Err(unavailable)
+            }
         }
-        *self = ListDesk::of(self.alloc, changed)?;
-        Ok(())
     }
 
     /// What the host of this number was given, in order; `None` where no host of it stands.
@@ -103,7 +114,7 @@ impl ListDesk {
         ensures value { IfSome result (λ given. given.now ≡ given_among 1 (is_owned_by host) self.now.units) }
         ensures few { IfSome result (λ given. length given.now ≤ 20000000) }
     {
-        match nth(self.by_host.as_slice(), host) {
+        match nth(self.lists.by_host.as_slice(), host) {
             None => None,
             Some(given) => Some(given.as_slice()),
         }
@@ -113,7 +124,7 @@ impl ListDesk {
     fn given_to_user(&self, account: u32) -> Option<&[Given]>
         ensures { IfSome result (λ given. given.now ≡ given_among 1 (is_of_user self.now.hosts account) self.now.units) }
     {
-        match nth(self.by_user.as_slice(), account) {
+        match nth(self.lists.by_user.as_slice(), account) {
             None => None,
             Some(given) => Some(given.as_slice()),
         }

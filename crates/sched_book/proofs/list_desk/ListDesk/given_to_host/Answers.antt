@@ -11,8 +11,8 @@ use Rattle.sched_book.proofs.list_desk.ListDesk.given_to_host.Goals as goal
 listed : (c : goal.After-as_slice-in-Some) → c.as_slice-in-Some.result.now ≡ given_among 1 (is_owned_by c.args.host) c.self.inside.world.units
 listed c =
     let w = c.self.inside.world in
-    let found : nth c.self.inside.by_host c.args.host ≡ Some c.in-Some.given.now =
-        ap (λ xs. nth xs c.args.host) (sym c.as_slice.ensures) ∙ sym c.nth.ensures ∙ ap option_copied c.in-Some.is in
+    let found : nth c.self.inside.lists.by_host c.args.host ≡ Some c.in-Some.given.now =
+    ap (λ xs. nth xs c.args.host) (sym c.as_slice.ensures) ∙ sym c.nth.ensures ∙ ap option_copied c.in-Some.is in
     c.as_slice-in-Some.ensures
     ∙ nth-lists_by Host w.hosts w.units (length w.hosts) c.args.host c.in-Some.given.now (ap (λ xs. nth xs c.args.host) (sym c.self.invariant.1.of_hosts) ∙ found)
 
