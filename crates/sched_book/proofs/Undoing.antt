@@ -12,11 +12,6 @@ set_back [] i x y is = absurd (none-some x is)
 set_back (z ∷ xs) zero x y is = ap (λ w. w ∷ xs) (sym (ap (λ o. unwrap_or o z) is))
 set_back (z ∷ xs) (suc i) x y is = ap (λ ys. z ∷ ys) (set_back xs i x y is)
 
--- the last element set
-pub set_last : {X : Type 0} (xs : List X) (x y : X) → slice_set (xs ++ x ∷ []) (length xs) y ≡ xs ++ y ∷ []
-set_last [] x y = refl
-set_last (z ∷ xs) x y = ap (λ ys. z ∷ ys) (set_last xs x y)
-
 -- the last change is taken back first
 pub undone-push : (w : World) (log : List Undo) (u : Undo) → undone w (log ++ u ∷ []) ≡ undone (undone_one w u) log
 undone-push w [] u = refl

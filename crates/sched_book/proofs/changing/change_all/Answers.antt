@@ -1,10 +1,11 @@
 use Rattle.std.proofs.Common.{◌≡◌, ◌+◌, ◌-◌, ◌∷◌, ◌++◌, [], length, drop, sym, ap, ◌∙◌, arith}
+use Rattle.std.proofs.Math.Seq.{set-append_seam}
 use Rattle.std.proofs.lemmas.List.{drop_more}
 use Rattle.std.specs.Prelude.{slice_set}
 use Rattle.sched_book.specs.Delta.{applied}
 use Rattle.sched_book.specs.Undo.{undone}
 use Rattle.sched_book.specs.declared.changing.Undo.TheVariants as undo
-use Rattle.sched_book.proofs.Undoing.{set_last, undone-push}
+use Rattle.sched_book.proofs.Undoing.{undone-push}
 use Rattle.sched_book.proofs.changing.change_all.Goals as goal
 
 pub returns-in_err-done-clause-log : goal.returns-in_err-done-clause-log
@@ -32,7 +33,7 @@ loop-change-preserved c =
       logged =
           ap (λ ys. undone w (slice_set ys (c.len-last.result - 1) done)) c.in-Ok.ensures.items
           ∙ ap (λ n. undone w (slice_set (log ++ undo.Nothing ∷ []) n done)) last
-          ∙ ap (undone w) (set_last log undo.Nothing done)
+          ∙ ap (undone w) (set-append_seam log undo.Nothing [] done)
           ∙ undone-push w log done
           ∙ ap (λ v. undone v log) c.in_ok-done.ensures.back
           ∙ c.loop-change.invariant.logged;
