@@ -2,7 +2,7 @@
 
 use crate::choice::{begin, choose};
 use crate::choosing::{Choosing, Limits};
-use crate::granted::Grant;
+use crate::granted::{Grant, Granted};
 use rpc_records::EndWord;
 use sched_book::{
     Account, Agreement, App, Candidate, Change, Delta, Desk, Flow, HostRow, Instance, ListDesk,
@@ -13,12 +13,13 @@ use std::test::Fail;
 use texts::{Listed, Memory, Text};
 
 fn settings(alloc: Global) -> Result<Settings, Memory> {
+    let operator_key = Text::copied(alloc, "opkey-01")?;
     Ok(Settings {
         daily_result_quota: 4,
         max_hosts: 3,
         max_wus_in_progress: 3,
         max_wus_to_send: 2,
-        operator_key: Text::copied(alloc, "opkey-01")?,
+        operator_key,
         request_delay: 60,
         resend_lost_results: true,
     })
@@ -85,6 +86,7 @@ fn setup(alloc: Global) -> Result<Delta, Memory> {
     }))?;
     delta.push(version(alloc, "dock", "linux", 101)?)?;
     delta.push(version(alloc, "dock", "linux", 102)?)?;
+    delta.push(version(alloc, "dock", "win", 5)?)?;
     delta.push(version(alloc, "fold", "linux", 7)?)?;
     delta.push(Change::Host {
         number: 1,
@@ -137,216 +139,242 @@ fn give(alloc: Global, desk: &mut ListDesk, unit: u32, sent: u64) -> Result<(), 
     Ok(())
 }
 
-/// Who asks, and when.
-#[derive(Drop)]
+/// Who asks, when, for how many seconds, and what it has.
+#[derive(Clone, Copy)]
 struct Asking {
     number: u32,
+    platforms: &'static [&'static str],
     p_fpops: u64,
     quota: u32,
     before: u64,
     held: u32,
+    asked: u64,
     now: u64,
 }
 
-/// The first host, at 1000.
+/// A job in few words: the workunit's place, the instance's number, the estimate and the number of the version.
+type Job = (u32, u32, u64, u32);
+
+/// A choice of jobs, and what is granted.
+struct Choice {
+    name: &'static str,
+    /// The names of the workunits that stand.
+    units: &'static [&'static str],
+    /// When the first host got the first instances of the first ones among these.
+    sent: &'static [u64],
+    asking: Asking,
+    jobs: &'static [Job],
+    end_word: EndWord,
+}
+
+/// The first host at 1000, which asks for as much as a job is.
 const FIRST: Asking = Asking {
     number: 1,
+    platforms: &["linux"],
     p_fpops: 1000,
     quota: 4,
     before: 0,
     held: 0,
+    asked: 3600,
     now: 1000,
 };
 
-/// What is granted, in few words: of each job the workunit's place, the instance's number, the estimate and the
-/// number of the version.
-#[derive(Drop)]
-struct Told {
-    jobs: Vec<(u32, u32, u64, u32)>,
-    end_word: EndWord,
-}
+/// It gets the first job.
+const FIRST_JOB: Choice = Choice {
+    name: "what is asked",
+    units: &["w1", "w2"],
+    sent: &[],
+    asking: FIRST,
+    jobs: &[(1, 0, 3600, 102)],
+    end_word: EndWord::Enough,
+};
 
-fn in_few_words(alloc: Global, grant: &Grant) -> Result<Told, Memory> {
-    let mut jobs = Vec::new(alloc);
-    for job in grant.jobs.as_slice() {
-        jobs.push((
-            job.place.unit,
-            job.place.number,
-            job.estimate,
-            job.version.version_num,
-        ))?;
+const CHOICES: &[Choice] = &[
+    FIRST_JOB,
+    Choice {
+        name: "no less than is asked",
+        asking: Asking {
+            asked: 3601,
+            ..FIRST
+        },
+        jobs: &[(1, 0, 3600, 102), (2, 0, 3600, 102)],
+        ..FIRST_JOB
+    },
+    Choice {
+        name: "up to the limit of a reply",
+        units: &["w1", "w2", "w3"],
+        asking: Asking {
+            asked: 100_000,
+            ..FIRST
+        },
+        jobs: &[(1, 0, 3600, 102), (2, 0, 3600, 102)],
+        end_word: EndWord::ReplyLimit,
+        ..FIRST_JOB
+    },
+    Choice {
+        name: "one instance of a workunit",
+        units: &["w1"],
+        asking: Asking {
+            asked: 100_000,
+            ..FIRST
+        },
+        end_word: EndWord::NoEligibleWork,
+        ..FIRST_JOB
+    },
+    Choice {
+        name: "no second instance to a user",
+        units: &["w1"],
+        sent: &[1000],
+        asking: Asking { number: 2, ..FIRST },
+        jobs: &[],
+        end_word: EndWord::NoEligibleWork,
+        ..FIRST_JOB
+    },
+    Choice {
+        name: "what takes just the time that there is",
+        units: &["w1"],
+        asking: Asking {
+            p_fpops: 500,
+            asked: 1,
+            ..FIRST
+        },
+        jobs: &[(1, 0, 7200, 102)],
+        ..FIRST_JOB
+    },
+    Choice {
+        name: "nothing that takes longer",
+        units: &["w1"],
+        asking: Asking {
+            p_fpops: 499,
+            asked: 1,
+            ..FIRST
+        },
+        jobs: &[],
+        end_word: EndWord::NoEligibleWork,
+        ..FIRST_JOB
+    },
+    Choice {
+        name: "no more than is sent again",
+        asking: Asking {
+            before: 3600,
+            ..FIRST
+        },
+        jobs: &[],
+        ..FIRST_JOB
+    },
+    Choice {
+        name: "up to the limit of jobs in progress",
+        units: &["w1", "w2", "w3", "w4"],
+        asking: Asking {
+            held: 2,
+            asked: 100_000,
+            ..FIRST
+        },
+        end_word: EndWord::InProgressLimit,
+        ..FIRST_JOB
+    },
+    Choice {
+        name: "up to the quota of the day",
+        units: &["w1", "w2", "w3", "w4"],
+        sent: &[1000, 1000],
+        asking: Asking {
+            quota: 2,
+            asked: 7200,
+            ..FIRST
+        },
+        jobs: &[],
+        end_word: EndWord::DailyQuota,
+        ..FIRST_JOB
+    },
+    Choice {
+        name: "as many as before on a new day",
+        units: &["w1", "w2", "w3", "w4"],
+        sent: &[86_399, 86_399],
+        asking: Asking {
+            quota: 2,
+            asked: 7200,
+            now: 86_400,
+            ..FIRST
+        },
+        jobs: &[(3, 0, 3600, 102), (4, 0, 3600, 102)],
+        ..FIRST_JOB
+    },
+    Choice {
+        name: "the version of the first platform that has any",
+        units: &["w1"],
+        asking: Asking {
+            platforms: &["arm", "win", "linux"],
+            ..FIRST
+        },
+        jobs: &[(1, 0, 3600, 5)],
+        ..FIRST_JOB
+    },
+];
+
+/// The desk before a choice.
+fn desk_before(alloc: Global, choice: &Choice) -> Result<ListDesk, Fail> {
+    let mut desk = desk_with(alloc, choice.units)?;
+    let mut unit = 1;
+    for sent in choice.sent {
+        give(alloc, &mut desk, unit, *sent)?;
+        unit = unit.saturating_add(1);
     }
-    Ok(Told {
-        jobs,
-        end_word: grant.end_word,
-    })
+    Ok(desk)
 }
 
-/// What the host that asks for so many seconds is granted, on these platforms.
-fn granted(
-    alloc: Global,
-    desk: &mut ListDesk,
-    asking: &Asking,
-    platforms: &[&str],
-    asked: u64,
-) -> Result<Told, Fail> {
-    let mut row = host(alloc, platforms, asking.p_fpops)?;
+/// What the host is granted.
+fn granted(alloc: Global, desk: &mut ListDesk, asking: Asking) -> Result<Grant, Fail> {
+    let mut row = host(alloc, asking.platforms, asking.p_fpops)?;
     row.quota = asking.quota;
     let now = Moment::new(asking.now).ok_or("a moment")?;
-    let grant = choose(
+    Ok(choose(
         alloc,
         desk,
         asking.number,
         &row,
         asking.before,
         asking.held,
-        asked,
+        asking.asked,
         now,
-    )?;
-    Ok(in_few_words(alloc, &grant)?)
+    )?)
 }
 
-/// The same on Linux, over workunits of these names.
-fn granted_of(alloc: Global, units: &[&str], asking: &Asking, asked: u64) -> Result<Told, Fail> {
-    let mut desk = desk_with(alloc, units)?;
-    granted(alloc, &mut desk, asking, &["linux"], asked)
+/// A job in few words.
+fn in_few_words(job: &Granted) -> Job {
+    (
+        job.place.unit,
+        job.place.number,
+        job.estimate,
+        job.version.version_num,
+    )
 }
 
-#[test]
-fn grants_what_is_asked(rt: HostRuntime) -> Result<(), Fail> {
-    let told = granted_of(rt.alloc(), &["w1", "w2"], &FIRST, 3600)?;
-    assert_eq!(rt; told.jobs.as_slice(), [(1, 0, 3600, 102)].as_slice());
-    assert_eq!(rt; told.end_word, EndWord::Enough);
-    Ok(())
+/// Whether what is granted is what the choice tells.
+fn is_told(choice: &Choice, grant: &Grant) -> bool {
+    grant.end_word == choice.end_word
+        && grant
+            .jobs
+            .as_slice()
+            .iter()
+            .map(in_few_words)
+            .eq(choice.jobs.iter().copied())
 }
 
-#[test]
-fn grants_no_less_than_is_asked(rt: HostRuntime) -> Result<(), Fail> {
-    let told = granted_of(rt.alloc(), &["w1", "w2"], &FIRST, 3601)?;
-    assert_eq!(rt;
-        told.jobs.as_slice(),
-        [(1, 0, 3600, 102), (2, 0, 3600, 102)].as_slice()
-    );
-    assert_eq!(rt; told.end_word, EndWord::Enough);
-    Ok(())
-}
-
-#[test]
-fn grants_up_to_the_limit_of_a_reply(rt: HostRuntime) -> Result<(), Fail> {
-    let told = granted_of(rt.alloc(), &["w1", "w2", "w3"], &FIRST, 100_000)?;
-    assert_eq!(rt;
-        told.jobs.as_slice(),
-        [(1, 0, 3600, 102), (2, 0, 3600, 102)].as_slice()
-    );
-    assert_eq!(rt; told.end_word, EndWord::ReplyLimit);
-    Ok(())
+/// The name of the first choice that grants something else.
+fn first_wrong(alloc: Global, choices: &[Choice]) -> Result<Option<&'static str>, Fail> {
+    for choice in choices {
+        let mut desk = desk_before(alloc, choice)?;
+        let grant = granted(alloc, &mut desk, choice.asking)?;
+        if !is_told(choice, &grant) {
+            return Ok(Some(choice.name));
+        }
+    }
+    Ok(None)
 }
 
 #[test]
-fn grants_one_instance_of_a_workunit(rt: HostRuntime) -> Result<(), Fail> {
-    let told = granted_of(rt.alloc(), &["w1"], &FIRST, 100_000)?;
-    assert_eq!(rt; told.jobs.as_slice(), [(1, 0, 3600, 102)].as_slice());
-    assert_eq!(rt; told.end_word, EndWord::NoEligibleWork);
-    Ok(())
-}
-
-#[test]
-fn grants_a_user_no_second_instance(rt: HostRuntime) -> Result<(), Fail> {
-    let alloc = rt.alloc();
-    let mut desk = desk_with(alloc, &["w1"])?;
-    give(alloc, &mut desk, 1, 1000)?;
-    let second = Asking { number: 2, ..FIRST };
-    let told = granted(alloc, &mut desk, &second, &["linux"], 3600)?;
-    assert_eq!(rt; told.jobs.len(), 0);
-    assert_eq!(rt; told.end_word, EndWord::NoEligibleWork);
-    Ok(())
-}
-
-#[test]
-fn grants_what_takes_just_the_time_that_there_is(rt: HostRuntime) -> Result<(), Fail> {
-    let slow = Asking {
-        p_fpops: 500,
-        ..FIRST
-    };
-    let told = granted_of(rt.alloc(), &["w1"], &slow, 1)?;
-    assert_eq!(rt; told.jobs.as_slice(), [(1, 0, 7200, 102)].as_slice());
-    assert_eq!(rt; told.end_word, EndWord::Enough);
-    Ok(())
-}
-
-#[test]
-fn grants_nothing_that_takes_longer(rt: HostRuntime) -> Result<(), Fail> {
-    let slower = Asking {
-        p_fpops: 499,
-        ..FIRST
-    };
-    let told = granted_of(rt.alloc(), &["w1"], &slower, 1)?;
-    assert_eq!(rt; told.jobs.len(), 0);
-    assert_eq!(rt; told.end_word, EndWord::NoEligibleWork);
-    Ok(())
-}
-
-#[test]
-fn counts_what_is_sent_again(rt: HostRuntime) -> Result<(), Fail> {
-    let resent = Asking {
-        before: 3600,
-        ..FIRST
-    };
-    let told = granted_of(rt.alloc(), &["w1"], &resent, 3600)?;
-    assert_eq!(rt; told.jobs.len(), 0);
-    assert_eq!(rt; told.end_word, EndWord::Enough);
-    Ok(())
-}
-
-#[test]
-fn counts_what_the_host_holds(rt: HostRuntime) -> Result<(), Fail> {
-    let busy = Asking { held: 2, ..FIRST };
-    let told = granted_of(rt.alloc(), &["w1", "w2", "w3", "w4"], &busy, 100_000)?;
-    assert_eq!(rt; told.jobs.as_slice(), [(1, 0, 3600, 102)].as_slice());
-    assert_eq!(rt; told.end_word, EndWord::InProgressLimit);
-    Ok(())
-}
-
-#[test]
-fn grants_up_to_the_quota_of_the_day(rt: HostRuntime) -> Result<(), Fail> {
-    let alloc = rt.alloc();
-    let mut desk = desk_with(alloc, &["w1", "w2", "w3", "w4"])?;
-    give(alloc, &mut desk, 1, 1000)?;
-    give(alloc, &mut desk, 2, 1000)?;
-    let today = Asking { quota: 2, ..FIRST };
-    let told = granted(alloc, &mut desk, &today, &["linux"], 7200)?;
-    assert_eq!(rt; told.jobs.len(), 0);
-    assert_eq!(rt; told.end_word, EndWord::DailyQuota);
-    Ok(())
-}
-
-#[test]
-fn begins_each_day_anew(rt: HostRuntime) -> Result<(), Fail> {
-    let alloc = rt.alloc();
-    let mut desk = desk_with(alloc, &["w1", "w2", "w3", "w4"])?;
-    give(alloc, &mut desk, 1, 86_399)?;
-    give(alloc, &mut desk, 2, 86_399)?;
-    let tomorrow = Asking {
-        quota: 2,
-        now: 86_400,
-        ..FIRST
-    };
-    let told = granted(alloc, &mut desk, &tomorrow, &["linux"], 7200)?;
-    assert_eq!(rt;
-        told.jobs.as_slice(),
-        [(3, 0, 3600, 102), (4, 0, 3600, 102)].as_slice()
-    );
-    assert_eq!(rt; told.end_word, EndWord::Enough);
-    Ok(())
-}
-
-#[test]
-fn takes_the_version_of_the_first_platform_that_has_any(rt: HostRuntime) -> Result<(), Fail> {
-    let alloc = rt.alloc();
-    let mut desk = desk_with(alloc, &["w1"])?;
-    make(alloc, &mut desk, version(alloc, "dock", "win", 5)?)?;
-    let told = granted(alloc, &mut desk, &FIRST, &["arm", "win", "linux"], 3600)?;
-    assert_eq!(rt; told.jobs.as_slice(), [(1, 0, 3600, 5)].as_slice());
+fn grants_what_each_choice_tells(rt: HostRuntime) -> Result<(), Fail> {
+    assert_eq!(rt; first_wrong(rt.alloc(), CHOICES)?, None);
     Ok(())
 }
 

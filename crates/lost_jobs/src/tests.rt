@@ -11,12 +11,13 @@ use std::test::Fail;
 use texts::{Listed, Memory, Text};
 
 fn settings(alloc: Global) -> Result<Settings, Memory> {
+    let operator_key = Text::copied(alloc, "opkey-01")?;
     Ok(Settings {
         daily_result_quota: 4,
         max_hosts: 3,
         max_wus_in_progress: 3,
         max_wus_to_send: 2,
-        operator_key: Text::copied(alloc, "opkey-01")?,
+        operator_key,
         request_delay: 60,
         resend_lost_results: true,
     })
@@ -168,10 +169,43 @@ fn request(alloc: Global, other_results: Option<Listed<Text>>) -> Result<Request
     })
 }
 
-/// What the first host lost where it lists these names, after changes.
-fn lost_with(alloc: Global, delta: &Delta, names: &[&str]) -> Result<Listed<Place>, Fail> {
-    let request = request(alloc, Some(texts_of(alloc, names)?))?;
-    Ok(lost(alloc, &mut desk(alloc)?, delta, 1, &request)?)
+/// What the first host lost where it lists these names, before or after its report.
+fn lost_with(
+    alloc: Global,
+    names: Option<&[&str]>,
+    is_reported: bool,
+) -> Result<Listed<Place>, Fail> {
+    let listed = match names {
+        None => None,
+        Some(names) => Some(texts_of(alloc, names)?),
+    };
+    let request = request(alloc, listed)?;
+    let delta = if is_reported {
+        report(alloc)?
+    } else {
+        Listed::new(alloc)
+    };
+    Ok(lost(alloc, &mut desk(alloc)?, &delta, 1, &request)?)
+}
+
+/// Lists of a client, whether the second instance of f1 is reported in the same call, and what is lost.
+const LOST: &[(Option<&[&str]>, bool, &[Place])] = &[
+    (
+        Some(&["f1_0", "g1_0"]),
+        false,
+        &[Place { unit: 1, number: 1 }],
+    ),
+    (Some(&["f1_0"]), true, &[Place { unit: 2, number: 0 }]),
+    (None, false, &[]),
+];
+
+#[test]
+fn what_is_neither_listed_nor_reported_is_lost(rt: HostRuntime) -> Result<(), Fail> {
+    for (names, is_reported, places) in LOST {
+        let found = lost_with(rt.alloc(), *names, *is_reported)?;
+        assert_eq!(rt; found.as_slice(), *places);
+    }
+    Ok(())
 }
 
 /// The names of this list that the first host may forget, once the report is recorded.
@@ -190,128 +224,137 @@ fn is_only(names: &Listed<Text>, name: &str) -> bool {
     }
 }
 
-/// The deadline to which a lost job is sent again at this second, to a host of this speed and with so much memory.
-fn resent(
-    alloc: Global,
+/// Lists of a client, and the one name among them that it may forget.
+const FORGOTTEN: &[(&[&str], &str)] = &[
+    (&["f1_0", "zz_0", "zz_0"], "zz_0"),
+    (&["g1_1", "g1_0"], "g1_1"),
+    (&["f1_1"], "f1_1"),
+];
+
+#[test]
+fn names_of_no_job_in_hand_are_forgotten(rt: HostRuntime) -> Result<(), Fail> {
+    for (names, forgotten) in FORGOTTEN {
+        let found = aborts_with(rt.alloc(), names)?;
+        assert!(rt; is_only(&found, forgotten), "{forgotten}");
+    }
+    Ok(())
+}
+
+/// A lost job, the moment and the host to which it may be sent again, and the deadline that it then has.
+struct Lost {
     place: Place,
-    seconds: u64,
+    now: u64,
     p_fpops: u64,
     m_nbytes: u64,
-) -> Result<Option<u64>, Fail> {
-    let Some(now) = Moment::new(seconds) else {
-        return Ok(None);
-    };
-    let mut host = host(alloc, "c1", m_nbytes)?;
-    host.p_fpops = p_fpops;
-    let fates = resend_or_drop(alloc, &mut desk(alloc)?, &host, &[place], now)?;
-    match fates.as_slice() {
-        [fate] => Ok(fate.resent),
-        _ => Ok(None),
+    resent: Option<u64>,
+}
+
+/// The second instance of f1 at 1100.
+const OF_OPEN: Lost = Lost {
+    place: Place { unit: 1, number: 1 },
+    now: 1100,
+    p_fpops: 1000,
+    m_nbytes: 8000,
+    resent: Some(8200),
+};
+
+const RESENT: &[Lost] = &[
+    // the deadline stays where it can be met
+    Lost {
+        now: 4600,
+        ..OF_OPEN
+    },
+    Lost {
+        now: 4601,
+        resent: Some(11_801),
+        ..OF_OPEN
+    },
+    // what is done or does not fit is dropped
+    Lost {
+        place: Place { unit: 2, number: 0 },
+        resent: None,
+        ..OF_OPEN
+    },
+    Lost {
+        m_nbytes: 999,
+        resent: None,
+        ..OF_OPEN
+    },
+    Lost {
+        now: 1000,
+        p_fpops: 500,
+        ..OF_OPEN
+    },
+    Lost {
+        p_fpops: 499,
+        resent: None,
+        ..OF_OPEN
+    },
+];
+
+/// What becomes of a lost job.
+fn fates_of(alloc: Global, lost: &Lost) -> Result<Listed<Fate>, Fail> {
+    let now = Moment::new(lost.now).ok_or("a moment")?;
+    let mut host = host(alloc, "c1", lost.m_nbytes)?;
+    host.p_fpops = lost.p_fpops;
+    let mut desk = desk(alloc)?;
+    Ok(resend_or_drop(alloc, &mut desk, &host, &[lost.place], now)?)
+}
+
+/// Whether just the lost job has a fate, and the one that is told.
+fn is_fate_of(fates: &[Fate], lost: &Lost) -> bool {
+    match fates {
+        [fate] => fate.place == lost.place && fate.resent == lost.resent,
+        _ => false,
     }
 }
 
-/// How many jobs the first host holds after this fate.
-fn held_after(alloc: Global, fate: Fate) -> Result<usize, Fail> {
-    let mut desk = desk(alloc)?;
-    let more = lost_changes(alloc, &mut desk, &Listed::new(alloc), &[fate])?;
-    desk.apply(&more)?;
-    Ok(desk.held_by(alloc, 1)?.len())
+#[test]
+fn a_lost_job_is_sent_again_or_dropped(rt: HostRuntime) -> Result<(), Fail> {
+    for (i, lost) in RESENT.iter().enumerate() {
+        let fates = fates_of(rt.alloc(), lost)?;
+        assert!(rt; is_fate_of(fates.as_slice(), lost), "{i}");
+    }
+    Ok(())
 }
 
-/// Why the first instance of g1 came to nothing, and its deadline, after this fate.
-fn after_fate(alloc: Global, resent: Option<u64>) -> Result<(Option<Lapse>, u64), Fail> {
+/// The desk after this fate of the first instance of g1.
+fn desk_after(alloc: Global, resent: Option<u64>) -> Result<ListDesk, Fail> {
     let mut desk = desk(alloc)?;
     let place = Place { unit: 2, number: 0 };
-    let more = lost_changes(
-        alloc,
-        &mut desk,
-        &Listed::new(alloc),
-        &[Fate { place, resent }],
-    )?;
+    let fate = Fate { place, resent };
+    let more = lost_changes(alloc, &mut desk, &Listed::new(alloc), &[fate])?;
     desk.apply(&more)?;
+    Ok(desk)
+}
+
+/// Why the first instance of g1 came to nothing, its deadline, and how many jobs the first host then holds.
+fn after_fate(
+    alloc: Global,
+    resent: Option<u64>,
+) -> Result<(Option<Lapse>, Option<u64>, usize), Fail> {
+    let mut desk = desk_after(alloc, resent)?;
+    let held = desk.held_by(alloc, 1)?.len();
     let Some(instance) = desk.instance(alloc, 2, 0)? else {
-        return Ok((None, 0));
+        return Ok((None, None, held));
     };
-    let lapse = instance.lapse;
-    match &instance.owner {
-        None => Ok((lapse, 0)),
-        Some(owner) => Ok((lapse, owner.deadline)),
-    }
+    Ok((
+        instance.lapse,
+        instance.owner.map(|owner| owner.deadline),
+        held,
+    ))
 }
 
 #[test]
-fn a_job_that_is_not_listed_is_lost(rt: HostRuntime) -> Result<(), Fail> {
-    let alloc = rt.alloc();
-    let none = Listed::new(alloc);
-    let places = lost_with(alloc, &none, &["f1_0", "g1_0"])?;
-    assert_eq!(rt;
-        places.as_slice(),
-        [Place { unit: 1, number: 1 }].as_slice()
-    );
-    let request = request(alloc, None)?;
-    assert_eq!(rt;
-        lost(alloc, &mut desk(alloc)?, &none, 1, &request)?.len(),
-        0
-    );
+fn a_dropped_job_is_held_no_more(rt: HostRuntime) -> Result<(), Fail> {
+    let dropped = after_fate(rt.alloc(), None)?;
+    assert_eq!(rt; dropped, (Some(Lapse::Dropped), Some(8200), 2));
     Ok(())
 }
 
 #[test]
-fn a_job_that_is_reported_is_not_lost(rt: HostRuntime) -> Result<(), Fail> {
-    let alloc = rt.alloc();
-    let places = lost_with(alloc, &report(alloc)?, &["f1_0"])?;
-    assert_eq!(rt;
-        places.as_slice(),
-        [Place { unit: 2, number: 0 }].as_slice()
-    );
-    Ok(())
-}
-
-#[test]
-fn a_deadline_stays_where_it_can_be_met(rt: HostRuntime) -> Result<(), Fail> {
-    let alloc = rt.alloc();
-    let place = Place { unit: 1, number: 1 };
-    assert_eq!(rt; resent(alloc, place, 4600, 1000, 8000)?, Some(8200));
-    assert_eq!(rt; resent(alloc, place, 4601, 1000, 8000)?, Some(11801));
-    Ok(())
-}
-
-#[test]
-fn what_is_done_or_does_not_fit_is_dropped(rt: HostRuntime) -> Result<(), Fail> {
-    let alloc = rt.alloc();
-    let of_done = Place { unit: 2, number: 0 };
-    let of_open = Place { unit: 1, number: 1 };
-    assert_eq!(rt; resent(alloc, of_done, 2000, 1000, 8000)?, None);
-    assert_eq!(rt; resent(alloc, of_open, 2000, 1000, 999)?, None);
-    assert_eq!(rt; resent(alloc, of_open, 1000, 500, 8000)?, Some(8200));
-    assert_eq!(rt; resent(alloc, of_open, 1100, 499, 8000)?, None);
-    Ok(())
-}
-
-#[test]
-fn fates_change_the_job(rt: HostRuntime) -> Result<(), Fail> {
-    let alloc = rt.alloc();
-    assert_eq!(rt; after_fate(alloc, None)?, (Some(Lapse::Dropped), 8200));
-    assert_eq!(rt; after_fate(alloc, Some(9000))?, (None, 9000));
-    let place = Place { unit: 1, number: 1 };
-    assert_eq!(rt;
-        held_after(
-            alloc,
-            Fate {
-                place,
-                resent: None
-            }
-        )?,
-        2
-    );
-    Ok(())
-}
-
-#[test]
-fn names_are_forgotten(rt: HostRuntime) -> Result<(), Fail> {
-    let alloc = rt.alloc();
-    assert!(rt; is_only(&aborts_with(alloc, &["f1_0", "zz_0", "zz_0"])?, "zz_0"));
-    assert!(rt; is_only(&aborts_with(alloc, &["g1_1", "g1_0"])?, "g1_1"));
-    assert!(rt; is_only(&aborts_with(alloc, &["f1_1"])?, "f1_1"));
+fn a_job_that_is_sent_again_has_its_new_deadline(rt: HostRuntime) -> Result<(), Fail> {
+    let resent = after_fate(rt.alloc(), Some(9000))?;
+    assert_eq!(rt; resent, (None, Some(9000), 3));
     Ok(())
 }

@@ -4,6 +4,7 @@ mod rows;
 
 use crate::{Taken, agree, canonical, lapse_late, next_quota, settle, take_reports};
 use rpc_records::{HostInfo, Report, Request};
+use sched_book::count::MOST_INSTANCES;
 use sched_book::{
     Account, Agreement, App, Change, Delta, Desk, HostRow, Instance, Lapse, ListDesk, Moment,
     Outcome, Owner, Place, Settings, Status, Units, Verdict, Workunit, count,
@@ -13,12 +14,13 @@ use std::test::Fail;
 use texts::{Listed, Memory, Text};
 
 fn settings(alloc: Global) -> Result<Settings, Memory> {
+    let operator_key = Text::copied(alloc, "opkey-01")?;
     Ok(Settings {
         daily_result_quota: 4,
         max_hosts: 3,
         max_wus_in_progress: 3,
         max_wus_to_send: 2,
-        operator_key: Text::copied(alloc, "opkey-01")?,
+        operator_key,
         request_delay: 60,
         resend_lost_results: true,
     })
@@ -121,13 +123,13 @@ fn setup(alloc: Global, max_total_results: u32) -> Result<Delta, Memory> {
     Ok(delta)
 }
 
-/// A request of the second host with two reports.
-fn request(alloc: Global, reports: [(&str, i32, &str); 2]) -> Result<Request, Memory> {
+/// A request of the second host with these reports.
+fn request(alloc: Global, reports: &[(&str, i32, &str)]) -> Result<Request, Memory> {
     let mut results = Listed::new(alloc);
     for (name, exit_status, output) in reports {
         results.push(Report {
             name: Text::copied(alloc, name)?,
-            exit_status,
+            exit_status: *exit_status,
             output: Text::copied(alloc, output)?,
         })?;
     }
@@ -160,7 +162,7 @@ fn report(
     alloc: Global,
     desk: &mut ListDesk,
     host: u32,
-    reports: [(&str, i32, &str); 2],
+    reports: &[(&str, i32, &str)],
 ) -> Result<Taken, Fail> {
     let request = request(alloc, reports)?;
     let taken = take_reports(alloc, desk, host, &request)?;
@@ -190,16 +192,6 @@ fn status_of(alloc: Global, desk: &mut ListDesk, max_total_results: u32) -> Resu
     Ok(settle(&Agreement::Within(2), &unit, instances.as_slice()).status)
 }
 
-/// How many of the acknowledged names are this one.
-fn times_acked(taken: &Taken, name: &str) -> usize {
-    taken
-        .acked
-        .as_slice()
-        .iter()
-        .filter(|other| other.is(name))
-        .count()
-}
-
 #[test]
 fn quotas_fall_by_one_and_double(rt: HostRuntime) {
     assert_eq!(rt; next_quota(3, 2, 0, 4), 1);
@@ -215,161 +207,214 @@ fn outputs_within_two_agree(rt: HostRuntime) {
     assert!(rt; !agree(&agreement, "01", "1"));
 }
 
-#[test]
-fn a_report_in_the_middle_decides(rt: HostRuntime) -> Result<(), Fail> {
-    let alloc = rt.alloc();
-    let unit = workunit(alloc, 3, 3, 6)?;
-    let instances = [
-        reported(alloc, 1, "10", 1)?,
-        reported(alloc, 2, "13", 2)?,
-        reported(alloc, 3, "12", 3)?,
-    ];
-    let agreement = Agreement::Within(2);
-    assert_eq!(rt; canonical(&agreement, &unit, &instances), Some(0));
-    let settled = settle(&agreement, &unit, &instances);
-    assert_eq!(rt; settled.status, Status::Done);
-    assert_eq!(rt; settled.new_instances, 0);
-    assert_eq!(rt;
-        settled.verdicts.as_slice(),
-        [
+/// The reports of a workunit that wants so many, and what they come to.
+struct Reports {
+    wanted: u32,
+    agreement: Agreement,
+    /// The outputs in the order of the instances, each of a host of its own, which holds it where there is none yet.
+    outputs: &'static [Option<&'static str>],
+    canonical: Option<usize>,
+    status: Status,
+    new_instances: usize,
+    verdicts: &'static [Option<Verdict>],
+}
+
+const REPORTS: &[Reports] = &[
+    // the second report disagrees
+    Reports {
+        wanted: 3,
+        agreement: Agreement::Within(2),
+        outputs: &[Some("10"), Some("13"), Some("12")],
+        canonical: Some(0),
+        status: Status::Done,
+        new_instances: 0,
+        verdicts: &[
             Some(Verdict::Valid),
             Some(Verdict::Invalid),
-            Some(Verdict::Valid)
-        ]
-        .as_slice()
-    );
-    Ok(())
-}
-
-#[test]
-fn equal_outputs_decide(rt: HostRuntime) -> Result<(), Fail> {
-    let alloc = rt.alloc();
-    let unit = workunit(alloc, 3, 3, 6)?;
-    let three = [
-        reported(alloc, 1, "x", 1)?,
-        reported(alloc, 2, "x", 2)?,
-        reported(alloc, 3, "y", 3)?,
-    ];
-    assert_eq!(rt; canonical(&Agreement::Exact, &unit, &three), Some(0));
-    let settled = settle(&Agreement::Exact, &unit, &three);
-    assert_eq!(rt;
-        settled.verdicts.as_slice(),
-        [
+            Some(Verdict::Valid),
+        ],
+    },
+    // the third differs
+    Reports {
+        wanted: 3,
+        agreement: Agreement::Exact,
+        outputs: &[Some("x"), Some("x"), Some("y")],
+        canonical: Some(0),
+        status: Status::Done,
+        new_instances: 0,
+        verdicts: &[
             Some(Verdict::Valid),
             Some(Verdict::Valid),
-            Some(Verdict::Invalid)
-        ]
-        .as_slice()
-    );
-    Ok(())
+            Some(Verdict::Invalid),
+        ],
+    },
+    // two pairs are equal, which decides nothing
+    Reports {
+        wanted: 4,
+        agreement: Agreement::Exact,
+        outputs: &[Some("x"), Some("x"), Some("y"), Some("y")],
+        canonical: None,
+        status: Status::Open,
+        new_instances: 1,
+        verdicts: &[None, None, None, None],
+    },
+    // one report is awaited
+    Reports {
+        wanted: 3,
+        agreement: Agreement::Within(2),
+        outputs: &[Some("10"), None, Some("13")],
+        canonical: None,
+        status: Status::Open,
+        new_instances: 0,
+        verdicts: &[None, None, None],
+    },
+];
+
+/// Their instances.
+fn instances_of(
+    alloc: Global,
+    outputs: &[Option<&'static str>],
+) -> Result<Listed<Instance>, Memory> {
+    let mut instances = Listed::new(alloc);
+    let mut reports = 0u32;
+    for (host, output) in (1..100).zip(outputs.iter()) {
+        match output {
+            None => instances.push(held(host))?,
+            Some(output) => {
+                reports = reports.saturating_add(1);
+                instances.push(reported(alloc, host, output, reports)?)?;
+            }
+        }
+    }
+    Ok(instances)
+}
+
+/// Whether instances come to what the reports tell, and to what counting from scratch tells.
+fn settle_as(unit: &Workunit, instances: &[Instance], told: &Reports) -> bool {
+    if MOST_INSTANCES < instances.len() {
+        return false;
+    }
+    let settled = settle(&told.agreement, unit, instances);
+    let found = canonical(&told.agreement, unit, instances);
+    settled.status == told.status
+        && settled.new_instances == told.new_instances
+        && settled.verdicts.as_slice() == told.verdicts
+        && found == told.canonical
+        && settled.status == count::status(&told.agreement, unit, instances)
+        && found == count::canonical(&told.agreement, unit, instances)
 }
 
 #[test]
-fn two_equal_pairs_decide_nothing(rt: HostRuntime) -> Result<(), Fail> {
+fn reports_come_to_what_is_told(rt: HostRuntime) -> Result<(), Fail> {
     let alloc = rt.alloc();
-    let unit = workunit(alloc, 4, 4, 6)?;
-    let four = [
-        reported(alloc, 1, "x", 1)?,
-        reported(alloc, 2, "x", 2)?,
-        reported(alloc, 3, "y", 3)?,
-        reported(alloc, 4, "y", 4)?,
-    ];
-    assert_eq!(rt; canonical(&Agreement::Exact, &unit, &four), None);
-    let settled = settle(&Agreement::Exact, &unit, &four);
-    assert_eq!(rt; settled.status, Status::Open);
-    assert_eq!(rt; settled.new_instances, 1);
+    for (i, told) in REPORTS.iter().enumerate() {
+        let unit = workunit(alloc, told.wanted, told.wanted, 6)?;
+        let instances = instances_of(alloc, told.outputs)?;
+        assert!(rt; settle_as(&unit, instances.as_slice(), told), "{i}");
+    }
     Ok(())
 }
 
-#[test]
-fn settling_is_counting_from_scratch(rt: HostRuntime) -> Result<(), Fail> {
-    let alloc = rt.alloc();
-    let unit = workunit(alloc, 2, 3, 6)?;
-    let instances = [
-        reported(alloc, 1, "10", 1)?,
-        held(2),
-        reported(alloc, 3, "13", 2)?,
-    ];
-    let agreement = Agreement::Within(2);
-    let settled = settle(&agreement, &unit, &instances);
-    assert_eq!(rt;
-        settled.status,
-        count::status(&agreement, &unit, &instances)
-    );
-    assert_eq!(rt; settled.new_instances, count::need(&unit, &instances));
-    assert_eq!(rt;
-        canonical(&agreement, &unit, &instances),
-        count::canonical(&agreement, &unit, &instances)
-    );
-    Ok(())
+/// A call at f1, and what its reports come to.
+struct Call {
+    max_total_results: u32,
+    host: u32,
+    reports: &'static [(&'static str, i32, &'static str)],
+    acked: &'static [&'static str],
+    touched: &'static [u32],
+    /// An instance, and its report after the call: its place among the judged ones, and whether it is a success.
+    number: u32,
+    report: Option<(Option<u32>, bool)>,
+    /// The status before the call and after it.
+    status: Status,
+}
+
+/// A report of an instance of its own, twice.
+const TWICE: Call = Call {
+    max_total_results: 6,
+    host: 2,
+    reports: &[("f1_1", 0, "10"), ("f1_1", 1, "")],
+    acked: &["f1_1"],
+    touched: &[1],
+    number: 1,
+    report: Some((Some(1), true)),
+    status: Status::Open,
+};
+
+const CALLS: &[Call] = &[
+    TWICE,
+    // of another host's instance, and of an unknown one
+    Call {
+        reports: &[("f1_0", 0, "10"), ("zz_0", 0, "10")],
+        acked: &["f1_0", "zz_0"],
+        touched: &[],
+        number: 0,
+        report: None,
+        ..TWICE
+    },
+    // of a late instance
+    Call {
+        host: 3,
+        reports: &[("f1_2", 0, "10"), ("f1_0", 0, "10")],
+        acked: &["f1_2", "f1_0"],
+        number: 2,
+        ..TWICE
+    },
+    // of an instance of a failed workunit, which is not judged
+    Call {
+        max_total_results: 3,
+        reports: &[("f1_1", 0, "10"), ("zz_0", 0, "10")],
+        acked: &["f1_1", "zz_0"],
+        report: Some((None, true)),
+        status: Status::FailedTotal,
+        ..TWICE
+    },
+];
+
+/// Whether just these names are acknowledged, and these workunits touched.
+fn took_as(taken: &Taken, call: &Call) -> bool {
+    taken.touched.as_slice() == call.touched
+        && taken
+            .acked
+            .as_slice()
+            .iter()
+            .map(|name| name.as_str())
+            .eq(call.acked.iter().copied())
+}
+
+/// Whether a call comes to what it tells.
+fn stands(alloc: Global, call: &Call) -> Result<bool, Fail> {
+    let mut desk = desk(alloc, call.max_total_results)?;
+    let before = status_of(alloc, &mut desk, call.max_total_results)?;
+    let taken = report(alloc, &mut desk, call.host, call.reports)?;
+    let after = status_of(alloc, &mut desk, call.max_total_results)?;
+    let found = report_of(alloc, &mut desk, call.number)?;
+    Ok(
+        took_as(&taken, call)
+            && before == call.status
+            && after == call.status
+            && found == call.report,
+    )
 }
 
 #[test]
-fn the_first_report_of_a_name_counts(rt: HostRuntime) -> Result<(), Fail> {
-    let alloc = rt.alloc();
+fn calls_come_to_what_is_told(rt: HostRuntime) -> Result<(), Fail> {
+    for (i, call) in CALLS.iter().enumerate() {
+        assert!(rt; stands(rt.alloc(), call)?, "{i}");
+    }
+    Ok(())
+}
+
+/// How many jobs lapse at a moment.
+fn late_at(alloc: Global, seconds: u64) -> Result<u32, Fail> {
+    let now = Moment::new(seconds).ok_or("a moment")?;
     let mut desk = desk(alloc, 6)?;
-    let _ = report(alloc, &mut desk, 2, [("f1_1", 0, "10"), ("f1_1", 1, "")])?;
-    assert_eq!(rt; report_of(alloc, &mut desk, 1)?, Some((Some(1), true)));
-    Ok(())
-}
-
-#[test]
-fn a_name_reported_twice_is_acknowledged_once(rt: HostRuntime) -> Result<(), Fail> {
-    let alloc = rt.alloc();
-    let mut desk = desk(alloc, 6)?;
-    let taken = report(alloc, &mut desk, 2, [("f1_1", 0, "10"), ("f1_1", 1, "")])?;
-    assert_eq!(rt; taken.acked.len(), 1);
-    assert_eq!(rt; times_acked(&taken, "f1_1"), 1);
-    assert_eq!(rt; taken.touched.as_slice(), [1].as_slice());
-    Ok(())
-}
-
-#[test]
-fn only_the_owner_reports(rt: HostRuntime) -> Result<(), Fail> {
-    let alloc = rt.alloc();
-    let mut desk = desk(alloc, 6)?;
-    let taken = report(alloc, &mut desk, 2, [("f1_0", 0, "10"), ("zz_0", 0, "10")])?;
-    assert_eq!(rt; times_acked(&taken, "f1_0"), 1);
-    assert_eq!(rt; times_acked(&taken, "zz_0"), 1);
-    assert_eq!(rt; taken.delta.len(), 0);
-    assert_eq!(rt; taken.touched.len(), 0);
-    Ok(())
-}
-
-#[test]
-fn late_reports_count(rt: HostRuntime) -> Result<(), Fail> {
-    let alloc = rt.alloc();
-    let mut desk = desk(alloc, 6)?;
-    let _ = report(alloc, &mut desk, 3, [("f1_2", 0, "10"), ("f1_0", 0, "10")])?;
-    assert_eq!(rt; report_of(alloc, &mut desk, 2)?, Some((Some(1), true)));
-    assert_eq!(rt; report_of(alloc, &mut desk, 0)?, None);
-    Ok(())
-}
-
-#[test]
-fn reports_at_a_failed_workunit_are_not_judged(rt: HostRuntime) -> Result<(), Fail> {
-    let alloc = rt.alloc();
-    let mut desk = desk(alloc, 3)?;
-    assert_eq!(rt; status_of(alloc, &mut desk, 3)?, Status::FailedTotal);
-    let _ = report(alloc, &mut desk, 2, [("f1_1", 0, "10"), ("zz_0", 0, "10")])?;
-    assert_eq!(rt; report_of(alloc, &mut desk, 1)?, Some((None, true)));
-    assert_eq!(rt; status_of(alloc, &mut desk, 3)?, Status::FailedTotal);
-    Ok(())
+    Ok(lapse_late(alloc, &mut desk, now)?.count)
 }
 
 #[test]
 fn deadlines_go_by(rt: HostRuntime) -> Result<(), Fail> {
-    let alloc = rt.alloc();
-    let mut desk = desk(alloc, 6)?;
-    let Some(deadline) = Moment::new(8200) else {
-        return Ok(());
-    };
-    assert_eq!(rt; lapse_late(alloc, &mut desk, deadline)?.count, 0);
-    let Some(after) = Moment::new(8201) else {
-        return Ok(());
-    };
-    let lapsed = lapse_late(alloc, &mut desk, after)?;
-    assert_eq!(rt; lapsed.count, 2);
-    assert_eq!(rt; lapsed.touched.as_slice(), [1].as_slice());
+    assert_eq!(rt; late_at(rt.alloc(), 8200)?, 0);
+    assert_eq!(rt; late_at(rt.alloc(), 8201)?, 2);
     Ok(())
 }

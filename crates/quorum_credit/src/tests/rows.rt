@@ -51,22 +51,23 @@ fn project(alloc: Global) -> Result<Delta, Memory> {
     Ok(delta)
 }
 
-/// One more workunit, at this place, whose first instances these hosts were given.
-fn push_unit(
-    alloc: Global,
-    delta: &mut Delta,
-    place: u32,
-    name: &str,
-    app: &str,
+/// A workunit of an example, whose first instances these hosts were given.
+#[derive(Clone, Copy)]
+struct Unit {
+    name: &'static str,
+    app: &'static str,
     quorum: u32,
     max_total: u32,
-    hosts: &[u32],
-) -> Result<(), Memory> {
-    let mut row = workunit(alloc, quorum, quorum, max_total)?;
-    row.name = Text::copied(alloc, name)?;
-    row.app = Text::copied(alloc, app)?;
+    hosts: &'static [u32],
+}
+
+/// One more workunit, at this place.
+fn push_unit(alloc: Global, delta: &mut Delta, place: u32, unit: Unit) -> Result<(), Memory> {
+    let mut row = workunit(alloc, unit.quorum, unit.quorum, unit.max_total)?;
+    row.name = Text::copied(alloc, unit.name)?;
+    row.app = Text::copied(alloc, unit.app)?;
     delta.push(Change::Workunit(row))?;
-    for (number, host) in (0..100).zip(hosts.iter()) {
+    for (number, host) in (0..100).zip(unit.hosts.iter()) {
         delta.push(Change::Instance {
             place: Place {
                 unit: place,
@@ -78,28 +79,20 @@ fn push_unit(
     Ok(())
 }
 
-/// A desk with one workunit.
-fn desk_of(
-    alloc: Global,
-    name: &str,
-    app: &str,
-    quorum: u32,
-    max_total: u32,
-    hosts: &[u32],
-) -> Result<ListDesk, Fail> {
+/// The project with these workunits.
+fn project_of(alloc: Global, units: &[Unit]) -> Result<Delta, Memory> {
     let mut delta = project(alloc)?;
-    push_unit(alloc, &mut delta, 1, name, app, quorum, max_total, hosts)?;
-    let mut desk = ListDesk::new(alloc, &settings(alloc)?)?;
-    desk.apply(&delta)?;
-    Ok(desk)
+    for (place, unit) in (1..100).zip(units.iter()) {
+        push_unit(alloc, &mut delta, place, *unit)?;
+    }
+    Ok(delta)
 }
 
-/// A desk with two workunits, of each of which the first host was given an instance.
-fn desk_of_two(alloc: Global) -> Result<ListDesk, Fail> {
-    let mut delta = project(alloc)?;
-    push_unit(alloc, &mut delta, 1, "w1", "dock", 2, 5, &[1])?;
-    push_unit(alloc, &mut delta, 2, "w2", "dock", 2, 5, &[1])?;
-    let mut desk = ListDesk::new(alloc, &settings(alloc)?)?;
+/// A desk of the project with these workunits.
+fn desk_of(alloc: Global, units: &[Unit]) -> Result<ListDesk, Fail> {
+    let delta = project_of(alloc, units)?;
+    let settings = settings(alloc)?;
+    let mut desk = ListDesk::new(alloc, &settings)?;
     desk.apply(&delta)?;
     Ok(desk)
 }
@@ -183,9 +176,9 @@ fn quota_of(alloc: Global, desk: &mut ListDesk, host: u32) -> Result<u32, Fail> 
 
 /// A step of an example, or what stands behind it.
 #[derive(Clone, Copy)]
-enum Step<'a> {
+enum Step {
     /// The host of this number reports these results.
-    Report(u32, &'a [(&'a str, i32, &'a str)]),
+    Report(u32, &'static [(&'static str, i32, &'static str)]),
     /// What is late at this moment lapses.
     Tick(u64),
     /// The hosts have these quotas, from the first on.
@@ -265,100 +258,139 @@ fn stands(alloc: Global, desk: &mut ListDesk, step: Step) -> Result<bool, Fail> 
     }
 }
 
-/// The number, from 0 on, of the first of these steps that says what does not stand.
-fn first_wrong(alloc: Global, desk: &mut ListDesk, steps: &[Step]) -> Result<Option<usize>, Fail> {
-    for (number, step) in steps.iter().enumerate() {
-        if !stands(alloc, desk, *step)? {
-            return Ok(Some(number));
+/// A worked example: its workunits, and its steps.
+struct Example {
+    name: &'static str,
+    units: &'static [Unit],
+    steps: &'static [Step],
+}
+
+/// The name of an example, and the number, from 0 on, of its first step that says what does not stand.
+type Wrong = (&'static str, usize);
+
+/// The first step of an example that says what does not stand.
+fn wrong_step(alloc: Global, example: &Example) -> Result<Option<Wrong>, Fail> {
+    let mut desk = desk_of(alloc, example.units)?;
+    for (number, step) in example.steps.iter().enumerate() {
+        if !stands(alloc, &mut desk, *step)? {
+            return Ok(Some((example.name, number)));
         }
     }
     Ok(None)
 }
 
-#[test]
-fn one_of_three_disagrees(rt: HostRuntime) -> Result<(), Fail> {
-    let alloc = rt.alloc();
-    let mut desk = desk_of(alloc, "f1", "fold", 3, 6, &[1, 2, 3])?;
-    let steps = [
-        Step::Report(1, &[("f1_0", 0, "10")]),
-        Step::Report(2, &[("f1_1", 0, "13")]),
-        Step::Report(3, &[("f1_2", 0, "12")]),
-        Step::Verdict(0, Verdict::Valid),
-        Step::Verdict(1, Verdict::Invalid),
-        Step::Verdict(2, Verdict::Valid),
-        Step::Quotas([4, 3, 4]),
-        Step::Instances(1, 3),
-    ];
-    assert_eq!(rt; first_wrong(alloc, &mut desk, &steps)?, None);
-    Ok(())
+/// The first such step of all examples.
+fn first_wrong(alloc: Global, examples: &[Example]) -> Result<Option<Wrong>, Fail> {
+    for example in examples {
+        if let Some(wrong) = wrong_step(alloc, example)? {
+            return Ok(Some(wrong));
+        }
+    }
+    Ok(None)
 }
 
-#[test]
-fn a_late_job_is_replaced_and_then_counts(rt: HostRuntime) -> Result<(), Fail> {
-    let alloc = rt.alloc();
-    let mut desk = desk_of(alloc, "w1", "dock", 2, 5, &[1, 2])?;
-    let steps = [
-        Step::Report(2, &[("w1_1", 0, "ok")]),
-        Step::Tick(8200),
-        Step::Instances(1, 2),
-        Step::Tick(8201),
-        Step::Instances(1, 3),
-        Step::Quotas([3, 4, 4]),
-        Step::Report(1, &[("w1_0", 0, "ok")]),
-        Step::Quotas([4, 4, 4]),
-        Step::Verdict(0, Verdict::Valid),
-        Step::Report(1, &[("w1_0", 0, "no")]),
-        Step::Verdict(0, Verdict::Valid),
-    ];
-    assert_eq!(rt; first_wrong(alloc, &mut desk, &steps)?, None);
-    Ok(())
-}
+/// A workunit that wants two equal results, of which two hosts were given one.
+const W1: Unit = Unit {
+    name: "w1",
+    app: "dock",
+    quorum: 2,
+    max_total: 5,
+    hosts: &[1, 2],
+};
+
+const EXAMPLES: &[Example] = &[
+    Example {
+        name: "one of three disagrees",
+        units: &[Unit {
+            name: "f1",
+            app: "fold",
+            quorum: 3,
+            max_total: 6,
+            hosts: &[1, 2, 3],
+        }],
+        steps: &[
+            Step::Report(1, &[("f1_0", 0, "10")]),
+            Step::Report(2, &[("f1_1", 0, "13")]),
+            Step::Report(3, &[("f1_2", 0, "12")]),
+            Step::Verdict(0, Verdict::Valid),
+            Step::Verdict(1, Verdict::Invalid),
+            Step::Verdict(2, Verdict::Valid),
+            Step::Quotas([4, 3, 4]),
+            Step::Instances(1, 3),
+        ],
+    },
+    Example {
+        name: "a late job is replaced and then counts",
+        units: &[W1],
+        steps: &[
+            Step::Report(2, &[("w1_1", 0, "ok")]),
+            Step::Tick(8200),
+            Step::Instances(1, 2),
+            Step::Tick(8201),
+            Step::Instances(1, 3),
+            Step::Quotas([3, 4, 4]),
+            Step::Report(1, &[("w1_0", 0, "ok")]),
+            Step::Quotas([4, 4, 4]),
+            Step::Verdict(0, Verdict::Valid),
+            Step::Report(1, &[("w1_0", 0, "no")]),
+            Step::Verdict(0, Verdict::Valid),
+        ],
+    },
+    Example {
+        name: "a workunit fails by its total",
+        units: &[Unit {
+            name: "t1",
+            max_total: 2,
+            ..W1
+        }],
+        steps: &[
+            Step::Tick(8201),
+            Step::Status(Status::FailedTotal),
+            Step::Instances(1, 2),
+            Step::Quotas([3, 3, 4]),
+            Step::Report(1, &[("t1_0", 0, "ok")]),
+            Step::Reported(0, None, true),
+            Step::Quotas([3, 3, 4]),
+        ],
+    },
+    Example {
+        name: "client errors lower the quota",
+        units: &[
+            Unit { hosts: &[1], ..W1 },
+            Unit {
+                name: "w2",
+                hosts: &[1],
+                ..W1
+            },
+        ],
+        steps: &[
+            Step::Report(1, &[("w1_0", 1, ""), ("w2_0", 1, "")]),
+            Step::Quotas([2, 4, 4]),
+            Step::Instances(1, 3),
+            Step::Instances(2, 3),
+        ],
+    },
+    Example {
+        name: "a report behind the quorum may disagree",
+        units: &[Unit {
+            hosts: &[1, 2, 3],
+            ..W1
+        }],
+        steps: &[
+            Step::Report(1, &[("w1_0", 0, "ok")]),
+            Step::Report(2, &[("w1_1", 0, "ok")]),
+            Step::Status(Status::Done),
+            Step::Report(3, &[("w1_2", 0, "no")]),
+            Step::Status(Status::Done),
+            Step::Verdict(0, Verdict::Valid),
+            Step::Verdict(2, Verdict::Invalid),
+            Step::Quotas([4, 4, 3]),
+        ],
+    },
+];
 
 #[test]
-fn a_workunit_fails_by_its_total(rt: HostRuntime) -> Result<(), Fail> {
-    let alloc = rt.alloc();
-    let mut desk = desk_of(alloc, "t1", "dock", 2, 2, &[1, 2])?;
-    let steps = [
-        Step::Tick(8201),
-        Step::Status(Status::FailedTotal),
-        Step::Instances(1, 2),
-        Step::Quotas([3, 3, 4]),
-        Step::Report(1, &[("t1_0", 0, "ok")]),
-        Step::Reported(0, None, true),
-        Step::Quotas([3, 3, 4]),
-    ];
-    assert_eq!(rt; first_wrong(alloc, &mut desk, &steps)?, None);
-    Ok(())
-}
-
-#[test]
-fn client_errors_lower_the_quota(rt: HostRuntime) -> Result<(), Fail> {
-    let alloc = rt.alloc();
-    let mut desk = desk_of_two(alloc)?;
-    let steps = [
-        Step::Report(1, &[("w1_0", 1, ""), ("w2_0", 1, "")]),
-        Step::Quotas([2, 4, 4]),
-        Step::Instances(1, 3),
-        Step::Instances(2, 3),
-    ];
-    assert_eq!(rt; first_wrong(alloc, &mut desk, &steps)?, None);
-    Ok(())
-}
-
-#[test]
-fn a_report_behind_the_quorum_may_disagree(rt: HostRuntime) -> Result<(), Fail> {
-    let alloc = rt.alloc();
-    let mut desk = desk_of(alloc, "w1", "dock", 2, 5, &[1, 2, 3])?;
-    let steps = [
-        Step::Report(1, &[("w1_0", 0, "ok")]),
-        Step::Report(2, &[("w1_1", 0, "ok")]),
-        Step::Status(Status::Done),
-        Step::Report(3, &[("w1_2", 0, "no")]),
-        Step::Status(Status::Done),
-        Step::Verdict(0, Verdict::Valid),
-        Step::Verdict(2, Verdict::Invalid),
-        Step::Quotas([4, 4, 3]),
-    ];
-    assert_eq!(rt; first_wrong(alloc, &mut desk, &steps)?, None);
+fn each_step_of_the_examples_stands(rt: HostRuntime) -> Result<(), Fail> {
+    assert_eq!(rt; first_wrong(rt.alloc(), EXAMPLES)?, None);
     Ok(())
 }

@@ -1,10 +1,11 @@
-//! Steps of a worked row, each a line with its answer, and how they are written.
-//!
-//! The hosts c1 and c9 belong to Ann, whose key is k1, c2 to Bob of k2 and c3 to Cid of k3.
+//! Worked rows: what stands in one, and how its lines and their answers are written.
 
 use super::answers_in_project;
 use std::alloc::Global;
 use std::test::Fail;
+
+/// A worked row: its name, and its steps behind the project's imports.
+pub type Row = (&'static str, &'static [Step]);
 
 /// A workunit of an import. What is not told here is the same in all rows.
 #[derive(Clone, Copy)]
@@ -20,16 +21,27 @@ pub struct Unit {
 /// A report in a call: a name, an exit status and an output, which is left out where it is empty.
 pub type Report = (&'static str, i32, &'static str);
 
+/// A host, the number that it gets, and its user.
+#[derive(Clone, Copy)]
+pub struct Host {
+    pub key: &'static str,
+    pub cpid: &'static str,
+    pub number: u32,
+    pub user: &'static str,
+}
+
 /// What a host tells in a call.
 #[derive(Clone, Copy)]
 pub struct Call<'a> {
-    pub cpid: &'static str,
+    pub host: Host,
     pub seqno: u32,
     pub moment: u32,
     pub p_fpops: u32,
     pub asked: u32,
-    pub other_results: Option<&'a [&'static str]>,
+    pub other_results: Option<&'static [&'static str]>,
     pub results: &'a [Report],
+    /// Further members, as they are written.
+    pub more: &'static str,
 }
 
 /// A job of a reply.
@@ -47,21 +59,30 @@ pub struct Job {
 /// What a host is told. Its credit is also its user's.
 #[derive(Clone, Copy)]
 pub struct Reply<'a> {
-    pub host: u32,
     pub end: &'static str,
     pub credit: u32,
-    pub aborts: &'a [&'static str],
+    pub aborts: &'static [&'static str],
     pub acks: &'a [&'static str],
-    pub jobs: &'a [Job],
+    pub jobs: &'static [Job],
 }
 
 /// A line and its answer.
 #[derive(Clone, Copy)]
-pub enum Step<'a> {
+pub enum Step {
+    /// A line and its answer, as they are written.
+    Line(&'static str, &'static str),
     /// An import of workunits, of which each is added.
-    Units(&'a [Unit]),
+    Units(&'static [Unit]),
+    /// The first call of a host at 1000, which asks for as much work as a job is, and the jobs that it gets.
+    Asks(Host, &'static [Job]),
+    /// A call of a host under this number, at this moment, with one report, and the credit that it then has.
+    Reports(Host, u32, u32, Report, u32),
     /// A call and its reply.
-    Call(Call<'a>, Reply<'a>),
+    Call(Call<'static>, Reply<'static>),
+    /// A call and its refusal, as it is written.
+    Refused(Call<'static>, &'static str),
+    /// A call of Ann's first host with these further members, and its refusal.
+    With(&'static str, &'static str),
     /// A tick at this moment, and how many jobs lapse.
     Tick(u32, u32),
 }
@@ -83,20 +104,42 @@ pub const W3: Unit = Unit { name: "w3", ..W1 };
 
 pub const W4: Unit = Unit { name: "w4", ..W1 };
 
-/// A call at 1000 that asks for no work, lists nothing and reports nothing.
-pub const CALL: Call<'static> = Call {
+/// The hosts of the three users.
+pub const ANN: Host = Host {
+    key: "k1",
     cpid: "c1",
+    number: 1,
+    user: "Ann",
+};
+
+pub const BOB: Host = Host {
+    key: "k2",
+    cpid: "c2",
+    number: 2,
+    user: "Bob",
+};
+
+pub const CID: Host = Host {
+    key: "k3",
+    cpid: "c3",
+    number: 3,
+    user: "Cid",
+};
+
+/// A call of Ann's host at 1000 that asks for no work, lists nothing and reports nothing.
+pub const CALL: Call<'static> = Call {
+    host: ANN,
     seqno: 1,
     moment: 1000,
     p_fpops: 1000,
     asked: 0,
     other_results: None,
     results: &[],
+    more: "",
 };
 
-/// A reply to host 1 that asked for nothing more.
+/// A reply to a host that asked for nothing more.
 pub const REPLY: Reply<'static> = Reply {
-    host: 1,
     end: "enough",
     credit: 0,
     aborts: &[],
@@ -114,17 +157,6 @@ pub const JOB: Job = Job {
     deadline: 8200,
     resent: false,
 };
-
-/// The key and the name of a host's user.
-fn user_of(cpid: &str) -> (&'static str, &'static str) {
-    if cpid == "c2" {
-        ("k2", "Bob")
-    } else if cpid == "c3" {
-        ("k3", "Cid")
-    } else {
-        ("k1", "Ann")
-    }
-}
 
 /// A moment of the first days of 1970 as an instant.
 pub fn instant(alloc: Global, moment: u32) -> Result<String, Fail> {
@@ -192,16 +224,15 @@ fn call_end(alloc: Global, call: Call<'_>) -> Result<String, Fail> {
         out.push_str(",\"results\":")?;
         out.push_str(reports_text(alloc, call.results)?.as_str())?;
     }
+    out.push_str(call.more)?;
     Ok(out)
 }
 
 /// The line of a call.
 fn call_line(alloc: Global, call: Call<'_>) -> Result<String, Fail> {
     let moment = instant(alloc, call.moment)?;
-    let (key, _) = user_of(call.cpid);
-    let seqno = call.seqno;
-    let cpid = call.cpid;
-    let p_fpops = call.p_fpops;
+    let Host { key, cpid, .. } = call.host;
+    let Call { seqno, p_fpops, .. } = call;
     let end = call_end(alloc, call)?;
     Ok(format!(in alloc;
         "{moment} scheduler {{\"authenticator\":\"{key}\",\"rpc_seqno\":{seqno},\"host_info\":{{\"host_cpid\":\"{cpid}\",\"p_fpops\":{p_fpops},\"m_nbytes\":8000,\"d_free\":9000}},\"platform_name\":\"linux\"{end}}}\n"
@@ -236,17 +267,14 @@ fn jobs_text(alloc: Global, jobs: &[Job]) -> Result<String, Fail> {
 }
 
 /// The answer to a call.
-fn reply_line(alloc: Global, call: Call<'_>, reply: Reply<'_>) -> Result<String, Fail> {
-    let (_, user) = user_of(call.cpid);
-    let seqno = call.seqno;
-    let host = reply.host;
-    let end = reply.end;
-    let credit = reply.credit;
+fn reply_line(alloc: Global, host: Host, seqno: u32, reply: Reply<'_>) -> Result<String, Fail> {
+    let Host { number, user, .. } = host;
+    let Reply { end, credit, .. } = reply;
     let aborts = names_text(alloc, reply.aborts)?;
     let acks = names_text(alloc, reply.acks)?;
     let jobs = jobs_text(alloc, reply.jobs)?;
     Ok(format!(in alloc;
-        "200 {{\"end_word\":\"{end}\",\"host_total_credit\":{credit},\"hostid\":{host},\"request_delay\":60,\"result_abort\":{aborts},\"result_ack\":{acks},\"results\":{jobs},\"rpc_seqno\":{seqno},\"user_name\":\"{user}\",\"user_total_credit\":{credit}}}\n"
+        "200 {{\"end_word\":\"{end}\",\"host_total_credit\":{credit},\"hostid\":{number},\"request_delay\":60,\"result_abort\":{aborts},\"result_ack\":{acks},\"results\":{jobs},\"rpc_seqno\":{seqno},\"user_name\":\"{user}\",\"user_total_credit\":{credit}}}\n"
     )?)
 }
 
@@ -279,10 +307,30 @@ fn units_line(alloc: Global, units: &[Unit]) -> Result<String, Fail> {
 }
 
 /// The line of a step.
-fn line_of(alloc: Global, step: Step<'_>) -> Result<String, Fail> {
+fn line_of(alloc: Global, step: Step) -> Result<String, Fail> {
     match step {
+        Step::Line(line, _) => Ok(format!(in alloc; "{line}\n")?),
         Step::Units(units) => units_line(alloc, units),
-        Step::Call(call, _) => call_line(alloc, call),
+        Step::Asks(host, _) => {
+            let call = Call {
+                host,
+                asked: 3600,
+                ..CALL
+            };
+            call_line(alloc, call)
+        }
+        Step::Reports(host, seqno, moment, report, _) => {
+            let call = Call {
+                host,
+                seqno,
+                moment,
+                results: &[report],
+                ..CALL
+            };
+            call_line(alloc, call)
+        }
+        Step::Call(call, _) | Step::Refused(call, _) => call_line(alloc, call),
+        Step::With(more, _) => call_line(alloc, Call { more, ..CALL }),
         Step::Tick(moment, _) => {
             let moment = instant(alloc, moment)?;
             Ok(format!(in alloc; "{moment} tick\n")?)
@@ -291,21 +339,34 @@ fn line_of(alloc: Global, step: Step<'_>) -> Result<String, Fail> {
 }
 
 /// The answer of a step.
-fn answer_of(alloc: Global, step: Step<'_>) -> Result<String, Fail> {
+fn answer_of(alloc: Global, step: Step) -> Result<String, Fail> {
     match step {
+        Step::Line(_, answer) | Step::Refused(_, answer) | Step::With(_, answer) => Ok(
+            format!(in alloc; "{answer}\n")?,
+        ),
         Step::Units(units) => {
             let rows = units.len();
             Ok(format!(in alloc;
                 "200 {{\"batch\":\"u3\",\"kind\":\"workunits\",\"rows\":{rows}}}\n"
             )?)
         }
-        Step::Call(call, reply) => reply_line(alloc, call, reply),
+        Step::Asks(host, jobs) => reply_line(alloc, host, 1, Reply { jobs, ..REPLY }),
+        Step::Reports(host, seqno, _, report, credit) => {
+            let (name, _, _) = report;
+            let reply = Reply {
+                credit,
+                acks: &[name],
+                ..REPLY
+            };
+            reply_line(alloc, host, seqno, reply)
+        }
+        Step::Call(call, reply) => reply_line(alloc, call.host, call.seqno, reply),
         Step::Tick(_, lapsed) => Ok(format!(in alloc; "200 {{\"lapsed\":{lapsed}}}\n")?),
     }
 }
 
-/// Behind the project's imports, each step's line gets its answer.
-pub fn row(alloc: Global, steps: &[Step<'_>]) -> Result<bool, Fail> {
+/// Whether each step's line gets its answer behind the project's imports.
+fn holds(alloc: Global, steps: &[Step]) -> Result<bool, Fail> {
     let mut lines = String::new(alloc);
     let mut told = String::new(alloc);
     for step in steps {
@@ -313,4 +374,14 @@ pub fn row(alloc: Global, steps: &[Step<'_>]) -> Result<bool, Fail> {
         told.push_str(answer_of(alloc, *step)?.as_str())?;
     }
     answers_in_project(alloc, lines.as_str(), told.as_str())
+}
+
+/// The name of the first row that does not hold.
+pub fn first_wrong(alloc: Global, rows: &[Row]) -> Result<Option<&'static str>, Fail> {
+    for (name, steps) in rows {
+        if !holds(alloc, steps)? {
+            return Ok(Some(name));
+        }
+    }
+    Ok(None)
 }
