@@ -24,8 +24,6 @@ pub mod patched;
 pub mod rows;
 pub mod settings;
 pub mod standing;
-#[cfg(test)]
-mod tests;
 mod versions;
 mod whole_numbers;
 pub mod world;
