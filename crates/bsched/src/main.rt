@@ -4,15 +4,10 @@
 //! prints the answers. `docs/PROFILE.md` states the formats.
 #![tactic(auto)]
 
-pub mod answers;
-mod checks;
-pub mod first;
-mod keys;
-pub mod plain;
-pub mod replay;
-mod replies;
+#[cfg(test)]
+mod tests;
 
-use crate::replay::Ended;
+use replay_lines::{Ended, replay};
 use sched_book::Settings;
 use std::alloc::Global;
 use std::io::{BufReader, BufWriter};
@@ -30,7 +25,7 @@ fn main(rt: HostRuntime) -> io::Result<ExitCode> {
     let reader = BufReader::new(alloc, rt.reader())?;
     let writer = BufWriter::new(alloc, io::writer(&rt))?;
     let ended = match default_settings(alloc) {
-        Ok(settings) => replay::replay(alloc, &settings, reader, writer),
+        Ok(settings) => replay(alloc, &settings, reader, writer),
         Err(_) => Ended::Unavailable,
     };
     if ended != Ended::Good {

@@ -1,0 +1,17 @@
+pub mod Places
+pub mod Names
+pub mod Messages
+pub mod Pasts
+pub mod FirstHeard
+pub mod World
+pub mod HostRows
+pub mod Replies
+pub mod Runs
+pub mod Told
+pub mod Serves
+pub mod Stands
+pub mod Kinds
+pub mod DeskCalls
+pub mod DeskImports
+pub mod DeskTicks
+pub mod DeskServes

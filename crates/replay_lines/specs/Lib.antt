@@ -1,0 +1,2 @@
+pub mod ReplayLines
+pub mod Endings
