@@ -8,10 +8,11 @@ use Rattle.std.proofs.lemmas.List.Folds.{find-append}
 use Rattle.sched_book.specs.Places.{nth, place_where, unit_at, unit_named, agreement_by}
 use Rattle.sched_book.specs.Imports.{new_unit}
 use Rattle.sched_book.specs.Delta.{with_instance, applied_one, applied}
-use Rattle.sched_book.specs.Desk.{placed_at, app_by_name}
+use Rattle.sched_book.specs.Desk.{placed_at, app_by_name, counts}
 use Rattle.sched_book.specs.Patched.{count_after, book_by, book_after, adds_named, added_named, added_apps, place_after, agreement_after}
 use Rattle.sched_book.specs.declared.delta.Change.{Change}
 use Rattle.sched_book.specs.declared.delta.Change.TheVariants as change
+use Rattle.sched_book.specs.declared.desk.Counts.{Counts}
 use Rattle.sched_book.specs.declared.desk.Placed.{Placed}
 use Rattle.sched_book.specs.declared.instance.UnitBook.{UnitBook}
 use Rattle.sched_book.specs.declared.rows.Agreement.TheVariants.{Exact}
@@ -124,3 +125,22 @@ agreement_by-applied w name cs =
     ∙ ap (λ o. unwrap_or (option_map (λ (a : App). a.agreement) (option_or o last)) Exact)
     (find-is named w.apps ∙ found_row w.apps (place_where named w.apps))
     ∙ first_of (app_by_name w name) name cs
+
+pub ruleset applied_steps = (agreement_by-applied)
+
+-- what changes make of what was read of a world that stayed
+pub place_read : (w v : World) (counted : Counts) (found : Option ℕ) (name : List ℕ) (cs : List Change)
+    → counted ≡ counts w → v ≡ w → found ≡ unit_named v name
+    → place_after found counted.workunits name cs ≡ unit_named (applied w cs) name
+place_read w v counted found name cs count same is =
+    ap (λ o. place_after o counted.workunits name cs) (is ∙ ap (λ (x : World). unit_named x name) same)
+    ∙ ap (λ (k : Counts). place_after (unit_named w name) k.workunits name cs) count
+    ∙ sym (unit_named-applied w name cs)
+
+pub book_read : (w v : World) (counted : Counts) (before : Option UnitBook) (unit : ℕ) (cs : List Change)
+    → counted ≡ counts w → v ≡ w → before ≡ unit_at v unit
+    → book_after unit counted.workunits before cs ≡ unit_at (applied w cs) unit
+book_read w v counted before unit cs count same is =
+    ap (λ o. book_after unit counted.workunits o cs) (is ∙ ap (λ (x : World). unit_at x unit) same)
+    ∙ ap (λ (k : Counts). book_after unit k.workunits (unit_at w unit) cs) count
+    ∙ sym (unit_at-applied w unit cs)

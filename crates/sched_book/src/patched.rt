@@ -4,7 +4,6 @@ ghost use Rattle.std.specs.Prelude.{◌≡◌, ◌<◌, ◌≤◌, ◌+◌, ◌-
 ghost use Rattle.sched_book.specs.Places.{unit_at, unit_named, agreement_by};
 ghost use Rattle.sched_book.specs.Delta.{applied, with_instance};
 ghost use Rattle.sched_book.specs.Patched.{count_after, book_by, book_after, adds_named, added_named, added_apps, place_after, agreement_after};
-ghost use Rattle.sched_book.specs.Desk.{app_by_name};
 ghost use Rattle.sched_book.specs.declared.instance.UnitBook.{UnitBook};
 
 use crate::count::MOST_INSTANCES;
@@ -206,25 +205,7 @@ fn read_book<D: Desk>(
     }
 }
 
-/// The workunit at a place with its instances, and what changes make of it. One with too many instances is refused.
-fn read_changed_book<D: Desk>(
-    desk: &mut D,
-    alloc: Global,
-    changes: &[Change],
-    unit: u32,
-) -> Result<Option<UnitBook>, Unavailable>
-    ensures reads { D.reads desk.old desk.new }
-    ensures few { IfOk result (λ r. IfSome r (λ (b : UnitBook). length b.instances ≤ MOST_INSTANCES)) }
-    ensures answer { D.honest desk.new → D.well_kept desk.old →
-        IfOk result (λ r. r ≡ book_after unit (length (D.world desk.old).units) (unit_at (D.world desk.old) unit) changes.now) }
-{
-    let count = desk.counts()?.workunits;
-    let before = read_book(desk, alloc, unit)?;
-    let after = change_book_in_turn(alloc, unit, count, before, changes)?;
-    few_instances(after)
-}
-
-/// The workunit at a place with its instances, after changes.
+/// The workunit at a place with its instances, after changes. One with too many instances is refused.
 fn book_under<D: Desk>(
     desk: &mut D,
     alloc: Global,
@@ -235,22 +216,10 @@ fn book_under<D: Desk>(
     ensures few { IfOk result (λ r. IfSome r (λ (b : UnitBook). length b.instances ≤ MOST_INSTANCES)) }
     ensures answer { D.honest desk.new → D.well_kept desk.old → IfOk result (λ r. r ≡ unit_at (applied (D.world desk.old) changes.now) unit) }
 {
-    read_changed_book(desk, alloc, changes, unit)
-}
-
-/// The place of the workunit of this name, and what changes make of it.
-fn read_changed_place<D: Desk>(
-    desk: &mut D,
-    changes: &[Change],
-    name: &str,
-) -> Result<Option<u32>, Unavailable>
-    ensures reads { D.reads desk.old desk.new }
-    ensures answer { D.honest desk.new → D.well_kept desk.old →
-        IfOk result (λ r. r ≡ place_after (unit_named (D.world desk.old) name.now) (length (D.world desk.old).units) name.now changes.now) }
-{
     let count = desk.counts()?.workunits;
-    let found = desk.unit_by_name(name)?;
-    place_or_added(found, count, name, changes)
+    let before = read_book(desk, alloc, unit)?;
+    let after = change_book_in_turn(alloc, unit, count, before, changes)?;
+    few_instances(after)
 }
 
 /// The place of the workunit of this name, after changes.
@@ -262,25 +231,13 @@ fn place_under<D: Desk>(
     ensures reads { D.reads desk.old desk.new }
     ensures answer { D.honest desk.new → D.well_kept desk.old → IfOk result (λ r. r ≡ unit_named (applied (D.world desk.old) changes.now) name.now) }
 {
-    read_changed_place(desk, changes, name)
-}
-
-/// How the outputs of the application of this name are compared, and what changes make of it.
-fn read_changed_agreement<D: Desk>(
-    desk: &mut D,
-    alloc: Global,
-    changes: &[Change],
-    name: &str,
-) -> Result<Agreement, Unavailable>
-    ensures reads { D.reads desk.old desk.new }
-    ensures answer { D.honest desk.new → D.well_kept desk.old →
-        IfOk result (λ r. r ≡ agreement_after (app_by_name (D.world desk.old) name.now) name.now changes.now) }
-{
-    let found = desk.app_by_name(alloc, name)?;
-    Ok(agreement_or_added(found, name, changes))
+    let count = desk.counts()?.workunits;
+    let found = desk.unit_by_name(name)?;
+    place_or_added(found, count, name, changes)
 }
 
 /// How the outputs of the application of this name are compared, after changes.
+#[tactic(auto, using(crate::proofs::Patching::applied_steps))]
 fn agreement_under<D: Desk>(
     desk: &mut D,
     alloc: Global,
@@ -291,7 +248,8 @@ fn agreement_under<D: Desk>(
     ensures answer { D.honest desk.new → D.well_kept desk.old →
         IfOk result (λ r. r ≡ agreement_by (applied (D.world desk.old) changes.now).apps name.now) }
 {
-    read_changed_agreement(desk, alloc, changes, name)
+    let found = desk.app_by_name(alloc, name)?;
+    Ok(agreement_or_added(found, name, changes))
 }
 
 impl<'a, D: Desk> Units for Patched<'a, D> {
