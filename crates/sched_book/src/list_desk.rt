@@ -17,7 +17,8 @@ use crate::given::{Given, Lists, count_on_day, held_places, places_of, units_of}
 use crate::instance::{Instance, Place};
 use crate::listings::{Listing, count_sent_on_day, list_places, list_units_of_user};
 use crate::look_ups::{
-    account_place, app_place, copy_at, copy_nth, find_version, host_place, nth, unit_place,
+    account_place, app_place, copy_at, copy_instance, copy_nth, find_version, host_place, nth,
+    unit_place,
 };
 use crate::moment::Moment;
 use crate::offers::offer_all;
@@ -177,10 +178,7 @@ impl Units for ListDesk {
     ) -> Result<Option<Instance>, Unavailable> {
         match nth(self.world.units.as_slice(), unit) {
             None => Ok(None),
-            Some(book) => match book.instances.as_slice().get(number as usize) {
-                None => Ok(None),
-                Some(instance) => Ok(Some(instance.clone()?)),
-            },
+            Some(book) => Ok(copy_instance(book, number)?),
         }
     }
 

@@ -1,6 +1,6 @@
 //! Rows of a list by their places, which count from 1.
 
-ghost use Rattle.std.specs.Prelude.{◌≡◌, ◌<◌, ◌≤◌, ◌+◌, length, find, position, option_map, option_and_then, IfOk, IfSome};
+ghost use Rattle.std.specs.Prelude.{◌≡◌, ◌<◌, ◌≤◌, ◌+◌, length, find, position, option_map, option_and_then, slice_get, IfOk, IfSome};
 ghost use Rattle.std.specs.Option.{option_copied};
 ghost use Rattle.std.specs.Str.{bytes_eq};
 ghost use Rattle.sched_book.specs.Places.{nth, place_where, is_host_of};
@@ -11,7 +11,7 @@ ghost use Rattle.sched_book.specs.declared.rows.Account.{Account};
 ghost use Rattle.sched_book.specs.declared.rows.App.{App};
 
 use crate::desk::Placed;
-use crate::instance::UnitBook;
+use crate::instance::{Instance, UnitBook};
 use crate::rows::{Account, App, HostRow, Version};
 use texts::{Memory, Same};
 
@@ -63,6 +63,16 @@ pub(crate) fn copy_at<T: Same>(rows: &[T], place: Option<u32>) -> Result<Option<
     match place {
         None => Ok(None),
         Some(place) => copy_placed(rows, place),
+    }
+}
+
+/// A copy of the workunit's instance of this number.
+pub(crate) fn copy_instance(book: &UnitBook, number: u32) -> Result<Option<Instance>, Memory>
+    ensures { IfOk result (λ r. r ≡ slice_get book.now.instances number) }
+{
+    match book.instances.as_slice().get(number as usize) {
+        None => Ok(None),
+        Some(instance) => Ok(Some(instance.clone()?)),
     }
 }
 

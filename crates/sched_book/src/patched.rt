@@ -10,7 +10,7 @@ use crate::count::MOST_INSTANCES;
 use crate::delta::{Change, Delta, changed_book, new_book};
 use crate::desk::{Desk, Placed, Unavailable, Units};
 use crate::instance::{Instance, UnitBook};
-use crate::look_ups::copy_of;
+use crate::look_ups::{copy_instance, copy_of};
 use crate::rows::{Agreement, App, Workunit};
 use std::alloc::Global;
 use texts::{Listed, Memory};
@@ -299,10 +299,7 @@ impl<'a, D: Desk> Units for Patched<'a, D> {
         let changes = self.delta.as_slice();
         match book_under(self.desk, alloc, changes, unit)? {
             None => Ok(None),
-            Some(book) => match book.instances.as_slice().get(number as usize) {
-                None => Ok(None),
-                Some(instance) => Ok(Some(copy_of(instance)?)),
-            },
+            Some(book) => Ok(copy_instance(&book, number)?),
         }
     }
 
