@@ -3,7 +3,7 @@ pub mod SplitNames
 pub mod Credits
 pub mod PlaceLists
 pub mod Givens
-pub mod StatusFound
+pub mod ReadInParts
 pub mod Undoing
 pub mod Offering
 pub mod Changes

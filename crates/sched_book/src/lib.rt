@@ -32,6 +32,7 @@ pub use delta::{Change, Delta};
 pub use desk::{Candidate, Counts, Desk, Flow, Placed, Taker, Unavailable, Units};
 pub use instance::{Instance, Lapse, Outcome, Owner, Place, Status, UnitBook, Verdict};
 pub use list_desk::ListDesk;
+pub use look_ups::copy_of;
 pub use machine::{Answered, Call, Caller};
 pub use moment::Moment;
 pub use names::{instance_name, split_name};

@@ -30,7 +30,7 @@ pub(crate) fn nth<T>(rows: &[T], place: u32) -> Option<&T>
 }
 
 /// A copy of a row, which is equal to it.
-pub(crate) fn copy_of<T: Same>(row: &T) -> Result<T, Memory>
+pub fn copy_of<T: Same>(row: &T) -> Result<T, Memory>
     ensures { IfOk result (λ copy. copy ≡ row.now) }
 {
     row.clone()

@@ -1,6 +1,6 @@
 use Rattle.std.proofs.Common.{ap, sym, ◌∙◌}
 use Rattle.sched_book.specs.Desk.{agreement_at, instances_at}
-use Rattle.sched_book.proofs.StatusFound.{status_found}
+use Rattle.sched_book.proofs.ReadInParts.{status_found}
 use Rattle.sched_book.proofs.standing.status_at.Goals as goal
 
 -- the three calls read one world
