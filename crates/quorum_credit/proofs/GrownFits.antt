@@ -21,7 +21,7 @@ use Rattle.sched_book.proofs.Patching.{unit_at-applied}
 use Rattle.quorum_credit.specs.Growing.{fresh_changes, growth_of, growth, all_growth}
 use Rattle.quorum_credit.specs.Settling.{is_among, AreUnitsInLimits}
 use Rattle.quorum_credit.specs.Taken.{AreRising}
-use Rattle.quorum_credit.proofs.Grown.{all_grown, one_behind, put_behind, above_others, growth_elsewhere}
+use Rattle.quorum_credit.proofs.Grown.{one_behind, put_behind, above_others, growth_elsewhere}
 
 -- changes that fit behind others that do
 pub fits_then : (v : World) (cs ds : List Change) → Fits v cs → Fits (applied v cs) ds → Fits v (cs ++ ds)
@@ -107,6 +107,3 @@ module _ (w : World) (limits : AreUnitsInLimits w) where
 -- the new instances of these workunits fit
 pub all_fit : (w : World) (units : List ℕ) (more : List Change) → more ≡ all_growth w units → AreRising units → AreUnitsInLimits w → Fits w more
 all_fit w units more is rising limits = subst (Fits w) (sym is) (growth_all_fits w limits w units rising (λ n among. refl))
-
--- for the growth of touched workunits
-pub ruleset grown_steps = (all_grown, all_fit)

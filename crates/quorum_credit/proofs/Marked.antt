@@ -151,6 +151,3 @@ charges_in-marks old new units host = said-of (λ m. m.charges) charges_between 
 pub merits_in-marks : (old new : World) (units : List ℕ) (host : ℕ)
     → merits_in (marks_of_units old new units) host ≡ sum_by (unit_merits old new host) units
 merits_in-marks old new units host = said-of (λ m. m.merits) merits_between (λ host a b. refl) old new host units
-
--- for the marks of workunits
-pub ruleset marked_steps = (charges_in-marks, merits_in-marks)

@@ -109,27 +109,7 @@ fn grow_one<D: Desk>(
     Ok(())
 }
 
-/// The instances that the workunits at these places are to get after changes, in their order.
-fn grow_in_turn<D: Desk>(
-    alloc: Global,
-    desk: &mut D,
-    delta: &Delta,
-    touched: &[u32],
-) -> Result<Delta, Unavailable>
-    ensures reads { D.reads desk.old desk.new }
-    ensures answer { D.honest desk.new → D.well_kept desk.old →
-        IfOk result (λ more. more ≡ all_growth (applied (D.world desk.old) delta.now) touched.now) }
-    ensures puts { IfOk result (λ more. list_all puts_row more ≡ true) }
-{
-    let mut more = Listed::new(alloc);
-    for unit in touched {
-        grow_one(alloc, desk, delta, *unit, &mut more)?;
-    }
-    Ok(more)
-}
-
 /// The new instances of these workunits after changes: for each that is open, those that it lacks, numbered on.
-#[tactic(auto, using(crate::proofs::GrownFits::grown_steps))]
 pub(crate) fn grow_touched<D: Desk>(
     alloc: Global,
     desk: &mut D,
@@ -143,5 +123,9 @@ pub(crate) fn grow_touched<D: Desk>(
         AreRising touched.now → AreUnitsInLimits (applied (D.world desk.old) delta.now) → Fits (applied (D.world desk.old) delta.now) more) }
     ensures puts { IfOk result (λ more. list_all puts_row more ≡ true) }
 {
-    grow_in_turn(alloc, desk, delta, touched)
+    let mut more = Listed::new(alloc);
+    for unit in touched {
+        grow_one(alloc, desk, delta, *unit, &mut more)?;
+    }
+    Ok(more)
 }

@@ -9,10 +9,9 @@ ghost use Rattle.sched_book.specs.Delta.{applied, Fits};
 ghost use Rattle.quorum_credit.specs.Settling.{puts_row, AreHostsInLimits, with_quotas_by};
 ghost use Rattle.quorum_credit.specs.Tallies.{number_got, hosts_after, host_by, host_after, with_quota_by, new_quota, new_quotas, tally_with, tally_after, tally_in, puts_host, AreSums};
 
-use crate::copies::copy_of;
 use crate::marks::Mark;
 use crate::quota::next_quota;
-use sched_book::{Change, Delta, Desk, HostRow, Unavailable};
+use sched_book::{Change, Delta, Desk, HostRow, Unavailable, copy_of};
 use std::alloc::Global;
 use std::collections::BTreeMap;
 use texts::{Listed, Memory};

@@ -14,7 +14,7 @@ ghost use Rattle.quorum_credit.specs.Taken.{AreTouched};
 
 use crate::changed::instances_under;
 use crate::touched::touched_by;
-use sched_book::{Change, Delta, Desk, Instance, Lapse, Moment, Outcome, Place, Unavailable};
+use sched_book::{Change, Delta, Desk, Instance, Lapse, Moment, Place, Unavailable, copy_of};
 use std::alloc::Global;
 use texts::{Listed, Memory};
 
@@ -29,29 +29,13 @@ pub struct Lapsed {
     pub touched: Listed<u32>,
 }
 
-/// A copy of what was reported of an instance.
-fn copied_report(report: &Option<Outcome>) -> Result<Option<Outcome>, Memory>
-    ensures { IfOk result (λ copy. copy ≡ report.now) }
-{
-    match report {
-        None => Ok(None),
-        Some(outcome) => Ok(Some(Outcome {
-            success: outcome.success,
-            output: outcome.output.clone()?,
-            place: outcome.place,
-        })),
-    }
-}
-
 /// The instance, late.
 fn made_late(instance: &Instance) -> Result<Instance, Memory>
     ensures { IfOk result (λ row. row ≡ with_lapse lapse.Late instance.now) }
 {
-    Ok(Instance {
-        owner: instance.owner,
-        lapse: Some(Lapse::Late),
-        report: copied_report(&instance.report)?,
-    })
+    let mut row = copy_of(instance)?;
+    row.lapse = Some(Lapse::Late);
+    Ok(row)
 }
 
 /// The instance of this number, late, where it stands.

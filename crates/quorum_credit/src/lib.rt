@@ -7,7 +7,6 @@
 #![tactic(auto)]
 
 mod changed;
-mod copies;
 mod growth;
 mod host_quotas;
 mod late;

@@ -5,7 +5,7 @@ ghost use Rattle.sched_book.specs.Count.{is_invalid};
 ghost use Rattle.sched_book.specs.Settle.{is_late};
 ghost use Rattle.sched_book.specs.Delta.{applied};
 ghost use Rattle.quorum_credit.specs.Marks.{standing_with, one_if_new, charges_between, merits_between, unit_charges, unit_merits, charges_in, merits_in};
-ghost use Rattle.quorum_credit.specs.Marking.{owned_standing, standings_by, standings_in, standings_at, standing_of, mark_of, with_mark, marks_from, marks_at, marks_of_units};
+ghost use Rattle.quorum_credit.specs.Marking.{owned_standing, standings_by, standings_in, standings_at, standing_of, mark_of, with_mark, marks_from, marks_at};
 ghost use Rattle.quorum_credit.specs.declared.marks.Mark.{Mark};
 
 use sched_book::{
@@ -245,26 +245,7 @@ fn mark_unit<D: Desk>(
     Ok(())
 }
 
-/// The marks of these workunits, in their order.
-fn marks_of_units<D: Desk>(
-    alloc: Global,
-    desk: &mut D,
-    delta: &Delta,
-    units: &[u32],
-) -> Result<Listed<Mark>, Unavailable>
-    ensures reads { D.reads desk.old desk.new }
-    ensures answer { D.honest desk.new → D.well_kept desk.old → IfOk result (λ marks.
-        marks ≡ marks_of_units (D.world desk.old) (applied (D.world desk.old) delta.now) units.now) }
-{
-    let mut marks = Listed::new(alloc);
-    for unit in units {
-        mark_unit(alloc, desk, delta, &mut marks, *unit)?;
-    }
-    Ok(marks)
-}
-
 /// What is new of the instances of these workunits after changes: a mark for each that has a host.
-#[tactic(auto, using(crate::proofs::Marked::marked_steps))]
 pub(crate) fn marks_of_touched<D: Desk>(
     alloc: Global,
     desk: &mut D,
@@ -277,5 +258,9 @@ pub(crate) fn marks_of_touched<D: Desk>(
     ensures merits { D.honest desk.new → D.well_kept desk.old → IfOk result (λ marks. (host : ℕ) →
         merits_in marks host ≡ sum_by (unit_merits (D.world desk.old) (applied (D.world desk.old) delta.now) host) touched.now) }
 {
-    marks_of_units(alloc, desk, delta, touched)
+    let mut marks = Listed::new(alloc);
+    for unit in touched {
+        mark_unit(alloc, desk, delta, &mut marks, *unit)?;
+    }
+    Ok(marks)
 }

@@ -9,12 +9,11 @@ ghost use Rattle.sched_book.specs.Step.{lapsed};
 ghost use Rattle.quorum_credit.specs.Settling.{puts_row};
 ghost use Rattle.quorum_credit.specs.Taken.{AreTouched};
 
-use crate::copies::copy_of;
 use crate::growth::grow_touched;
 use crate::host_quotas::new_quotas;
 use crate::late::{Lapsed, lapse_late};
 use crate::marks::marks_of_touched;
-use sched_book::{Change, Delta, Desk, Moment, Unavailable};
+use sched_book::{Change, Delta, Desk, Moment, Unavailable, copy_of};
 use std::alloc::Global;
 use texts::{Listed, Memory};
 

@@ -3,7 +3,7 @@ use Rattle.std.specs.List.{list_all}
 use Rattle.sched_book.specs.Delta.{applied}
 use Rattle.quorum_credit.specs.Growing.{all_growth}
 use Rattle.quorum_credit.specs.Settling.{puts_row}
-use Rattle.quorum_credit.proofs.growth.grow_in_turn.Given as goal
+use Rattle.quorum_credit.proofs.growth.grow_touched.Given as goal
 
 -- the new instances so far, and those of the workunits which are left
 abbrev pub invariant-loop-unit : goal.invariant-loop-unit
