@@ -79,24 +79,6 @@ fn add_change<D: Desk>(
     }
 }
 
-/// What each of these fates changes, after the changes before.
-fn fate_changes<D: Desk>(
-    alloc: Global,
-    desk: &mut D,
-    delta: &Delta,
-    fates: &[Fate],
-) -> Result<Delta, Unavailable>
-    ensures reads { D.reads desk.old desk.new }
-    ensures answer { D.honest desk.new → D.well_kept desk.old →
-        IfOk result (λ more. more ≡ filter_map (fate_change (applied (D.world desk.old) delta.now)) fates.now) }
-{
-    let mut more = Listed::new(alloc);
-    for fate in fates {
-        add_change(alloc, desk, delta, *fate, &mut more)?;
-    }
-    Ok(more)
-}
-
 /// The changes that these fates make, after changes. Two fates of one place have to be the same.
 pub fn lost_changes<D: Desk>(
     alloc: Global,
@@ -110,5 +92,9 @@ pub fn lost_changes<D: Desk>(
     ensures changes { D.honest desk.new → D.well_kept desk.old →
         IfOk result (λ more. more ≡ filter_map (fate_change (applied (D.world desk.old) delta.now)) fates.now) }
 {
-    fate_changes(alloc, desk, delta, fates)
+    let mut more = Listed::new(alloc);
+    for fate in fates {
+        add_change(alloc, desk, delta, *fate, &mut more)?;
+    }
+    Ok(more)
 }

@@ -1,12 +1,16 @@
-use Rattle.std.proofs.Common.{◌∙◌, ap}
-use Rattle.std.proofs.lemmas.Result.{IfOk-weaker}
+use Rattle.std.proofs.Common.{sym, ap, ◌∙◌, ◌++◌}
+use Rattle.std.specs.Prelude.{filter_map}
+use Rattle.std.proofs.lemmas.List.{append-nil, drop_all}
 use Rattle.sched_book.specs.Delta.{applied}
+use Rattle.lost_jobs.specs.Fated.{fate_change}
 use Rattle.lost_jobs.proofs.Fated.{made_by_fates}
 use Rattle.lost_jobs.proofs.changes.lost_changes.Goals as goal
 
 pub returns-clause-answer : goal.returns-clause-answer
-returns-clause-answer g c = λ honest kept.
+returns-clause-answer g c = λ honest kept by_place.
     let before = applied (g.D.Units.world c.args.desk.now) c.args.delta.now in
-    IfOk-weaker c.fate_changes.result _ _
-    (λ more is by_place. ap (applied before) is ∙ made_by_fates before c.args.fates.now by_place)
-    (c.fate_changes.ensures.answer honest kept)
+    ap (applied before)
+    (sym (append-nil c.loop-fate.more)
+    ∙ ap (λ left. c.loop-fate.more ++ filter_map (fate_change before) left) (sym (drop_all c.loop-fate.fate-index c.args.fates.now c.loop-fate-test.false))
+    ∙ c.loop-fate.invariant.told honest kept)
+    ∙ made_by_fates before c.args.fates.now by_place
