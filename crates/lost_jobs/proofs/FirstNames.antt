@@ -1,6 +1,6 @@
 -- The first of each name, by the steps of a loop.
-use Rattle.std.proofs.Common.{◌≡◌, ℕ, Bool, false, cond, List, [], ◌∷◌, refl, ap, ◌∙◌}
-use Rattle.std.specs.Prelude.{◌||◌}
+use Rattle.std.proofs.Common.{◌≡◌, ℕ, Bool, true, false, cond, List, [], ◌∷◌, refl, sym, ap, ◌∙◌}
+use Rattle.std.specs.Prelude.{◌||◌, not}
 use Rattle.std.specs.List.{list_any}
 use Rattle.std.specs.Str.{bytes_eq}
 use Rattle.sched_book.specs.Reports.{first_of_each}
@@ -33,3 +33,16 @@ by_list came seen same (n ∷ ns) =
 -- before any came by
 pub names_beyond-none : (came : List ℕ → Bool) → ((name : List ℕ) → came name ≡ false) → (ns : List (List ℕ)) → names_beyond came ns ≡ first_of_each (λ name. name) [] ns
 names_beyond-none came none ns = by_list came [] none ns
+
+-- a name that did not come by yet
+never_came : (b : Bool) → not b ≡ true → b ≡ false
+never_came true is = absurd cc
+never_came false is = refl
+
+pub first_new : (came later : List ℕ → Bool) (name : List ℕ) (first : Bool) → first ≡ not (came name) → first ≡ true
+    → ((other : List ℕ) → later other ≡ (bytes_eq other name || came other)) → (ns : List (List ℕ))
+    → name ∷ names_beyond later ns ≡ names_beyond came (name ∷ ns)
+first_new came later name first is new same ns =
+    let with_name : List ℕ → Bool = λ other. bytes_eq other name || came other in
+    ap (λ xs. name ∷ xs) (same_came later with_name same ns)
+    ∙ ap (λ (b : Bool). cond b (names_beyond came ns) (name ∷ names_beyond with_name ns)) (sym (never_came (came name) (sym is ∙ new)))

@@ -1,5 +1,5 @@
 -- The deadline to which a lost job is sent again, by its workunit.
-use Rattle.std.proofs.Common.{◌≡◌, ℕ, false, cond, Option, Some, None, refl, ap, ◌∙◌}
+use Rattle.std.proofs.Common.{◌≡◌, ℕ, Bool, true, false, cond, Option, Some, None, refl, sym, ap, ◌∙◌}
 use Rattle.std.specs.Prelude.{◌&&◌, option_map, unwrap_or}
 use Rattle.sched_book.specs.Count.{is_open}
 use Rattle.sched_book.specs.Places.{unit_at, status_at}
@@ -39,3 +39,17 @@ pub resent_some : (w : World) (h : HostRow) (now : ℕ) (p : Place) (u : Workuni
     ≡ cond (is_open (status_at w p.unit) && fits h u (version_for w h u.app))
     (Some (deadline_after now (estimate u.rsc_fpops_est h.p_fpops) u.delay_bound (deadline_at w p))) None
 resent_some w h now p u stands = by_book w h now p (unit_at w p.unit) ∙ ap (by_row w h now p) stands
+
+-- of a workunit that was read in parts, and that is for the host
+pub resent_read : (w : World) (h : HostRow) (now : ℕ) (p : Place) (u : Workunit) (is : Bool) (deadline seconds after : ℕ)
+    → Some u ≡ workunit_at w p.unit → is ≡ (is_open (status_at w p.unit) && fits h u (version_for w h u.app)) → is ≡ true
+    → deadline ≡ deadline_at w p → seconds ≡ estimate u.rsc_fpops_est h.p_fpops → after ≡ deadline_after now seconds u.delay_bound deadline
+    → Some after ≡ resent_to w h now p
+resent_read w h now p u is deadline seconds after stands is_told is_for deadline_told seconds_told after_told =
+    let told : after ≡ deadline_after now (estimate u.rsc_fpops_est h.p_fpops) u.delay_bound (deadline_at w p) =
+    after_told
+    ∙ ap (λ d. deadline_after now seconds u.delay_bound d) deadline_told
+    ∙ ap (λ s. deadline_after now s u.delay_bound (deadline_at w p)) seconds_told in
+    ap Some told
+    ∙ ap (λ (b : Bool). cond b (Some (deadline_after now (estimate u.rsc_fpops_est h.p_fpops) u.delay_bound (deadline_at w p))) None) (sym is_for ∙ is_told)
+    ∙ sym (resent_some w h now p u (sym stands))
