@@ -172,5 +172,3 @@ pub grants_fit : (w : World) (host now : ℕ) (ps : List Place) (cs : List Chang
 grants_fit w host now ps cs soon are limited units stands =
     let both = fit_in_turn host now w soon (short_delays w units) w ps cs (record { delay = λ p. refl; rest = λ o p. refl }) limited stands are in
     record { fits = both.0; limited = both.1 }
-
-pub ruleset grant_steps = (grants_are, grants_fit)

@@ -53,3 +53,4 @@ pub mod HeldReported
 pub mod HeldJobs
 pub mod HeldTold
 pub mod HeldNamed
+pub mod Replied

@@ -138,29 +138,7 @@ fn fate_seconds<D: Desk>(
     }
 }
 
-/// The same of all of these lost jobs. A sum past 64 bits is refused.
-fn all_seconds<D: Desk>(
-    alloc: Global,
-    desk: &mut D,
-    host: &HostRow,
-    fates: &[Fate],
-) -> Result<u64, Unavailable>
-    ensures reads { D.reads desk.old desk.new }
-    ensures answer { D.honest desk.new → D.well_kept desk.old →
-        IfOk result (λ seconds. seconds ≡ sum_by (fate_seconds (D.world desk.old) host.now) fates.now) }
-{
-    let mut seconds: u64 = 0;
-    for fate in fates {
-        let more = fate_seconds(alloc, desk, host, *fate)?;
-        let Some(sum) = seconds.checked_add(more) else {
-            return Err(Unavailable);
-        };
-        seconds = sum;
-    }
-    Ok(seconds)
-}
-
-/// The seconds of the jobs that are sent again.
+/// The seconds of the jobs that are sent again. A sum past 64 bits is refused.
 pub(crate) fn resent_seconds<D: Desk>(
     alloc: Global,
     desk: &mut D,
@@ -171,7 +149,15 @@ pub(crate) fn resent_seconds<D: Desk>(
     ensures answer { D.honest desk.new → D.well_kept desk.old → IfOk result (λ seconds.
         seconds ≡ sum_by (estimate_at (D.world desk.old) host.now) (resent_places fates.now)) }
 {
-    all_seconds(alloc, desk, host, fates)
+    let mut seconds: u64 = 0;
+    for fate in fates {
+        let more = fate_seconds(alloc, desk, host, *fate)?;
+        let Some(sum) = seconds.checked_add(more) else {
+            return Err(Unavailable);
+        };
+        seconds = sum;
+    }
+    Ok(seconds)
 }
 
 /// Puts the place of a lost job behind the others, where it is sent again.

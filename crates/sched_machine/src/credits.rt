@@ -240,22 +240,6 @@ fn units_with(
     all.iter().copied().collect(alloc)
 }
 
-/// What a host has, after changes, of the workunits of which it had an instance or that the changes touch.
-fn sum_of_shares<D: Desk>(
-    alloc: Global,
-    desk: &mut D,
-    delta: &Delta,
-    host: u32,
-) -> Result<u64, Unavailable>
-    ensures reads { D.reads desk.old desk.new }
-    ensures answer { D.honest desk.new → D.well_kept desk.old → IfOk result (λ credit. credit ≡
-        sum_by (share_at (applied (D.world desk.old) delta.now) host) (units_with [] (owned_by (D.world desk.old) host) delta.now)) }
-{
-    let places = desk.owned_by(alloc, host)?;
-    let units = units_with(alloc, &[], places.as_slice(), delta.as_slice())?;
-    shares_under(alloc, desk, delta, host, units.as_slice())
-}
-
 /// The credit of the host of this number after changes, in millicredits. The changes put hosts and instances: of
 /// all other workunits but the host's own nothing is read.
 pub(crate) fn host_credit_after<D: Desk>(
@@ -268,7 +252,9 @@ pub(crate) fn host_credit_after<D: Desk>(
     ensures answer { D.honest desk.new → D.well_kept desk.old → IfOk result (λ credit.
         list_all puts_row delta.now ≡ true → credit ≡ host_credit (applied (D.world desk.old) delta.now) host) }
 {
-    sum_of_shares(alloc, desk, delta, host)
+    let places = desk.owned_by(alloc, host)?;
+    let units = units_with(alloc, &[], places.as_slice(), delta.as_slice())?;
+    shares_under(alloc, desk, delta, host, units.as_slice())
 }
 
 /// Whether the host of a number stands after changes, and belongs to the account.
@@ -500,22 +486,6 @@ fn units_of_account<D: Desk>(
     Ok(units_with(alloc, units.as_slice(), places.as_slice(), delta.as_slice())?)
 }
 
-/// What the user of an account has, after changes, of those workunits.
-fn sum_of_user_shares<D: Desk>(
-    alloc: Global,
-    desk: &mut D,
-    delta: &Delta,
-    account: u32,
-) -> Result<u64, Unavailable>
-    ensures reads { D.reads desk.old desk.new }
-    ensures answer { D.honest desk.new → D.well_kept desk.old → IfOk result (λ credit. credit ≡
-        sum_by (user_share_at (applied (D.world desk.old) delta.now) account)
-        (units_with (units_of_user (D.world desk.old) account) (owned_by_put (D.world desk.old) delta.now) delta.now)) }
-{
-    let units = units_of_account(alloc, desk, delta, account)?;
-    user_shares_under(alloc, desk, delta, account, units.as_slice())
-}
-
 /// The credit of the user at this place of the accounts, after changes: that of the user's hosts. The changes put
 /// hosts and instances; one that puts a host may give it to another account.
 pub(crate) fn user_credit_after<D: Desk>(
@@ -528,5 +498,6 @@ pub(crate) fn user_credit_after<D: Desk>(
     ensures answer { D.honest desk.new → D.well_kept desk.old → IfOk result (λ credit.
         list_all puts_row delta.now ≡ true → credit ≡ user_credit (applied (D.world desk.old) delta.now) account) }
 {
-    sum_of_user_shares(alloc, desk, delta, account)
+    let units = units_of_account(alloc, desk, delta, account)?;
+    user_shares_under(alloc, desk, delta, account, units.as_slice())
 }

@@ -100,29 +100,7 @@ fn push_given<D: Desk>(
     }
 }
 
-/// The changes that give each of these instances to a host, as they are after the changes before.
-fn given_in_turn<D: Desk>(
-    alloc: Global,
-    desk: &mut D,
-    delta: &Delta,
-    host: u32,
-    now: Moment,
-    jobs: &[Place],
-) -> Result<Delta, Unavailable>
-    ensures reads { D.reads desk.old desk.new }
-    ensures answer { D.honest desk.new → D.well_kept desk.old → IfOk result (λ more.
-        map Some more ≡ map (given_change (applied (D.world desk.old) delta.now) host now) jobs.now) }
-    ensures puts { IfOk result (λ more. list_all puts_row more ≡ true) }
-{
-    let mut more = Listed::new(alloc);
-    for place in jobs {
-        push_given(alloc, desk, delta, host, now, *place, &mut more)?;
-    }
-    Ok(more)
-}
-
 /// The changes that give these instances to a host, after changes. A place where none stands is refused.
-#[tactic(auto, using(crate::proofs::GrantingDone::grant_steps))]
 pub(crate) fn grant_changes<D: Desk>(
     alloc: Global,
     desk: &mut D,
@@ -139,7 +117,11 @@ pub(crate) fn grant_changes<D: Desk>(
         → IsTrue (is_some (host_at (applied (D.world desk.old) delta.now) host)) → FitWithin (applied (D.world desk.old) delta.now) more) }
     ensures puts { IfOk result (λ more. list_all puts_row more ≡ true) }
 {
-    given_in_turn(alloc, desk, delta, host, now, jobs)
+    let mut more = Listed::new(alloc);
+    for place in jobs {
+        push_given(alloc, desk, delta, host, now, *place, &mut more)?;
+    }
+    Ok(more)
 }
 
 /// Puts behind changes what gives these instances to a host. A place where none stands is refused.

@@ -140,26 +140,6 @@ fn add_job<D: Desk>(
     Ok(())
 }
 
-/// What a reply says of the instances at these places after changes, with the versions as they were before them.
-fn jobs_told<D: Desk>(
-    alloc: Global,
-    desk: &mut D,
-    delta: &Delta,
-    host: &HostRow,
-    resent: bool,
-    places: &[Place],
-) -> Result<Listed<Job>, Unavailable>
-    ensures reads { D.reads desk.old desk.new }
-    ensures answer { D.honest desk.new → D.well_kept desk.old → IfOk result (λ jobs. jobs ≡
-        filter_map (job_told (D.world desk.old) (applied (D.world desk.old) delta.now) host.now resent) places.now) }
-{
-    let mut jobs = Listed::new(alloc);
-    for place in places {
-        add_job(alloc, desk, delta, host, resent, *place, &mut jobs)?;
-    }
-    Ok(jobs)
-}
-
 /// What a reply says of the instances at these places after changes that put hosts and instances, in their order; of
 /// one whose workunit does not stand, or that the host has no version for, it says nothing.
 pub(crate) fn jobs_after<D: Desk>(
@@ -174,5 +154,9 @@ pub(crate) fn jobs_after<D: Desk>(
     ensures answer { D.honest desk.new → D.well_kept desk.old → IfOk result (λ jobs. list_all puts_row delta.now ≡ true
         → jobs ≡ filter_map (job_at (applied (D.world desk.old) delta.now) host.now resent) places.now) }
 {
-    jobs_told(alloc, desk, delta, host, resent, places)
+    let mut jobs = Listed::new(alloc);
+    for place in places {
+        add_job(alloc, desk, delta, host, resent, *place, &mut jobs)?;
+    }
+    Ok(jobs)
 }

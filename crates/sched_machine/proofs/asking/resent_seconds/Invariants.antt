@@ -1,7 +1,7 @@
 use Rattle.std.proofs.Common.{◌≡◌, ◌+◌, drop}
 use Rattle.std.specs.Prelude.{sum_by}
 use Rattle.sched_machine.specs.Asked.{fate_seconds}
-use Rattle.sched_machine.proofs.asking.all_seconds.Given as goal
+use Rattle.sched_machine.proofs.asking.resent_seconds.Given as goal
 
 -- the sum so far, and that of the jobs that are left
 abbrev pub invariant-loop-fate : goal.invariant-loop-fate

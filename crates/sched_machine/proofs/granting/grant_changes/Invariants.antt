@@ -3,7 +3,7 @@ use Rattle.std.specs.List.{list_all}
 use Rattle.sched_book.specs.Delta.{applied}
 use Rattle.quorum_credit.specs.Settling.{puts_row}
 use Rattle.sched_machine.specs.Granting.{given_change}
-use Rattle.sched_machine.proofs.granting.given_in_turn.Given as goal
+use Rattle.sched_machine.proofs.granting.grant_changes.Given as goal
 
 -- the changes so far, and those of the jobs which are left
 abbrev pub invariant-loop-place : goal.invariant-loop-place

@@ -2,7 +2,7 @@ use Rattle.std.proofs.Common.{◌≡◌, ◌++◌, drop}
 use Rattle.std.specs.Prelude.{filter_map}
 use Rattle.sched_book.specs.Delta.{applied}
 use Rattle.sched_machine.specs.Granting.{job_told}
-use Rattle.sched_machine.proofs.jobs.jobs_told.Given as goal
+use Rattle.sched_machine.proofs.jobs.jobs_after.Given as goal
 
 -- what is said of the jobs so far, and of those which are left
 abbrev pub invariant-loop-place : goal.invariant-loop-place
