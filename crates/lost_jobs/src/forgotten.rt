@@ -82,7 +82,8 @@ fn add_first<'a>(
         map (λ n. n.now) firsts.new.items ++ names_beyond (has_seen seen.new) later
         ≡ map (λ n. n.now) firsts.old.items ++ names_beyond (has_seen seen.old) (name.now ∷ later)) }
 {
-    if !seen.is_first(name.as_str())? {
+    let first = seen.is_first(name.as_str())?;
+    if !first {
         return Ok(());
     }
     firsts.push(name)?;

@@ -15,6 +15,6 @@ returns c = λ later.
     ∙ ap (λ names. names ++ rest) (map-append (λ n. n.now) c.args.firsts.now.items (c.args.name ∷ []))
     ∙ append_assoc before (c.args.name.now ∷ []) rest
     ∙ ap (λ names. before ++ names)
-    (first_new (has_seen c.args.seen.now) (has_seen c.is_first.new.self) c.args.name.now c.in_ok-is_first.field-0
-    (c.in_ok-is_first.ensures.first ∙ ap (λ name. not (has_seen c.args.seen.now name)) c.as_str.ensures) c.if-not-branch.false
-    (λ other. c.in_ok-is_first.ensures.seen other ∙ ap (λ name. bytes_eq other name || has_seen c.args.seen.now other) c.as_str.ensures) later)
+    (first_new (has_seen c.args.seen.now) (has_seen c.is_first.new.self) c.args.name.now c.in_ok-first.first
+    (c.in_ok-first.ensures.first ∙ ap (λ name. not (has_seen c.args.seen.now name)) c.as_str.ensures) c.if-not-first.false
+    (λ other. c.in_ok-first.ensures.seen other ∙ ap (λ name. bytes_eq other name || has_seen c.args.seen.now other) c.as_str.ensures) later)
