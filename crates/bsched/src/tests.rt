@@ -18,8 +18,14 @@ use std::test::Fail;
 
 /// What a replay of these lines prints, and how it ends.
 fn replayed(alloc: Global, lines: &[u8]) -> Result<(Vec<u8>, Ended), Fail> {
+    replayed_with(alloc, 3, lines)
+}
+
+/// The same, where so many hosts may stand.
+fn replayed_with(alloc: Global, max_hosts: u32, lines: &[u8]) -> Result<(Vec<u8>, Ended), Fail> {
     let mut printed = Vec::new(alloc);
-    let settings = default_settings(alloc)?;
+    let mut settings = default_settings(alloc)?;
+    settings.max_hosts = max_hosts;
     let ended = replay(
         alloc,
         &settings,
@@ -35,35 +41,40 @@ const PROJECT: &str =
 const PROJECT_IMPORTED: &str =
     "200 {\"batch\":\"a0\",\"kind\":\"accounts\",\"rows\":3}\n200 {\"batch\":\"a0\",\"kind\":\"apps\",\"rows\":2}\n200 {\"batch\":\"a0\",\"kind\":\"versions\",\"rows\":3}\n";
 
-/// Behind the project's imports, these lines get these answers.
-fn answers_in_project(alloc: Global, lines: &str, told: &str) -> Result<bool, Fail> {
+/// Behind the project's imports, these lines get these answers, where so many hosts may stand.
+fn answers_in_project(
+    alloc: Global,
+    max_hosts: u32,
+    lines: &str,
+    told: &str,
+) -> Result<bool, Fail> {
     let input = format!(in alloc; "{PROJECT}{lines}")?;
     let output = format!(in alloc; "{PROJECT_IMPORTED}{told}")?;
-    let (printed, ended) = replayed(alloc, input.as_bytes())?;
+    let (printed, ended) = replayed_with(alloc, max_hosts, input.as_bytes())?;
     Ok(ended == Ended::Good && printed.as_slice() == output.as_bytes())
 }
 
 #[test]
 fn repeats_and_refusals(rt: HostRuntime) -> Result<(), Fail> {
-    assert_eq!(rt; first_wrong(rt.alloc(), refusals::ROWS)?, None);
+    assert_eq!(rt; first_wrong(rt.alloc(), 3, refusals::ROWS)?, None);
     Ok(())
 }
 
 #[test]
 fn grants_and_lost_jobs(rt: HostRuntime) -> Result<(), Fail> {
-    assert_eq!(rt; first_wrong(rt.alloc(), jobs::ROWS)?, None);
+    assert_eq!(rt; first_wrong(rt.alloc(), 3, jobs::ROWS)?, None);
     Ok(())
 }
 
 #[test]
 fn reports_and_quorums(rt: HostRuntime) -> Result<(), Fail> {
-    assert_eq!(rt; first_wrong(rt.alloc(), quorums::ROWS)?, None);
+    assert_eq!(rt; first_wrong(rt.alloc(), 5, quorums::ROWS)?, None);
     Ok(())
 }
 
 #[test]
 fn odd_spellings(rt: HostRuntime) -> Result<(), Fail> {
-    assert_eq!(rt; first_wrong(rt.alloc(), spellings::ROWS)?, None);
+    assert_eq!(rt; first_wrong(rt.alloc(), 3, spellings::ROWS)?, None);
     Ok(())
 }
 
@@ -79,20 +90,37 @@ const REPLY: &str =
 const REPLY_TO_REPORTS: &str =
     "200 {\"end_word\":\"enough\",\"host_total_credit\":0,\"hostid\":1,\"request_delay\":60,\"result_abort\":[],\"result_ack\":[\"a_0\"],\"results\":[],\"rpc_seqno\":1,\"user_name\":\"Ann\",\"user_total_credit\":0}\n";
 
+/// Its reply, where it lists the name `a_0` of no job.
+const REPLY_TO_NAMES: &str =
+    "200 {\"end_word\":\"enough\",\"host_total_credit\":0,\"hostid\":1,\"request_delay\":60,\"result_abort\":[\"a_0\"],\"result_ack\":[],\"results\":[],\"rpc_seqno\":1,\"user_name\":\"Ann\",\"user_total_credit\":0}\n";
+
 /// Whether this call with a further member gets this answer.
 fn is_told(alloc: Global, member: &str, told: &str) -> Result<bool, Fail> {
     let line = format!(in alloc; "{CALL_START}{member}}}\n")?;
-    answers_in_project(alloc, line.as_str(), told)
+    answers_in_project(alloc, 3, line.as_str(), told)
 }
 
-/// As many reports of the same name as are told, as a member of a request.
-fn reports(alloc: Global, count: usize) -> Result<String, Fail> {
-    let mut member = String::from_str(alloc, ",\"results\":[{\"name\":\"a_0\",\"exit_status\":0}")?;
+/// A list of so many items of this text, at least one, as a member of a request.
+fn list_of(alloc: Global, name: &str, item: &str, count: usize) -> Result<String, Fail> {
+    let mut member = format!(in alloc; ",\"{name}\":[{item}")?;
     for _ in 1..count {
-        member.push_str(",{\"name\":\"a_0\",\"exit_status\":0}")?;
+        member.push_str(",")?;
+        member.push_str(item)?;
     }
     member.push_str("]")?;
     Ok(member)
+}
+
+/// Whether a call with so many items in this list gets this answer.
+fn list_is_told(
+    alloc: Global,
+    name: &str,
+    item: &str,
+    count: usize,
+    told: &str,
+) -> Result<bool, Fail> {
+    let member = list_of(alloc, name, item, count)?;
+    is_told(alloc, member.as_str(), told)
 }
 
 /// A member that is not known, an array in an array so many times.
@@ -110,11 +138,20 @@ fn nested(alloc: Global, depth: usize) -> Result<String, Fail> {
 #[test]
 fn a_request_may_have_256_reports(rt: HostRuntime) -> Result<(), Fail> {
     let alloc = rt.alloc();
-    let most = reports(alloc, 256)?;
-    assert!(rt; is_told(alloc, most.as_str(), REPLY_TO_REPORTS)?);
-    let more = reports(alloc, 257)?;
+    let item = "{\"name\":\"a_0\",\"exit_status\":0}";
     let refused = "400 {\"error\":\"bad_member\",\"member\":\"results\",\"number\":7}\n";
-    assert!(rt; is_told(alloc, more.as_str(), refused)?);
+    assert!(rt; list_is_told(alloc, "results", item, 256, REPLY_TO_REPORTS)?);
+    assert!(rt; list_is_told(alloc, "results", item, 257, refused)?);
+    Ok(())
+}
+
+#[test]
+fn a_request_may_list_1024_names(rt: HostRuntime) -> Result<(), Fail> {
+    let alloc = rt.alloc();
+    let item = "\"a_0\"";
+    let refused = "400 {\"error\":\"bad_member\",\"member\":\"other_results\",\"number\":7}\n";
+    assert!(rt; list_is_told(alloc, "other_results", item, 1024, REPLY_TO_NAMES)?);
+    assert!(rt; list_is_told(alloc, "other_results", item, 1025, refused)?);
     Ok(())
 }
 
@@ -232,36 +269,119 @@ impl Read for Broken {
     }
 }
 
-#[test]
-fn broken_streams_end_the_run(rt: HostRuntime) -> Result<(), Fail> {
-    let alloc = rt.alloc();
-    let settings = default_settings(alloc)?;
-    let lines = format!(in alloc;
+/// A reader of a text, which is interrupted before each read.
+#[derive(Drop)]
+struct Interrupted<'a> {
+    text: &'a [u8],
+    is_ready: bool,
+}
+
+impl Read for Interrupted<'_> {
+    fn read(&mut self, buf: &mut [u8]) -> io::Result<usize> {
+        self.is_ready = !self.is_ready;
+        if self.is_ready {
+            return Err(io::Error::from(ErrorKind::Interrupted));
+        }
+        self.text.read(buf)
+    }
+}
+
+/// The lines of a short run.
+fn short_run(alloc: Global) -> Result<String, Fail> {
+    Ok(format!(in alloc;
         "1970-01-01T00:00:00Z import/accounts/a0 \"authenticator,name\\nk1,Ann\\n\"\n1970-01-01T00:00:00Z account k2\n{CALL_START}}}\n"
-    )?;
-    let told = format!(in alloc;
+    )?)
+}
+
+/// Their answers.
+fn short_answers(alloc: Global) -> Result<String, Fail> {
+    Ok(format!(in alloc;
         "200 {{\"batch\":\"a0\",\"kind\":\"accounts\",\"rows\":1}}\n200 {{\"batch\":\"k2\",\"kind\":\"accounts\",\"rows\":1}}\n{REPLY}"
-    )?;
-    let (printed, ended) = replayed(alloc, lines.as_bytes())?;
+    )?)
+}
+
+/// What a replay prints whose reader is interrupted before each few bytes, and how it ends.
+fn replayed_interrupted(alloc: Global, text: &[u8]) -> Result<(Vec<u8>, Ended), Fail> {
+    let settings = default_settings(alloc)?;
+    let interrupted = Interrupted {
+        text,
+        is_ready: false,
+    };
+    let reader = BufReader::with_capacity(alloc, 7, interrupted)?;
+    let mut printed = Vec::new(alloc);
+    let ended = replay(alloc, &settings, reader, &mut printed);
+    Ok((printed, ended))
+}
+
+/// What a replay prints whose reader fails behind these bytes, and how it ends.
+fn replayed_before_a_fault(alloc: Global, front: &[u8]) -> Result<(Vec<u8>, Ended), Fail> {
+    let settings = default_settings(alloc)?;
+    let reader = BufReader::new(alloc, front.chain(Broken))?;
+    let mut printed = Vec::new(alloc);
+    let ended = replay(alloc, &settings, reader, &mut printed);
+    Ok((printed, ended))
+}
+
+/// What a replay prints into so many bytes of room, and how it ends.
+fn replayed_into(alloc: Global, length: usize, lines: &[u8]) -> Result<(Vec<u8>, Ended), Fail> {
+    let settings = default_settings(alloc)?;
+    let reader = BufReader::new(alloc, lines)?;
+    let mut room = vec![in alloc; b' '; length]?;
+    let ended = replay(alloc, &settings, reader, room.as_mut_slice());
+    Ok((room, ended))
+}
+
+/// Whether a run printed a front of what is told and ended as its reader or its writer failed.
+fn broke(run: &(Vec<u8>, Ended), told: &[u8]) -> bool {
+    let (printed, ended) = run;
+    *ended == Ended::File && told.starts_with(printed.as_slice())
+}
+
+#[test]
+fn an_interrupted_reader_is_read_on(rt: HostRuntime) -> Result<(), Fail> {
+    let alloc = rt.alloc();
+    let lines = short_run(alloc)?;
+    let told = short_answers(alloc)?;
+    let (printed, ended) = replayed_interrupted(alloc, lines.as_bytes())?;
     assert!(rt; ended == Ended::Good && printed.as_slice() == told.as_bytes());
+    Ok(())
+}
+
+#[test]
+fn a_broken_reader_ends_the_run(rt: HostRuntime) -> Result<(), Fail> {
+    let alloc = rt.alloc();
+    let lines = short_run(alloc)?;
+    let told = short_answers(alloc)?;
     for length in 0..lines.len() {
         let front = lines.as_bytes().get(..length).unwrap_or(&[]);
-        let reader = BufReader::new(alloc, front.chain(Broken))?;
-        let mut printed = Vec::new(alloc);
-        let ended = replay(alloc, &settings, reader, &mut printed);
-        assert_eq!(rt; ended, Ended::File, "{length}");
-        assert!(rt; told.as_bytes().starts_with(&printed), "{length}");
+        let run = replayed_before_a_fault(alloc, front)?;
+        assert!(rt; broke(&run, told.as_bytes()), "{length}");
     }
+    Ok(())
+}
+
+#[test]
+fn a_broken_writer_ends_the_run(rt: HostRuntime) -> Result<(), Fail> {
+    let alloc = rt.alloc();
+    let lines = short_run(alloc)?;
+    let told = short_answers(alloc)?;
     for length in 0..told.len() {
-        let mut room = vec![in alloc; b' '; length]?;
-        let ended = replay(
-            alloc,
-            &settings,
-            BufReader::new(alloc, lines.as_bytes())?,
-            room.as_mut_slice(),
-        );
-        assert_eq!(rt; ended, Ended::File, "{length}");
-        assert!(rt; told.as_bytes().starts_with(&room), "{length}");
+        let run = replayed_into(alloc, length, lines.as_bytes())?;
+        assert!(rt; broke(&run, told.as_bytes()), "{length}");
     }
+    Ok(())
+}
+
+#[test]
+fn bytes_that_are_no_text_are_refused(rt: HostRuntime) -> Result<(), Fail> {
+    let alloc = rt.alloc();
+    let request = b"1970-01-01T00:00:00Z scheduler {\"x\":\"\xff\"}\n";
+    let (printed, ended) = replayed(alloc, request.as_slice())?;
+    assert_eq!(rt; ended, Ended::Good);
+    assert!(rt; printed.as_slice() == b"400 {\"error\":\"bad_json\",\"number\":6}\n".as_slice());
+    let import = b"1970-01-01T00:00:00Z import/accounts/a0 \"authenticator,name\\nk1,\xff\"\n";
+    let (printed, ended) = replayed(alloc, import.as_slice())?;
+    assert_eq!(rt; ended, Ended::Line(1));
+    assert!(rt; printed.is_empty());
     Ok(())
 }

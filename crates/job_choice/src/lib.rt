@@ -10,8 +10,6 @@ mod choosing;
 pub mod fitting;
 pub mod granted;
 pub mod laws;
-#[cfg(test)]
-mod tests;
 mod units_had;
 
 pub use choice::choose;

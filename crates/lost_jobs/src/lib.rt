@@ -7,8 +7,6 @@ mod forgotten;
 pub mod laws;
 mod missing;
 mod name_set;
-#[cfg(test)]
-mod tests;
 
 pub use changes::lost_changes;
 pub use fates::{Fate, resend_or_drop, seconds_at, version_for};

@@ -34,8 +34,6 @@ pub mod laws;
 mod named;
 pub mod readers;
 mod seen_keys;
-#[cfg(test)]
-mod tests;
 mod texts_of_csv;
 
 pub use checks::check_rows;

@@ -15,8 +15,6 @@ mod quota;
 mod reports;
 mod settlement;
 mod settling;
-#[cfg(test)]
-mod tests;
 mod touched;
 
 pub use host_quotas::host_under;

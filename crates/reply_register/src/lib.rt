@@ -5,8 +5,6 @@ pub mod kept;
 pub mod key;
 pub mod laws;
 pub mod register;
-#[cfg(test)]
-mod tests;
 
 pub use kept::{Heard, Kept, classify};
 pub use key::Key;

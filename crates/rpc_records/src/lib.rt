@@ -13,8 +13,6 @@ pub mod laws;
 mod members;
 pub mod reply;
 pub mod request;
-#[cfg(test)]
-mod tests;
 mod text_kind;
 mod to_json;
 mod values;

@@ -18,6 +18,3 @@ pub use word::{is_word, word_of};
 
 /// Want of memory: an allocation was refused.
 pub type Memory = std::alloc::AllocError;
-
-#[cfg(test)]
-mod tests;

@@ -1,14 +1,7 @@
 //! Worked rows of grants and lost jobs.
 
 use super::rows::{
-    ANN, BOB, CALL, CID, Call, Host, JOB, Job, REPLY, Reply, Row, Step, W1, W2, W3, W4,
-};
-
-/// A second host of Ann's.
-const ANN_TOO: Host = Host {
-    cpid: "c9",
-    number: 2,
-    ..ANN
+    ANN, ANN_TOO, BOB, CALL, CID, Call, JOB, Job, REPLY, Reply, Row, Step, W1, W2, W3, W4,
 };
 
 /// A call that asks for as much work as a job is, for two jobs, and for more than there are.
@@ -313,6 +306,151 @@ pub const ROWS: &[Row] = &[
                     ..CALL
                 },
                 REPLY,
+            ),
+        ],
+    ),
+    (
+        "names of what is another's or was reported are aborted",
+        &[
+            Step::Units(&[W1]),
+            Step::Asks(ANN, &[JOB]),
+            Step::Call(
+                Call {
+                    host: BOB,
+                    other_results: Some(&["w1_0"]),
+                    ..CALL
+                },
+                Reply {
+                    aborts: &["w1_0"],
+                    ..REPLY
+                },
+            ),
+            Step::Call(
+                Call {
+                    seqno: 2,
+                    other_results: Some(&["w1_0"]),
+                    results: &[("w1_0", 0, "ok")],
+                    ..CALL
+                },
+                Reply {
+                    aborts: &["w1_0"],
+                    acks: &["w1_0"],
+                    ..REPLY
+                },
+            ),
+        ],
+    ),
+    (
+        "just the job that is not listed is sent again, before a new one",
+        &[
+            Step::Units(&[W1, W2, W3]),
+            Step::Call(ASKS_FOR_TWO, GETS_TWO),
+            Step::Call(
+                Call {
+                    seqno: 2,
+                    moment: 1100,
+                    other_results: Some(&["w1_0"]),
+                    ..ASKS_FOR_TWO
+                },
+                Reply {
+                    jobs: &[
+                        Job {
+                            resent: true,
+                            ..SECOND
+                        },
+                        THIRD,
+                    ],
+                    ..REPLY
+                },
+            ),
+        ],
+    ),
+    (
+        // of the first platform there is no version, of the third a greater one
+        "a job comes with the version of the first platform that has any",
+        &[
+            Step::Units(&[W1]),
+            Step::Line(
+                "1970-01-01T00:00:00Z import/versions/v1 \"app,platform,version_num\\ndock,win,5\\n\"",
+                "200 {\"batch\":\"v1\",\"kind\":\"versions\",\"rows\":1}",
+            ),
+            Step::Call(
+                Call {
+                    platform: "arm",
+                    more: ",\"alt_platforms\":[\"win\",\"linux\"]",
+                    ..ASKS
+                },
+                Reply {
+                    jobs: &[Job {
+                        platform: "win",
+                        version: 5,
+                        ..JOB
+                    }],
+                    ..REPLY
+                },
+            ),
+            Step::Call(
+                Call {
+                    host: BOB,
+                    platform: "arm",
+                    ..ASKS
+                },
+                GETS_NONE,
+            ),
+        ],
+    ),
+    (
+        "a job sent again has the version and the estimate of now",
+        &[
+            Step::Units(&[W1]),
+            Step::Asks(ANN, &[JOB]),
+            Step::Line(
+                "1970-01-01T00:00:00Z import/versions/v1 \"app,platform,version_num\\ndock,linux,103\\n\"",
+                "200 {\"batch\":\"v1\",\"kind\":\"versions\",\"rows\":1}",
+            ),
+            Step::Call(
+                Call {
+                    p_fpops: 500,
+                    ..LISTS_NONE
+                },
+                Reply {
+                    jobs: &[Job {
+                        version: 103,
+                        estimate: 7200,
+                        ..AGAIN
+                    }],
+                    ..REPLY
+                },
+            ),
+        ],
+    ),
+    (
+        // the facts that stand last count
+        "a job fits where memory and disk are at least its bounds",
+        &[
+            Step::Units(&[W1]),
+            Step::Call(
+                Call {
+                    more: ",\"host_info\":{\"host_cpid\":\"c1\",\"p_fpops\":1000,\"m_nbytes\":1000,\"d_free\":1000}",
+                    ..ASKS
+                },
+                GETS,
+            ),
+            Step::Call(
+                Call {
+                    host: BOB,
+                    more: ",\"host_info\":{\"host_cpid\":\"c2\",\"p_fpops\":1000,\"m_nbytes\":999,\"d_free\":1000}",
+                    ..ASKS
+                },
+                GETS_NONE,
+            ),
+            Step::Call(
+                Call {
+                    host: CID,
+                    more: ",\"host_info\":{\"host_cpid\":\"c3\",\"p_fpops\":1000,\"m_nbytes\":1000,\"d_free\":999}",
+                    ..ASKS
+                },
+                GETS_NONE,
             ),
         ],
     ),

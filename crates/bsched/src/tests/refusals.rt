@@ -4,6 +4,8 @@ use super::rows::{ANN, BOB, CALL, CID, Call, Host, REPLY, Reply, Row, Step};
 
 const BAD_JSON: &str = "400 {\"error\":\"bad_json\",\"number\":6}";
 
+const TABLE_FULL: &str = "409 {\"error\":\"table_full\",\"number\":18}";
+
 /// A call under the last number of all.
 const LAST: Call<'static> = Call {
     seqno: 2_147_483_647,
@@ -130,10 +132,6 @@ pub const ROWS: &[Row] = &[
                 "409 {\"error\":\"batch_reused\",\"number\":17}",
             ),
             Step::Line(
-                "1970-01-01T00:00:00Z import/accounts/b1 \"x\"",
-                "409 {\"error\":\"batch_reused\",\"number\":17}",
-            ),
-            Step::Line(
                 "1970-01-01T00:00:00Z import/apps/b1 \"name,agreement\\nscan,exact\\n\"",
                 "200 {\"batch\":\"b1\",\"kind\":\"apps\",\"rows\":1}",
             ),
@@ -168,17 +166,23 @@ pub const ROWS: &[Row] = &[
                 "1970-01-01T00:00:00Z import/versions/v1 \"app,platform,version_num\\nnope,linux,1\\ndock,linux,5\\ndock,linux,5\\n\"",
                 "409 {\"error\":\"duplicate_name\",\"number\":15,\"row\":3}",
             ),
-            Step::Line(
-                "1970-01-01T00:00:00Z import/apps/p1 \"\"",
-                "400 {\"column\":0,\"error\":\"bad_csv\",\"number\":14,\"row\":0}",
+        ],
+    ),
+    (
+        // two stand; a header alone adds none
+        "a table of a hundred applications takes no more",
+        &[
+            Step::Apps("p1", 99, TABLE_FULL),
+            Step::Apps(
+                "p2",
+                98,
+                "200 {\"batch\":\"p2\",\"kind\":\"apps\",\"rows\":98}",
             ),
-            Step::Line(
-                "1970-01-01T00:00:00Z import/apps/p1 \"name,agreement\"",
-                "200 {\"batch\":\"p1\",\"kind\":\"apps\",\"rows\":0}",
-            ),
-            Step::Line(
-                "1970-01-01T00:00:00Z import/units/u1 \"name,agreement\"",
-                "404 {\"error\":\"no_route\",\"number\":2}",
+            Step::Apps("p3", 1, TABLE_FULL),
+            Step::Apps(
+                "p3",
+                0,
+                "200 {\"batch\":\"p3\",\"kind\":\"apps\",\"rows\":0}",
             ),
         ],
     ),

@@ -14,6 +14,7 @@ pub struct Unit {
     pub app: &'static str,
     pub min_quorum: u32,
     pub target_nresults: u32,
+    pub max_error_results: u32,
     pub max_total_results: u32,
     pub max_success_results: u32,
 }
@@ -37,6 +38,7 @@ pub struct Call<'a> {
     pub seqno: u32,
     pub moment: u32,
     pub p_fpops: u32,
+    pub platform: &'static str,
     pub asked: u32,
     pub other_results: Option<&'static [&'static str]>,
     pub results: &'a [Report],
@@ -50,17 +52,19 @@ pub struct Job {
     pub unit: &'static str,
     pub number: u32,
     pub app: &'static str,
+    pub platform: &'static str,
     pub version: u32,
     pub estimate: u32,
     pub deadline: u32,
     pub resent: bool,
 }
 
-/// What a host is told. Its credit is also its user's.
+/// What a host is told.
 #[derive(Clone, Copy)]
 pub struct Reply<'a> {
     pub end: &'static str,
     pub credit: u32,
+    pub user_credit: u32,
     pub aborts: &'static [&'static str],
     pub acks: &'a [&'static str],
     pub jobs: &'static [Job],
@@ -71,11 +75,16 @@ pub struct Reply<'a> {
 pub enum Step {
     /// A line and its answer, as they are written.
     Line(&'static str, &'static str),
+    /// An import of so many new applications as this batch, and its answer, as it is written.
+    Apps(&'static str, u32, &'static str),
     /// An import of workunits, of which each is added.
     Units(&'static [Unit]),
+    /// An import of workunits by rows as they are written in a line, and its answer, as it is written.
+    UnitRows(&'static str, &'static str),
     /// The first call of a host at 1000, which asks for as much work as a job is, and the jobs that it gets.
     Asks(Host, &'static [Job]),
-    /// A call of a host under this number, at this moment, with one report, and the credit that it then has.
+    /// A call of a host under this number, at this moment, with one report, and the credit that it and its user then
+    /// have.
     Reports(Host, u32, u32, Report, u32),
     /// A call and its reply.
     Call(Call<'static>, Reply<'static>),
@@ -93,6 +102,7 @@ pub const W1: Unit = Unit {
     app: "dock",
     min_quorum: 2,
     target_nresults: 2,
+    max_error_results: 3,
     max_total_results: 5,
     max_success_results: 4,
 };
@@ -104,12 +114,18 @@ pub const W3: Unit = Unit { name: "w3", ..W1 };
 
 pub const W4: Unit = Unit { name: "w4", ..W1 };
 
-/// The hosts of the three users.
+/// The hosts of the three users, and a second one of the first, which calls before the others'.
 pub const ANN: Host = Host {
     key: "k1",
     cpid: "c1",
     number: 1,
     user: "Ann",
+};
+
+pub const ANN_TOO: Host = Host {
+    cpid: "c9",
+    number: 2,
+    ..ANN
 };
 
 pub const BOB: Host = Host {
@@ -132,6 +148,7 @@ pub const CALL: Call<'static> = Call {
     seqno: 1,
     moment: 1000,
     p_fpops: 1000,
+    platform: "linux",
     asked: 0,
     other_results: None,
     results: &[],
@@ -142,6 +159,7 @@ pub const CALL: Call<'static> = Call {
 pub const REPLY: Reply<'static> = Reply {
     end: "enough",
     credit: 0,
+    user_credit: 0,
     aborts: &[],
     acks: &[],
     jobs: &[],
@@ -152,6 +170,7 @@ pub const JOB: Job = Job {
     unit: "w1",
     number: 0,
     app: "dock",
+    platform: "linux",
     version: 102,
     estimate: 3600,
     deadline: 8200,
@@ -232,10 +251,15 @@ fn call_end(alloc: Global, call: Call<'_>) -> Result<String, Fail> {
 fn call_line(alloc: Global, call: Call<'_>) -> Result<String, Fail> {
     let moment = instant(alloc, call.moment)?;
     let Host { key, cpid, .. } = call.host;
-    let Call { seqno, p_fpops, .. } = call;
+    let Call {
+        seqno,
+        p_fpops,
+        platform,
+        ..
+    } = call;
     let end = call_end(alloc, call)?;
     Ok(format!(in alloc;
-        "{moment} scheduler {{\"authenticator\":\"{key}\",\"rpc_seqno\":{seqno},\"host_info\":{{\"host_cpid\":\"{cpid}\",\"p_fpops\":{p_fpops},\"m_nbytes\":8000,\"d_free\":9000}},\"platform_name\":\"linux\"{end}}}\n"
+        "{moment} scheduler {{\"authenticator\":\"{key}\",\"rpc_seqno\":{seqno},\"host_info\":{{\"host_cpid\":\"{cpid}\",\"p_fpops\":{p_fpops},\"m_nbytes\":8000,\"d_free\":9000}},\"platform_name\":\"{platform}\"{end}}}\n"
     )?)
 }
 
@@ -245,13 +269,14 @@ fn job_text(alloc: Global, job: Job) -> Result<String, Fail> {
         unit,
         number,
         app,
+        platform,
         version,
         estimate,
         deadline,
         resent,
     } = job;
     Ok(format!(in alloc;
-        "{{\"app_name\":\"{app}\",\"estimate\":{estimate},\"name\":\"{unit}_{number}\",\"platform\":\"linux\",\"report_deadline\":{deadline},\"resent\":{resent},\"version_num\":{version},\"wu_name\":\"{unit}\"}}"
+        "{{\"app_name\":\"{app}\",\"estimate\":{estimate},\"name\":\"{unit}_{number}\",\"platform\":\"{platform}\",\"report_deadline\":{deadline},\"resent\":{resent},\"version_num\":{version},\"wu_name\":\"{unit}\"}}"
     )?)
 }
 
@@ -269,12 +294,17 @@ fn jobs_text(alloc: Global, jobs: &[Job]) -> Result<String, Fail> {
 /// The answer to a call.
 fn reply_line(alloc: Global, host: Host, seqno: u32, reply: Reply<'_>) -> Result<String, Fail> {
     let Host { number, user, .. } = host;
-    let Reply { end, credit, .. } = reply;
+    let Reply {
+        end,
+        credit,
+        user_credit,
+        ..
+    } = reply;
     let aborts = names_text(alloc, reply.aborts)?;
     let acks = names_text(alloc, reply.acks)?;
     let jobs = jobs_text(alloc, reply.jobs)?;
     Ok(format!(in alloc;
-        "200 {{\"end_word\":\"{end}\",\"host_total_credit\":{credit},\"hostid\":{number},\"request_delay\":60,\"result_abort\":{aborts},\"result_ack\":{acks},\"results\":{jobs},\"rpc_seqno\":{seqno},\"user_name\":\"{user}\",\"user_total_credit\":{credit}}}\n"
+        "200 {{\"end_word\":\"{end}\",\"host_total_credit\":{credit},\"hostid\":{number},\"request_delay\":60,\"result_abort\":{aborts},\"result_ack\":{acks},\"results\":{jobs},\"rpc_seqno\":{seqno},\"user_name\":\"{user}\",\"user_total_credit\":{user_credit}}}\n"
     )?)
 }
 
@@ -285,32 +315,47 @@ fn unit_text(alloc: Global, unit: Unit) -> Result<String, Fail> {
         app,
         min_quorum,
         target_nresults,
+        max_error_results,
         max_total_results,
         max_success_results,
     } = unit;
     Ok(format!(in alloc;
-        "{name},{app},{min_quorum},{target_nresults},3,{max_total_results},{max_success_results},7200,3600000,1000,1000,5000\\n"
+        "{name},{app},{min_quorum},{target_nresults},{max_error_results},{max_total_results},{max_success_results},7200,3600000,1000,1000,5000\\n"
+    )?)
+}
+
+/// The line of an import of workunits by these rows.
+fn unit_rows_line(alloc: Global, rows: &str) -> Result<String, Fail> {
+    Ok(format!(in alloc;
+        "1970-01-01T00:00:00Z import/workunits/u3 \"name,app,min_quorum,target_nresults,max_error_results,max_total_results,max_success_results,delay_bound,rsc_fpops_est,rsc_memory_bound,rsc_disk_bound,credit\\n{rows}\"\n"
     )?)
 }
 
 /// The line of an import of workunits.
 fn units_line(alloc: Global, units: &[Unit]) -> Result<String, Fail> {
-    let mut out = String::from_str(
-        alloc,
-        "1970-01-01T00:00:00Z import/workunits/u3 \"name,app,min_quorum,target_nresults,max_error_results,max_total_results,max_success_results,delay_bound,rsc_fpops_est,rsc_memory_bound,rsc_disk_bound,credit\\n",
-    )?;
+    let mut rows = String::new(alloc);
     for unit in units {
-        out.push_str(unit_text(alloc, *unit)?.as_str())?;
+        rows.push_str(unit_text(alloc, *unit)?.as_str())?;
     }
-    out.push_str("\"\n")?;
-    Ok(out)
+    unit_rows_line(alloc, rows.as_str())
+}
+
+/// The line of an import of applications.
+fn apps_line(alloc: Global, batch: &str, count: u32) -> Result<String, Fail> {
+    let mut rows = String::new(alloc);
+    for number in 0..count {
+        rows.push_str(format!(in alloc; "{batch}_{number},exact\\n")?.as_str())?;
+    }
+    Ok(format!(in alloc; "1970-01-01T00:00:00Z import/apps/{batch} \"name,agreement\\n{rows}\"\n")?)
 }
 
 /// The line of a step.
 fn line_of(alloc: Global, step: Step) -> Result<String, Fail> {
     match step {
         Step::Line(line, _) => Ok(format!(in alloc; "{line}\n")?),
+        Step::Apps(batch, count, _) => apps_line(alloc, batch, count),
         Step::Units(units) => units_line(alloc, units),
+        Step::UnitRows(rows, _) => unit_rows_line(alloc, rows),
         Step::Asks(host, _) => {
             let call = Call {
                 host,
@@ -341,9 +386,11 @@ fn line_of(alloc: Global, step: Step) -> Result<String, Fail> {
 /// The answer of a step.
 fn answer_of(alloc: Global, step: Step) -> Result<String, Fail> {
     match step {
-        Step::Line(_, answer) | Step::Refused(_, answer) | Step::With(_, answer) => Ok(
-            format!(in alloc; "{answer}\n")?,
-        ),
+        Step::Line(_, answer)
+        | Step::Apps(_, _, answer)
+        | Step::UnitRows(_, answer)
+        | Step::Refused(_, answer)
+        | Step::With(_, answer) => Ok(format!(in alloc; "{answer}\n")?),
         Step::Units(units) => {
             let rows = units.len();
             Ok(format!(in alloc;
@@ -355,6 +402,7 @@ fn answer_of(alloc: Global, step: Step) -> Result<String, Fail> {
             let (name, _, _) = report;
             let reply = Reply {
                 credit,
+                user_credit: credit,
                 acks: &[name],
                 ..REPLY
             };
@@ -365,21 +413,25 @@ fn answer_of(alloc: Global, step: Step) -> Result<String, Fail> {
     }
 }
 
-/// Whether each step's line gets its answer behind the project's imports.
-fn holds(alloc: Global, steps: &[Step]) -> Result<bool, Fail> {
+/// Whether each step's line gets its answer behind the project's imports, where so many hosts may stand.
+fn holds(alloc: Global, max_hosts: u32, steps: &[Step]) -> Result<bool, Fail> {
     let mut lines = String::new(alloc);
     let mut told = String::new(alloc);
     for step in steps {
         lines.push_str(line_of(alloc, *step)?.as_str())?;
         told.push_str(answer_of(alloc, *step)?.as_str())?;
     }
-    answers_in_project(alloc, lines.as_str(), told.as_str())
+    answers_in_project(alloc, max_hosts, lines.as_str(), told.as_str())
 }
 
-/// The name of the first row that does not hold.
-pub fn first_wrong(alloc: Global, rows: &[Row]) -> Result<Option<&'static str>, Fail> {
+/// The name of the first row that does not hold, where so many hosts may stand.
+pub fn first_wrong(
+    alloc: Global,
+    max_hosts: u32,
+    rows: &[Row],
+) -> Result<Option<&'static str>, Fail> {
     for (name, steps) in rows {
-        if !holds(alloc, steps)? {
+        if !holds(alloc, max_hosts, steps)? {
             return Ok(Some(name));
         }
     }
