@@ -324,6 +324,18 @@ pub const ROWS: &[Row] = &[
         ],
     ),
     (
+        "a job of a done workunit is late all the same",
+        &[
+            Step::Units(&[W5]),
+            Step::Asks(ANN, &[W5_0]),
+            Step::Asks(BOB, &[W5_1]),
+            Step::Reports(BOB, 2, 2000, ("w5_1", 0, "x"), 5000),
+            Step::Tick(8201, 1),
+            Step::Tick(8202, 0),
+            Step::Reports(ANN, 2, 9000, ("w5_0", 0, "x"), 5000),
+        ],
+    ),
+    (
         "a workunit without room for more instances fails",
         &[
             Step::Units(&[T1]),

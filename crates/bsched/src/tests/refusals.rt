@@ -169,6 +169,23 @@ pub const ROWS: &[Row] = &[
         ],
     ),
     (
+        "what stands may not be imported again",
+        &[
+            Step::Line(
+                "1970-01-01T00:00:00Z import/accounts/d1 \"authenticator,name\\nk5,Eve\\nk1,Ann\\n\"",
+                "409 {\"error\":\"duplicate_name\",\"number\":15,\"row\":2}",
+            ),
+            Step::Line(
+                "1970-01-01T00:00:00Z import/apps/d1 \"name,agreement\\ndock,exact\\n\"",
+                "409 {\"error\":\"duplicate_name\",\"number\":15,\"row\":1}",
+            ),
+            Step::Line(
+                "1970-01-01T00:00:00Z import/versions/d1 \"app,platform,version_num\\nfold,linux,101\\ndock,win,101\\ndock,linux,101\\n\"",
+                "409 {\"error\":\"duplicate_name\",\"number\":15,\"row\":3}",
+            ),
+        ],
+    ),
+    (
         // two stand; a header alone adds none
         "a table of a hundred applications takes no more",
         &[
