@@ -8,9 +8,9 @@ ghost use Rattle.replay_lines.specs.Endings.{exit_status};
 
 mod line;
 
-use message_engine::{Answer, Failure, Service};
 use line::arrival_of;
-use rpc_records::unavailable_text;
+use message_engine::{Answer, Failure, Service};
+use rpc_records::{Fault, unavailable_text};
 use sched_book::Settings;
 use std::alloc::Global;
 use std::io::{BufRead, ErrorKind, Read, Write};
@@ -93,28 +93,82 @@ fn answer_lines<R: BufRead, W: Write>(
 ) -> io::Result<Ended> {
     let mut service = Service::new(alloc, settings)?;
     let mut line = Vec::new(alloc);
+    answer_each(alloc, &mut service, &mut line, reader, writer)
+}
+
+/// Answers each line that is read into `line`.
+fn answer_each<R: BufRead, W: Write>(
+    alloc: Global,
+    service: &mut Service,
+    line: &mut Vec<u8>,
+    reader: &mut R,
+    writer: &mut W,
+) -> io::Result<Ended> {
     let mut ended = Ended::Good;
     for number in 1..=MOST_LINES {
-        if !read_line(reader, &mut line)? {
+        if !read_line(reader, line)? {
             return Ok(ended);
         }
-        let Some(text) = text_of(&line) else {
-            return Ok(Ended::Line(number));
-        };
-        match answer_line(alloc, &mut service, text) {
-            Ok(None) => return Ok(Ended::Line(number)),
-            Ok(Some(answer)) => writeln!(writer, "{} {}", answer.status, answer.body.as_str())?,
-            Err(Failure::Unavailable) => {
-                ended = Ended::Unavailable;
-                writeln!(writer, "503 {}", unavailable_text())?;
-            }
-            Err(Failure::HalfDone) => return Ok(Ended::Unavailable),
+        match print_answer(alloc, service, line, writer)? {
+            Printed::Answer => {}
+            Printed::Unavailable => ended = Ended::Unavailable,
+            Printed::NoLine => return Ok(Ended::Line(number)),
+            Printed::HalfDone => return Ok(Ended::Unavailable),
         }
     }
-    if read_line(reader, &mut line)? {
+    if read_line(reader, line)? {
         return Ok(Ended::Line(MOST_LINES + 1));
     }
     Ok(ended)
+}
+
+/// What was printed for a line.
+#[derive(Clone, Copy)]
+enum Printed {
+    Answer,
+    /// The refusal for want of memory.
+    Unavailable,
+    /// Nothing, since the line has not the form of one.
+    NoLine,
+    /// Nothing, since the line's call was acted on but not kept, for want of memory.
+    HalfDone,
+}
+
+/// Prints the answer to a line, which may have its line feed.
+fn print_answer<W: Write>(
+    alloc: Global,
+    service: &mut Service,
+    line: &[u8],
+    writer: &mut W,
+) -> io::Result<Printed> {
+    let Some(text) = text_of(line) else {
+        return Ok(Printed::NoLine);
+    };
+    let told = answer_line(alloc, service, text);
+    print_told(writer, &told)
+}
+
+/// Prints what a line was told.
+fn print_told<W: Write>(
+    writer: &mut W,
+    told: &Result<Option<Answer>, Failure>,
+) -> io::Result<Printed> {
+    match told {
+        Ok(None) => Ok(Printed::NoLine),
+        Ok(Some(answer)) => {
+            print(writer, answer.status, answer.body.as_str())?;
+            Ok(Printed::Answer)
+        }
+        Err(Failure::Unavailable) => {
+            print(writer, Fault::Unavailable.status(), unavailable_text())?;
+            Ok(Printed::Unavailable)
+        }
+        Err(Failure::HalfDone) => Ok(Printed::HalfDone),
+    }
+}
+
+fn print<W: Write>(writer: &mut W, status: u16, body: &str) -> io::Result<()> {
+    writeln!(writer, "{status} {body}")
 }
 
 /// Reads a line with its line feed, or as much of it as tells that it is too long. False at the end of the

@@ -5,8 +5,8 @@ ghost use Rattle.serde_json.specs.View.{view};
 ghost use Rattle.rpc_records.specs.Reading.{json_of};
 ghost use Rattle.replay_lines.specs.ReplayLines as spec;
 
-use message_engine::{Arrival, Line};
 use jiff::Timestamp;
+use message_engine::{Arrival, Line};
 use sched_book::Moment;
 use serde_json::Value;
 use std::alloc::{AllocError, Global};
