@@ -19,10 +19,10 @@ ghost use Rattle.message_engine.specs.DeskServes.{ServesBody, Serves};
 ghost use Rattle.message_engine.specs.DeskTicks.{ServesTick};
 
 use crate::answers::{Answer, good, imported, lapsed, refusal, told_beside};
-use crate::checks::{is_import_too_long, is_too_long};
-use crate::keys::key_of;
 use crate::batches::{Batch, answer_again, find_batch};
+use crate::checks::{is_import_too_long, is_too_long};
 use crate::imports::read_rows;
+use crate::keys::key_of;
 use crate::kind::Kind;
 use crate::line::{Failure, Line};
 use crate::steps::{call_step, import_step, tick_step};
