@@ -55,26 +55,140 @@ fn answers_in_project(
 }
 
 #[test]
-fn repeats_and_refusals(rt: HostRuntime) -> Result<(), Fail> {
-    assert_eq!(rt; first_wrong(rt.alloc(), 3, refusals::ROWS)?, None);
+fn repeats_and_refusals_first(rt: HostRuntime) -> Result<(), Fail> {
+    assert_eq!(rt; first_wrong(rt.alloc(), 3, refusals::FIRST_ROWS)?, None);
     Ok(())
 }
 
 #[test]
-fn grants_and_lost_jobs(rt: HostRuntime) -> Result<(), Fail> {
-    assert_eq!(rt; first_wrong(rt.alloc(), 3, jobs::ROWS)?, None);
+fn repeats_and_refusals_second(rt: HostRuntime) -> Result<(), Fail> {
+    assert_eq!(rt; first_wrong(rt.alloc(), 3, refusals::SECOND_ROWS)?, None);
     Ok(())
 }
 
 #[test]
-fn reports_and_quorums(rt: HostRuntime) -> Result<(), Fail> {
-    assert_eq!(rt; first_wrong(rt.alloc(), 5, quorums::ROWS)?, None);
+fn repeats_and_refusals_third(rt: HostRuntime) -> Result<(), Fail> {
+    assert_eq!(rt; first_wrong(rt.alloc(), 3, refusals::THIRD_ROWS)?, None);
     Ok(())
 }
 
 #[test]
-fn odd_spellings(rt: HostRuntime) -> Result<(), Fail> {
-    assert_eq!(rt; first_wrong(rt.alloc(), 3, spellings::ROWS)?, None);
+fn grants_and_lost_jobs_first(rt: HostRuntime) -> Result<(), Fail> {
+    assert_eq!(rt; first_wrong(rt.alloc(), 3, jobs::FIRST_ROWS)?, None);
+    Ok(())
+}
+
+#[test]
+fn grants_and_lost_jobs_second(rt: HostRuntime) -> Result<(), Fail> {
+    assert_eq!(rt; first_wrong(rt.alloc(), 3, jobs::SECOND_ROWS)?, None);
+    Ok(())
+}
+
+#[test]
+fn grants_and_lost_jobs_third(rt: HostRuntime) -> Result<(), Fail> {
+    assert_eq!(rt; first_wrong(rt.alloc(), 3, jobs::THIRD_ROWS)?, None);
+    Ok(())
+}
+
+#[test]
+fn grants_and_lost_jobs_fourth(rt: HostRuntime) -> Result<(), Fail> {
+    assert_eq!(rt; first_wrong(rt.alloc(), 3, jobs::FOURTH_ROWS)?, None);
+    Ok(())
+}
+
+#[test]
+fn grants_and_lost_jobs_fifth(rt: HostRuntime) -> Result<(), Fail> {
+    assert_eq!(rt; first_wrong(rt.alloc(), 3, jobs::FIFTH_ROWS)?, None);
+    Ok(())
+}
+
+#[test]
+fn grants_and_lost_jobs_sixth(rt: HostRuntime) -> Result<(), Fail> {
+    assert_eq!(rt; first_wrong(rt.alloc(), 3, jobs::SIXTH_ROWS)?, None);
+    Ok(())
+}
+
+#[test]
+fn grants_and_lost_jobs_seventh(rt: HostRuntime) -> Result<(), Fail> {
+    assert_eq!(rt; first_wrong(rt.alloc(), 3, jobs::SEVENTH_ROWS)?, None);
+    Ok(())
+}
+
+#[test]
+fn reports_and_quorums_first(rt: HostRuntime) -> Result<(), Fail> {
+    assert_eq!(rt; first_wrong(rt.alloc(), 5, quorums::FIRST_ROWS)?, None);
+    Ok(())
+}
+
+#[test]
+fn reports_and_quorums_second(rt: HostRuntime) -> Result<(), Fail> {
+    assert_eq!(rt; first_wrong(rt.alloc(), 5, quorums::SECOND_ROWS)?, None);
+    Ok(())
+}
+
+#[test]
+fn reports_and_quorums_third(rt: HostRuntime) -> Result<(), Fail> {
+    assert_eq!(rt; first_wrong(rt.alloc(), 5, quorums::THIRD_ROWS)?, None);
+    Ok(())
+}
+
+#[test]
+fn reports_and_quorums_fourth(rt: HostRuntime) -> Result<(), Fail> {
+    assert_eq!(rt; first_wrong(rt.alloc(), 5, quorums::FOURTH_ROWS)?, None);
+    Ok(())
+}
+
+#[test]
+fn reports_and_quorums_fifth(rt: HostRuntime) -> Result<(), Fail> {
+    assert_eq!(rt; first_wrong(rt.alloc(), 5, quorums::FIFTH_ROWS)?, None);
+    Ok(())
+}
+
+#[test]
+fn reports_and_quorums_sixth(rt: HostRuntime) -> Result<(), Fail> {
+    assert_eq!(rt; first_wrong(rt.alloc(), 5, quorums::SIXTH_ROWS)?, None);
+    Ok(())
+}
+
+#[test]
+fn reports_and_quorums_seventh(rt: HostRuntime) -> Result<(), Fail> {
+    assert_eq!(rt; first_wrong(rt.alloc(), 5, quorums::SEVENTH_ROWS)?, None);
+    Ok(())
+}
+
+#[test]
+fn reports_and_quorums_eighth(rt: HostRuntime) -> Result<(), Fail> {
+    assert_eq!(rt; first_wrong(rt.alloc(), 5, quorums::EIGHTH_ROWS)?, None);
+    Ok(())
+}
+
+#[test]
+fn reports_and_quorums_ninth(rt: HostRuntime) -> Result<(), Fail> {
+    assert_eq!(rt; first_wrong(rt.alloc(), 5, quorums::NINTH_ROWS)?, None);
+    Ok(())
+}
+
+#[test]
+fn odd_spellings_first(rt: HostRuntime) -> Result<(), Fail> {
+    assert_eq!(rt; first_wrong(rt.alloc(), 3, spellings::FIRST_ROWS)?, None);
+    Ok(())
+}
+
+#[test]
+fn odd_spellings_second(rt: HostRuntime) -> Result<(), Fail> {
+    assert_eq!(rt; first_wrong(rt.alloc(), 3, spellings::SECOND_ROWS)?, None);
+    Ok(())
+}
+
+#[test]
+fn odd_spellings_third(rt: HostRuntime) -> Result<(), Fail> {
+    assert_eq!(rt; first_wrong(rt.alloc(), 3, spellings::THIRD_ROWS)?, None);
+    Ok(())
+}
+
+#[test]
+fn odd_spellings_fourth(rt: HostRuntime) -> Result<(), Fail> {
+    assert_eq!(rt; first_wrong(rt.alloc(), 3, spellings::FOURTH_ROWS)?, None);
     Ok(())
 }
 

@@ -88,7 +88,7 @@ const GETS_AGAIN: Reply<'static> = Reply {
     ..REPLY
 };
 
-pub const ROWS: &[Row] = &[
+pub const FIRST_ROWS: &[Row] = &[
     (
         "a repeat is told no job, though work came between",
         &[
@@ -146,6 +146,9 @@ pub const ROWS: &[Row] = &[
             ),
         ],
     ),
+];
+
+pub const SECOND_ROWS: &[Row] = &[
     (
         "a second host of a user gets no job of the workunit",
         &[
@@ -208,6 +211,9 @@ pub const ROWS: &[Row] = &[
             ),
         ],
     ),
+];
+
+pub const THIRD_ROWS: &[Row] = &[
     (
         "without a list no job is lost, and held ones count",
         &[
@@ -247,6 +253,9 @@ pub const ROWS: &[Row] = &[
         "a job does not fit where its estimate is beyond the delay bound",
         &[Step::Units(&[W1]), Step::Call(TOO_SLOW, GETS_NONE)],
     ),
+];
+
+pub const FOURTH_ROWS: &[Row] = &[
     (
         "a lost job that fits no more makes room for another",
         &[
@@ -309,6 +318,9 @@ pub const ROWS: &[Row] = &[
             ),
         ],
     ),
+];
+
+pub const FIFTH_ROWS: &[Row] = &[
     (
         "names of what is another's or was reported are aborted",
         &[
@@ -365,6 +377,9 @@ pub const ROWS: &[Row] = &[
             ),
         ],
     ),
+];
+
+pub const SIXTH_ROWS: &[Row] = &[
     (
         // of the first platform there is no version, of the third a greater one
         "a job comes with the version of the first platform that has any",
@@ -424,34 +439,35 @@ pub const ROWS: &[Row] = &[
             ),
         ],
     ),
-    (
-        // the facts that stand last count
-        "a job fits where memory and disk are at least its bounds",
-        &[
-            Step::Units(&[W1]),
-            Step::Call(
-                Call {
-                    more: ",\"host_info\":{\"host_cpid\":\"c1\",\"p_fpops\":1000,\"m_nbytes\":1000,\"d_free\":1000}",
-                    ..ASKS
-                },
-                GETS,
-            ),
-            Step::Call(
-                Call {
-                    host: BOB,
-                    more: ",\"host_info\":{\"host_cpid\":\"c2\",\"p_fpops\":1000,\"m_nbytes\":999,\"d_free\":1000}",
-                    ..ASKS
-                },
-                GETS_NONE,
-            ),
-            Step::Call(
-                Call {
-                    host: CID,
-                    more: ",\"host_info\":{\"host_cpid\":\"c3\",\"p_fpops\":1000,\"m_nbytes\":1000,\"d_free\":999}",
-                    ..ASKS
-                },
-                GETS_NONE,
-            ),
-        ],
-    ),
 ];
+
+pub const SEVENTH_ROWS: &[Row] = &[(
+    // the facts that stand last count
+    "a job fits where memory and disk are at least its bounds",
+    &[
+        Step::Units(&[W1]),
+        Step::Call(
+            Call {
+                more: ",\"host_info\":{\"host_cpid\":\"c1\",\"p_fpops\":1000,\"m_nbytes\":1000,\"d_free\":1000}",
+                ..ASKS
+            },
+            GETS,
+        ),
+        Step::Call(
+            Call {
+                host: BOB,
+                more: ",\"host_info\":{\"host_cpid\":\"c2\",\"p_fpops\":1000,\"m_nbytes\":999,\"d_free\":1000}",
+                ..ASKS
+            },
+            GETS_NONE,
+        ),
+        Step::Call(
+            Call {
+                host: CID,
+                more: ",\"host_info\":{\"host_cpid\":\"c3\",\"p_fpops\":1000,\"m_nbytes\":1000,\"d_free\":999}",
+                ..ASKS
+            },
+            GETS_NONE,
+        ),
+    ],
+)];

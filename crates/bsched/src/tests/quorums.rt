@@ -242,7 +242,7 @@ const GETS_TWO: Reply<'static> = Reply {
     ..REPLY
 };
 
-pub const ROWS: &[Row] = &[
+pub const FIRST_ROWS: &[Row] = &[
     (
         "a reported job is not lost",
         &[
@@ -310,6 +310,9 @@ pub const ROWS: &[Row] = &[
             Step::Call(Call { host: CID, ..READS }, HAS_CREDIT),
         ],
     ),
+];
+
+pub const SECOND_ROWS: &[Row] = &[
     (
         "a late job is replaced, and its report still counts once",
         &[
@@ -345,142 +348,147 @@ pub const ROWS: &[Row] = &[
             Step::Reports(ANN, 2, 9000, ("t1_0", 0, "ok"), 0),
         ],
     ),
-    (
-        // to two, and to one at the least; then one more error comes with a valid result: one at the least, and twice that
-        "errors lower the quota, a valid result doubles it, and a new day begins anew",
-        &[
-            Step::Units(&[W1, W2, W3, W4, W5, W6, W7, W8]),
-            Step::Call(ASKS_FOR_TWO, GETS_TWO),
-            Step::Call(
-                Call {
-                    seqno: 2,
-                    moment: 1100,
-                    results: &[("w1_0", 1, ""), ("w2_0", 1, "")],
-                    ..ASKS_FOR_TWO
-                },
-                Reply {
-                    acks: &["w1_0", "w2_0"],
-                    ..HAD_QUOTA
-                },
-            ),
-            Step::Call(
-                Call {
-                    seqno: 3,
-                    moment: 86_400,
-                    ..ASKS_FOR_TWO
-                },
-                Reply {
-                    jobs: &[W3_0, W4_0],
-                    ..REPLY
-                },
-            ),
-            Step::Call(
-                Call {
-                    seqno: 4,
-                    moment: 172_800,
-                    results: &[("w3_0", 1, ""), ("w4_0", 1, "")],
-                    ..ASKS_FOR_TWO
-                },
-                Reply {
-                    acks: &["w3_0", "w4_0"],
-                    jobs: &[Job {
-                        deadline: 180_000,
-                        ..W5_0
-                    }],
-                    ..HAD_QUOTA
-                },
-            ),
-            Step::Call(
-                Call {
-                    seqno: 5,
-                    moment: 259_200,
-                    ..ASKS
-                },
-                Reply {
-                    jobs: &[Job {
-                        deadline: 266_400,
-                        ..W6_0
-                    }],
-                    ..REPLY
-                },
-            ),
-            Step::Call(
-                Call {
-                    seqno: 6,
-                    moment: 345_600,
-                    results: &[("w5_0", 0, "x"), ("w6_0", 1, "")],
-                    ..ASKS_FOR_TWO
-                },
-                Reply {
-                    acks: &["w5_0", "w6_0"],
-                    jobs: &[W7_0, W8_0],
-                    ..HAS_CREDIT
-                },
-            ),
-            Step::Call(
-                Call {
-                    seqno: 7,
-                    moment: 345_601,
-                    ..ASKS
-                },
-                Reply {
-                    end: "daily_quota",
-                    ..HAS_CREDIT
-                },
-            ),
-        ],
-    ),
-    (
-        "late jobs lower the quota, and dropped ones do not",
-        &[
-            Step::Units(&[W1, W2, W3]),
-            Step::Call(ASKS_FOR_TWO, GETS_TWO),
-            Step::Call(
-                Call {
-                    host: BOB,
-                    ..ASKS_FOR_TWO
-                },
-                Reply {
-                    jobs: &[SECOND, W2_1],
-                    ..REPLY
-                },
-            ),
-            // too slow for them
-            Step::Call(
-                Call {
-                    host: BOB,
-                    moment: 8000,
-                    p_fpops: 499,
-                    ..LISTS_NONE
-                },
-                REPLY,
-            ),
-            Step::Tick(8201, 2),
-            Step::Call(
-                Call {
-                    seqno: 2,
-                    moment: 9000,
-                    ..ASKS
-                },
-                HAD_QUOTA,
-            ),
-            Step::Call(
-                Call {
-                    host: BOB,
-                    seqno: 3,
-                    moment: 9000,
-                    ..ASKS
-                },
-                Reply {
-                    jobs: &[Job {
-                        deadline: 16_200,
-                        ..W3_0
-                    }],
-                    ..REPLY
-                },
-            ),
-        ],
-    ),
+];
+
+pub const THIRD_ROWS: &[Row] = &[(
+    // to two, and to one at the least; then one more error comes with a valid result: one at the least, and twice that
+    "errors lower the quota, a valid result doubles it, and a new day begins anew",
+    &[
+        Step::Units(&[W1, W2, W3, W4, W5, W6, W7, W8]),
+        Step::Call(ASKS_FOR_TWO, GETS_TWO),
+        Step::Call(
+            Call {
+                seqno: 2,
+                moment: 1100,
+                results: &[("w1_0", 1, ""), ("w2_0", 1, "")],
+                ..ASKS_FOR_TWO
+            },
+            Reply {
+                acks: &["w1_0", "w2_0"],
+                ..HAD_QUOTA
+            },
+        ),
+        Step::Call(
+            Call {
+                seqno: 3,
+                moment: 86_400,
+                ..ASKS_FOR_TWO
+            },
+            Reply {
+                jobs: &[W3_0, W4_0],
+                ..REPLY
+            },
+        ),
+        Step::Call(
+            Call {
+                seqno: 4,
+                moment: 172_800,
+                results: &[("w3_0", 1, ""), ("w4_0", 1, "")],
+                ..ASKS_FOR_TWO
+            },
+            Reply {
+                acks: &["w3_0", "w4_0"],
+                jobs: &[Job {
+                    deadline: 180_000,
+                    ..W5_0
+                }],
+                ..HAD_QUOTA
+            },
+        ),
+        Step::Call(
+            Call {
+                seqno: 5,
+                moment: 259_200,
+                ..ASKS
+            },
+            Reply {
+                jobs: &[Job {
+                    deadline: 266_400,
+                    ..W6_0
+                }],
+                ..REPLY
+            },
+        ),
+        Step::Call(
+            Call {
+                seqno: 6,
+                moment: 345_600,
+                results: &[("w5_0", 0, "x"), ("w6_0", 1, "")],
+                ..ASKS_FOR_TWO
+            },
+            Reply {
+                acks: &["w5_0", "w6_0"],
+                jobs: &[W7_0, W8_0],
+                ..HAS_CREDIT
+            },
+        ),
+        Step::Call(
+            Call {
+                seqno: 7,
+                moment: 345_601,
+                ..ASKS
+            },
+            Reply {
+                end: "daily_quota",
+                ..HAS_CREDIT
+            },
+        ),
+    ],
+)];
+
+pub const FOURTH_ROWS: &[Row] = &[(
+    "late jobs lower the quota, and dropped ones do not",
+    &[
+        Step::Units(&[W1, W2, W3]),
+        Step::Call(ASKS_FOR_TWO, GETS_TWO),
+        Step::Call(
+            Call {
+                host: BOB,
+                ..ASKS_FOR_TWO
+            },
+            Reply {
+                jobs: &[SECOND, W2_1],
+                ..REPLY
+            },
+        ),
+        // too slow for them
+        Step::Call(
+            Call {
+                host: BOB,
+                moment: 8000,
+                p_fpops: 499,
+                ..LISTS_NONE
+            },
+            REPLY,
+        ),
+        Step::Tick(8201, 2),
+        Step::Call(
+            Call {
+                seqno: 2,
+                moment: 9000,
+                ..ASKS
+            },
+            HAD_QUOTA,
+        ),
+        Step::Call(
+            Call {
+                host: BOB,
+                seqno: 3,
+                moment: 9000,
+                ..ASKS
+            },
+            Reply {
+                jobs: &[Job {
+                    deadline: 16_200,
+                    ..W3_0
+                }],
+                ..REPLY
+            },
+        ),
+    ],
+)];
+
+pub const FIFTH_ROWS: &[Row] = &[
     (
         // which lowers the quota to three
         "a report that disagrees behind the quorum has no credit and takes none",
@@ -551,119 +559,125 @@ pub const ROWS: &[Row] = &[
             ),
         ],
     ),
-    (
-        // three have to agree
-        "two pairs of four decide nothing",
-        &[
-            Step::Units(&[Q1]),
-            Step::Line(
-                "1970-01-01T00:00:00Z account k4",
-                "200 {\"batch\":\"k4\",\"kind\":\"accounts\",\"rows\":1}",
-            ),
-            Step::Line(
-                "1970-01-01T00:00:00Z account k5",
-                "200 {\"batch\":\"k5\",\"kind\":\"accounts\",\"rows\":1}",
-            ),
-            Step::Asks(ANN, &[Q1_0]),
-            Step::Asks(BOB, &[Q1_1]),
-            Step::Asks(CID, &[Q1_2]),
-            Step::Asks(DAN, &[Q1_3]),
-            Step::Reports(ANN, 2, 2000, ("q1_0", 0, "x"), 0),
-            Step::Reports(BOB, 2, 2000, ("q1_1", 0, "x"), 0),
-            Step::Reports(CID, 2, 2000, ("q1_2", 0, "y"), 0),
-            Step::Reports(DAN, 2, 2000, ("q1_3", 0, "y"), 0),
-            Step::Asks(EVE, &[Q1_4]),
-            Step::Reports(EVE, 2, 2000, ("q1_4", 0, "x"), 5000),
-            Step::Call(READS, HAS_CREDIT),
-            Step::Call(Call { host: CID, ..READS }, REPLY),
-        ],
-    ),
-    (
-        "numbers agree that are near, and texts that are equal",
-        &[
-            Step::Units(&[F2, F3, F4]),
-            Step::Call(
-                ASKS_FOR_TWO,
-                Reply {
-                    jobs: &[F2_0, F3_0],
-                    ..REPLY
-                },
-            ),
-            Step::Call(
-                Call { seqno: 2, ..ASKS },
-                Reply {
-                    jobs: &[F4_0],
-                    ..REPLY
-                },
-            ),
-            Step::Call(
-                Call {
-                    host: BOB,
-                    ..ASKS_FOR_TWO
-                },
-                Reply {
-                    jobs: &[F2_1, F3_1],
-                    ..REPLY
-                },
-            ),
-            Step::Call(
-                Call {
-                    host: BOB,
-                    seqno: 2,
-                    ..ASKS
-                },
-                Reply {
-                    jobs: &[F4_1],
-                    ..REPLY
-                },
-            ),
-            Step::Reports(ANN, 3, 2000, ("f2_0", 0, "-1"), 0),
-            Step::Reports(ANN, 4, 2000, ("f3_0", 0, "x"), 0),
-            Step::Reports(ANN, 5, 2000, ("f4_0", 0, "01"), 0),
-            Step::Reports(BOB, 3, 2000, ("f2_1", 0, "1"), 5000),
-            Step::Reports(BOB, 4, 2000, ("f3_1", 0, "x"), 10_000),
-            Step::Reports(BOB, 5, 2000, ("f4_1", 0, "1"), 10_000),
-        ],
-    ),
-    (
-        "a workunit with too many errors fails, and what is lost of it is not sent again",
-        &[
-            Step::Units(&[E1]),
-            Step::Asks(ANN, &[E1_0]),
-            Step::Asks(BOB, &[E1_1]),
-            // one error is not too many
-            Step::Reports(ANN, 2, 2000, ("e1_0", 1, ""), 0),
-            Step::Asks(CID, &[E1_2]),
-            Step::Call(
-                Call {
-                    seqno: 2,
-                    other_results: Some(&["e1_2"]),
-                    ..CID_CALLS
-                },
-                REPLY,
-            ),
-            Step::Reports(BOB, 2, 2000, ("e1_1", 1, ""), 0),
-            Step::Call(
-                Call {
-                    seqno: 3,
-                    other_results: Some(&["e1_2"]),
-                    ..CID_CALLS
-                },
-                Reply {
-                    aborts: &["e1_2"],
-                    ..REPLY
-                },
-            ),
-            Step::Call(
-                Call {
-                    seqno: 4,
-                    other_results: Some(&[]),
-                    ..CID_CALLS
-                },
-                REPLY,
-            ),
-        ],
-    ),
+];
+
+pub const SIXTH_ROWS: &[Row] = &[(
+    // three have to agree
+    "two pairs of four decide nothing",
+    &[
+        Step::Units(&[Q1]),
+        Step::Line(
+            "1970-01-01T00:00:00Z account k4",
+            "200 {\"batch\":\"k4\",\"kind\":\"accounts\",\"rows\":1}",
+        ),
+        Step::Line(
+            "1970-01-01T00:00:00Z account k5",
+            "200 {\"batch\":\"k5\",\"kind\":\"accounts\",\"rows\":1}",
+        ),
+        Step::Asks(ANN, &[Q1_0]),
+        Step::Asks(BOB, &[Q1_1]),
+        Step::Asks(CID, &[Q1_2]),
+        Step::Asks(DAN, &[Q1_3]),
+        Step::Reports(ANN, 2, 2000, ("q1_0", 0, "x"), 0),
+        Step::Reports(BOB, 2, 2000, ("q1_1", 0, "x"), 0),
+        Step::Reports(CID, 2, 2000, ("q1_2", 0, "y"), 0),
+        Step::Reports(DAN, 2, 2000, ("q1_3", 0, "y"), 0),
+        Step::Asks(EVE, &[Q1_4]),
+        Step::Reports(EVE, 2, 2000, ("q1_4", 0, "x"), 5000),
+        Step::Call(READS, HAS_CREDIT),
+        Step::Call(Call { host: CID, ..READS }, REPLY),
+    ],
+)];
+
+pub const SEVENTH_ROWS: &[Row] = &[(
+    "numbers agree that are near, and texts that are equal",
+    &[
+        Step::Units(&[F2, F3, F4]),
+        Step::Call(
+            ASKS_FOR_TWO,
+            Reply {
+                jobs: &[F2_0, F3_0],
+                ..REPLY
+            },
+        ),
+        Step::Call(
+            Call { seqno: 2, ..ASKS },
+            Reply {
+                jobs: &[F4_0],
+                ..REPLY
+            },
+        ),
+        Step::Call(
+            Call {
+                host: BOB,
+                ..ASKS_FOR_TWO
+            },
+            Reply {
+                jobs: &[F2_1, F3_1],
+                ..REPLY
+            },
+        ),
+        Step::Call(
+            Call {
+                host: BOB,
+                seqno: 2,
+                ..ASKS
+            },
+            Reply {
+                jobs: &[F4_1],
+                ..REPLY
+            },
+        ),
+        Step::Reports(ANN, 3, 2000, ("f2_0", 0, "-1"), 0),
+        Step::Reports(ANN, 4, 2000, ("f3_0", 0, "x"), 0),
+        Step::Reports(ANN, 5, 2000, ("f4_0", 0, "01"), 0),
+        Step::Reports(BOB, 3, 2000, ("f2_1", 0, "1"), 5000),
+        Step::Reports(BOB, 4, 2000, ("f3_1", 0, "x"), 10_000),
+        Step::Reports(BOB, 5, 2000, ("f4_1", 0, "1"), 10_000),
+    ],
+)];
+
+pub const EIGHTH_ROWS: &[Row] = &[(
+    "a workunit with too many errors fails, and what is lost of it is not sent again",
+    &[
+        Step::Units(&[E1]),
+        Step::Asks(ANN, &[E1_0]),
+        Step::Asks(BOB, &[E1_1]),
+        // one error is not too many
+        Step::Reports(ANN, 2, 2000, ("e1_0", 1, ""), 0),
+        Step::Asks(CID, &[E1_2]),
+        Step::Call(
+            Call {
+                seqno: 2,
+                other_results: Some(&["e1_2"]),
+                ..CID_CALLS
+            },
+            REPLY,
+        ),
+        Step::Reports(BOB, 2, 2000, ("e1_1", 1, ""), 0),
+        Step::Call(
+            Call {
+                seqno: 3,
+                other_results: Some(&["e1_2"]),
+                ..CID_CALLS
+            },
+            Reply {
+                aborts: &["e1_2"],
+                ..REPLY
+            },
+        ),
+        Step::Call(
+            Call {
+                seqno: 4,
+                other_results: Some(&[]),
+                ..CID_CALLS
+            },
+            REPLY,
+        ),
+    ],
+)];
+
+pub const NINTH_ROWS: &[Row] = &[
     (
         // a third success would have made two that agree
         "a workunit with too many successes fails, and no report of it counts",

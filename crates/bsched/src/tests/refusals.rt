@@ -12,7 +12,7 @@ const LAST: Call<'static> = Call {
     ..CALL
 };
 
-pub const ROWS: &[Row] = &[
+pub const FIRST_ROWS: &[Row] = &[
     (
         // other blanks, another order, a default written out, an unknown member
         "a repeat in another spelling is told the same",
@@ -83,6 +83,9 @@ pub const ROWS: &[Row] = &[
             ),
         ],
     ),
+];
+
+pub const SECOND_ROWS: &[Row] = &[
     (
         "a body may be no request",
         &[
@@ -151,6 +154,9 @@ pub const ROWS: &[Row] = &[
             ),
         ],
     ),
+];
+
+pub const THIRD_ROWS: &[Row] = &[
     (
         "an import with a faulty row is refused whole",
         &[
