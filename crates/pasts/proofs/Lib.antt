@@ -1,0 +1,4 @@
+pub mod Places
+pub mod StepLeaves
+pub mod HostKeys
+pub mod RunLeaves

@@ -1,0 +1,68 @@
+-- Places in lists: the first that passes a test, and what a change at its place leaves.
+use Rattle.std.proofs.Common.{◌≡◌, ℕ, zero, suc, ◌+◌, Bool, true, false, cond, List, [], ◌∷◌, ◌++◌, map, Some, slice_get, sym, refl, ap, ◌∙◌, arith}
+use Rattle.std.specs.List.{position_from}
+use Rattle.sched_book.specs.Places.{place_where}
+use Rattle.sched_book.specs.Reports.{changed_at, changed_nth}
+use Rattle.sched_book.proofs.PlacesOf.{place_where-is, changed_nth-suc}
+
+-- what passes stands at the place that was found
+abbrev pub FoundFrom : {X : Type 0} → (X → Bool) → ℕ → List X → ℕ → Type 0
+FoundFrom {X} p m xs n = (i : ℕ) × (x : X) × (n ≡ m + i) × (slice_get xs i ≡ Some x) × (p x ≡ true)
+
+pub found_from : {X : Type 0} (p : X → Bool) (m : ℕ) (xs : List X) (n : ℕ) → position_from p m xs ≡ Some n → FoundFrom p m xs n
+found_from p m [] n is = absurd cc
+found_from {X} p m (y ∷ ys) n is = cases (p y) refl is (found_from p (m + 1) ys n)
+  where
+    cases : (b : Bool) → p y ≡ b → cond b (Some m) (position_from p (m + 1) ys) ≡ Some n
+        → (position_from p (m + 1) ys ≡ Some n → FoundFrom p (m + 1) ys n) → FoundFrom p m (y ∷ ys) n
+    cases true pass is later = let same : m ≡ n = cc in (0, y, omega arith, refl, pass)
+    cases false pass is later = let there = later is in (suc there.0, there.1, omega (arith, there.2), there.3, there.4)
+
+pub found : {X : Type 0} (p : X → Bool) (xs : List X) (n : ℕ) → place_where p xs ≡ Some n → FoundFrom p 1 xs n
+found p xs n is = found_from p 1 xs n (sym (place_where-is p xs) ∙ is)
+
+-- a change that a function does not see, at one index, and at all
+pub map-changed_here : {X Y : Type 0} (g : X → Y) (f : X → X) (xs : List X) (i : ℕ) (x : X) → slice_get xs i ≡ Some x → g (f x) ≡ g x
+    → map g (changed_at f xs i) ≡ map g xs
+map-changed_here g f [] i x there same = refl
+map-changed_here g f (y ∷ ys) zero x there same =
+    let is : y ≡ x = cc in ap (λ z. z ∷ map g ys) (ap (λ z. g (f z)) is ∙ same ∙ ap g (sym is))
+map-changed_here g f (y ∷ ys) (suc i) x there same = ap (λ zs. g y ∷ zs) (map-changed_here g f ys i x there same)
+
+map-changed_at : {X Y : Type 0} (g : X → Y) (f : X → X) → ((x : X) → g (f x) ≡ g x) → (xs : List X) (i : ℕ) → map g (changed_at f xs i) ≡ map g xs
+map-changed_at g f same [] i = refl
+map-changed_at g f same (x ∷ xs) zero = ap (λ z. z ∷ map g xs) (same x)
+map-changed_at g f same (x ∷ xs) (suc i) = ap (λ zs. g x ∷ zs) (map-changed_at g f same xs i)
+
+pub map-changed_nth : {X Y : Type 0} (g : X → Y) (f : X → X) → ((x : X) → g (f x) ≡ g x) → (xs : List X) (n : ℕ) → map g (changed_nth f xs n) ≡ map g xs
+map-changed_nth g f same xs zero = refl
+map-changed_nth g f same xs (suc i) = ap (map g) (changed_nth-suc f xs i) ∙ map-changed_at g f same xs i
+
+-- a change at the place of the first that passes
+pub map-changed_found : {X Y : Type 0} (g : X → Y) (f : X → X) (p : X → Bool) → ((x : X) → p x ≡ true → g (f x) ≡ g x) → (xs : List X) (n : ℕ)
+    → place_where p xs ≡ Some n → map g (changed_nth f xs n) ≡ map g xs
+map-changed_found g f p same xs n is =
+    let at : FoundFrom p 1 xs n = found p xs n is in
+    let place : n ≡ suc at.0 = omega (arith, at.2) in
+    ap (λ k. map g (changed_nth f xs k)) place ∙ ap (map g) (changed_nth-suc f xs at.0)
+    ∙ map-changed_here g f xs at.0 at.1 at.3 (same at.1 at.4)
+
+-- the first that passes is still the first where more stand behind it
+pub position-more : {X : Type 0} (p : X → Bool) (m : ℕ) (xs ys : List X) (n : ℕ) → position_from p m xs ≡ Some n → position_from p m (xs ++ ys) ≡ Some n
+position-more p m [] ys n is = absurd cc
+position-more p m (x ∷ xs) ys n is = cases (p x) is (position-more p (m + 1) xs ys n)
+  where
+    cases : (b : Bool) → cond b (Some m) (position_from p (m + 1) xs) ≡ Some n
+        → (position_from p (m + 1) xs ≡ Some n → position_from p (m + 1) (xs ++ ys) ≡ Some n)
+        → cond b (Some m) (position_from p (m + 1) (xs ++ ys)) ≡ Some n
+    cases true is later = is
+    cases false is later = later is
+
+pub place-more : {X : Type 0} (p : X → Bool) (xs ys : List X) (n : ℕ) → place_where p xs ≡ Some n → place_where p (xs ++ ys) ≡ Some n
+place-more p xs ys n is = place_where-is p (xs ++ ys) ∙ position-more p 1 xs ys n (sym (place_where-is p xs) ∙ is)
+
+-- the first that passes one test is the first that passes another, under a function
+pub position-map : {X Y : Type 0} (g : X → Y) (p : X → Bool) (q : Y → Bool) → ((x : X) → p x ≡ q (g x)) → (m : ℕ) (xs : List X)
+    → position_from p m xs ≡ position_from q m (map g xs)
+position-map g p q same m [] = refl
+position-map g p q same m (x ∷ xs) = λ i. cond (same x i) (Some m) (position-map g p q same (m + 1) xs i)

@@ -1,0 +1,41 @@
+-- Calls that are kept by the number of their host. (This project's own: tables keep them so.)
+use Rattle.std.specs.Prelude.{◌≡◌, ℕ, ◌==◌, if◌then◌else◌, List, [], ◌∷◌, take, Option, Some, None}
+use Rattle.reply_register.specs.declared.kept.Kept.{Kept}
+use Rattle.reply_register.specs.declared.key.Key.{Key}
+use Rattle.sched_book.specs.Sound.{Sound}
+use Rattle.sched_book.specs.Step.{Step, host_number}
+use Rattle.sched_book.specs.declared.machine.Answered.{Answered}
+use Rattle.sched_book.specs.declared.machine.Call.{Call}
+use Rattle.sched_book.specs.declared.machine.Call.TheVariants as call
+use Rattle.sched_book.specs.declared.world.World.{World}
+use Rattle.pasts.specs.Answers.{body_of, kept_beside_last, kept_call, kept_after}
+use Rattle.pasts.specs.Leaves.{host_of_key}
+use Rattle.pasts.specs.Messages.{Said}
+use Rattle.pasts.specs.Runs.{IsToldBy}
+
+-- what is kept at a number, and nothing where there is none
+abbrev pub kept_at : (ℕ → List Kept) → Option ℕ → List Kept
+kept_at kept None = []
+kept_at kept (Some number) = kept number
+
+-- what is kept of a key
+abbrev pub calls_by_number : World → (ℕ → List Kept) → Key → List Kept
+calls_by_number w kept key = kept_at kept (host_of_key w key)
+
+-- the calls with these at a number
+abbrev pub put_at : ℕ → List Kept → (ℕ → List Kept) → ℕ → List Kept
+put_at number calls kept n = if number == n then calls else kept n
+
+-- a call with this body is put before what is kept of its host
+abbrev pub numbered_after : World → Call → List ℕ → (ℕ → List Kept) → ℕ → List Kept
+numbered_after w (call.Rpc c r) body kept = put_at (host_number w c) (kept_call r body ∷ take kept_beside_last (kept_at kept c.host)) kept
+numbered_after w (call.Import new) body kept = kept
+numbered_after w call.Tick body kept = kept
+
+-- after a step what is kept by number is what is kept by key
+abbrev pub KeptByNumber : Type 0
+KeptByNumber =
+    (w after : World) (said : Said) (c : Call) (now : ℕ) (answered : Answered) → Sound w → IsToldBy said c → Step w c now after answered
+    → (kept : ℕ → List Kept) (key : Key)
+    → calls_by_number after (numbered_after w c (body_of answered said) kept) key
+    ≡ kept_after key said (body_of answered said) (calls_by_number w kept key)

@@ -1,0 +1,12 @@
+pub mod Kinds
+pub mod Messages
+pub mod FirstHeard
+pub mod Answers
+pub mod Told
+pub mod Runs
+pub mod Stands
+pub mod Leaves
+pub mod Laws
+pub mod Many
+pub mod Stops
+pub mod ByNumber

@@ -1,0 +1,28 @@
+-- What messages say, without the bytes in which they come. (The call is BOINC's scheduler request; imports, ticks and reads are this
+-- profile's.)
+use Rattle.std.specs.Prelude.{ℕ, List, Result}
+use Rattle.reply_register.specs.declared.key.Key.{Key}
+use Rattle.rpc_records.specs.declared.fault.Fault.{Fault}
+use Rattle.rpc_records.specs.declared.request.Request.{Request}
+use Rattle.sched_book.specs.declared.rows.Rows.{Rows}
+use Rattle.sched_book.specs.declared.world.World.{World}
+use Rattle.pasts.specs.declared.answer.Answer.{Answer}
+use Rattle.pasts.specs.declared.kind.Kind.{Kind}
+
+-- A call of a host; an import with its bytes, and the rows that they say or their first fault; a tick; a read of what stands; or a
+-- message that is refused for its bytes alone.
+pub data Said : Type 0 where
+  Rpc : (request : Request) → Said
+  Import : (kind : Kind) (batch text : List ℕ) (read : Result Rows Fault) → Said
+  Tick : Said
+  Read : (tells : World → Answer) → Said
+  Refused : (fault : Fault) → Said
+
+-- A message and its moment.
+pub record Message : Type 0 where
+  pub now : ℕ
+  pub said : Said
+
+-- who calls: a host of an account
+abbrev pub key_of : Request → Key
+key_of request = record { authenticator = request.authenticator; host_cpid = request.host.host_cpid }

@@ -1,0 +1,13 @@
+use rpc_records::Fault;
+use texts::Text;
+
+/// What a message is answered, before it is written as a response.
+#[derive(Drop)]
+pub enum Answer {
+    /// A good answer with this body: a reply, or what an import or a tick did.
+    Good(Text),
+    /// A text of what stands.
+    Statement(Text),
+    /// A refusal.
+    Refusal(Fault),
+}
