@@ -2,3 +2,9 @@ pub mod Places
 pub mod StepLeaves
 pub mod HostKeys
 pub mod RunLeaves
+pub mod ToldNone
+pub mod Carried
+pub mod Beginnings
+pub mod Rising
+pub mod OneRun
+pub mod Stopping

@@ -72,7 +72,7 @@ keys-more shelf new [] (k ∷ keys) are = absurd are
 keys-more shelf new (n ∷ names) [] are = absurd are
 keys-more shelf new (n ∷ names) (k ∷ keys) are = (account-more shelf new k.authenticator n.0 are.0, are.1, keys-more shelf new names keys are.2)
 
-settings_with_rows : (w : World) (new : Rows) → (with_rows w new).settings ≡ w.settings
+pub settings_with_rows : (w : World) (new : Rows) → (with_rows w new).settings ≡ w.settings
 settings_with_rows w (rows.Accounts xs) = refl
 settings_with_rows w (rows.Apps xs) = refl
 settings_with_rows w (rows.Versions xs) = refl

@@ -1,0 +1,184 @@
+-- After the messages of a run, a message is first heard just where the run's world and what it kept tell it nothing.
+use Rattle.std.proofs.Common.{◌≡◌, ℕ, List, [], ◌∷◌, take, length, Bool, true, false, refl, sym, ◌∙◌, ap, arith, nat_lt}
+use Rattle.std.specs.Prelude.{◌&&◌, ◌||◌, not, if◌then◌else◌, Option, Some, None, option_map, option_and_then, is_none, is_some, Result, Ok, Err}
+use Rattle.std.specs.Str.{bytes_eq}
+use Rattle.std.proofs.lemmas.Bool.Decides.{nat_tests}
+use Rattle.reply_register.specs.Keys.{same_key}
+use Rattle.reply_register.specs.declared.kept.Heard.TheVariants.{Fresh, Repeat, Reused, Stale}
+use Rattle.reply_register.specs.declared.kept.Kept.{Kept}
+use Rattle.reply_register.specs.declared.key.Key.{Key}
+use Rattle.reply_register.proofs.Calls.{same_key-is}
+use Rattle.rpc_records.specs.Spelling.{canonical_text}
+use Rattle.rpc_records.specs.declared.fault.Fault.{Fault}
+use Rattle.rpc_records.specs.declared.request.Request.{Request}
+use Rattle.sched_book.specs.Imports.{Shelf, shelf_of, fault_of_rows}
+use Rattle.sched_book.specs.Places.{place_where, account_place, known_host}
+use Rattle.sched_book.specs.declared.rows.Rows.{Rows}
+use Rattle.sched_book.specs.declared.settings.Settings.{Settings}
+use Rattle.sched_book.specs.declared.world.World.{World}
+use Rattle.pasts.specs.Answers.{kept_beside_last, kept_call, kept_after, batch_after}
+use Rattle.pasts.specs.FirstHeard.{account_on, above_said, has_batch, has_host_room, is_above, is_batch, is_first_call, is_first_heard, keys_of, names_host, rows_of}
+use Rattle.pasts.specs.Leaves.{host_of_key}
+use Rattle.pasts.specs.Messages.{Said, Rpc, Import, Tick, Read, Refused, Message, key_of}
+use Rattle.pasts.specs.Runs.{Turn, turn_body, world_of, messages_of, kept_of, batch_of}
+use Rattle.pasts.specs.Told.{told_fresh, told_heard, told_beside, told_number, told_account, told_import, told}
+use Rattle.pasts.specs.declared.answer.Answer.{Answer}
+use Rattle.pasts.specs.declared.answer.Answer.TheVariants.{Refusal}
+use Rattle.pasts.specs.declared.batch.KeptBatch.{KeptBatch}
+use Rattle.pasts.specs.declared.kind.Kind.{Kind}
+use Rattle.pasts.proofs.HostKeys.{host_of_key-place, host_count}
+use Rattle.pasts.proofs.RunLeaves.{Leaves, IsRun, run_leaves}
+
+-- ---- kept calls
+
+abbrev above_kept : List Kept → ℕ → Bool
+above_kept [] seqno = true
+above_kept (last ∷ older) seqno = nat_lt last.seqno seqno
+
+above_more : (kept : List Kept) (a b : ℕ) → nat_lt a b ≡ true → above_kept kept a ≡ true → above_kept kept b ≡ true
+above_more [] a b less above = refl
+above_more (last ∷ older) a b less above = grind (arith, nat_tests)
+
+last_decides : (a b : Bool) → (a ≡ true → b ≡ true) → (a && b) ≡ a
+last_decides true b so = so refl
+last_decides false b so = refl
+
+-- above the newest of the key's calls is above each of them
+above_call : (same : Bool) (kept : List Kept) (newest : Kept) (seqno : ℕ) → (same ≡ true → above_kept kept newest.seqno ≡ true)
+    → ((if same then nat_lt newest.seqno seqno else true) && above_kept kept seqno)
+    ≡ above_kept (if same then newest ∷ take kept_beside_last kept else kept) seqno
+above_call false kept newest seqno rises = refl
+above_call true kept newest seqno rises = last_decides _ _ (λ less. above_more kept newest.seqno seqno less (rises refl))
+
+is_third : (a b c d : Bool) → (a && b && c && d) ≡ true → c ≡ true
+is_third a b true d all = refl
+is_third true true false d all = all
+is_third true false false d all = all
+is_third false b false d all = all
+
+-- the number of a first-heard call is above the earlier ones of its key
+pub call_rises : (s : Settings) (request : Request) (older : List Message) → is_first_heard s older (Rpc request) ≡ true
+    → is_above (key_of request) request.rpc_seqno older ≡ true
+call_rises s request older first =
+    let number : Option ℕ = place_where (same_key (key_of request)) (keys_of older) in
+    is_third (is_some (account_on (rows_of older) request.authenticator)) (names_host request.hostid number)
+    (is_above (key_of request) request.rpc_seqno older) (has_host_room s.max_hosts number (length (keys_of older))) first
+
+above_step : (s : Settings) (said : Said) (body : List ℕ) (older : List Message) (kept : Key → List Kept) → is_first_heard s older said ≡ true
+    → ((key : Key) (seqno : ℕ) → is_above key seqno older ≡ above_kept (kept key) seqno)
+    → (key : Key) (seqno : ℕ) → (above_said key seqno said && is_above key seqno older) ≡ above_kept (kept_after key said body (kept key)) seqno
+above_step s (Rpc request) body older kept first above key seqno =
+    ap (λ rest. (if same_key key (key_of request) then nat_lt request.rpc_seqno seqno else true) && rest) (above key seqno)
+    ∙ above_call (same_key key (key_of request)) (kept key) (kept_call request body) seqno
+    (λ same. sym (above key request.rpc_seqno)
+    ∙ ap (λ k. is_above k request.rpc_seqno older) (same_key-is key (key_of request) same) ∙ call_rises s request older first)
+above_step s (Import kind batch text read) body older kept first above key seqno = above key seqno
+above_step s Tick body older kept first above key seqno = above key seqno
+above_step s (Read tells) body older kept first above key seqno = above key seqno
+above_step s (Refused fault) body older kept first above key seqno = above key seqno
+
+above_run : (s : Settings) (turns : List Turn) → IsRun s turns
+    → (key : Key) (seqno : ℕ) → is_above key seqno (messages_of turns) ≡ above_kept (kept_of turns key) seqno
+above_run s [] run = λ key seqno. refl
+above_run s (turn ∷ older) run =
+    above_step s turn.message.said (turn_body turn) (messages_of older) (kept_of older) run.0 (above_run s older run.2)
+
+-- ---- kept batches
+
+batch_step : (kind : Kind) (batch : List ℕ) (said : Said) (body : List ℕ) (older : Bool) (kept : Option KeptBatch) → older ≡ is_some kept
+    → (is_batch kind batch said || older) ≡ is_some (batch_after kind batch said body kept)
+batch_step kind batch (Import k b text read) body older kept same = cases (is_batch kind batch (Import k b text read))
+  where
+    cases : (is : Bool) → (is || older) ≡ is_some (if is then Some (record { text = text; answer = body }) else kept)
+    cases true = refl
+    cases false = same
+batch_step kind batch (Rpc request) body older kept same = same
+batch_step kind batch Tick body older kept same = same
+batch_step kind batch (Read tells) body older kept same = same
+batch_step kind batch (Refused fault) body older kept same = same
+
+batch_run : (turns : List Turn) (kind : Kind) (batch : List ℕ) → has_batch kind batch (messages_of turns) ≡ is_some (batch_of turns kind batch)
+batch_run [] kind batch = refl
+batch_run (turn ∷ older) kind batch = batch_step kind batch turn.message.said (turn_body turn) _ _ (batch_run older kind batch)
+
+-- ---- first heard, and told nothing
+
+fresh_none : (room : Bool) → is_none (told_fresh room) ≡ room
+fresh_none true = refl
+fresh_none false = refl
+
+heard_none : (room less more repeats : Bool) (reply : List ℕ) (last : ℕ)
+    → is_none (told_heard room reply (if less then Fresh else (if more then Stale last else (if repeats then Repeat else Reused last)))) ≡ (less && room)
+heard_none room true more repeats reply last = fresh_none room
+heard_none room false true repeats reply last = refl
+heard_none room false false true reply last = refl
+heard_none room false false false reply last = refl
+
+beside_none : (room : Bool) (kept : List Kept) (seqno : ℕ) (text : List ℕ) → is_none (told_beside room kept seqno text) ≡ (above_kept kept seqno && room)
+beside_none room [] seqno text = fresh_none room
+beside_none room (last ∷ older) seqno text =
+    heard_none room (nat_lt last.seqno seqno) (nat_lt seqno last.seqno) (bytes_eq last.text text) last.reply last.seqno
+
+number_cases : (names above room : Bool) (beside : Option Answer) (x : Answer) → is_none beside ≡ (above && room)
+    → (names && above && room) ≡ is_none (if names then beside else Some x)
+number_cases true above room beside x same = sym same
+number_cases false above room beside x same = refl
+
+call_told : (w : World) (kept : List Kept) (r : Request) (account number : Option ℕ) (above : Bool) (count : ℕ)
+    → ((a : ℕ) → account ≡ Some a → number ≡ known_host w a r.host.host_cpid) → above ≡ above_kept kept r.rpc_seqno → count ≡ length w.hosts
+    → is_first_call w.settings r account number above count ≡ is_none (told_account w kept r account)
+call_told w kept r None number above count is above_is count_is = refl
+call_told w kept r (Some a) number above count is above_is count_is =
+    let known : Option ℕ = known_host w a r.host.host_cpid in
+    let here : is_first_call w.settings r (Some a) number above count
+    ≡ is_first_call w.settings r (Some a) known (above_kept kept r.rpc_seqno) (length w.hosts) =
+    λ i. is_first_call w.settings r (Some a) (is a refl i) (above_is i) (count_is i) in
+    here
+    ∙ number_cases (names_host r.hostid known) (above_kept kept r.rpc_seqno) (has_host_room w.settings.max_hosts known (length w.hosts))
+    (told_beside (has_host_room w.settings.max_hosts known (length w.hosts)) kept r.rpc_seqno (canonical_text r)) _
+    (beside_none (has_host_room w.settings.max_hosts known (length w.hosts)) kept r.rpc_seqno (canonical_text r))
+
+import_told : (w : World) (kept : Option KeptBatch) (text : List ℕ) (rows : Rows)
+    → (not (is_some kept) && is_none (fault_of_rows (shelf_of w) rows)) ≡ is_none (told_import w kept text (Ok rows))
+import_told w (Some kept) text rows = refl
+import_told w None text rows = cases (fault_of_rows (shelf_of w) rows)
+  where
+    cases : (fault : Option Fault) → is_none fault ≡ is_none (option_map Refusal fault)
+    cases None = refl
+    cases (Some fault) = refl
+
+bad_import_told : (w : World) (kept : Option KeptBatch) (text : List ℕ) (fault : Fault) → false ≡ is_none (told_import w kept text (Err fault))
+bad_import_told w (Some kept) text fault = refl
+bad_import_told w None text fault = refl
+
+-- The whole law between the two definitions.
+pub told_none : (s : Settings) (turns : List Turn) → IsRun s turns → (said : Said)
+    → is_first_heard s (messages_of turns) said ≡ is_none (told (world_of s turns) (kept_of turns) (batch_of turns) said)
+told_none s turns run (Rpc request) =
+    let key : Key = key_of request in
+    let w : World = world_of s turns in
+    let messages : List Message = messages_of turns in
+    let leaves : Leaves s w (rows_of messages) (keys_of messages) = run_leaves s turns run in
+    let account : account_on (rows_of messages) request.authenticator ≡ account_place w request.authenticator =
+    ap (λ shelf. account_on shelf request.authenticator) (sym leaves.shelf_is) in
+    let number : host_of_key w key ≡ place_where (same_key key) (keys_of messages) = host_of_key-place w (keys_of messages) key leaves.are in
+    let asked : is_first_call s request (account_on (rows_of messages) request.authenticator) (place_where (same_key key) (keys_of messages))
+    (is_above key request.rpc_seqno messages) (length (keys_of messages))
+    ≡ is_first_call w.settings request (account_place w request.authenticator) (place_where (same_key key) (keys_of messages))
+    (is_above key request.rpc_seqno messages) (length (keys_of messages)) =
+    λ i. is_first_call (sym leaves.settings i) request (account i) (place_where (same_key key) (keys_of messages))
+    (is_above key request.rpc_seqno messages) (length (keys_of messages)) in
+    asked
+    ∙ call_told w (kept_of turns key) request (account_place w request.authenticator) (place_where (same_key key) (keys_of messages))
+    (is_above key request.rpc_seqno messages) (length (keys_of messages))
+    (λ a is. sym number ∙ ap (λ o. option_and_then (λ account. known_host w account request.host.host_cpid) o) is)
+    (above_run s turns run key request.rpc_seqno) (sym (host_count w (keys_of messages) leaves.are))
+told_none s turns run (Import kind batch text (Ok rows)) =
+    let w : World = world_of s turns in
+    let leaves : Leaves s w (rows_of (messages_of turns)) (keys_of (messages_of turns)) = run_leaves s turns run in
+    (λ i. not (batch_run turns kind batch i) && is_none (fault_of_rows (sym leaves.shelf_is i) rows))
+    ∙ import_told w (batch_of turns kind batch) text rows
+told_none s turns run (Import kind batch text (Err fault)) = bad_import_told (world_of s turns) (batch_of turns kind batch) text fault
+told_none s turns run Tick = refl
+told_none s turns run (Read tells) = refl
+told_none s turns run (Refused fault) = refl
