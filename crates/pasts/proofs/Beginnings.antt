@@ -1,7 +1,6 @@
 -- The first-heard messages of a past begin with those of each shorter one.
 use Rattle.std.proofs.Common.{◌≡◌, List, [], ◌∷◌, ◌++◌, Bool, true, false, refl, ap}
 use Rattle.std.specs.Prelude.{if◌then◌else◌}
-use Rattle.pasts.specs.FirstHeard.{first_heard}
 use Rattle.pasts.specs.Laws.{FirstHeardBegins}
 use Rattle.pasts.specs.Messages.{Message}
 

@@ -1,8 +1,6 @@
 -- Tables that serve a message stand for the past and that message.
-use Rattle.std.proofs.Common.{◌≡◌, ℕ, List, [], ◌∷◌, true, false, refl, sym, ◌∙◌, ap, subst, inl, inr}
+use Rattle.std.proofs.Common.{◌≡◌, ℕ, List, [], ◌∷◌, true, refl, sym, ◌∙◌, ap, subst, inl, inr}
 use Rattle.std.specs.Prelude.{if◌then◌else◌, Option, Some, None, is_none}
-use Rattle.reply_register.specs.declared.key.Key.{Key}
-use Rattle.sched_book.specs.Imports.{with_rows}
 use Rattle.sched_book.specs.Step.{Step}
 use Rattle.sched_book.specs.declared.machine.Answered.{Answered}
 use Rattle.sched_book.specs.declared.machine.Call.{Call}
@@ -12,14 +10,14 @@ use Rattle.sched_book.specs.declared.world.World.{World}
 use Rattle.pasts.specs.Answers.{body_of, kept_after, batch_after}
 use Rattle.pasts.specs.FirstHeard.{is_first_heard, first_heard}
 use Rattle.pasts.specs.Laws.{IsOfFirstHeard, NewTablesStand, StandsCarried, FirstHeardIsToldNothing, RunsTheFirstHeard, RowsAreOfFirstHeard}
-use Rattle.pasts.specs.Leaves.{Frame, frame, frame_after}
+use Rattle.pasts.specs.Leaves.{Frame, frame_after}
 use Rattle.pasts.specs.Messages.{Said, Message}
 use Rattle.pasts.specs.Runs.{Turn, IsTurn, world_of, messages_of, kept_of, batch_of}
-use Rattle.pasts.specs.Stands.{Heard, Past, Tables, Same, Answers, StandsBy, Stands, Commits, ServesAs, Serves, then_heard, messages_in, told_by}
+use Rattle.pasts.specs.Stands.{Past, Tables, Same, Answers, StandsBy, Stands, Commits, ServesAs, then_heard, messages_in, told_by}
 use Rattle.pasts.specs.Told.{told}
 use Rattle.pasts.specs.declared.answer.Answer.{Answer}
 use Rattle.pasts.proofs.HostKeys.{host_of_key-place, host_count}
-use Rattle.pasts.proofs.RunLeaves.{Leaves, IsRun, run_leaves, settings_with_rows}
+use Rattle.pasts.proofs.RunLeaves.{IsRun, run_leaves, settings_with_rows}
 use Rattle.pasts.proofs.StepLeaves.{step_leaves}
 use Rattle.pasts.proofs.ToldNone.{told_none}
 
@@ -106,9 +104,14 @@ commit_stands old new m answer past turns by none c =
     let Q : World → Type 0 = λ w. Step w c.call m.now new.world c.answered in record {
       answers =
           subst P (sym (settings_stay old.world new.world c.call m.now c.answered c.step))
-          (inl (first_is_told old past turns by m.said ∙ ap is_none none, turn_of old m answer new c, turns, refl,
-          record { message = refl; step = record { is_call = c.is_call; limits = c.limits; step = subst Q by.world c.step }; answer = c.answer_is },
-          by.answers));
+          (inl (
+            first_is_told old past turns by m.said ∙ ap is_none none,
+            turn_of old m answer new c,
+            turns,
+            refl,
+            record { message = refl; step = record { is_call = c.is_call; limits = c.limits; step = subst Q by.world c.step }; answer = c.answer_is },
+            by.answers,
+          ));
       world = refl;
       calls = λ key. c.calls key ∙ ap (kept_after key m.said (body_of c.answered m.said)) (by.calls key);
       batches = λ kind batch. c.batches kind batch ∙ ap (batch_after kind batch m.said (body_of c.answered m.said)) (by.batches kind batch);
@@ -127,9 +130,11 @@ pub stands_is_carried : StandsCarried
 stands_is_carried old new m answer serves past stands = cases (told_by old m.said) refl serves
   where
     cases : (o : Option Answer) → told_by old m.said ≡ o → ServesAs o old m answer new → Stands new (then_heard past m answer)
-    cases (Some told_it) is serves =
-        (stands.0, stands_same new old (then_heard past m answer) stands.0 serves.1
-        (quiet_stands old m answer past stands.0 stands.1 (is ∙ ap Some (sym serves.0))))
+    cases (Some told_it) is serves = (
+      stands.0,
+      stands_same new old (then_heard past m answer) stands.0 serves.1
+          (quiet_stands old m answer past stands.0 stands.1 (is ∙ ap Some (sym serves.0))),
+    )
     cases None is c = (turn_of old m answer new c ∷ stands.0, commit_stands old new m answer past stands.0 stands.1 is c)
 
 -- ---- what stands is of the first-heard messages

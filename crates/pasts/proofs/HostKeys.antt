@@ -24,7 +24,7 @@ use Rattle.pasts.proofs.Places.{FoundFrom, found, map-changed_found, position-ma
 
 -- ---- the names of hosts
 
-abbrev is_name : ℕ → List ℕ → ℕ × List ℕ → Bool
+abbrev pub is_name : ℕ → List ℕ → ℕ × List ℕ → Bool
 is_name account cpid name = (name.0 == account) && bytes_eq name.1 cpid
 
 -- the number of an account's host is the place of its name
@@ -34,7 +34,7 @@ known-place hosts account cpid =
     place_where-is (is_host_of account cpid) hosts ∙ position-map host_name (is_host_of account cpid) (is_name account cpid) (λ h. refl) 1 hosts
 
 -- the names with this one behind them where it has no number
-abbrev names_after : ℕ × List ℕ → Option ℕ → List (ℕ × List ℕ) → List (ℕ × List ℕ)
+abbrev pub names_after : ℕ × List ℕ → Option ℕ → List (ℕ × List ℕ) → List (ℕ × List ℕ)
 names_after name None names = names ++ name ∷ []
 names_after name (Some number) names = names
 
@@ -87,7 +87,7 @@ bytes_eq-sym xs ys =
     (λ same. (bytes_eq-Decides xs ys).1 (sym ((bytes_eq-Decides ys xs).0 same)))
 
 -- a key is another just where its account and name are
-same_test : (shelf : Shelf) (key k : Key) (name : ℕ × List ℕ) (account : ℕ) → account_on shelf key.authenticator ≡ Some account
+pub same_test : (shelf : Shelf) (key k : Key) (name : ℕ × List ℕ) (account : ℕ) → account_on shelf key.authenticator ≡ Some account
     → account_on shelf k.authenticator ≡ Some name.0 → name.1 ≡ k.host_cpid → same_key key k ≡ is_name account key.host_cpid name
 same_test shelf key k name account here there named =
     let words : bytes_eq key.authenticator k.authenticator ≡ (name.0 == account) =

@@ -8,3 +8,4 @@ pub mod Beginnings
 pub mod Rising
 pub mod OneRun
 pub mod Stopping
+pub mod ByNumber

@@ -1,5 +1,5 @@
 -- What stands, and what many messages do, is one run of the machine.
-use Rattle.std.proofs.Common.{◌≡◌, ℕ, List, [], ◌∷◌, ◌++◌, refl, sym, ◌∙◌, ap, subst}
+use Rattle.std.proofs.Common.{◌≡◌, ℕ, List, [], ◌∷◌, ◌++◌, refl, sym, subst}
 use Rattle.std.specs.Prelude.{Option, Some, None}
 use Rattle.sched_book.specs.Step.{Step, Trace, empty_world}
 use Rattle.sched_book.specs.declared.machine.Answered.{Answered}
@@ -7,10 +7,9 @@ use Rattle.sched_book.specs.declared.machine.Call.{Call}
 use Rattle.sched_book.specs.declared.settings.Settings.{Settings}
 use Rattle.sched_book.specs.declared.world.World.{World}
 use Rattle.pasts.specs.Laws.{calls_in, worlds_in, AreInLimits, last_world, IsRunTo, RunsTo, IsOneRun, ServesByOneRun, StandsCarriedByAll}
-use Rattle.pasts.specs.Many.{ServesAll, followed}
 use Rattle.pasts.specs.Messages.{Message}
 use Rattle.pasts.specs.Runs.{Turn, IsInLimits, world_of}
-use Rattle.pasts.specs.Stands.{Heard, Past, Tables, Commits, ServesAs, Stands, then_heard, told_by}
+use Rattle.pasts.specs.Stands.{Tables, ServesAs, then_heard, told_by}
 use Rattle.pasts.specs.declared.answer.Answer.{Answer}
 use Rattle.pasts.proofs.Carried.{run_of, stands_same, stands_is_carried}
 use Rattle.pasts.proofs.RunLeaves.{IsRun}

@@ -1,6 +1,6 @@
 -- The numbers of a key's first-heard calls rise.
 use Rattle.std.proofs.Common.{◌≡◌, ℕ, ◌<◌, List, [], ◌∷◌, ◌++◌, Bool, true, false, nat_lt, refl, sym, ◌∙◌, ap, subst, arith}
-use Rattle.std.specs.Prelude.{◌&&◌, if◌then◌else◌}
+use Rattle.std.specs.Prelude.{if◌then◌else◌}
 use Rattle.std.proofs.lemmas.Bool.{and_parts}
 use Rattle.std.proofs.lemmas.Bool.Decides.{nat_tests}
 use Rattle.reply_register.specs.Keys.{same_key}
@@ -9,7 +9,7 @@ use Rattle.rpc_records.specs.declared.request.Request.{Request}
 use Rattle.sched_book.specs.declared.settings.Settings.{Settings}
 use Rattle.pasts.specs.FirstHeard.{above_said, is_above, is_first_heard, first_heard}
 use Rattle.pasts.specs.Laws.{NumbersRise}
-use Rattle.pasts.specs.Messages.{Said, Rpc, Message, key_of}
+use Rattle.pasts.specs.Messages.{Rpc, Message, key_of}
 use Rattle.pasts.proofs.ToldNone.{call_rises}
 
 -- what heads a part of the first-heard messages is first heard after the rest

@@ -50,7 +50,7 @@ new_units : (us : List Workunit) → map (λ (b : UnitBook). b.unit) (map new_un
 new_units [] = refl
 new_units (u ∷ us) = ap (λ vs. u ∷ vs) (new_units us)
 
-shelf_with_rows : (w : World) (new : Rows) → shelf_of (with_rows w new) ≡ shelved (shelf_of w) new
+pub shelf_with_rows : (w : World) (new : Rows) → shelf_of (with_rows w new) ≡ shelved (shelf_of w) new
 shelf_with_rows w (rows.Accounts xs) = refl
 shelf_with_rows w (rows.Apps xs) = refl
 shelf_with_rows w (rows.Versions xs) = refl
@@ -60,7 +60,7 @@ shelf_with_rows w (rows.Workunits xs) =
     (map-append unit_of w.units (map new_unit xs) ∙ ap (λ vs. map unit_of w.units ++ vs) (new_units xs))
 
 -- an account that stands keeps its place
-account-more : (shelf : Shelf) (new : Rows) (word : List ℕ) (account : ℕ) → account_on shelf word ≡ Some account → account_on (shelved shelf new) word ≡ Some account
+pub account-more : (shelf : Shelf) (new : Rows) (word : List ℕ) (account : ℕ) → account_on shelf word ≡ Some account → account_on (shelved shelf new) word ≡ Some account
 account-more shelf (rows.Accounts xs) word account here = place-more (λ (a : Account). bytes_eq a.authenticator word) shelf.accounts xs account here
 account-more shelf (rows.Apps xs) word account here = here
 account-more shelf (rows.Versions xs) word account here = here

@@ -1,5 +1,5 @@
 -- What a stop may leave stands for the past, or for it and one open message.
-use Rattle.std.proofs.Common.{◌≡◌, List, [], ◌∷◌, refl, sym, ◌∙◌, ap, subst, inl, inr}
+use Rattle.std.proofs.Common.{List, [], ◌∷◌, sym, ◌∙◌, ap, subst, inl, inr}
 use Rattle.std.specs.Prelude.{Contains}
 use Rattle.std.proofs.lemmas.List.Elements.{Contains-append_right}
 use Rattle.sched_book.specs.Step.{Step}
@@ -7,7 +7,7 @@ use Rattle.sched_book.specs.declared.world.World.{World}
 use Rattle.pasts.specs.Answers.{body_of, kept_after, batch_after}
 use Rattle.pasts.specs.Messages.{Message}
 use Rattle.pasts.specs.Stands.{Tables, Same, Commits}
-use Rattle.pasts.specs.Stops.{IsOneAhead, MayBeLeft, StopsStand, ImagesGoOn}
+use Rattle.pasts.specs.Stops.{IsOneAhead, StopsStand, ImagesGoOn}
 use Rattle.pasts.specs.declared.answer.Answer.{Answer}
 use Rattle.pasts.proofs.Carried.{told_same, stands_same, turn_of, commit_stands}
 

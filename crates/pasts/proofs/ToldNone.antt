@@ -1,6 +1,6 @@
 -- After the messages of a run, a message is first heard just where the run's world and what it kept tell it nothing.
 use Rattle.std.proofs.Common.{◌≡◌, ℕ, List, [], ◌∷◌, take, length, Bool, true, false, refl, sym, ◌∙◌, ap, arith, nat_lt}
-use Rattle.std.specs.Prelude.{◌&&◌, ◌||◌, not, if◌then◌else◌, Option, Some, None, option_map, option_and_then, is_none, is_some, Result, Ok, Err}
+use Rattle.std.specs.Prelude.{◌&&◌, ◌||◌, not, if◌then◌else◌, Option, Some, None, option_map, option_and_then, is_none, is_some, Ok, Err}
 use Rattle.std.specs.Str.{bytes_eq}
 use Rattle.std.proofs.lemmas.Bool.Decides.{nat_tests}
 use Rattle.reply_register.specs.Keys.{same_key}
@@ -11,7 +11,7 @@ use Rattle.reply_register.proofs.Calls.{same_key-is}
 use Rattle.rpc_records.specs.Spelling.{canonical_text}
 use Rattle.rpc_records.specs.declared.fault.Fault.{Fault}
 use Rattle.rpc_records.specs.declared.request.Request.{Request}
-use Rattle.sched_book.specs.Imports.{Shelf, shelf_of, fault_of_rows}
+use Rattle.sched_book.specs.Imports.{shelf_of, fault_of_rows}
 use Rattle.sched_book.specs.Places.{place_where, account_place, known_host}
 use Rattle.sched_book.specs.declared.rows.Rows.{Rows}
 use Rattle.sched_book.specs.declared.settings.Settings.{Settings}
@@ -21,7 +21,7 @@ use Rattle.pasts.specs.FirstHeard.{account_on, above_said, has_batch, has_host_r
 use Rattle.pasts.specs.Leaves.{host_of_key}
 use Rattle.pasts.specs.Messages.{Said, Rpc, Import, Tick, Read, Refused, Message, key_of}
 use Rattle.pasts.specs.Runs.{Turn, turn_body, world_of, messages_of, kept_of, batch_of}
-use Rattle.pasts.specs.Told.{told_fresh, told_heard, told_beside, told_number, told_account, told_import, told}
+use Rattle.pasts.specs.Told.{told_fresh, told_heard, told_beside, told_account, told_import, told}
 use Rattle.pasts.specs.declared.answer.Answer.{Answer}
 use Rattle.pasts.specs.declared.answer.Answer.TheVariants.{Refusal}
 use Rattle.pasts.specs.declared.batch.KeptBatch.{KeptBatch}
