@@ -1,0 +1,94 @@
+-- What one first-heard call does to deadlines and held jobs.
+use Rattle.std.proofs.Common.{◌≡◌, ◌⊎◌, ℕ, true, List, Some, None, sym, ◌∙◌, ap, subst, inl, inr}
+use Rattle.std.specs.Prelude.{Option}
+use Rattle.rpc_records.specs.declared.reply.Reply.{Reply}
+use Rattle.rpc_records.specs.declared.request.Request.{Request}
+use Rattle.sched_book.specs.Sound.{Sound}
+use Rattle.sched_book.specs.Step.{Step, deadline_at}
+use Rattle.sched_book.specs.declared.instance.Owner.{Owner}
+use Rattle.sched_book.specs.declared.instance.Place.{Place}
+use Rattle.sched_book.specs.declared.machine.Answered.{Answered}
+use Rattle.sched_book.specs.declared.machine.Answered.TheVariants as answered
+use Rattle.sched_book.specs.declared.machine.Call.{Call}
+use Rattle.sched_book.specs.declared.machine.Call.TheVariants as call
+use Rattle.sched_book.specs.declared.machine.Caller.{Caller}
+use Rattle.sched_book.specs.declared.world.World.{World}
+use Rattle.pasts.specs.Answers.{body_of}
+use Rattle.pasts.specs.Messages.{Said, Rpc, Import, Tick, Read, Refused, Message}
+use Rattle.pasts.specs.Runs.{IsToldBy}
+use Rattle.pasts.specs.Stands.{Commits, ServesAs, told_by}
+use Rattle.pasts.specs.declared.answer.Answer.{Answer}
+use Rattle.pasts.specs.declared.answer.Answer.TheVariants.{Good}
+use Rattle.sched_machine.specs.Runs.{IsSentAgain}
+use Rattle.sched_machine.proofs.HeldNamed as named
+use Rattle.sched_machine.proofs.RunDeadlines as deadlines
+use Rattle.past_laws.specs.Laws.{IsSentAgainBy, DeadlinesMoveByResendsAlone, IsInSight, NoHeldJobDropsFromSight}
+use Rattle.past_laws.proofs.Sounds.{what_stands_is_sound}
+
+-- ---- deadlines
+
+sent_again : (old new : World) (m : Message) (c : Call) (answer : Answered) → IsToldBy m.said c → Step old c m.now new answer → (p : Place) (o : Owner)
+    → IsSentAgain old c p o → IsSentAgainBy old m p o
+sent_again old new m (call.Rpc caller r) (answered.Rpc reply) is step p o again = record {
+  caller = caller;
+  request = r;
+  said = said_by m.said is;
+  is_caller = step.caller;
+  again = again;
+}
+  where
+    said_by : (said : Said) → IsToldBy said (call.Rpc caller r) → said ≡ Rpc r
+    said_by (Rpc request) is = ap Rpc (sym is)
+    said_by (Import kind batch text read) is = absurd is
+    said_by Tick is = absurd is
+    said_by (Read tells) is = absurd is
+    said_by (Refused fault) is = absurd is
+sent_again old new m (call.Rpc caller r) (answered.Imported n) is step p o again = absurd step
+sent_again old new m (call.Rpc caller r) (answered.Lapsed n) is step p o again = absurd step
+sent_again old new m (call.Import rows) answer is step p o again = absurd again
+sent_again old new m call.Tick answer is step p o again = absurd again
+
+pub deadlines_move_by_resends_alone : DeadlinesMoveByResendsAlone
+deadlines_move_by_resends_alone old new m answer serves p o owned = cases (told_by old m.said) serves
+  where
+    cases : (told : Option Answer) → ServesAs told old m answer new
+        → (deadline_at new.world p ≡ deadline_at old.world p) ⊎ IsSentAgainBy old.world m p o
+    cases (Some told) quiet = inl (ap (λ w. deadline_at w p) quiet.1.world)
+    cases None c =
+        elim (deadlines.deadlines_move_by_resends_alone old.world new.world c.call m.now c.answered c.step p o owned) [
+          | inl stays ↦ inl stays
+          | inr again ↦ inr (sent_again old.world new.world m c.call c.answered c.is_call c.step p o again)
+        ]
+
+-- ---- held jobs
+
+in_sight : (old new : World) (said : Said) (r : Request) (now : ℕ) (names : List (List ℕ)) (answer : Answer) (c : Call) (a : Answered) → Sound old
+    → old.settings.resend_lost_results ≡ true → r.other_results ≡ Some names → said ≡ Rpc r → IsToldBy said c → Step old c now new a
+    → answer ≡ Good (body_of a said) → IsInSight old new r names answer
+in_sight old new said r now names answer c a sound resends lists says is step answer_is =
+    let P : Said → Type 0 = λ said. IsToldBy said c in told c a (subst P says is) step (answer_is ∙ ap (λ said. Good (body_of a said)) says)
+  where
+    of_reply : (caller : Caller) (q : Request) (reply : Reply) → q ≡ r → Step old (call.Rpc caller q) now new (answered.Rpc reply)
+        → answer ≡ Good (body_of (answered.Rpc reply) (Rpc r)) → IsInSight old new r names answer
+    of_reply caller q reply same step answer_is =
+        let P : Request → Type 0 = λ q. Step old (call.Rpc caller q) now new (answered.Rpc reply) in
+        let mine = subst P same step in record {
+          caller = caller;
+          is_caller = mine.caller;
+          reply = reply;
+          answer_is = answer_is;
+          held = named.a_host_holds_what_is_listed_or_named old new caller r now reply names mine sound resends lists;
+        }
+
+    told : (c : Call) (a : Answered) → IsToldBy (Rpc r) c → Step old c now new a → answer ≡ Good (body_of a (Rpc r)) → IsInSight old new r names answer
+    told (call.Rpc caller q) (answered.Rpc reply) same step answer_is = of_reply caller q reply same step answer_is
+    told (call.Rpc caller q) (answered.Imported n) same step answer_is = absurd step
+    told (call.Rpc caller q) (answered.Lapsed n) same step answer_is = absurd step
+    told (call.Import rows) a same step answer_is = absurd same
+    told call.Tick a same step answer_is = absurd same
+
+pub no_held_job_drops_from_sight : NoHeldJobDropsFromSight
+no_held_job_drops_from_sight old new m answer r names stood says first serves resends lists =
+    let P : Option Answer → Type 0 = λ told. ServesAs told old m answer new in
+    let c : Commits old m answer new = subst P first serves in
+    in_sight old.world new.world m.said r m.now names answer c.call c.answered (what_stands_is_sound old stood) resends lists says c.is_call c.step c.answer_is

@@ -1,0 +1,3 @@
+pub mod Sounds
+pub mod Holds
+pub mod Calls

@@ -1,0 +1,58 @@
+-- What stands for a past is sound, and so is what stands after messages.
+use Rattle.std.proofs.Common.{ℕ, List, [], ◌∷◌, subst}
+use Rattle.rpc_records.specs.Ranges.{IsInRange}
+use Rattle.rpc_records.specs.declared.request.Request.{Request}
+use Rattle.sched_book.specs.Sound.{Sound}
+use Rattle.sched_book.specs.Step.{empty_world}
+use Rattle.sched_book.specs.declared.machine.Answered.{Answered}
+use Rattle.sched_book.specs.declared.machine.Call.{Call}
+use Rattle.sched_book.specs.declared.machine.Call.TheVariants as call
+use Rattle.sched_book.specs.declared.settings.Settings.{Settings}
+use Rattle.sched_book.specs.declared.world.World.{World}
+use Rattle.pasts.specs.Laws.{calls_in, worlds_in, AreInLimits, last_world, IsRunTo}
+use Rattle.pasts.specs.Runs.{Turn, IsCallInRange}
+use Rattle.pasts.proofs.OneRun.{is_one_run}
+use Rattle.sched_machine.specs.Laws.{IsCallInLimits, AreCallsInLimits, AllSound}
+use Rattle.sched_machine.specs.Runs.{AllAfter}
+use Rattle.sched_machine.specs.Well.{IsRequestInLimits}
+use Rattle.sched_machine.proofs.StepsSound.{runs_keep_sound, the_empty_world_is_sound}
+use Rattle.past_laws.specs.Laws.{StandsIsSound}
+
+-- ---- limits
+
+request_in_limits : (r : Request) → IsInRange r → IsRequestInLimits r
+request_in_limits r range = record {
+  speed = (range.host.some_fpops, range.host.p_fpops);
+  memory = range.host.m_nbytes;
+  disk = range.host.d_free;
+  platforms = (range.some_platform, range.platform_count);
+}
+
+call_in_limits : (c : Call) → IsCallInRange c → IsCallInLimits c
+call_in_limits (call.Rpc caller r) range = request_in_limits r range
+call_in_limits (call.Import new) range = tt
+call_in_limits call.Tick range = tt
+
+pub calls_in_limits : (calls : List (Call × ℕ)) → AreInLimits calls → AreCallsInLimits calls
+calls_in_limits [] limits = tt
+calls_in_limits (e ∷ es) limits = (call_in_limits e.0 limits.0.request, limits.0.moment, calls_in_limits es limits.1)
+
+-- ---- the last world of a run
+
+last_sound : (w : World) (worlds : List (Answered × World)) → Sound w → AllSound worlds → Sound (last_world w worlds)
+last_sound w [] sound all = sound
+last_sound w (t ∷ ts) sound all = last_sound t.1 ts all.0 all.1
+
+pub last_after : (P : World → Type 0) (w : World) (worlds : List (Answered × World)) → P w → AllAfter P worlds → P (last_world w worlds)
+last_after P w [] first all = first
+last_after P w (t ∷ ts) first all = last_after P t.1 ts all.0 all.1
+
+pub what_stands_is_sound : StandsIsSound
+what_stands_is_sound t stood =
+    let s : Settings = t.world.settings in
+    let turns : List Turn = stood.stands.0 in
+    let run : IsRunTo (empty_world s) (calls_in turns) (worlds_in turns) t.world = is_one_run t stood.past turns stood.stands.1 in
+    let first : Sound (empty_world s) = the_empty_world_is_sound s stood.settings in
+    subst Sound run.last
+    (last_sound (empty_world s) (worlds_in turns) first
+    (runs_keep_sound (empty_world s) (calls_in turns) (worlds_in turns) first (calls_in_limits (calls_in turns) run.limits) run.trace))

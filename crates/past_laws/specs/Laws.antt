@@ -1,0 +1,72 @@
+-- What holds of tables that stand for a past, and through messages. (This project's own: BOINC's rules are in the machine's step.)
+use Rattle.std.specs.Prelude.{◌≡◌, ◌⊎◌, ℕ, true, List, Some, None}
+use Rattle.rpc_records.specs.Replies.{reply_text_of}
+use Rattle.rpc_records.specs.declared.reply.Reply.{Reply}
+use Rattle.rpc_records.specs.declared.request.Request.{Request}
+use Rattle.sched_book.specs.Limits.{AreSettingsInLimits}
+use Rattle.sched_book.specs.Sound.{Sound}
+use Rattle.sched_book.specs.Step.{IsCaller, deadline_at}
+use Rattle.sched_book.specs.declared.instance.Owner.{Owner}
+use Rattle.sched_book.specs.declared.instance.Place.{Place}
+use Rattle.sched_book.specs.declared.machine.Call.TheVariants as call
+use Rattle.sched_book.specs.declared.machine.Caller.{Caller}
+use Rattle.sched_book.specs.declared.world.World.{World}
+use Rattle.pasts.specs.Many.{ServesAll}
+use Rattle.pasts.specs.Messages.{Rpc, Message}
+use Rattle.pasts.specs.Stands.{Heard, Past, Tables, Stands, Serves, told_by}
+use Rattle.pasts.specs.declared.answer.Answer.{Answer}
+use Rattle.pasts.specs.declared.answer.Answer.TheVariants.{Good}
+use Rattle.sched_machine.specs.Held.{IsHeldByName}
+use Rattle.sched_machine.specs.Runs.{owner_at, IsSentAgain}
+
+-- The tables stand for a past, and their settings are within limits.
+pub record HaveStood (t : Tables) : Type 0 where
+  pub settings : AreSettingsInLimits t.world.settings
+  pub past : Past
+  pub stands : Stands t past
+
+abbrev pub StandsIsSound : Type 0
+StandsIsSound = (t : Tables) → HaveStood t → Sound t.world
+
+-- something holds of what stands
+abbrev pub HoldsWhereTablesStand : (World → Type 0) → Type 0
+HoldsWhereTablesStand P = (t : Tables) → HaveStood t → P t.world
+
+-- R holds between what stands before a message and after it
+abbrev pub HoldsAtAMessage : (World → World → Type 0) → Type 0
+HoldsAtAMessage R = (old new : Tables) (m : Message) (answer : Answer) → HaveStood old → Serves old m answer new → R old.world new.world
+
+-- and before many messages and after them
+abbrev pub HoldsOverMessages : (World → World → Type 0) → Type 0
+HoldsOverMessages R = (old new : Tables) (more : List Heard) → HaveStood old → ServesAll old more new → R old.world new.world
+
+abbrev pub HoldsOfMessages : (World → World → Type 0) → Type 0
+HoldsOfMessages R = HoldsAtAMessage R × HoldsOverMessages R
+
+-- the message is a call of a host, which has the instance at a place sent again
+pub record IsSentAgainBy (w : World) (m : Message) (p : Place) (o : Owner) : Type 0 where
+  pub caller : Caller
+  pub request : Request
+  pub said : m.said ≡ Rpc request
+  pub is_caller : IsCaller w caller request
+  pub again : IsSentAgain w (call.Rpc caller request) p o
+
+-- through a message the deadline of an instance that was given to a host stays, or its host's call has it sent again
+abbrev pub DeadlinesMoveByResendsAlone : Type 0
+DeadlinesMoveByResendsAlone =
+    (old new : Tables) (m : Message) (answer : Answer) → Serves old m answer new → (p : Place) (o : Owner) → owner_at old.world p ≡ Some o
+    → (deadline_at new.world p ≡ deadline_at old.world p) ⊎ IsSentAgainBy old.world m p o
+
+-- A call of this host was answered by this reply, and its host holds just what is listed or named.
+pub record IsInSight (old new : World) (r : Request) (names : List (List ℕ)) (answer : Answer) : Type 0 where
+  pub caller : Caller
+  pub is_caller : IsCaller old caller r
+  pub reply : Reply
+  pub answer_is : answer ≡ Good (reply_text_of reply)
+  pub held : IsHeldByName old new caller r names reply
+
+abbrev pub NoHeldJobDropsFromSight : Type 0
+NoHeldJobDropsFromSight =
+    (old new : Tables) (m : Message) (answer : Answer) (r : Request) (names : List (List ℕ)) → HaveStood old → m.said ≡ Rpc r
+    → told_by old m.said ≡ None → Serves old m answer new → old.world.settings.resend_lost_results ≡ true → r.other_results ≡ Some names
+    → IsInSight old.world new.world r names answer

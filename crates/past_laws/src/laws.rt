@@ -1,0 +1,67 @@
+//! Laws of tables. Each function does nothing; its contract is the law. In each the settings are within their limits,
+//! and the tables before stand for some past.
+
+ghost use Rattle.past_laws.specs.Laws.{StandsIsSound, HoldsOfMessages, HoldsWhereTablesStand, DeadlinesMoveByResendsAlone, NoHeldJobDropsFromSight};
+ghost use Rattle.sched_machine.specs.Decisions.{CanonicalsStay, VerdictsStay, StatusesStay, CreditsStay, CreditsAddUp};
+ghost use Rattle.sched_machine.specs.Runs.{OwnersStay, ReportsStay, LapsesStay, OneForEachUser};
+
+/// Tables that stand for a past are sound.
+pub fn what_stands_is_sound()
+    ensures { StandsIsSound }
+{}
+
+/// Whatever messages come, an instance that was given to a host stays that host's, with its moment of sending.
+pub fn owners_stay()
+    ensures { HoldsOfMessages OwnersStay }
+{}
+
+/// A deadline moves only where a call of the instance's host has it sent again.
+pub fn deadlines_move_by_resends_alone()
+    ensures { DeadlinesMoveByResendsAlone }
+{}
+
+/// What was reported of an instance stays.
+pub fn reports_stay()
+    ensures { HoldsOfMessages ReportsStay }
+{}
+
+/// An instance that lapsed keeps its lapse.
+pub fn lapses_stay()
+    ensures { HoldsOfMessages LapsesStay }
+{}
+
+/// A canonical result stays the canonical one.
+pub fn canonicals_stay()
+    ensures { HoldsOfMessages CanonicalsStay }
+{}
+
+/// So does each verdict.
+pub fn verdicts_stay()
+    ensures { HoldsOfMessages VerdictsStay }
+{}
+
+/// What is done stays done, and what failed stays failed, for the same reason.
+pub fn statuses_stay()
+    ensures { HoldsOfMessages StatusesStay }
+{}
+
+/// The credit of no host and no user falls.
+pub fn credits_never_fall()
+    ensures { HoldsOfMessages CreditsStay }
+{}
+
+/// The hosts together, and the users together, have the credit of all valid results.
+pub fn credits_add_up()
+    ensures { HoldsWhereTablesStand CreditsAddUp }
+{}
+
+/// No workunit has two instances that were given to hosts of one user.
+pub fn one_for_each_user()
+    ensures { HoldsWhereTablesStand OneForEachUser }
+{}
+
+/// After a first-heard call that lists what its client has, where lost jobs are sent again, its host holds just what
+/// it held, lists and did not report, and what the reply names.
+pub fn no_held_job_drops_from_sight()
+    ensures { NoHeldJobDropsFromSight }
+{}
