@@ -150,11 +150,11 @@ host_count w keys are = sym (length-map w.hosts host_name) ∙ same_length (shel
 -- ---- one call more
 
 -- the keys with this one behind them where it has no place
-abbrev keys_after : Key → Option ℕ → List Key → List Key
+abbrev pub keys_after : Key → Option ℕ → List Key → List Key
 keys_after key None keys = keys ++ key ∷ []
 keys_after key (Some place) keys = keys
 
-with_key-is : (key : Key) (m : ℕ) (keys : List Key) → with_key key keys ≡ keys_after key (position_from (same_key key) m keys) keys
+pub with_key-is : (key : Key) (m : ℕ) (keys : List Key) → with_key key keys ≡ keys_after key (position_from (same_key key) m keys) keys
 with_key-is key m [] = refl
 with_key-is key m (k ∷ keys) = cases (same_key key k) (position_from (same_key key) (m + 1) keys) (with_key-is key (m + 1) keys)
   where

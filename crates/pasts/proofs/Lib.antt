@@ -9,3 +9,4 @@ pub mod Rising
 pub mod OneRun
 pub mod Stopping
 pub mod ByNumber
+pub mod Repeats

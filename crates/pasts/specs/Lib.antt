@@ -10,3 +10,4 @@ pub mod Laws
 pub mod Many
 pub mod Stops
 pub mod ByNumber
+pub mod Repeats

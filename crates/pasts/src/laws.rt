@@ -3,6 +3,7 @@
 ghost use Rattle.pasts.specs.ByNumber.{KeptByNumber};
 ghost use Rattle.pasts.specs.Laws.{NewTablesStand, StandsCarried, StandsCarriedByAll, FirstHeardIsToldNothing, RunsTheFirstHeard, RowsAreOfFirstHeard, FirstHeardBegins, NumbersRise, IsOneRun, ServesByOneRun};
 ghost use Rattle.pasts.specs.Leaves.{StepLeavesTheRest};
+ghost use Rattle.pasts.specs.Repeats.{CallsAreToldBesideTheLatest, BatchesCountOnce};
 ghost use Rattle.pasts.specs.Stops.{StopsStand, ImagesGoOn};
 
 /// New tables stand for the empty past.
@@ -61,6 +62,17 @@ pub fn first_heard_begins()
 /// The numbers of a key's first-heard calls rise.
 pub fn numbers_rise()
     ensures { NumbersRise }
+{}
+
+/// A key's latest first-heard call is answered by its very answer again; another call of its number and one of a lower
+/// number are refused, and one of a greater number is first heard.
+pub fn calls_are_told_beside_the_latest()
+    ensures { CallsAreToldBesideTheLatest }
+{}
+
+/// A batch that was heard is answered by its very answer again, and other bytes under its name are refused.
+pub fn batches_count_once()
+    ensures { BatchesCountOnce }
 {}
 
 /// What a stop may leave stands for the past, or for the past and one open message.
