@@ -60,7 +60,7 @@ pub record IsTurn (s : Settings) (turn : Turn) (older : List Turn) : Type 0 wher
   pub limits : IsInLimits turn.call turn.message.now
   pub step : Step (world_of s older) turn.call turn.message.now turn.after turn.answered
 
--- what is kept of a key: the last of its calls in the run
+-- what is kept of a key: its last calls in the run, the last one first
 abbrev pub kept_of : List Turn → Key → List Kept
 kept_of [] key = []
 kept_of (turn ∷ older) key = kept_after key turn.message.said (turn_body turn) (kept_of older key)
