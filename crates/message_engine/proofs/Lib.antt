@@ -1,7 +1,7 @@
-pub mod NameLists
-pub mod PlaceLemmas
-pub mod Beginnings
-pub mod Rising
-pub mod IsRun
-pub mod Carried
-pub mod Following
+pub mod HostCalls
+mod EntriesKept
+mod CallsServed
+mod ImportsServed
+mod TicksServed
+mod Meant
+mod Followed

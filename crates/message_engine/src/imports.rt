@@ -1,17 +1,37 @@
-//! The rows of an import.
+//! Imports, over any store.
 
-ghost use Rattle.std.specs.Prelude.{Ok, IfOk, IfErr};
+ghost use Rattle.std.specs.Prelude.{◌≡◌, Result, Ok, None, IfOk, IfErr, OnOk, OnErr, if◌then◌else◌};
+ghost use Rattle.std.specs.Str.{bytes_eq};
 ghost use Rattle.office_files.specs.Importing.{Says, Refuses};
+ghost use Rattle.rpc_records.specs.declared.fault.Fault.{Fault};
+ghost use Rattle.rpc_records.specs.declared.fault.Fault.TheVariants as fault;
+ghost use Rattle.sched_book.specs.Delta.{Fits};
+ghost use Rattle.sched_book.specs.Imports.{fault_of_rows, shelf_of};
 ghost use Rattle.sched_book.specs.Limits.{AreRowsInLimits};
-ghost use Rattle.message_engine.specs.DeskImports.{reading_of};
+ghost use Rattle.sched_book.specs.declared.rows.Rows.{Rows};
+ghost use Rattle.pasts.specs.Answers.{imported_text};
+ghost use Rattle.pasts.specs.Kinds.{kind_name};
+ghost use Rattle.pasts.specs.Messages.{Import};
+ghost use Rattle.pasts.specs.declared.answer.Answer.TheVariants as answers;
+ghost use Rattle.message_engine.specs.Imports.{reading_of, Reads};
+ghost use Rattle.message_engine.specs.Stores.{IsCommitted, IsLeft, ServesIn};
+ghost use Rattle.message_engine.specs.declared.entry.Entry.TheVariants as entry;
 
-use crate::kind::Kind;
-use office_files::{RowsFault, read_accounts, read_apps, read_versions, read_workunits};
-use sched_book::Rows;
+use crate::bodies::imported;
+use crate::entry::Entry;
+use crate::steps::import_step;
+use crate::store::Store;
+use office_files::{
+    RowsFault, check_rows, read_accounts, read_apps, read_versions, read_workunits,
+};
+use pasts::{Answer, KeptBatch, Kind};
+use rpc_records::Fault;
+use sched_book::{Delta, Moment, Rows, Unavailable};
 use std::alloc::Global;
+use texts::{Listed, Text};
 
 /// The rows of this kind that a text says, or its first fault.
-pub(crate) fn read_rows(alloc: Global, kind: Kind, text: &[u8]) -> Result<Rows, RowsFault>
+fn read_rows(alloc: Global, kind: Kind, text: &[u8]) -> Result<Rows, RowsFault>
     ensures ok { IfOk result (λ rows. Says (reading_of kind) text.now (Ok rows)) }
     ensures err { IfErr result (Refuses (reading_of kind) text.now) }
     ensures limits { IfOk result AreRowsInLimits }
@@ -21,5 +41,184 @@ pub(crate) fn read_rows(alloc: Global, kind: Kind, text: &[u8]) -> Result<Rows, 
         Kind::Apps => read_apps(alloc, text),
         Kind::Versions => read_versions(alloc, text),
         Kind::Workunits => read_workunits(alloc, text),
+    }
+}
+
+/// What a batch that is kept is told where it comes again with these bytes.
+fn told_again(kept: KeptBatch, text: &[u8]) -> Answer
+    ensures { result ≡ (if bytes_eq kept.text text.now then answers.Good kept.answer else answers.Refusal fault.BatchReused) }
+{
+    if kept.text.as_slice() == text {
+        Answer::Good(kept.answer)
+    } else {
+        Answer::Refusal(Fault::BatchReused)
+    }
+}
+
+/// What is kept of a batch, with the body of its answer.
+fn batch_entry(
+    alloc: Global,
+    kind: Kind,
+    batch: &Text,
+    text: &[u8],
+    body: &Text,
+) -> Result<Entry, Unavailable>
+    ensures { IfOk result (λ made. made ≡ entry.Batch kind batch.now (record { text = text.now; answer = body.now })) }
+{
+    let kept = KeptBatch {
+        text: Listed::of(text.to_vec(alloc)?),
+        answer: body.clone()?,
+    };
+    Ok(Entry::Batch(kind, batch.clone()?, kept))
+}
+
+/// Makes the changes of an import, and keeps it with the body of its answer.
+fn commit_batch<S: Store>(
+    alloc: Global,
+    store: &mut S,
+    kind: Kind,
+    batch: &Text,
+    text: &[u8],
+    body: &Text,
+    delta: &Delta,
+) -> Result<(), Unavailable>
+    ensures honest { S.honest store.new → S.honest store.old }
+    ensures kept { S.honest store.new → S.well_kept store.old → S.well_kept store.new }
+    ensures ok { S.honest store.new → S.well_kept store.old → OnOk result (Fits (S.world store.old) delta.now →
+        IsCommitted delta.now (entry.Batch kind batch.now (record { text = text.now; answer = body.now }))
+        (S.world store.old) (S.calls store.old) (S.batches store.old) (S.world store.new) (S.calls store.new) (S.batches store.new)) }
+    ensures err { S.honest store.new → S.well_kept store.old → OnErr result (
+        IsLeft (S.world store.old) (S.calls store.old) (S.batches store.old) (S.world store.new) (S.calls store.new) (S.batches store.new)) }
+{
+    let entry = batch_entry(alloc, kind, batch, text, body)?;
+    store.commit(delta, &entry)
+}
+
+/// Makes the changes of an import and keeps it, and tells how many rows it brought.
+fn keep_batch<S: Store>(
+    alloc: Global,
+    store: &mut S,
+    kind: Kind,
+    batch: &Text,
+    text: &[u8],
+    delta: &Delta,
+    count: u32,
+) -> Result<Answer, Unavailable>
+    ensures honest { S.honest store.new → S.honest store.old }
+    ensures kept { S.honest store.new → S.well_kept store.old → S.well_kept store.new }
+    ensures answer { IfOk result (λ answer. answer ≡ answers.Good (imported_text (kind_name kind) batch.now count)) }
+    ensures ok { S.honest store.new → S.well_kept store.old → OnOk result (Fits (S.world store.old) delta.now →
+        IsCommitted delta.now (entry.Batch kind batch.now (record { text = text.now; answer = imported_text (kind_name kind) batch.now count }))
+        (S.world store.old) (S.calls store.old) (S.batches store.old) (S.world store.new) (S.calls store.new) (S.batches store.new)) }
+    ensures err { S.honest store.new → S.well_kept store.old → OnErr result (
+        IsLeft (S.world store.old) (S.calls store.old) (S.batches store.old) (S.world store.new) (S.calls store.new) (S.batches store.new)) }
+{
+    let body = imported(alloc, kind.name(), batch.as_str(), count as u64)?;
+    commit_batch(alloc, store, kind, batch, text, &body, delta)?;
+    Ok(Answer::Good(body))
+}
+
+/// Adds rows that nothing forbids, and keeps their batch.
+fn add_rows<S: Store>(
+    alloc: Global,
+    store: &mut S,
+    kind: Kind,
+    batch: &Text,
+    text: &[u8],
+    rows: Rows,
+    now: Moment,
+) -> Result<Answer, Unavailable>
+    requires limits { AreRowsInLimits rows }
+    ensures honest { S.honest store.new → S.honest store.old }
+    ensures kept { S.honest store.new → S.well_kept store.old → S.well_kept store.new }
+    ensures exact { S.honest store.new → S.well_kept store.old → IfOk result (λ answer.
+        S.batches store.old kind batch.now ≡ None → fault_of_rows (shelf_of (S.world store.old)) rows ≡ None →
+        ServesIn (record { now = now; said = Import kind batch.now text.now (Ok rows) }) answer
+        (S.world store.old) (S.calls store.old) (S.batches store.old) (S.world store.new) (S.calls store.new) (S.batches store.new)) }
+    ensures err { S.honest store.new → S.well_kept store.old → OnErr result (
+        IsLeft (S.world store.old) (S.calls store.old) (S.batches store.old) (S.world store.new) (S.calls store.new) (S.batches store.new)) }
+{
+    let (delta, count) = import_step(alloc, store, rows, now)?;
+    keep_batch(alloc, store, kind, batch, text, &delta, count)
+}
+
+/// Imports rows, unless what stands forbids it.
+fn import_rows<S: Store>(
+    alloc: Global,
+    store: &mut S,
+    kind: Kind,
+    batch: &Text,
+    text: &[u8],
+    rows: Rows,
+    now: Moment,
+) -> Result<Answer, Unavailable>
+    requires limits { AreRowsInLimits rows }
+    ensures honest { S.honest store.new → S.honest store.old }
+    ensures kept { S.honest store.new → S.well_kept store.old → S.well_kept store.new }
+    ensures exact { S.honest store.new → S.well_kept store.old → IfOk result (λ answer.
+        S.batches store.old kind batch.now ≡ None →
+        ServesIn (record { now = now; said = Import kind batch.now text.now (Ok rows) }) answer
+        (S.world store.old) (S.calls store.old) (S.batches store.old) (S.world store.new) (S.calls store.new) (S.batches store.new)) }
+    ensures err { S.honest store.new → S.well_kept store.old → OnErr result (
+        IsLeft (S.world store.old) (S.calls store.old) (S.batches store.old) (S.world store.new) (S.calls store.new) (S.batches store.new)) }
+{
+    match check_rows(alloc, store, &rows) {
+        Ok(()) => add_rows(alloc, store, kind, batch, text, rows, now),
+        Err(RowsFault::Unavailable) => Err(Unavailable),
+        Err(fault) => Ok(Answer::Refusal(fault.fault())),
+    }
+}
+
+/// Imports a batch that is not kept.
+fn import_new<S: Store>(
+    alloc: Global,
+    store: &mut S,
+    kind: Kind,
+    batch: &Text,
+    text: &[u8],
+    now: Moment,
+) -> Result<Answer, Unavailable>
+    ensures honest { S.honest store.new → S.honest store.old }
+    ensures kept { S.honest store.new → S.well_kept store.old → S.well_kept store.new }
+    ensures exact { S.honest store.new → S.well_kept store.old → IfOk result (λ answer.
+        S.batches store.old kind batch.now ≡ None → (read : Result Rows Fault) × Reads kind text.now read ×
+        ServesIn (record { now = now; said = Import kind batch.now text.now read }) answer
+        (S.world store.old) (S.calls store.old) (S.batches store.old) (S.world store.new) (S.calls store.new) (S.batches store.new)) }
+    ensures err { S.honest store.new → S.well_kept store.old → OnErr result (
+        IsLeft (S.world store.old) (S.calls store.old) (S.batches store.old) (S.world store.new) (S.calls store.new) (S.batches store.new)) }
+{
+    match read_rows(alloc, kind, text) {
+        Ok(rows) => import_rows(alloc, store, kind, batch, text, rows, now),
+        Err(RowsFault::Unavailable) => Err(Unavailable),
+        Err(fault) => Ok(Answer::Refusal(fault.fault())),
+    }
+}
+
+/// Imports a batch of rows. One that is kept is answered again where it has the same bytes, and refused where it has
+/// others; one that is not kept is read, its rows are looked at beside what stands, and then added and kept, or refused.
+///
+/// # Errors
+///
+/// [`Unavailable`] leaves all as it was.
+pub fn import<S: Store>(
+    alloc: Global,
+    store: &mut S,
+    kind: Kind,
+    batch: &Text,
+    text: &[u8],
+    now: Moment,
+) -> Result<Answer, Unavailable>
+    ensures honest { S.honest store.new → S.honest store.old }
+    ensures kept { S.honest store.new → S.well_kept store.old → S.well_kept store.new }
+    ensures exact { S.honest store.new → S.well_kept store.old → IfOk result (λ answer.
+        (read : Result Rows Fault) × Reads kind text.now read ×
+        ServesIn (record { now = now; said = Import kind batch.now text.now read }) answer
+        (S.world store.old) (S.calls store.old) (S.batches store.old) (S.world store.new) (S.calls store.new) (S.batches store.new)) }
+    ensures err { S.honest store.new → S.well_kept store.old → OnErr result (
+        IsLeft (S.world store.old) (S.calls store.old) (S.batches store.old) (S.world store.new) (S.calls store.new) (S.batches store.new)) }
+{
+    match store.kept_batch(alloc, kind, batch.as_str())? {
+        Some(kept) => Ok(told_again(kept, text)),
+        None => import_new(alloc, store, kind, batch, text, now),
     }
 }

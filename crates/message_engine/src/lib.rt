@@ -1,23 +1,28 @@
-//! The scheduler as a service over plain lists: a desk in memory, the kept calls and the kept imports.
+//! The scheduler as a service over any store: what each message does, and the theorem over all of them.
 //!
-//! Accounts, applications, versions and workunits come in by imports. Each import, each tick and each first-heard
-//! call of a host is one step of the job machine; what was heard before is answered as it was.
+//! A store is a desk that also keeps calls with their replies and imports with their answers, and that makes the
+//! changes of a message and keeps it at once. A first-heard call, an import that is not kept and a tick are one step
+//! of the job machine each; what was heard before is answered as it was.
 #![tactic(auto)]
 
-pub mod answers;
-mod batches;
-mod checks;
-pub mod first;
+mod arrival;
+mod bodies;
+mod calls;
+mod copies;
+mod entry;
 mod imports;
-mod keys;
-mod kind;
-mod line;
-mod replies;
+mod limits;
+mod list_store;
 mod service;
 mod steps;
+mod store;
+mod ticks;
 
-pub use answers::Answer;
-pub use batches::Batch;
-pub use kind::Kind;
-pub use line::{Arrival, Failure, Line};
-pub use service::Service;
+pub use arrival::{Arrival, Post};
+pub use calls::call;
+pub use entry::Entry;
+pub use imports::import;
+pub use list_store::ListStore;
+pub use service::{answer, run, serve};
+pub use store::Store;
+pub use ticks::tick;

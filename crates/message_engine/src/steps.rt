@@ -1,69 +1,30 @@
-//! The steps of the job machine over a plain desk, which they only read.
+//! The steps of the job machine for an import and a tick, which only read.
 
-ghost use Rattle.std.specs.Prelude.{◌≡◌, ◌≤◌, length, None, IfOk, IsErrOf};
-ghost use Rattle.sched_book.specs.Delta.{applied};
+ghost use Rattle.std.specs.Prelude.{IfOk};
+ghost use Rattle.sched_book.specs.Delta.{applied, Fits};
 ghost use Rattle.sched_book.specs.Imports.{AreChecked};
 ghost use Rattle.sched_book.specs.Sound.{Sound};
-ghost use Rattle.sched_book.specs.Step.{RpcStep, ImportStep, TickStep};
-ghost use Rattle.sched_machine.specs.Calling.{IsAdmitted};
-ghost use Rattle.sched_machine.specs.declared.admission.Refused.TheVariants as refused;
+ghost use Rattle.sched_book.specs.Step.{ImportStep, TickStep, Step};
+ghost use Rattle.sched_book.specs.declared.machine.Answered.TheVariants as answered;
+ghost use Rattle.sched_machine.specs.Calling.{MayBeTold};
 
-use rpc_records::{Reply, Request};
-use sched_book::{Answered, Call, Caller, Delta, ListDesk, Moment, Rows, Unavailable};
-use sched_machine::{Refused, step};
+use sched_book::{Answered, Call, Delta, Desk, Moment, Rows, Unavailable};
+use sched_machine::step;
 use std::alloc::Global;
 
-/// The step of a first-heard call of this caller: its changes and its reply.
-pub(crate) fn call_step(
-    alloc: Global,
-    desk: &mut ListDesk,
-    caller: Caller,
-    request: Request,
-    now: Moment,
-) -> Result<(Delta, Reply), Refused>
-    requires admitted { IsAdmitted desk.old caller request }
-    ensures same { desk.new ≡ desk.old }
-    ensures step { IfOk result (λ done. Sound desk.old → RpcStep desk.old caller request now (applied desk.old done.0) done.1) }
-    ensures sound { IfOk result (λ done. Sound desk.old → Sound (applied desk.old done.0)) }
-    ensures full { IsErrOf result refused.HostsFull → (caller.host ≡ None) × (desk.old.settings.max_hosts ≤ length desk.old.hosts) }
-{
-    let (delta, answered) = step(alloc, desk, &Call::Rpc(caller, request), now)?;
-    match answered {
-        Answered::Rpc(reply) => Ok((delta, reply)),
-        _ => Err(Refused::Unavailable),
-    }
-}
-
-/// The step of an import of rows that nothing forbids: its changes, and how many rows there are.
-pub(crate) fn import_step(
-    alloc: Global,
-    desk: &mut ListDesk,
-    rows: Rows,
-    now: Moment,
-) -> Result<(Delta, u32), Unavailable>
-    requires checked { AreChecked desk.old rows }
-    ensures same { desk.new ≡ desk.old }
-    ensures step { IfOk result (λ done. Sound desk.old → ImportStep desk.old rows (applied desk.old done.0) done.1) }
-    ensures sound { IfOk result (λ done. Sound desk.old → Sound (applied desk.old done.0)) }
-{
-    let Ok((delta, answered)) = step(alloc, desk, &Call::Import(rows), now) else {
-        return Err(Unavailable);
-    };
-    match answered {
-        Answered::Imported(count) => Ok((delta, count)),
-        _ => Err(Unavailable),
-    }
-}
-
 /// The step of a tick: its changes, and how many instances lapsed.
-pub(crate) fn tick_step(
+pub(crate) fn tick_step<D: Desk>(
     alloc: Global,
-    desk: &mut ListDesk,
+    desk: &mut D,
     now: Moment,
 ) -> Result<(Delta, u32), Unavailable>
-    ensures same { desk.new ≡ desk.old }
-    ensures step { IfOk result (λ done. Sound desk.old → TickStep desk.old now (applied desk.old done.0) done.1) }
-    ensures sound { IfOk result (λ done. Sound desk.old → Sound (applied desk.old done.0)) }
+    ensures reads { D.reads desk.old desk.new }
+    ensures step { D.honest desk.new → D.well_kept desk.old → IfOk result (λ done. Sound (D.world desk.old) →
+        TickStep (D.world desk.old) now (applied (D.world desk.old) done.0) done.1) }
+    ensures sound { D.honest desk.new → D.well_kept desk.old → IfOk result (λ done. Sound (D.world desk.old) →
+        Sound (applied (D.world desk.old) done.0)) }
+    ensures fits { D.honest desk.new → D.well_kept desk.old → IfOk result (λ done. Sound (D.world desk.old) →
+        Fits (D.world desk.old) done.0) }
 {
     let Ok((delta, answered)) = step(alloc, desk, &Call::Tick, now) else {
         return Err(Unavailable);
@@ -72,4 +33,49 @@ pub(crate) fn tick_step(
         Answered::Lapsed(count) => Ok((delta, count)),
         _ => Err(Unavailable),
     }
+}
+
+/// The step of a call whose answer tells how many rows were added: its changes, and that number.
+fn counted_step<D: Desk>(
+    alloc: Global,
+    desk: &mut D,
+    call: &Call,
+    now: Moment,
+) -> Result<(Delta, u32), Unavailable>
+    ensures reads { D.reads desk.old desk.new }
+    ensures step { D.honest desk.new → D.well_kept desk.old → IfOk result (λ done.
+        Sound (D.world desk.old) → MayBeTold (D.world desk.old) call.now →
+        Step (D.world desk.old) call.now now (applied (D.world desk.old) done.0) (answered.Imported done.1)) }
+    ensures sound { D.honest desk.new → D.well_kept desk.old → IfOk result (λ done.
+        Sound (D.world desk.old) → MayBeTold (D.world desk.old) call.now → Sound (applied (D.world desk.old) done.0)) }
+    ensures fits { D.honest desk.new → D.well_kept desk.old → IfOk result (λ done.
+        Sound (D.world desk.old) → MayBeTold (D.world desk.old) call.now → Fits (D.world desk.old) done.0) }
+{
+    let Ok((delta, answered)) = step(alloc, desk, call, now) else {
+        return Err(Unavailable);
+    };
+    match answered {
+        Answered::Imported(count) => Ok((delta, count)),
+        _ => Err(Unavailable),
+    }
+}
+
+/// The step of an import of rows that nothing forbids: its changes, and how many rows there are.
+pub(crate) fn import_step<D: Desk>(
+    alloc: Global,
+    desk: &mut D,
+    rows: Rows,
+    now: Moment,
+) -> Result<(Delta, u32), Unavailable>
+    ensures reads { D.reads desk.old desk.new }
+    ensures step { D.honest desk.new → D.well_kept desk.old → IfOk result (λ done.
+        Sound (D.world desk.old) → AreChecked (D.world desk.old) rows →
+        ImportStep (D.world desk.old) rows (applied (D.world desk.old) done.0) done.1) }
+    ensures sound { D.honest desk.new → D.well_kept desk.old → IfOk result (λ done.
+        Sound (D.world desk.old) → AreChecked (D.world desk.old) rows → Sound (applied (D.world desk.old) done.0)) }
+    ensures fits { D.honest desk.new → D.well_kept desk.old → IfOk result (λ done.
+        Sound (D.world desk.old) → AreChecked (D.world desk.old) rows → Fits (D.world desk.old) done.0) }
+{
+    let call = Call::Import(rows);
+    counted_step(alloc, desk, &call, now)
 }

@@ -6,9 +6,9 @@ use Rattle.jiff.specs.Words.{parse_timestamp}
 use Rattle.texts.specs.Words.{is_word}
 use Rattle.serde_json.specs.Find.{as_str}
 use Rattle.rpc_records.specs.Reading.{json_of}
-use Rattle.message_engine.specs.declared.line.Arrival.{Arrival}
-use Rattle.message_engine.specs.declared.line.Line.{Line}
-use Rattle.message_engine.specs.declared.line.Line.TheVariants.{Import, Scheduler, Tick}
+use Rattle.message_engine.specs.declared.arrival.Arrival.{Arrival}
+use Rattle.message_engine.specs.declared.arrival.Post.{Post}
+use Rattle.message_engine.specs.declared.arrival.Post.TheVariants.{Import, Scheduler, Tick}
 
 -- the latest moment of an arrival, in seconds since 1970-01-01T00:00:00Z
 abbrev pub last_moment : ℕ
@@ -52,7 +52,7 @@ abbrev pub account_rows : List ℕ → List ℕ
 account_rows name = codes "authenticator,name" ++ 10 ∷ (name ++ 44 ∷ (name ++ 10 ∷ []))
 
 -- `account` wants a word, and is the import of that account by a batch of its name
-abbrev pub account_line : Option (List ℕ) → Option Line
+abbrev pub account_line : Option (List ℕ) → Option Post
 account_line None = None
 account_line (Some name) = if is_word name then Some (Import (codes "accounts") name (account_rows name)) else None
 
@@ -61,25 +61,25 @@ abbrev pub text_told : List ℕ → Option (List ℕ)
 text_told body = option_and_then as_str (json_of body)
 
 -- an import, where its kind, its name and its text are there
-abbrev pub import_by : Option (List ℕ) → Option (List ℕ) → Option (List ℕ) → Option Line
+abbrev pub import_by : Option (List ℕ) → Option (List ℕ) → Option (List ℕ) → Option Post
 import_by None batch text = None
 import_by (Some kind) None text = None
 import_by (Some kind) (Some batch) None = None
 import_by (Some kind) (Some batch) (Some text) = Some (Import kind batch text)
 
 -- `import/KIND/BATCH` wants two words, and a JSON string with the text
-abbrev pub import_line : Option (List ℕ) → Option (List ℕ) → Option Line
+abbrev pub import_line : Option (List ℕ) → Option (List ℕ) → Option Post
 import_line None body = None
 import_line (Some names) body =
     import_by (word_in (first_part slash names)) (option_and_then word_in (second_part slash names)) (option_and_then text_told body)
 
 -- `tick` has no body, nor a space for one
-abbrev pub tick_line : Option (List ℕ) → Option Line
+abbrev pub tick_line : Option (List ℕ) → Option Post
 tick_line None = Some Tick
 tick_line (Some body) = None
 
 -- `scheduler` takes any bytes, and none where it has no body
-abbrev pub line_by : List ℕ → Option (List ℕ) → Option Line
+abbrev pub line_by : List ℕ → Option (List ℕ) → Option Post
 line_by word body =
     if bytes_eq word (codes "account") then account_line body
     else (if bytes_eq word (codes "scheduler") then Some (Scheduler (unwrap_or body []))
@@ -87,13 +87,13 @@ line_by word body =
     else (if bytes_eq (first_part slash word) (codes "import") then import_line (second_part slash word) body
     else None)))
 
-abbrev pub line_of : List ℕ → Option Line
+abbrev pub line_of : List ℕ → Option Post
 line_of text = line_by (first_part space text) (second_part space text)
 
-abbrev pub arrival_at : Option ℕ → Option Line → Option Arrival
+abbrev pub arrival_at : Option ℕ → Option Post → Option Arrival
 arrival_at None line = None
 arrival_at (Some now) None = None
-arrival_at (Some now) (Some line) = Some (record { now = now; line = line })
+arrival_at (Some moment) (Some post) = Some (record { moment = moment; post = post })
 
 -- what arrives by a line, where the line has this form
 abbrev pub arrival_of : List ℕ → Option Arrival

@@ -8,9 +8,10 @@ ghost use Rattle.replay_lines.specs.Endings.{exit_status};
 
 mod line;
 
-use line::arrival_of;
-use message_engine::{Answer, Failure, Service};
-use rpc_records::{Fault, unavailable_text};
+pub use line::arrival_of;
+use message_engine::{ListStore, serve};
+use pasts::Answer;
+use rpc_records::{Fault, fault_text, unavailable_text};
 use sched_book::Settings;
 use std::alloc::Global;
 use std::io::{BufRead, ErrorKind, Read, Write};
@@ -62,7 +63,7 @@ impl fmt::Display for Ended {
 
 /// Answers the lines of `reader`, each by a line of `writer`: its status, a space and its body. The first
 /// line that is none ends it. An answer that finds no memory is the refusal `unavailable`, and the lines
-/// behind it are answered all the same, unless it leaves the service half changed: that ends the run at once.
+/// behind it are answered all the same.
 pub fn replay<R: BufRead + Drop, W: Write + Drop>(
     alloc: Global,
     settings: &Settings,
@@ -91,15 +92,15 @@ fn answer_lines<R: BufRead, W: Write>(
     reader: &mut R,
     writer: &mut W,
 ) -> io::Result<Ended> {
-    let mut service = Service::new(alloc, settings)?;
+    let mut store = ListStore::new(alloc, settings)?;
     let mut line = Vec::new(alloc);
-    answer_each(alloc, &mut service, &mut line, reader, writer)
+    answer_each(alloc, &mut store, &mut line, reader, writer)
 }
 
 /// Answers each line that is read into `line`.
 fn answer_each<R: BufRead, W: Write>(
     alloc: Global,
-    service: &mut Service,
+    store: &mut ListStore,
     line: &mut Vec<u8>,
     reader: &mut R,
     writer: &mut W,
@@ -109,66 +110,16 @@ fn answer_each<R: BufRead, W: Write>(
         if !read_line(reader, line)? {
             return Ok(ended);
         }
-        match print_answer(alloc, service, line, writer)? {
+        match print_answer(alloc, store, line, writer)? {
             Printed::Answer => {}
             Printed::Unavailable => ended = Ended::Unavailable,
             Printed::NoLine => return Ok(Ended::Line(number)),
-            Printed::HalfDone => return Ok(Ended::Unavailable),
         }
     }
     if read_line(reader, line)? {
         return Ok(Ended::Line(MOST_LINES + 1));
     }
     Ok(ended)
-}
-
-/// What was printed for a line.
-#[derive(Clone, Copy)]
-enum Printed {
-    Answer,
-    /// The refusal for want of memory.
-    Unavailable,
-    /// Nothing, since the line has not the form of one.
-    NoLine,
-    /// Nothing, since the line's call was acted on but not kept, for want of memory.
-    HalfDone,
-}
-
-/// Prints the answer to a line, which may have its line feed.
-fn print_answer<W: Write>(
-    alloc: Global,
-    service: &mut Service,
-    line: &[u8],
-    writer: &mut W,
-) -> io::Result<Printed> {
-    let Some(text) = text_of(line) else {
-        return Ok(Printed::NoLine);
-    };
-    let told = answer_line(alloc, service, text);
-    print_told(writer, &told)
-}
-
-/// Prints what a line was told.
-fn print_told<W: Write>(
-    writer: &mut W,
-    told: &Result<Option<Answer>, Failure>,
-) -> io::Result<Printed> {
-    match told {
-        Ok(None) => Ok(Printed::NoLine),
-        Ok(Some(answer)) => {
-            print(writer, answer.status, answer.body.as_str())?;
-            Ok(Printed::Answer)
-        }
-        Err(Failure::Unavailable) => {
-            print(writer, Fault::Unavailable.status(), unavailable_text())?;
-            Ok(Printed::Unavailable)
-        }
-        Err(Failure::HalfDone) => Ok(Printed::HalfDone),
-    }
-}
-
-fn print<W: Write>(writer: &mut W, status: u16, body: &str) -> io::Result<()> {
-    writeln!(writer, "{status} {body}")
 }
 
 /// Reads a line with its line feed, or as much of it as tells that it is too long. False at the end of the
@@ -188,14 +139,64 @@ fn text_of(line: &[u8]) -> Option<&[u8]> {
     Some(text)
 }
 
-/// The answer to a line, or `None` where it has not the form of one.
-fn answer_line(
+/// What was printed for a line.
+#[derive(Clone, Copy)]
+enum Printed {
+    Answer,
+    /// The refusal for want of memory.
+    Unavailable,
+    /// Nothing, since the line has not the form of one.
+    NoLine,
+}
+
+/// Prints the answer to a line, which may have its line feed.
+fn print_answer<W: Write>(
     alloc: Global,
-    service: &mut Service,
-    text: &[u8],
-) -> Result<Option<Answer>, Failure> {
-    match arrival_of(alloc, text)? {
-        None => Ok(None),
-        Some(arrival) => Ok(Some(service.answer(arrival.now, &arrival.line)?)),
+    store: &mut ListStore,
+    line: &[u8],
+    writer: &mut W,
+) -> io::Result<Printed> {
+    let Some(text) = text_of(line) else {
+        return Ok(Printed::NoLine);
+    };
+    match arrival_of(alloc, text) {
+        Ok(None) => Ok(Printed::NoLine),
+        Ok(Some(arrival)) => {
+            let answer = serve(alloc, store, &arrival);
+            print_told(alloc, writer, answer.as_ref())
+        }
+        Err(_) => print_unavailable(writer),
     }
+}
+
+/// Prints what an arrival was answered; there is no answer where memory was wanting.
+fn print_told<W: Write>(
+    alloc: Global,
+    writer: &mut W,
+    answer: Option<&Answer>,
+) -> io::Result<Printed> {
+    match answer {
+        Some(Answer::Good(body)) => print(writer, 200, body.as_str()),
+        Some(Answer::Statement(text)) => print(writer, 200, text.as_str()),
+        Some(Answer::Refusal(fault)) => print_refusal(alloc, writer, fault),
+        None => print_unavailable(writer),
+    }
+}
+
+fn print_refusal<W: Write>(alloc: Global, writer: &mut W, fault: &Fault) -> io::Result<Printed> {
+    match fault_text(alloc, fault) {
+        Ok(body) => print(writer, fault.status(), body.as_str()),
+        Err(_) => print_unavailable(writer),
+    }
+}
+
+fn print_unavailable<W: Write>(writer: &mut W) -> io::Result<Printed> {
+    print(writer, Fault::Unavailable.status(), unavailable_text())?;
+    Ok(Printed::Unavailable)
+}
+
+/// Prints a status and a body.
+fn print<W: Write>(writer: &mut W, status: u16, body: &str) -> io::Result<Printed> {
+    writeln!(writer, "{status} {body}")?;
+    Ok(Printed::Answer)
 }

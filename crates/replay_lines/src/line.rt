@@ -6,7 +6,7 @@ ghost use Rattle.rpc_records.specs.Reading.{json_of};
 ghost use Rattle.replay_lines.specs.ReplayLines as spec;
 
 use jiff::Timestamp;
-use message_engine::{Arrival, Line};
+use message_engine::{Arrival, Post};
 use sched_book::Moment;
 use serde_json::Value;
 use std::alloc::{AllocError, Global};
@@ -18,7 +18,7 @@ use texts::{Listed, Memory, Text, utf8_text, word_of};
 pub fn arrival_of(alloc: Global, text: &[u8]) -> Result<Option<Arrival>, Memory>
     ensures { IfOk result (λ arrival. arrival ≡ spec.arrival_of text.now) }
 {
-    let Some(now) = moment_of(first_part(text, b' ')) else {
+    let Some(moment) = moment_of(first_part(text, b' ')) else {
         return Ok(None);
     };
     let Some(said) = second_part(text, b' ') else {
@@ -26,18 +26,18 @@ pub fn arrival_of(alloc: Global, text: &[u8]) -> Result<Option<Arrival>, Memory>
     };
     match line_of(alloc, said)? {
         None => Ok(None),
-        Some(line) => Ok(Some(Arrival { now, line })),
+        Some(post) => Ok(Some(Arrival { moment, post })),
     }
 }
 
-fn line_of(alloc: Global, text: &[u8]) -> Result<Option<Line>, Memory>
+fn line_of(alloc: Global, text: &[u8]) -> Result<Option<Post>, Memory>
     ensures { IfOk result (λ line. line ≡ spec.line_of text.now) }
 {
     line_by(alloc, first_part(text, b' '), second_part(text, b' '))
 }
 
 /// The message of this word and body.
-fn line_by(alloc: Global, word: &[u8], body: Option<&[u8]>) -> Result<Option<Line>, Memory>
+fn line_by(alloc: Global, word: &[u8], body: Option<&[u8]>) -> Result<Option<Post>, Memory>
     ensures { IfOk result (λ line. line ≡ spec.line_by word.now (option_map (λ b. b.now) body.entry)) }
 {
     if word == b"account".as_slice() {
@@ -45,7 +45,7 @@ fn line_by(alloc: Global, word: &[u8], body: Option<&[u8]>) -> Result<Option<Lin
     }
     if word == b"scheduler".as_slice() {
         let body = body.unwrap_or(&[]);
-        return Ok(Some(Line::Scheduler(Listed::of(body.to_vec(alloc)?))));
+        return Ok(Some(Post::Scheduler(Listed::of(body.to_vec(alloc)?))));
     }
     if word == b"tick".as_slice() {
         return Ok(tick_line(body));
@@ -57,17 +57,17 @@ fn line_by(alloc: Global, word: &[u8], body: Option<&[u8]>) -> Result<Option<Lin
 }
 
 /// A tick, which has no body.
-fn tick_line(body: Option<&[u8]>) -> Option<Line>
+fn tick_line(body: Option<&[u8]>) -> Option<Post>
     ensures { result ≡ spec.tick_line (option_map (λ b. b.now) body.entry) }
 {
     match body {
-        None => Some(Line::Tick),
+        None => Some(Post::Tick),
         Some(_) => None,
     }
 }
 
 /// The import of the account of this name.
-fn account_line(alloc: Global, body: Option<&[u8]>) -> Result<Option<Line>, Memory>
+fn account_line(alloc: Global, body: Option<&[u8]>) -> Result<Option<Post>, Memory>
     ensures { IfOk result (λ line. line ≡ spec.account_line (option_map (λ b. b.now) body.entry)) }
 {
     let Some(body) = body else {
@@ -76,7 +76,7 @@ fn account_line(alloc: Global, body: Option<&[u8]>) -> Result<Option<Line>, Memo
     let Some(name) = word_of(body) else {
         return Ok(None);
     };
-    Ok(Some(Line::Import {
+    Ok(Some(Post::Import {
         kind: Text::copied(alloc, "accounts")?,
         batch: Text::copied(alloc, name)?,
         text: Listed::of(account_rows(alloc, name)?.into_bytes()),
@@ -94,7 +94,7 @@ fn import_line(
     alloc: Global,
     path: Option<&[u8]>,
     body: Option<&[u8]>,
-) -> Result<Option<Line>, Memory>
+) -> Result<Option<Post>, Memory>
     ensures { IfOk result (λ line.
         line ≡ spec.import_line (option_map (λ p. p.now) path.entry) (option_map (λ b. b.now) body.entry)) }
 {
@@ -110,7 +110,7 @@ fn import_line(
     let Some(text) = text_in(alloc, body)? else {
         return Ok(None);
     };
-    Ok(Some(Line::Import {
+    Ok(Some(Post::Import {
         kind: Text::copied(alloc, kind)?,
         batch: Text::copied(alloc, batch)?,
         text: Listed::of(text.into_bytes()),

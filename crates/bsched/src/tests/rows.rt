@@ -413,14 +413,28 @@ fn answer_of(alloc: Global, step: Step) -> Result<String, Fail> {
     }
 }
 
-/// Whether each step's line gets its answer behind the project's imports, where so many hosts may stand.
-fn holds(alloc: Global, max_hosts: u32, steps: &[Step]) -> Result<bool, Fail> {
+/// The lines of these steps.
+pub fn lines_of(alloc: Global, steps: &[Step]) -> Result<String, Fail> {
     let mut lines = String::new(alloc);
-    let mut told = String::new(alloc);
     for step in steps {
         lines.push_str(line_of(alloc, *step)?.as_str())?;
+    }
+    Ok(lines)
+}
+
+/// Their answers.
+fn answers_of(alloc: Global, steps: &[Step]) -> Result<String, Fail> {
+    let mut told = String::new(alloc);
+    for step in steps {
         told.push_str(answer_of(alloc, *step)?.as_str())?;
     }
+    Ok(told)
+}
+
+/// Whether each step's line gets its answer behind the project's imports, where so many hosts may stand.
+fn holds(alloc: Global, max_hosts: u32, steps: &[Step]) -> Result<bool, Fail> {
+    let lines = lines_of(alloc, steps)?;
+    let told = answers_of(alloc, steps)?;
     answers_in_project(alloc, max_hosts, lines.as_str(), told.as_str())
 }
 

@@ -1,0 +1,41 @@
+use Rattle.std.proofs.Common.{Err, ap}
+use Rattle.message_engine.proofs.CallsServed.{account_serves, number_serves, named_serves, left_before}
+use Rattle.message_engine.proofs.calls.call.Goals as goal
+
+pub returns-in-Ok-clause-exact : goal.returns-in-Ok-clause-exact
+returns-in-Ok-clause-exact g c = λ honest kept.
+    let reads = c.admit.ensures.reads in
+    let honest_1 = c.call_of.ensures.honest honest in
+    let kept_1 = g.met.S.Units.stays_kept _ _ reads honest_1 kept in
+    named_serves _ _ _ _ _ _ _ _ _ c.in-Ok.caller c.args.request c.args.now c.call_of.result (g.met.S.Units.stays_same _ _ reads honest_1 kept)
+    (g.met.S.Store.stays_calls _ _ reads honest_1 kept) (g.met.S.Store.stays_batches _ _ reads honest_1 kept)
+    (c.in-Ok.ensures.caller honest_1 kept) (c.call_of.ensures.exact honest kept_1)
+
+pub returns-in-Err-BadAccount-clause-exact : goal.returns-in-Err-BadAccount-clause-exact
+returns-in-Err-BadAccount-clause-exact g c = λ honest kept.
+    let reads = c.admit.ensures.reads in
+    account_serves _ _ _ _ _ _ c.args.request c.args.now (c.in-Err-BadAccount.ensures.bad_account honest kept (ap Err c.in-Err-BadAccount.field-0-is))
+    (record {
+      world_is = g.met.S.Units.stays_same _ _ reads honest kept;
+      calls_are = g.met.S.Store.stays_calls _ _ reads honest kept;
+      batches_are = g.met.S.Store.stays_batches _ _ reads honest kept;
+    })
+
+pub returns-in-Err-BadHost-clause-exact : goal.returns-in-Err-BadHost-clause-exact
+returns-in-Err-BadHost-clause-exact g c = λ honest kept.
+    let reads = c.admit.ensures.reads in
+    number_serves _ _ _ _ _ _ c.args.request c.args.now (c.in-Err-BadHost.ensures.bad_host honest kept (ap Err c.in-Err-BadHost.field-0-is))
+    (record {
+      world_is = g.met.S.Units.stays_same _ _ reads honest kept;
+      calls_are = g.met.S.Store.stays_calls _ _ reads honest kept;
+      batches_are = g.met.S.Store.stays_batches _ _ reads honest kept;
+    })
+
+pub returns-in-Ok-clause-err : goal.returns-in-Ok-clause-err
+returns-in-Ok-clause-err g c = λ honest kept.
+    let reads = c.admit.ensures.reads in
+    let honest_1 = c.call_of.ensures.honest honest in
+    let kept_1 = g.met.S.Units.stays_kept _ _ reads honest_1 kept in
+    left_before _ _ _ _ _ _ _ _ _ c.call_of.result
+    (g.met.S.Units.stays_same _ _ reads honest_1 kept) (g.met.S.Store.stays_calls _ _ reads honest_1 kept) (g.met.S.Store.stays_batches _ _ reads honest_1 kept)
+    (c.call_of.ensures.err honest kept_1)

@@ -1,0 +1,29 @@
+-- What a call is told and does, of a caller who is admitted. (This project's own.)
+use Rattle.std.specs.Prelude.{◌≡◌, ℕ, true, List, Option, None}
+use Rattle.rpc_records.specs.Spelling.{canonical_text}
+use Rattle.rpc_records.specs.declared.request.Request.{Request}
+use Rattle.sched_book.specs.Step.{IsCaller}
+use Rattle.sched_book.specs.declared.machine.Caller.{Caller}
+use Rattle.sched_book.specs.declared.world.World.{World}
+use Rattle.sched_machine.specs.Admission.{names_host}
+use Rattle.pasts.specs.ByNumber.{kept_at}
+use Rattle.pasts.specs.Messages.{Rpc}
+use Rattle.pasts.specs.Told.{told_beside}
+use Rattle.pasts.specs.declared.answer.Answer.{Answer}
+use Rattle.message_engine.specs.Stores.{Calls, Batches, ServesIn}
+
+-- the caller is the one that the call names, and the call tells no wrong number
+abbrev pub IsNamed : World → Caller → Request → Type 0
+IsNamed w c r = IsCaller w c r × (names_host r.hostid c.host ≡ true)
+
+-- what a call of this number and text is told beside what is kept of its caller's calls, where there is room for its host
+abbrev pub told_caller : Calls → Caller → ℕ → List ℕ → Option Answer
+told_caller calls c seqno text = told_beside true (kept_at calls c.host) seqno text
+
+-- a call that nothing but want of room may refuse
+abbrev pub MayAct : World → Calls → Caller → Request → Type 0
+MayAct w calls c r = IsNamed w c r × (told_caller calls c r.rpc_seqno (canonical_text r) ≡ None)
+
+-- what a call does to a store
+abbrev pub ServesCall : Request → ℕ → Answer → World → Calls → Batches → World → Calls → Batches → Type 0
+ServesCall r now = ServesIn (record { now = now; said = Rpc r })

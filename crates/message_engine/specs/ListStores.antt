@@ -1,0 +1,33 @@
+-- What a store over lists in memory holds. (This project's own.)
+use Rattle.std.specs.Prelude.{ℕ, Bool, ◌&&◌, List, [], reverse, find, Option, option_map, unwrap_or}
+use Rattle.std.specs.Str.{bytes_eq}
+use Rattle.reply_register.specs.declared.kept.Kept.{Kept}
+use Rattle.sched_book.specs.Places.{nth}
+use Rattle.sched_book.specs.declared.world.World.{World}
+use Rattle.pasts.specs.Kinds.{same_kind}
+use Rattle.pasts.specs.declared.batch.KeptBatch.{KeptBatch}
+use Rattle.pasts.specs.declared.kind.Kind.{Kind}
+use Rattle.message_engine.specs.declared.list_store.Batch.{Batch}
+use Rattle.message_engine.specs.declared.list_store.ListStore.{ListStore}
+
+-- what is kept of the calls of the host of a number, where those of the hosts are listed from number 1 on
+abbrev pub calls_at : List (List Kept) → ℕ → List Kept
+calls_at calls host = unwrap_or (nth calls host) []
+
+-- the batch is of this kind and has this name
+abbrev pub is_batch : Kind → List ℕ → Batch → Bool
+is_batch kind name b = same_kind b.kind kind && bytes_eq b.name name
+
+-- what is kept of an import; of two of one kind and name the later counts
+abbrev pub batch_at : List Batch → Kind → List ℕ → Option KeptBatch
+batch_at batches kind name = option_map (λ b. b.kept) (find (is_batch kind name) (reverse batches))
+
+-- the world that a store holds, and what it keeps of calls and of imports
+abbrev pub world_of : ListStore → World
+world_of store = store.desk
+
+abbrev pub calls_of : ListStore → ℕ → List Kept
+calls_of store = calls_at store.calls
+
+abbrev pub batches_of : ListStore → Kind → List ℕ → Option KeptBatch
+batches_of store = batch_at store.batches

@@ -1,0 +1,212 @@
+//! A call of a host, over any store.
+
+ghost use Rattle.std.specs.Prelude.{◌≡◌, true, IfOk, OnOk, OnErr, IsErrOf};
+ghost use Rattle.rpc_records.specs.Ranges.{IsInRange};
+ghost use Rattle.rpc_records.specs.Replies.{reply_text_of};
+ghost use Rattle.rpc_records.specs.Spelling.{canonical_text};
+ghost use Rattle.sched_book.specs.Delta.{applied, Fits};
+ghost use Rattle.sched_book.specs.Sound.{Sound};
+ghost use Rattle.sched_book.specs.Step.{RpcStep};
+ghost use Rattle.sched_book.specs.declared.machine.Call.TheVariants as call;
+ghost use Rattle.sched_machine.specs.Calling.{IsAdmitted, IsFull};
+ghost use Rattle.sched_machine.specs.declared.admission.Refused.TheVariants as refused;
+ghost use Rattle.pasts.specs.ByNumber.{kept_at};
+ghost use Rattle.pasts.specs.Messages.{Rpc};
+ghost use Rattle.pasts.specs.Told.{told_beside};
+ghost use Rattle.pasts.specs.declared.answer.Answer.TheVariants.{Good};
+ghost use Rattle.message_engine.specs.Calls.{IsNamed, MayAct, ServesCall, told_caller};
+ghost use Rattle.message_engine.specs.Stores.{ServesIn, IsCommitted, IsLeft};
+ghost use Rattle.message_engine.specs.declared.entry.Entry.TheVariants as entry;
+
+use crate::entry::Entry;
+use crate::store::Store;
+use pasts::Answer;
+use reply_register::{Heard, Kept, classify};
+use rpc_records::{Fault, Reply, Request, reply_text, request_text};
+use sched_book::{Answered, Call, Caller, Delta, Desk, Moment, Unavailable};
+use sched_machine::{Refused, admit, step};
+use std::alloc::Global;
+use texts::{Listed, Memory, Text};
+
+/// What a call of this number and canonical text is told beside what is kept of its host's calls, of which the last
+/// decides: nothing, where it is fresh.
+fn told_beside(kept: &[Kept], seqno: u32, text: &str) -> Result<Option<Answer>, Memory>
+    ensures { IfOk result (λ told. told ≡ told_beside true kept.now seqno text.now) }
+{
+    let Some(last) = kept.first() else {
+        return Ok(None);
+    };
+    match classify(Some(last), seqno, text) {
+        Heard::Fresh => Ok(None),
+        Heard::Repeat => Ok(Some(Answer::Good(last.reply.clone()?))),
+        Heard::Reused(last) => Ok(Some(Answer::Refusal(Fault::Reused(last)))),
+        Heard::Stale(last) => Ok(Some(Answer::Refusal(Fault::Stale(last)))),
+    }
+}
+
+/// What is kept of the calls of a caller's host: nothing, where it has none.
+fn kept_of<S: Store>(
+    alloc: Global,
+    store: &mut S,
+    caller: &Caller,
+) -> Result<Listed<Kept>, Unavailable>
+    ensures reads { S.reads store.old store.new }
+    ensures kept { S.honest store.new → S.well_kept store.old → IfOk result (λ kept. kept ≡ kept_at (S.calls store.old) caller.now.host) }
+{
+    match caller.host {
+        Some(number) => store.kept(alloc, number),
+        None => Ok(Listed::new(alloc)),
+    }
+}
+
+/// What a call of this caller, number and canonical text is told beside what is kept: nothing, where it is fresh.
+fn told_kept<S: Store>(
+    alloc: Global,
+    store: &mut S,
+    caller: &Caller,
+    seqno: u32,
+    text: &str,
+) -> Result<Option<Answer>, Unavailable>
+    ensures reads { S.reads store.old store.new }
+    ensures told { S.honest store.new → S.well_kept store.old → IfOk result (λ told.
+        told ≡ told_caller (S.calls store.old) caller.now seqno text.now) }
+{
+    let kept = kept_of(alloc, store, caller)?;
+    Ok(told_beside(kept.as_slice(), seqno, text)?)
+}
+
+/// The step of a first-heard call of this caller: its changes and its reply.
+fn call_step<D: Desk>(
+    alloc: Global,
+    desk: &mut D,
+    caller: Caller,
+    request: Request,
+    now: Moment,
+) -> Result<(Delta, Reply), Refused>
+    ensures reads { D.reads desk.old desk.new }
+    ensures step { D.honest desk.new → D.well_kept desk.old → IfOk result (λ done.
+        Sound (D.world desk.old) → IsAdmitted (D.world desk.old) caller request →
+        RpcStep (D.world desk.old) caller request now (applied (D.world desk.old) done.0) done.1) }
+    ensures sound { D.honest desk.new → D.well_kept desk.old → IfOk result (λ done.
+        Sound (D.world desk.old) → IsAdmitted (D.world desk.old) caller request → Sound (applied (D.world desk.old) done.0)) }
+    ensures fits { D.honest desk.new → D.well_kept desk.old → IfOk result (λ done.
+        Sound (D.world desk.old) → IsAdmitted (D.world desk.old) caller request → Fits (D.world desk.old) done.0) }
+    ensures full { D.honest desk.new → D.well_kept desk.old → IsErrOf result refused.HostsFull →
+        IsFull (D.world desk.old) (call.Rpc caller request) }
+{
+    let done = step(alloc, desk, &Call::Rpc(caller, request), now);
+    let (delta, answered) = done?;
+    match answered {
+        Answered::Rpc(reply) => Ok((delta, reply)),
+        _ => Err(Refused::Unavailable),
+    }
+}
+
+/// Makes the changes of a call and keeps it with its reply, which is the answer. No memory is asked for once they are
+/// made.
+fn keep<S: Store>(
+    alloc: Global,
+    store: &mut S,
+    delta: &Delta,
+    reply: &Reply,
+    seqno: u32,
+    text: Text,
+) -> Result<Answer, Unavailable>
+    ensures honest { S.honest store.new → S.honest store.old }
+    ensures kept { S.honest store.new → S.well_kept store.old → S.well_kept store.new }
+    ensures answer { IfOk result (λ answer. answer ≡ Good (reply_text_of reply.now)) }
+    ensures ok { S.honest store.new → S.well_kept store.old → OnOk result (Fits (S.world store.old) delta.now →
+        IsCommitted delta.now (entry.Kept reply.now.hostid (record { seqno = seqno; text = text; reply = reply_text_of reply.now }))
+        (S.world store.old) (S.calls store.old) (S.batches store.old) (S.world store.new) (S.calls store.new) (S.batches store.new)) }
+    ensures err { S.honest store.new → S.well_kept store.old → OnErr result (
+        IsLeft (S.world store.old) (S.calls store.old) (S.batches store.old) (S.world store.new) (S.calls store.new) (S.batches store.new)) }
+{
+    let body = reply_text(alloc, reply)?;
+    let kept = Kept {
+        seqno,
+        text,
+        reply: body.clone()?,
+    };
+    store.commit(delta, &Entry::Kept(reply.hostid, kept))?;
+    Ok(Answer::Good(body))
+}
+
+/// Acts on a fresh call, where there is room for its host.
+fn act<S: Store>(
+    alloc: Global,
+    store: &mut S,
+    caller: Caller,
+    request: Request,
+    text: Text,
+    now: Moment,
+) -> Result<Answer, Unavailable>
+    requires in_range { IsInRange request }
+    requires text { text ≡ canonical_text request }
+    ensures honest { S.honest store.new → S.honest store.old }
+    ensures kept { S.honest store.new → S.well_kept store.old → S.well_kept store.new }
+    ensures exact { S.honest store.new → S.well_kept store.old → IfOk result (λ answer.
+        MayAct (S.world store.old) (S.calls store.old) caller request → ServesCall request now answer
+        (S.world store.old) (S.calls store.old) (S.batches store.old) (S.world store.new) (S.calls store.new) (S.batches store.new)) }
+    ensures err { S.honest store.new → S.well_kept store.old → OnErr result (
+        IsLeft (S.world store.old) (S.calls store.old) (S.batches store.old) (S.world store.new) (S.calls store.new) (S.batches store.new)) }
+{
+    let seqno = request.rpc_seqno;
+    match call_step(alloc, store, caller, request, now) {
+        Ok((delta, reply)) => keep(alloc, store, &delta, &reply, seqno, text),
+        Err(Refused::HostsFull) => Ok(Answer::Refusal(Fault::HostsFull)),
+        Err(_) => Err(Unavailable),
+    }
+}
+
+/// Answers a call of a caller who is admitted.
+fn call_of<S: Store>(
+    alloc: Global,
+    store: &mut S,
+    caller: Caller,
+    request: Request,
+    now: Moment,
+) -> Result<Answer, Unavailable>
+    requires in_range { IsInRange request }
+    ensures honest { S.honest store.new → S.honest store.old }
+    ensures kept { S.honest store.new → S.well_kept store.old → S.well_kept store.new }
+    ensures exact { S.honest store.new → S.well_kept store.old → IfOk result (λ answer.
+        IsNamed (S.world store.old) caller request → ServesCall request now answer
+        (S.world store.old) (S.calls store.old) (S.batches store.old) (S.world store.new) (S.calls store.new) (S.batches store.new)) }
+    ensures err { S.honest store.new → S.well_kept store.old → OnErr result (
+        IsLeft (S.world store.old) (S.calls store.old) (S.batches store.old) (S.world store.new) (S.calls store.new) (S.batches store.new)) }
+{
+    let text = request_text(alloc, &request)?;
+    match told_kept(alloc, store, &caller, request.rpc_seqno, text.as_str())? {
+        Some(answer) => Ok(answer),
+        None => act(alloc, store, caller, request, text, now),
+    }
+}
+
+/// Answers a call. One that is first heard is a step of the job machine, and is kept with its reply; any other is told
+/// what stands and what is kept of its host's calls say, and changes nothing.
+///
+/// # Errors
+///
+/// [`Unavailable`] leaves all as it was.
+pub fn call<S: Store>(
+    alloc: Global,
+    store: &mut S,
+    request: Request,
+    now: Moment,
+) -> Result<Answer, Unavailable>
+    requires in_range { IsInRange request }
+    ensures honest { S.honest store.new → S.honest store.old }
+    ensures kept { S.honest store.new → S.well_kept store.old → S.well_kept store.new }
+    ensures exact { S.honest store.new → S.well_kept store.old → IfOk result (λ answer.
+        ServesIn (record { now = now; said = Rpc request }) answer
+        (S.world store.old) (S.calls store.old) (S.batches store.old) (S.world store.new) (S.calls store.new) (S.batches store.new)) }
+    ensures err { S.honest store.new → S.well_kept store.old → OnErr result (
+        IsLeft (S.world store.old) (S.calls store.old) (S.batches store.old) (S.world store.new) (S.calls store.new) (S.batches store.new)) }
+{
+    match admit(alloc, store, &request) {
+        Ok(caller) => call_of(alloc, store, caller, request, now),
+        Err(Refused::BadAccount) => Ok(Answer::Refusal(Fault::BadAccount)),
+        Err(Refused::BadHost) => Ok(Answer::Refusal(Fault::BadHost)),
+        Err(_) => Err(Unavailable),
+    }
+}

@@ -1,0 +1,339 @@
+//! The plain store, which keeps all in lists in memory.
+
+ghost use Rattle.std.specs.Prelude.{◌≡◌, ℕ, [], ◌∷◌, ◌+◌, ◌<◌, List, length, take, find, reverse, None, Ok, ⊤, IfOk, OnOk, OnErr};
+ghost use Rattle.std.specs.Option.{option_copied};
+ghost use Rattle.sched_book.specs.Delta.{applied};
+ghost use Rattle.sched_book.specs.Desk.{counts, agreement_at};
+ghost use Rattle.sched_book.specs.Places.{unit_named, known_host, sent_on_day};
+ghost use Rattle.sched_book.specs.Step.{empty_world};
+ghost use Rattle.pasts.specs.Answers.{kept_beside_last};
+ghost use Rattle.pasts.specs.declared.kind.Kind.{Kind};
+ghost use Rattle.message_engine.specs.ListStores.{calls_at, is_batch, batch_at, world_of, calls_of, batches_of};
+ghost use Rattle.message_engine.specs.Stores.{IsCommitted, IsLeft};
+ghost use Rattle.message_engine.specs.declared.entry.Entry.TheVariants as entry;
+
+use crate::copies::{append_copies, copy_batch, copy_kept};
+use crate::entry::Entry;
+use crate::store::Store;
+use pasts::{KeptBatch, Kind};
+use reply_register::Kept;
+use sched_book::{
+    Account, Agreement, App, Counts, Delta, Desk, HostRow, Instance, ListDesk, Moment, Place,
+    Placed, Settings, Taker, Unavailable, Units, Version, Workunit,
+};
+use std::alloc::Global;
+use texts::{Listed, Memory, Text};
+
+/// How many calls of a host are kept beside its last: only the last call is kept.
+const KEPT_BESIDE_LAST: usize = 0;
+
+/// An import that is kept.
+#[derive(Drop)]
+pub struct Batch {
+    pub kind: Kind,
+    pub name: Text,
+    pub kept: KeptBatch,
+}
+
+/// A store over lists in memory: a plain desk, and what is kept beside it. What is kept of a host's calls is found by its
+/// number; a kept import is looked for from the latest on.
+#[derive(Drop)]
+pub struct ListStore {
+    alloc: Global,
+    desk: ListDesk,
+    /// What is kept of each host's calls, the last call first, by the number of the host from 1 on.
+    calls: Listed<Listed<Kept>>,
+    /// What is kept of imports, in the order in which they came.
+    batches: Listed<Batch>,
+}
+
+/// What is kept of the calls of the host of this number.
+fn calls_of(calls: &[Listed<Kept>], host: u32) -> &[Kept]
+    ensures { result.now ≡ calls_at calls.now host }
+{
+    if host == 0 {
+        return &[];
+    }
+    match calls.get(host as usize - 1) {
+        None => &[],
+        Some(kept) => kept.as_slice(),
+    }
+}
+
+/// What is kept of a host's calls once this one is heard.
+fn kept_with(alloc: Global, kept: &Kept, older: &[Kept]) -> Result<Listed<Kept>, Memory>
+    ensures { IfOk result (λ calls. calls ≡ kept.now ∷ take kept_beside_last older.now) }
+{
+    let mut calls = Listed::new(alloc);
+    calls.push(copy_kept(kept)?)?;
+    append_copies(&mut calls, &older[..older.len().min(KEPT_BESIDE_LAST)])?;
+    Ok(calls)
+}
+
+/// The index of what is kept of the calls of the host of this number. The next host is listed first, with no call; a
+/// number beyond it is refused.
+#[tactic(auto, using(crate::proofs::HostCalls::calls_at_listed))]
+fn list_host(
+    alloc: Global,
+    calls: &mut Listed<Listed<Kept>>,
+    host: u32,
+) -> Result<usize, Unavailable>
+    ensures index { IfOk result (λ index. index + 1 ≡ host) }
+    ensures within { IfOk result (λ index. index < length calls.new) }
+    ensures same { (number : ℕ) → calls_at calls.new number ≡ calls_at calls.old number }
+{
+    if host == 0 {
+        return Err(Unavailable);
+    }
+    let index = host as usize - 1;
+    if index < calls.len() {
+        return Ok(index);
+    }
+    if index > calls.len() {
+        return Err(Unavailable);
+    }
+    calls.push(Listed::new(alloc))?;
+    Ok(index)
+}
+
+/// The kept import of this kind and name.
+fn find_batch<'a>(batches: &'a [Batch], kind: Kind, name: &str) -> Option<&'a Batch>
+    ensures { option_copied result ≡ find (is_batch kind name.now) (reverse batches.now) }
+{
+    batches.iter().rev().find(|batch| batch.kind.name() == kind.name() && batch.name.is(name))
+}
+
+impl ListStore {
+    /// A store with these settings, in which nothing stands and which has heard nothing.
+    pub fn new(alloc: Global, settings: &Settings) -> Result<ListStore, Memory>
+        ensures world { IfOk result (λ store. world_of store ≡ empty_world settings.now) }
+        ensures calls { IfOk result (λ store. (host : ℕ) → calls_of store host ≡ []) }
+        ensures batches { IfOk result (λ store. (kind : Kind) (batch : List ℕ) → batches_of store kind batch ≡ None) }
+    {
+        Ok(ListStore {
+            alloc,
+            desk: ListDesk::new(alloc, settings)?,
+            calls: Listed::new(alloc),
+            batches: Listed::new(alloc),
+        })
+    }
+
+    /// Makes these changes and keeps this call of the host of this number, or does neither.
+    fn commit_call(&mut self, delta: &Delta, host: u32, kept: &Kept) -> Result<(), Unavailable>
+        ensures ok { OnOk result (
+            IsCommitted delta.now (entry.Kept host kept.now) (world_of self.old) (calls_of self.old) (batches_of self.old)
+            (world_of self.new) (calls_of self.new) (batches_of self.new)) }
+        ensures err { OnErr result (
+            IsLeft (world_of self.old) (calls_of self.old) (batches_of self.old) (world_of self.new) (calls_of self.new) (batches_of self.new)) }
+    {
+        let calls = kept_with(self.alloc, kept, calls_of(self.calls.as_slice(), host))?;
+        let index = list_host(self.alloc, &mut self.calls, host)?;
+        self.desk.apply(delta)?;
+        self.calls.replace(index, calls);
+        Ok(())
+    }
+
+    /// Makes these changes and keeps this import of this kind and name, or does neither.
+    fn commit_batch(
+        &mut self,
+        delta: &Delta,
+        kind: Kind,
+        name: &Text,
+        kept: &KeptBatch,
+    ) -> Result<(), Unavailable>
+        ensures ok { OnOk result (
+            IsCommitted delta.now (entry.Batch kind name.now kept.now) (world_of self.old) (calls_of self.old) (batches_of self.old)
+            (world_of self.new) (calls_of self.new) (batches_of self.new)) }
+        ensures err { OnErr result (
+            IsLeft (world_of self.old) (calls_of self.old) (batches_of self.old) (world_of self.new) (calls_of self.new) (batches_of self.new)) }
+    {
+        let batch = Batch {
+            kind,
+            name: name.clone()?,
+            kept: copy_batch(self.alloc, kept)?,
+        };
+        self.batches.push(batch)?;
+        if let Err(unavailable) = self.desk.apply(delta) {
+            self.batches.drop_last();
+            return Err(unavailable);
+        }
+        Ok(())
+    }
+}
+
+impl Units for ListStore {
+    ghost use Rattle.std.proofs.Common.{rules};
+
+    ghost world = { world_of };
+
+    ghost honest = { λ _. ⊤ };
+
+    ghost well_kept = { λ _. ⊤ };
+
+    ghost reads = { λ a b. a ≡ b };
+
+    fn unit_by_name(&mut self, name: &str) -> Result<Option<u32>, Unavailable>
+        ensures reads { self.new ≡ self.old }
+        ensures answer { result ≡ Ok (unit_named (world_of self.old) name.now) }
+    {
+        self.desk.unit_by_name(name)
+    }
+
+    fn unit(&mut self, alloc: Global, unit: u32) -> Result<Option<Workunit>, Unavailable> {
+        self.desk.unit(alloc, unit)
+    }
+
+    fn agreement_of(&mut self, alloc: Global, unit: u32) -> Result<Option<Agreement>, Unavailable>
+        ensures reads { self.new ≡ self.old }
+        ensures answer { result ≡ Ok (agreement_at (world_of self.old) unit) }
+    {
+        self.desk.agreement_of(alloc, unit)
+    }
+
+    fn instance(
+        &mut self,
+        alloc: Global,
+        unit: u32,
+        number: u32,
+    ) -> Result<Option<Instance>, Unavailable> {
+        self.desk.instance(alloc, unit, number)
+    }
+
+    fn instances_of(&mut self, alloc: Global, unit: u32) -> Result<Listed<Instance>, Unavailable> {
+        self.desk.instances_of(alloc, unit)
+    }
+
+    ghost reads_none = { λ d. Prim.search rules };
+
+    ghost reads_on = { λ a b c h k. Prim.search rules };
+
+    ghost stays_honest = { λ a b h k. Prim.search rules };
+
+    ghost stays_kept = { λ a b h k l. Prim.search rules };
+
+    ghost stays_same = { λ a b h k l. Prim.search rules };
+}
+
+impl Desk for ListStore {
+    fn settings(&mut self, alloc: Global) -> Result<Settings, Unavailable> {
+        self.desk.settings(alloc)
+    }
+
+    fn counts(&mut self) -> Result<Counts, Unavailable>
+        ensures reads { self.new ≡ self.old }
+        ensures answer { result ≡ Ok (counts (world_of self.old)) }
+    {
+        self.desk.counts()
+    }
+
+    fn account_by_key(
+        &mut self,
+        alloc: Global,
+        authenticator: &str,
+    ) -> Result<Option<Placed<Account>>, Unavailable> {
+        self.desk.account_by_key(alloc, authenticator)
+    }
+
+    fn app_by_name(
+        &mut self,
+        alloc: Global,
+        name: &str,
+    ) -> Result<Option<Placed<App>>, Unavailable> {
+        self.desk.app_by_name(alloc, name)
+    }
+
+    fn host_by_key(&mut self, account: u32, cpid: &str) -> Result<Option<u32>, Unavailable>
+        ensures reads { self.new ≡ self.old }
+        ensures answer { result ≡ Ok (known_host (world_of self.old) account cpid.now) }
+    {
+        self.desk.host_by_key(account, cpid)
+    }
+
+    fn host_by_id(&mut self, alloc: Global, host: u32) -> Result<Option<HostRow>, Unavailable> {
+        self.desk.host_by_id(alloc, host)
+    }
+
+    fn held_by(&mut self, alloc: Global, host: u32) -> Result<Listed<Place>, Unavailable> {
+        self.desk.held_by(alloc, host)
+    }
+
+    fn owned_by(&mut self, alloc: Global, host: u32) -> Result<Listed<Place>, Unavailable> {
+        self.desk.owned_by(alloc, host)
+    }
+
+    fn sent_on_day(&mut self, host: u32, day: u64) -> Result<u32, Unavailable>
+        ensures reads { self.new ≡ self.old }
+        ensures answer { result ≡ Ok (sent_on_day (world_of self.old) host day) }
+    {
+        self.desk.sent_on_day(host, day)
+    }
+
+    fn units_of_user(&mut self, alloc: Global, account: u32) -> Result<Listed<u32>, Unavailable> {
+        self.desk.units_of_user(alloc, account)
+    }
+
+    fn version_for(
+        &mut self,
+        alloc: Global,
+        host: &HostRow,
+        app: u32,
+    ) -> Result<Option<Version>, Unavailable> {
+        self.desk.version_for(alloc, host, app)
+    }
+
+    fn version_by_key(
+        &mut self,
+        alloc: Global,
+        app: &str,
+        platform: &str,
+        version_num: u32,
+    ) -> Result<Option<Version>, Unavailable> {
+        self.desk.version_by_key(alloc, app, platform, version_num)
+    }
+
+    fn due_before(&mut self, alloc: Global, now: Moment) -> Result<Listed<Place>, Unavailable> {
+        self.desk.due_before(alloc, now)
+    }
+
+    fn unsent_from<T: Taker>(&mut self, from: Place, taker: &mut T) -> Result<(), Unavailable> {
+        self.desk.unsent_from(from, taker)
+    }
+}
+
+impl Store for ListStore {
+    ghost use Rattle.std.proofs.Common.{rules};
+
+    ghost calls = { calls_of };
+
+    ghost batches = { batches_of };
+
+    fn kept(&mut self, alloc: Global, host: u32) -> Result<Listed<Kept>, Unavailable> {
+        let mut kept = Listed::new(alloc);
+        append_copies(&mut kept, calls_of(self.calls.as_slice(), host))?;
+        Ok(kept)
+    }
+
+    fn kept_batch(
+        &mut self,
+        alloc: Global,
+        kind: Kind,
+        batch: &str,
+    ) -> Result<Option<KeptBatch>, Unavailable> {
+        match find_batch(self.batches.as_slice(), kind, batch) {
+            None => Ok(None),
+            Some(batch) => Ok(Some(copy_batch(alloc, &batch.kept)?)),
+        }
+    }
+
+    fn commit(&mut self, delta: &Delta, entry: &Entry) -> Result<(), Unavailable> {
+        match entry {
+            Entry::Kept(host, kept) => self.commit_call(delta, *host, kept),
+            Entry::Batch(kind, name, kept) => self.commit_batch(delta, *kind, name, kept),
+            Entry::Nothing => self.desk.apply(delta),
+        }
+    }
+
+    ghost stays_calls = { λ a b h k l host. Prim.search rules };
+
+    ghost stays_batches = { λ a b h k l kind batch. Prim.search rules };
+}

@@ -1,0 +1,56 @@
+ghost use Rattle.std.specs.Prelude.{◌≡◌, ℕ, List, Option, IfOk, OnOk, OnErr};
+ghost use Rattle.reply_register.specs.declared.kept.Kept.{Kept};
+ghost use Rattle.sched_book.specs.Delta.{Fits};
+ghost use Rattle.pasts.specs.declared.batch.KeptBatch.{KeptBatch};
+ghost use Rattle.pasts.specs.declared.kind.Kind.{Kind};
+ghost use Rattle.message_engine.specs.Stores.{IsCommitted, IsLeft};
+
+use crate::entry::Entry;
+use pasts::{KeptBatch, Kind};
+use reply_register::Kept;
+use sched_book::{Delta, Desk, Unavailable};
+use std::alloc::Global;
+use texts::Listed;
+
+/// A desk that keeps calls with their replies, and imports with their answers.
+///
+/// What it says of a kept call or a kept import it says as a desk does: where it is honest after the call and was well kept
+/// before, and it changes nothing.
+pub trait Store: Desk {
+    /// What is kept of the calls of the host of a number, the last call first.
+    ghost calls: { Self → ℕ → List Kept };
+
+    /// What is kept of an import, by its kind and the name of its batch.
+    ghost batches: { Self → Kind → List ℕ → Option KeptBatch };
+
+    /// What is kept of the calls of the host of this number, the last call first.
+    fn kept(&mut self, alloc: Global, host: u32) -> Result<Listed<Kept>, Unavailable>
+        ensures reads { Self.reads self.old self.new }
+        ensures answer { Self.honest self.new → Self.well_kept self.old → IfOk result (λ r. r ≡ calls self.old host) };
+
+    /// What is kept of the import of this kind and batch name.
+    fn kept_batch(
+        &mut self,
+        alloc: Global,
+        kind: Kind,
+        batch: &str,
+    ) -> Result<Option<KeptBatch>, Unavailable>
+        ensures reads { Self.reads self.old self.new }
+        ensures answer { Self.honest self.new → Self.well_kept self.old → IfOk result (λ r. r ≡ batches self.old kind batch.now) };
+
+    /// Makes these changes and keeps this entry, at once: where it is unavailable, neither is done.
+    fn commit(&mut self, delta: &Delta, entry: &Entry) -> Result<(), Unavailable>
+        ensures honest { Self.honest self.new → Self.honest self.old }
+        ensures kept { Self.honest self.new → Self.well_kept self.old → Self.well_kept self.new }
+        ensures ok { Self.honest self.new → Self.well_kept self.old → OnOk result (Fits (Self.world self.old) delta.now →
+            IsCommitted delta.now entry.now (Self.world self.old) (calls self.old) (batches self.old)
+            (Self.world self.new) (calls self.new) (batches self.new)) }
+        ensures err { Self.honest self.new → Self.well_kept self.old → OnErr result (
+            IsLeft (Self.world self.old) (calls self.old) (batches self.old) (Self.world self.new) (calls self.new) (batches self.new)) };
+
+    // Reading leaves what is kept as it is.
+    ghost stays_calls: { (a b : Self) → Self.reads a b → Self.honest b → Self.well_kept a → (host : ℕ) → calls b host ≡ calls a host };
+
+    ghost stays_batches: { (a b : Self) → Self.reads a b → Self.honest b → Self.well_kept a
+        → (kind : Kind) (batch : List ℕ) → batches b kind batch ≡ batches a kind batch };
+}

@@ -1,0 +1,56 @@
+//! A tick, over any store.
+
+ghost use Rattle.std.specs.Prelude.{◌≡◌, IfOk, OnOk, OnErr};
+ghost use Rattle.sched_book.specs.Delta.{Fits};
+ghost use Rattle.pasts.specs.Answers.{lapsed_text};
+ghost use Rattle.pasts.specs.Messages.{Tick};
+ghost use Rattle.pasts.specs.declared.answer.Answer.TheVariants as answers;
+ghost use Rattle.message_engine.specs.Stores.{IsCommitted, IsLeft, ServesIn};
+ghost use Rattle.message_engine.specs.declared.entry.Entry.TheVariants as entry;
+
+use crate::bodies::lapsed;
+use crate::entry::Entry;
+use crate::steps::tick_step;
+use crate::store::Store;
+use pasts::Answer;
+use sched_book::{Delta, Moment, Unavailable};
+use std::alloc::Global;
+
+/// Makes the changes of a tick, and tells how many instances lapsed.
+fn make_lapse<S: Store>(
+    alloc: Global,
+    store: &mut S,
+    delta: &Delta,
+    count: u32,
+) -> Result<Answer, Unavailable>
+    ensures honest { S.honest store.new → S.honest store.old }
+    ensures kept { S.honest store.new → S.well_kept store.old → S.well_kept store.new }
+    ensures answer { IfOk result (λ answer. answer ≡ answers.Good (lapsed_text count)) }
+    ensures ok { S.honest store.new → S.well_kept store.old → OnOk result (Fits (S.world store.old) delta.now →
+        IsCommitted delta.now entry.Nothing (S.world store.old) (S.calls store.old) (S.batches store.old)
+        (S.world store.new) (S.calls store.new) (S.batches store.new)) }
+    ensures err { S.honest store.new → S.well_kept store.old → OnErr result (
+        IsLeft (S.world store.old) (S.calls store.old) (S.batches store.old) (S.world store.new) (S.calls store.new) (S.batches store.new)) }
+{
+    let body = lapsed(alloc, count)?;
+    store.commit(delta, &Entry::Nothing)?;
+    Ok(Answer::Good(body))
+}
+
+/// Lets time go by: a step of the job machine, whose answer tells how many instances lapsed.
+///
+/// # Errors
+///
+/// [`Unavailable`] leaves all as it was.
+pub fn tick<S: Store>(alloc: Global, store: &mut S, now: Moment) -> Result<Answer, Unavailable>
+    ensures honest { S.honest store.new → S.honest store.old }
+    ensures kept { S.honest store.new → S.well_kept store.old → S.well_kept store.new }
+    ensures exact { S.honest store.new → S.well_kept store.old → IfOk result (λ answer.
+        ServesIn (record { now = now; said = Tick }) answer
+        (S.world store.old) (S.calls store.old) (S.batches store.old) (S.world store.new) (S.calls store.new) (S.batches store.new)) }
+    ensures err { S.honest store.new → S.well_kept store.old → OnErr result (
+        IsLeft (S.world store.old) (S.calls store.old) (S.batches store.old) (S.world store.new) (S.calls store.new) (S.batches store.new)) }
+{
+    let (delta, count) = tick_step(alloc, store, now)?;
+    make_lapse(alloc, store, &delta, count)
+}
