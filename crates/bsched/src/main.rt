@@ -4,6 +4,9 @@
 //! prints the answers. `docs/PROFILE.md` states the formats.
 #![tactic(auto)]
 
+ghost use Rattle.std.specs.Prelude.{IfOk};
+ghost use Rattle.sched_book.specs.Limits.{AreSettingsInLimits};
+
 #[cfg(test)]
 mod tests;
 
@@ -44,7 +47,9 @@ fn asks_for_replay(words: &[String]) -> bool {
 }
 
 /// What `replay` takes where no settings are told.
-fn default_settings(alloc: Global) -> Result<Settings, Memory> {
+fn default_settings(alloc: Global) -> Result<Settings, Memory>
+    ensures { IfOk result AreSettingsInLimits }
+{
     Ok(Settings {
         daily_result_quota: 4,
         max_hosts: 3,

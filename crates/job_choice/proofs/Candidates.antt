@@ -5,7 +5,7 @@ use Rattle.std.proofs.lemmas.Bool.{or_cases, or_left, or_right, and_parts, and_f
 use Rattle.std.proofs.lemmas.List.Elements.{Contains-append_left, Contains-append_right, Contains-append_cases}
 use Rattle.sched_book.specs.Count.{is_open}
 use Rattle.sched_book.specs.Offers.{unsent_in, unsent_among}
-use Rattle.sched_book.specs.Places.{nth, unit_at, status_of, passes, places_in, places_among, places, is_before}
+use Rattle.sched_book.specs.Places.{nth, unit_at, status_of, passes, places, is_before}
 use Rattle.sched_book.specs.declared.desk.Candidate.{Candidate}
 use Rattle.sched_book.specs.declared.instance.Instance.{Instance}
 use Rattle.sched_book.specs.declared.instance.Place.{Place}
@@ -14,6 +14,7 @@ use Rattle.sched_book.specs.declared.rows.Workunit.{Workunit}
 use Rattle.sched_book.specs.declared.world.World.{World}
 use Rattle.sched_book.proofs.Newest.{none_in_nothing, in_front, behind, front_of}
 use Rattle.sched_book.proofs.PlacesOf.{nth-suc}
+use Rattle.sched_book.proofs.PlacesWhere.{none_missed}
 
 -- the order of places
 abbrev pub Before : Place → Place → Type 0
@@ -274,33 +275,8 @@ passes_at w test p b x at stands =
     ap (λ (o : Option UnitBook). unwrap_or (option_and_then (λ b. option_map (test b) (slice_get b.instances p.number)) o) false) at
     ∙ ap (λ (o : Option Instance). unwrap_or (option_map (test b) o) false) stands
 
--- each instance is among the places
-listed_places : (unit n : ℕ) (xs : List Instance) (i : ℕ) (x : Instance) (m : ℕ) → slice_get xs i ≡ Some x → m ≡ n + i
-    → Contains (places_in unit n (λ y. true) xs) (record { unit = unit; number = m })
-listed_places unit n [] i x m found number = absurd (let never : None ≡ Some x = found in cc)
-listed_places unit n (y ∷ ys) zero x m found number =
-    let same : m ≡ n = omega arith in
-    subst (λ k. Contains (places_in unit n (λ y. true) (y ∷ ys)) (record { unit = unit; number = k })) (sym same)
-    (front_of (record { unit = unit; number = n }) (places_in unit (n + 1) (λ y. true) ys))
-listed_places unit n (y ∷ ys) (suc i) x m found number =
-    behind (record { unit = unit; number = n }) (places_in unit (n + 1) (λ y. true) ys) (record { unit = unit; number = m })
-    (listed_places unit (n + 1) ys i x m found (omega arith))
-
-places_listed : (first : ℕ) (bs : List UnitBook) (i : ℕ) (b : UnitBook) (x : Instance) (p : Place)
-    → slice_get bs i ≡ Some b → slice_get b.instances p.number ≡ Some x → p.unit ≡ first + i
-    → Contains (places_among first (λ b y. true) bs) p
-places_listed first [] i b x p found stands place = absurd (let never : None ≡ Some b = found in cc)
-places_listed first (y ∷ ys) zero b x p found stands place =
-    let same : p.unit ≡ first = omega arith in
-    let is : y ≡ b = (let s : Some y ≡ Some b = found in cc) in
-    subst (λ u. Contains (places_among first (λ b y. true) (y ∷ ys)) (record { unit = u; number = p.number })) (sym same)
-    (subst (λ z. Contains (places_among first (λ b y. true) (z ∷ ys)) (record { unit = first; number = p.number })) (sym is)
-    (Contains-append_left (places_in first 0 (λ y. true) b.instances) (places_among (first + 1) (λ b y. true) ys) (record { unit = first; number = p.number })
-    (listed_places first 0 b.instances p.number x p.number stands (omega arith))))
-places_listed first (y ∷ ys) (suc i) b x p found stands place =
-    Contains-append_right (places_in first 0 (λ y. true) y.instances) (places_among (first + 1) (λ b y. true) ys) p
-    (places_listed (first + 1) ys i b x p found stands (omega arith))
-
 -- a place that passes a test is among the places
 pub is_place : (w : World) (test : UnitBook → Instance → Bool) (p : Place) → passes w test p ≡ true → Contains (places w) p
-is_place w test p h = let there = stood w test p h in places_listed 1 w.units there.index there.book there.x p there.found there.stands there.place
+is_place w test p h =
+    let there = stood w test p h in
+    none_missed w (λ b x. true) p (passes_at w (λ b x. true) p there.book there.x there.at there.stands)

@@ -6,8 +6,8 @@ use Rattle.std.proofs.lemmas.List.Elements.{All-contains, All-contains_itself, A
 use Rattle.std.proofs.lemmas.List.Sums.{sum_by-cons, AllPass-from_list_all, list_all-from_AllPass}
 use Rattle.rpc_records.specs.declared.reply.EndWord.{EndWord}
 use Rattle.rpc_records.specs.declared.reply.EndWord.TheVariants.{Enough, ReplyLimit, InProgressLimit, DailyQuota, NoEligibleWork}
-use Rattle.sched_book.specs.Fits.{is_eligible, is_for}
-use Rattle.sched_book.specs.Grant.{Asking, IsGrant, is_maximal, is_enough, fills_reply, fills_progress, fills_day, seconds_at, seconds_of, has_unit, end_word}
+use Rattle.sched_book.specs.Fits.{is_eligible, is_for, estimate_at}
+use Rattle.sched_book.specs.Grant.{Asking, IsGrant, is_maximal, is_enough, fills_reply, fills_progress, fills_day, seconds_of, has_unit, end_word}
 use Rattle.sched_book.specs.Places.{places, is_before, is_same}
 use Rattle.sched_book.specs.declared.instance.Place.{Place}
 use Rattle.sched_book.specs.declared.world.World.{World}
@@ -37,7 +37,7 @@ first_word a b c d = cond a Enough (cond b ReplyLimit (cond c InProgressLimit (c
 
 module _ (w v : World) (q : Asking) (like : IsLike w v q) where
   seconds_alike : (jobs : List Place) → seconds_of v q jobs ≡ seconds_of w q jobs
-  seconds_alike jobs = ap (λ n. q.before + n) (same_sum (seconds_at v q) (seconds_at w q) like.seconds jobs)
+  seconds_alike jobs = ap (λ n. q.before + n) (same_sum (estimate_at v q.host) (estimate_at w q.host) like.seconds jobs)
 
   enough_alike : (jobs : List Place) → is_enough v q jobs ≡ is_enough w q jobs
   enough_alike jobs = ap (nat_le q.asked) (seconds_alike jobs)

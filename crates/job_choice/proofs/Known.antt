@@ -4,7 +4,6 @@ use Rattle.std.specs.Prelude.{◌||◌, filter_map, slice_get, option_and_then}
 use Rattle.std.specs.List.{cons_option}
 use Rattle.std.proofs.lemmas.Option.{slice_get_cases}
 use Rattle.std.specs.List.{list_any}
-use Rattle.std.specs.Option.{option_to_list}
 use Rattle.std.specs.Str.{bytes_eq}
 use Rattle.std.proofs.lemmas.Bool.{and_parts, eq-eqb, ne_eqb}
 use Rattle.std.proofs.lemmas.List.{take_more}
@@ -80,23 +79,19 @@ version_is w h name = version_found w.versions h.platforms w.apps name
 -- one application more
 pub known_more : (w : World) (h : HostRow) (i : ℕ) (known : List Version) (v : Option Version) → i < length w.apps → v ≡ version_at w h (i + 1)
     → known ≡ filter_map (λ (a : App). version_among w.versions a.name h.platforms) (take i w.apps)
-    → known ++ option_to_list v ≡ filter_map (λ (a : App). version_among w.versions a.name h.platforms) (take (i + 1) w.apps)
+    → known ++ cons_option v [] ≡ filter_map (λ (a : App). version_among w.versions a.name h.platforms) (take (i + 1) w.apps)
 known_more w h i known v within is before = elim (slice_get_cases w.apps i).1 [ inl there ↦ at_app there.0 there.2 there.3 | inr past ↦ absurd (let none : length w.apps ≤ i = past.0 in omega arith) ]
   where
     one : (o : Option Version) (a : App) → o ≡ version_among w.versions a.name h.platforms
-        → option_to_list o ≡ filter_map (λ (a : App). version_among w.versions a.name h.platforms) (a ∷ [])
-    one o a is = as_list o ∙ ap (λ o. cons_option o []) is
-      where
-        as_list : (o : Option Version) → option_to_list o ≡ cons_option o []
-        as_list None = refl
-        as_list (Some v) = refl
+        → cons_option o [] ≡ filter_map (λ (a : App). version_among w.versions a.name h.platforms) (a ∷ [])
+    one o a is = ap (λ o. cons_option o []) is
 
     at_app : (a : App) → slice_get w.apps i ≡ Some a → get_or w.apps i a ≡ a
-        → known ++ option_to_list v ≡ filter_map (λ (a : App). version_among w.versions a.name h.platforms) (take (i + 1) w.apps)
+        → known ++ cons_option v [] ≡ filter_map (λ (a : App). version_among w.versions a.name h.platforms) (take (i + 1) w.apps)
     at_app a found here =
         let app : v ≡ version_among w.versions a.name h.platforms =
         is ∙ ap (option_and_then (λ (a : App). version_among w.versions a.name h.platforms)) (found_nth w.apps (i + 1) i a (omega arith) found) in
-        ap (λ xs. xs ++ option_to_list v) before
+        ap (λ xs. xs ++ cons_option v []) before
         ∙ ap (λ xs. filter_map (λ (a : App). version_among w.versions a.name h.platforms) (take i w.apps) ++ xs) (one v a app)
         ∙ sym (filter_map-append (λ (a : App). version_among w.versions a.name h.platforms) (take i w.apps) (a ∷ []))
         ∙ ap (filter_map (λ (a : App). version_among w.versions a.name h.platforms)) (sym (take_more w.apps i a within ∙ ap (λ y. take i w.apps ++ y ∷ []) here))

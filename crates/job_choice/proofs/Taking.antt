@@ -9,8 +9,8 @@ use Rattle.std.proofs.lemmas.List.Sums.{sum_by_push}
 use Rattle.rpc_records.specs.declared.reply.EndWord.{EndWord}
 use Rattle.rpc_records.specs.declared.reply.EndWord.TheVariants.{Enough, ReplyLimit, InProgressLimit, DailyQuota, NoEligibleWork}
 use Rattle.sched_book.specs.Desk.{units_of_user}
-use Rattle.sched_book.specs.Fits.{estimate, fits, version_for, unit_fits, is_for, is_eligible}
-use Rattle.sched_book.specs.Grant.{Asking, IsGrant, is_maximal, is_enough, fills_reply, fills_progress, fills_day, seconds_at, seconds_of, sent_today, has_unit, end_word}
+use Rattle.sched_book.specs.Fits.{estimate, fits, version_for, unit_fits, is_for, is_eligible, estimate_at}
+use Rattle.sched_book.specs.Grant.{Asking, IsGrant, is_maximal, is_enough, fills_reply, fills_progress, fills_day, seconds_of, sent_today, has_unit, end_word}
 use Rattle.sched_book.specs.Offers.{unsent, OffersAll}
 use Rattle.sched_book.specs.Places.{places, unit_at, user_had}
 use Rattle.sched_book.specs.declared.desk.Candidate.{Candidate}
@@ -119,7 +119,7 @@ module _ (w : World) (q : Asking) where
         ∙ ap (λ (b : Bool). b && is_for w q.host here.book) here.free
         ∙ ap (λ (b : Bool). b && unit_fits w q.host here.book && not (user_had w q.host.account here.book)) here.opened
 
-    seconds_is : seconds_at w q c.place ≡ estimate here.book.unit.rsc_fpops_est q.host.p_fpops
+    seconds_is : estimate_at w q.host c.place ≡ estimate here.book.unit.rsc_fpops_est q.host.p_fpops
     seconds_is = ap (λ (o : Option UnitBook). unwrap_or (option_map (λ b. estimate b.unit.rsc_fpops_est q.host.p_fpops) o) 0) at
 
     module _ (t : Choosing) (left : List Candidate) (on : IsOn t (c ∷ left)) where
@@ -183,11 +183,11 @@ module _ (w : World) (q : Asking) where
             limits_are = on.limits_are;
             wanted_is =
                 (let before = on.wanted_is in
-                let sum : sum_by (seconds_at w q) (jobs ++ c.place ∷ []) ≡ sum_by (seconds_at w q) jobs + seconds_at w q c.place = sum_by_push (seconds_at w q) jobs c.place in
-                let seconds : seconds_at w q c.place ≡ estimate c.unit.rsc_fpops_est t.host.now.p_fpops = seconds_is ∙ sym estimate_here in
+                let sum : sum_by (estimate_at w q.host) (jobs ++ c.place ∷ []) ≡ sum_by (estimate_at w q.host) jobs + estimate_at w q.host c.place = sum_by_push (estimate_at w q.host) jobs c.place in
+                let seconds : estimate_at w q.host c.place ≡ estimate c.unit.rsc_fpops_est t.host.now.p_fpops = seconds_is ∙ sym estimate_here in
                 let same : t.wanted - estimate c.unit.rsc_fpops_est t.host.now.p_fpops ≡ q.asked - seconds_of w q (jobs ++ c.place ∷ []) =
-                remainder t.wanted q.asked q.before (sum_by (seconds_at w q) jobs) (seconds_at w q c.place) (estimate c.unit.rsc_fpops_est t.host.now.p_fpops)
-                (sum_by (seconds_at w q) (jobs ++ c.place ∷ [])) before sum seconds in
+                remainder t.wanted q.asked q.before (sum_by (estimate_at w q.host) jobs) (estimate_at w q.host c.place) (estimate c.unit.rsc_fpops_est t.host.now.p_fpops)
+                (sum_by (estimate_at w q.host) (jobs ++ c.place ∷ [])) before sum seconds in
                 same ∙ ap (λ ps. q.asked - seconds_of w q ps) (sym pushed));
             jobs = All-push (IsJob w q.host) t.jobs job on.jobs (record {
               estimate_is = ap (option_map (λ (b : UnitBook). estimate b.unit.rsc_fpops_est q.host.p_fpops)) at ∙ ap (λ n. Some n) (sym estimate_here);

@@ -1,7 +1,7 @@
 -- When a grant of one world is one of another.
 use Rattle.std.specs.Prelude.{◌≡◌, List}
-use Rattle.sched_book.specs.Fits.{is_eligible}
-use Rattle.sched_book.specs.Grant.{Asking, IsGrant, seconds_at, sent_today, end_word}
+use Rattle.sched_book.specs.Fits.{is_eligible, estimate_at}
+use Rattle.sched_book.specs.Grant.{Asking, IsGrant, sent_today, end_word}
 use Rattle.sched_book.specs.declared.instance.Place.{Place}
 use Rattle.sched_book.specs.declared.world.World.{World}
 
@@ -9,7 +9,7 @@ use Rattle.sched_book.specs.declared.world.World.{World}
 -- day, under the same limits.
 pub record IsLike (w v : World) (q : Asking) : Type 0 where
   pub eligible : (p : Place) → is_eligible v q.host p ≡ is_eligible w q.host p
-  pub seconds : (p : Place) → seconds_at v q p ≡ seconds_at w q p
+  pub seconds : (p : Place) → estimate_at v q.host p ≡ estimate_at w q.host p
   pub sent : sent_today v q ≡ sent_today w q
   pub to_send : v.settings.max_wus_to_send ≡ w.settings.max_wus_to_send
   pub in_progress : v.settings.max_wus_in_progress ≡ w.settings.max_wus_in_progress

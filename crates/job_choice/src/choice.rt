@@ -1,8 +1,8 @@
 //! The choice of jobs over a desk.
 
 ghost use Rattle.std.specs.Prelude.{◌≡◌, ◌-◌, ◌++◌, IfOk, OnOk};
-ghost use Rattle.std.specs.Option.{option_to_list};
 ghost use Rattle.sched_book.specs.Desk.{units_of_user};
+ghost use Rattle.sched_book.specs.Trusted.{Trusted};
 ghost use Rattle.job_choice.specs.Chosen.{IsChoice};
 ghost use Rattle.job_choice.specs.Choosing.{versions_known};
 ghost use Rattle.job_choice.specs.Offered.{HasJust, limits_on, IsBegun, IsOffered};
@@ -12,17 +12,7 @@ use crate::granted::Grant;
 use crate::units_had::UnitsHad;
 use sched_book::{Desk, HostRow, Moment, Place, Unavailable, Version};
 use std::alloc::Global;
-use texts::{Listed, Memory};
-
-/// Puts the version, where there is one, behind the others.
-fn push_some(versions: &mut Listed<Version>, version: Option<Version>) -> Result<(), Memory>
-    ensures { OnOk result (versions.new ≡ versions.old ++ option_to_list version) }
-{
-    let Some(version) = version else {
-        return Ok(());
-    };
-    versions.push(version)
-}
+use texts::Listed;
 
 /// Asks for the version that the host runs of each application.
 fn read_versions<D: Desk>(
@@ -31,13 +21,13 @@ fn read_versions<D: Desk>(
     host: &HostRow,
 ) -> Result<Listed<Version>, Unavailable>
     ensures reads { D.reads desk.old desk.new }
-    ensures answer { D.honest desk.new → D.well_kept desk.old →
-        IfOk result (λ versions. versions ≡ versions_known (D.world desk.old) host.now) }
+    ensures answer { Trusted D.Units desk.old desk.new (
+        IfOk result (λ versions. versions ≡ versions_known (D.world desk.old) host.now)) }
 {
     let apps = desk.counts()?.apps;
     let mut versions = Listed::new(alloc);
     for index in 0..apps {
-        push_some(&mut versions, desk.version_for(alloc, host, index + 1)?)?;
+        versions.push_some(desk.version_for(alloc, host, index + 1)?)?;
     }
     Ok(versions)
 }
@@ -45,8 +35,8 @@ fn read_versions<D: Desk>(
 /// Asks which workunits the user had.
 fn read_had<D: Desk>(alloc: Global, desk: &mut D, account: u32) -> Result<UnitsHad, Unavailable>
     ensures reads { D.reads desk.old desk.new }
-    ensures answer { D.honest desk.new → D.well_kept desk.old →
-        IfOk result (λ had. HasJust had (units_of_user (D.world desk.old) account)) }
+    ensures answer { Trusted D.Units desk.old desk.new (
+        IfOk result (λ had. HasJust had (units_of_user (D.world desk.old) account))) }
 {
     let units = desk.units_of_user(alloc, account)?;
     Ok(UnitsHad::of(alloc, units.as_slice())?)
@@ -62,8 +52,8 @@ fn read_limits<D: Desk>(
     day: u64,
 ) -> Result<Limits, Unavailable>
     ensures reads { D.reads desk.old desk.new }
-    ensures answer { D.honest desk.new → D.well_kept desk.old →
-        IfOk result (λ limits. limits ≡ limits_on (D.world desk.old) number host.now held day) }
+    ensures answer { Trusted D.Units desk.old desk.new (
+        IfOk result (λ limits. limits ≡ limits_on (D.world desk.old) number host.now held day)) }
 {
     let settings = desk.settings(alloc)?;
     let sent = desk.sent_on_day(number, day)?;
@@ -90,8 +80,7 @@ pub(crate) fn begin<'a, D: Desk>(
     wanted: u64,
 ) -> Result<Choosing<'a>, Unavailable>
     ensures reads { D.reads desk.old desk.new }
-    ensures answer { D.honest desk.new → D.well_kept desk.old →
-        IfOk result (IsBegun (D.world desk.old) host.now limits wanted) }
+    ensures answer { Trusted D.Units desk.old desk.new (IfOk result (IsBegun (D.world desk.old) host.now limits wanted)) }
 {
     let had = read_had(alloc, desk, host.account)?;
     let versions = read_versions(alloc, desk, host)?;
@@ -109,8 +98,8 @@ pub(crate) fn begin<'a, D: Desk>(
 /// Offers the candidates, unless none could be taken.
 fn offer_all<D: Desk>(desk: &mut D, choosing: &mut Choosing) -> Result<(), Unavailable>
     ensures reads { D.reads desk.old desk.new }
-    ensures answer { D.honest desk.new → D.well_kept desk.old →
-        OnOk result (IsOffered (D.world desk.old) choosing.old choosing.new) }
+    ensures answer { Trusted D.Units desk.old desk.new (
+        OnOk result (IsOffered (D.world desk.old) choosing.old choosing.new)) }
 {
     if is_done(choosing) {
         return Ok(());
@@ -138,7 +127,7 @@ pub fn choose<D: Desk>(
     now: Moment,
 ) -> Result<Grant, Unavailable>
     ensures reads { D.reads desk.old desk.new }
-    ensures answer { D.honest desk.new → D.well_kept desk.old →
+    ensures answer { Trusted D.Units desk.old desk.new (
         IfOk result (IsChoice (D.world desk.old) (record {
           number = number;
           host = host.now;
@@ -146,7 +135,7 @@ pub fn choose<D: Desk>(
           held = held;
           asked = asked;
           now = now;
-        })) }
+        }))) }
 {
     let limits = read_limits(alloc, desk, number, host, held, now.day())?;
     let mut choosing = begin(alloc, desk, host, limits, still_wanted(asked, before))?;

@@ -5,7 +5,7 @@ ghost use Rattle.std.specs.Option.{option_copied};
 ghost use Rattle.std.specs.Str.{bytes_eq};
 ghost use Rattle.job_choice.specs.Choosing.{is_full, has_job_of, is_new_unit, end_word_at, after};
 
-use crate::fitting::{fits, seconds_at_speed};
+use crate::fitting::{fits, seconds_at};
 use crate::granted::{Grant, Granted};
 use crate::units_had::UnitsHad;
 use rpc_records::EndWord;
@@ -129,7 +129,7 @@ fn consider(choosing: &mut Choosing, candidate: &Candidate) -> Result<(), Memory
         return Ok(());
     }
     let version = version.clone()?;
-    let estimate = seconds_at_speed(unit.rsc_fpops_est, choosing.host.p_fpops);
+    let estimate = seconds_at(unit.rsc_fpops_est, choosing.host.p_fpops);
     choosing.jobs.push(Granted {
         place: candidate.place,
         estimate,

@@ -14,8 +14,8 @@ pub fn estimate(fpops: u64, p_fpops: u64) -> u64
     fpops.div_ceil(p_fpops).max(1)
 }
 
-/// The same, and 1 where the speed is not known.
-pub(crate) fn seconds_at_speed(fpops: u64, p_fpops: u64) -> u64
+/// The same, and 1 where the speed is 0, which is that of no host.
+pub fn seconds_at(fpops: u64, p_fpops: u64) -> u64
     ensures { result ≡ spec.estimate fpops p_fpops }
 {
     if p_fpops == 0 {
@@ -31,6 +31,6 @@ pub fn fits(host: &HostRow, unit: &Workunit, version: Option<&Version>) -> bool
 {
     unit.rsc_memory_bound <= host.m_nbytes
         && unit.rsc_disk_bound <= host.d_free
-        && seconds_at_speed(unit.rsc_fpops_est, host.p_fpops) <= u64::from(unit.delay_bound)
+        && seconds_at(unit.rsc_fpops_est, host.p_fpops) <= u64::from(unit.delay_bound)
         && version.is_some()
 }

@@ -13,5 +13,5 @@ pub mod laws;
 mod units_had;
 
 pub use choice::choose;
-pub use fitting::{estimate, fits};
+pub use fitting::{estimate, fits, seconds_at};
 pub use granted::{Grant, Granted};

@@ -5,8 +5,8 @@ use Rattle.std.specs.List.{cons_option}
 use Rattle.std.proofs.lemmas.Bool.{lt-ltb}
 use Rattle.std.proofs.lemmas.Option.{slice_get_within, get_or_from_slice_get}
 use Rattle.sched_book.specs.Places.{nth, unit_at, instance_at, is_same}
-use Rattle.sched_book.specs.Delta.{put_at, with_instance, applied_one, applied}
-use Rattle.sched_book.specs.Reports.{changed_at, changed_nth, with_number, with_changed}
+use Rattle.sched_book.specs.Delta.{set_at, with_instance, applied_one, applied}
+use Rattle.sched_book.specs.Reports.{modify_at, modify_nth, with_number, with_changed}
 use Rattle.sched_book.specs.declared.delta.Change.{Change}
 use Rattle.sched_book.specs.declared.delta.Change.TheVariants as change
 use Rattle.sched_book.specs.declared.instance.Instance.{Instance}
@@ -14,45 +14,45 @@ use Rattle.sched_book.specs.declared.instance.Owner.{Owner}
 use Rattle.sched_book.specs.declared.instance.Place.{Place}
 use Rattle.sched_book.specs.declared.instance.UnitBook.{UnitBook}
 use Rattle.sched_book.specs.declared.world.World.{World}
-use Rattle.sched_book.proofs.Changes.{changed_at-set}
+use Rattle.sched_book.proofs.Changes.{modify_at-set}
 use Rattle.sched_book.proofs.Recording.{instance_at-with_changed, is_same-true}
 use Rattle.lost_jobs.specs.Fated.{fated, with_fate, fate_change, AreByPlace}
 use Rattle.lost_jobs.specs.declared.fates.Fate.{Fate}
 
 -- two changes that do the same to what stands at a place
-changed_at-same : {X : Type 0} (f g : X → X) (xs : List X) (i : ℕ) → ((x : X) → slice_get xs i ≡ Some x → f x ≡ g x)
-    → changed_at f xs i ≡ changed_at g xs i
-changed_at-same f g [] i same = refl
-changed_at-same f g (x ∷ xs) zero same = ap (λ y. y ∷ xs) (same x refl)
-changed_at-same f g (x ∷ xs) (suc i) same = ap (λ ys. x ∷ ys) (changed_at-same f g xs i same)
+modify_at-same : {X : Type 0} (f g : X → X) (xs : List X) (i : ℕ) → ((x : X) → slice_get xs i ≡ Some x → f x ≡ g x)
+    → modify_at f xs i ≡ modify_at g xs i
+modify_at-same f g [] i same = refl
+modify_at-same f g (x ∷ xs) zero same = ap (λ y. y ∷ xs) (same x refl)
+modify_at-same f g (x ∷ xs) (suc i) same = ap (λ ys. x ∷ ys) (modify_at-same f g xs i same)
 
-changed_nth-same : {X : Type 0} (f g : X → X) (xs : List X) (n : ℕ) → ((x : X) → nth xs n ≡ Some x → f x ≡ g x)
-    → changed_nth f xs n ≡ changed_nth g xs n
-changed_nth-same {X} f g xs n same = cases (eqb n 0) same
+modify_nth-same : {X : Type 0} (f g : X → X) (xs : List X) (n : ℕ) → ((x : X) → nth xs n ≡ Some x → f x ≡ g x)
+    → modify_nth f xs n ≡ modify_nth g xs n
+modify_nth-same {X} f g xs n same = cases (eqb n 0) same
   where
     cases : (b : Bool) → ((x : X) → cond b None (slice_get xs (n - 1)) ≡ Some x → f x ≡ g x)
-        → cond b xs (changed_at f xs (n - 1)) ≡ cond b xs (changed_at g xs (n - 1))
+        → cond b xs (modify_at f xs (n - 1)) ≡ cond b xs (modify_at g xs (n - 1))
     cases true same = refl
-    cases false same = changed_at-same f g xs (n - 1) same
+    cases false same = modify_at-same f g xs (n - 1) same
 
 -- changing nothing
-changed_at-none : {X : Type 0} (xs : List X) (i : ℕ) → changed_at (λ x. x) xs i ≡ xs
-changed_at-none [] i = refl
-changed_at-none (x ∷ xs) zero = refl
-changed_at-none (x ∷ xs) (suc i) = ap (λ ys. x ∷ ys) (changed_at-none xs i)
+modify_at-none : {X : Type 0} (xs : List X) (i : ℕ) → modify_at (λ x. x) xs i ≡ xs
+modify_at-none [] i = refl
+modify_at-none (x ∷ xs) zero = refl
+modify_at-none (x ∷ xs) (suc i) = ap (λ ys. x ∷ ys) (modify_at-none xs i)
 
-changed_nth-none : {X : Type 0} (xs : List X) (n : ℕ) → changed_nth (λ x. x) xs n ≡ xs
-changed_nth-none xs n = cases (eqb n 0)
+modify_nth-none : {X : Type 0} (xs : List X) (n : ℕ) → modify_nth (λ x. x) xs n ≡ xs
+modify_nth-none xs n = cases (eqb n 0)
   where
-    cases : (b : Bool) → cond b xs (changed_at (λ x. x) xs (n - 1)) ≡ xs
+    cases : (b : Bool) → cond b xs (modify_at (λ x. x) xs (n - 1)) ≡ xs
     cases true = refl
-    cases false = changed_at-none xs (n - 1)
+    cases false = modify_at-none xs (n - 1)
 
 -- where an element stands, changing it is putting the changed one
-changed_at-put : {X : Type 0} (f : X → X) (xs : List X) (i : ℕ) (x : X) → slice_get xs i ≡ Some x → changed_at f xs i ≡ put_at xs i (f x)
-changed_at-put f xs i x stands =
+modify_at-put : {X : Type 0} (f : X → X) (xs : List X) (i : ℕ) (x : X) → slice_get xs i ≡ Some x → modify_at f xs i ≡ set_at xs i (f x)
+modify_at-put f xs i x stands =
     let within : i < length xs = slice_get_within xs i x stands in
-    changed_at-set f xs i x within (sym (get_or_from_slice_get xs i x x stands))
+    modify_at-set f xs i x within (sym (get_or_from_slice_get xs i x x stands))
     ∙ sym (ap (λ (b : Bool). cond b (slice_set xs i (f x)) (xs ++ f x ∷ [])) (lt-ltb i (length xs) within))
 
 module _ (w : World) (p : Place) where
@@ -62,24 +62,24 @@ module _ (w : World) (p : Place) where
   pub with_changed-same : (f g : Instance → Instance) → ((x : Instance) → instance_at w p ≡ Some x → f x ≡ g x) → with_changed f w p ≡ with_changed g w p
   with_changed-same f g same =
       ap (λ units. record w { units = units })
-      (changed_nth-same (with_number f p.number) (with_number g p.number) w.units p.unit
-      (λ b is. ap (λ xs. record b { instances = xs }) (changed_at-same f g b.instances p.number (λ x there. same x (stands_at b is ∙ there)))))
+      (modify_nth-same (with_number f p.number) (with_number g p.number) w.units p.unit
+      (λ b is. ap (λ xs. record b { instances = xs }) (modify_at-same f g b.instances p.number (λ x there. same x (stands_at b is ∙ there)))))
 
   -- where no instance stands nothing is changed
   with_changed-none : (f : Instance → Instance) → instance_at w p ≡ None → with_changed f w p ≡ w
   with_changed-none f none =
       with_changed-same f (λ x. x) (λ x stands. let never : None ≡ Some x = sym none ∙ stands in absurd cc)
       ∙ ap (λ units. record w { units = units })
-      (changed_nth-same (with_number (λ x. x) p.number) (λ b. b) w.units p.unit
-      (λ b is. ap (λ xs. record b { instances = xs }) (changed_at-none b.instances p.number))
-      ∙ changed_nth-none w.units p.unit)
+      (modify_nth-same (with_number (λ x. x) p.number) (λ b. b) w.units p.unit
+      (λ b is. ap (λ xs. record b { instances = xs }) (modify_at-none b.instances p.number))
+      ∙ modify_nth-none w.units p.unit)
 
   -- where one stands it is put as it is changed
   pub with_changed-is : (f : Instance → Instance) (x : Instance) → instance_at w p ≡ Some x → with_changed f w p ≡ applied_one w (change.Instance p (f x))
   with_changed-is f x stands =
       ap (λ units. record w { units = units })
-      (changed_nth-same (with_number f p.number) (with_instance p.number (f x)) w.units p.unit
-      (λ b is. ap (λ xs. record b { instances = xs }) (changed_at-put f b.instances p.number x (sym (stands_at b is) ∙ stands))))
+      (modify_nth-same (with_number f p.number) (with_instance p.number (f x)) w.units p.unit
+      (λ b is. ap (λ xs. record b { instances = xs }) (modify_at-put f b.instances p.number x (sym (stands_at b is) ∙ stands))))
 
 -- a fate twice is the fate once
 fated_twice : (r : Option ℕ) (x : Instance) → fated r (fated r x) ≡ fated r x

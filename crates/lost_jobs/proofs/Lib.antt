@@ -7,3 +7,4 @@ pub mod Holding
 pub mod Reported
 pub mod Fated
 pub mod Resending
+pub mod Requested

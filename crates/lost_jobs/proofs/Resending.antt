@@ -4,7 +4,8 @@ use Rattle.std.specs.Prelude.{fold, option_map, unwrap_or, nat_le, not, Contains
 use Rattle.sched_book.specs.Places.{instance_at, is_same, passes, is_held_by, held_by, deadline_of}
 use Rattle.sched_book.specs.Reports.{with_changed}
 use Rattle.sched_book.specs.Step.{deadline_at}
-use Rattle.sched_book.specs.Lost.{is_listed, unlisted, lost, is_resent, estimate_at, delay_at, deadline_after, with_deadline, with_lapse, resend_or_drop}
+use Rattle.sched_book.specs.Fits.{estimate_at}
+use Rattle.sched_book.specs.Lost.{is_listed, unlisted, lost, is_resent, delay_at, deadline_after, with_deadline, with_lapse, resend_or_drop}
 use Rattle.sched_book.specs.declared.instance.Instance.{Instance}
 use Rattle.sched_book.specs.declared.instance.Lapse.TheVariants.{Dropped}
 use Rattle.sched_book.specs.declared.instance.Owner.{Owner}

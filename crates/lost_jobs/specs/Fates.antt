@@ -1,6 +1,7 @@
 -- What becomes of lost jobs of a host, as it is told now.
 use Rattle.std.specs.Prelude.{ℕ, Option, Some, None, if◌then◌else◌}
-use Rattle.sched_book.specs.Lost.{is_resent, estimate_at, delay_at, deadline_after}
+use Rattle.sched_book.specs.Fits.{estimate_at}
+use Rattle.sched_book.specs.Lost.{is_resent, delay_at, deadline_after}
 use Rattle.sched_book.specs.Step.{deadline_at}
 use Rattle.sched_book.specs.declared.instance.Place.{Place}
 use Rattle.sched_book.specs.declared.rows.HostRow.{HostRow}

@@ -4,3 +4,4 @@ pub mod NameSets
 pub mod Holding
 pub mod Fated
 pub mod Laws
+pub mod Requested

@@ -3,6 +3,7 @@
 ghost use Rattle.std.specs.Prelude.{◌≡◌, List, ◌∷◌, ◌++◌, fold, filter_map, option_map, IfOk, OnOk};
 ghost use Rattle.sched_book.specs.Places.{instance_at};
 ghost use Rattle.sched_book.specs.Delta.{applied};
+ghost use Rattle.sched_book.specs.Trusted.{Trusted};
 ghost use Rattle.sched_book.specs.declared.instance.Owner.{Owner};
 ghost use Rattle.lost_jobs.specs.Fated.{fated, with_fate, fate_change, AreByPlace};
 ghost use Rattle.lost_jobs.specs.declared.fates.Fate.{Fate};
@@ -46,8 +47,8 @@ fn instance_under<D: Desk>(
     place: Place,
 ) -> Result<Option<Instance>, Unavailable>
     ensures reads { D.reads desk.old desk.new }
-    ensures answer { D.honest desk.new → D.well_kept desk.old →
-        IfOk result (λ row. row ≡ instance_at (applied (D.world desk.old) delta.now) place) }
+    ensures answer { Trusted D.Units desk.old desk.new (
+        IfOk result (λ row. row ≡ instance_at (applied (D.world desk.old) delta.now) place)) }
 {
     let mut patched = Patched { desk, delta };
     patched.instance(alloc, place.unit, place.number)
@@ -62,9 +63,9 @@ fn add_change<D: Desk>(
     more: &mut Delta,
 ) -> Result<(), Unavailable>
     ensures reads { D.reads desk.old desk.new }
-    ensures answer { D.honest desk.new → D.well_kept desk.old → OnOk result ((later : List Fate) →
+    ensures answer { Trusted D.Units desk.old desk.new (OnOk result ((later : List Fate) →
         more.new ++ filter_map (fate_change (applied (D.world desk.old) delta.now)) later
-        ≡ more.old ++ filter_map (fate_change (applied (D.world desk.old) delta.now)) (fate ∷ later)) }
+        ≡ more.old ++ filter_map (fate_change (applied (D.world desk.old) delta.now)) (fate ∷ later))) }
 {
     match instance_under(alloc, desk, delta, fate.place)? {
         None => Ok(()),
@@ -87,10 +88,10 @@ pub fn lost_changes<D: Desk>(
     fates: &[Fate],
 ) -> Result<Delta, Unavailable>
     ensures reads { D.reads desk.old desk.new }
-    ensures answer { D.honest desk.new → D.well_kept desk.old → IfOk result (λ more. AreByPlace fates.now →
-        applied (applied (D.world desk.old) delta.now) more ≡ fold with_fate (applied (D.world desk.old) delta.now) fates.now) }
-    ensures changes { D.honest desk.new → D.well_kept desk.old →
-        IfOk result (λ more. more ≡ filter_map (fate_change (applied (D.world desk.old) delta.now)) fates.now) }
+    ensures answer { Trusted D.Units desk.old desk.new (IfOk result (λ more. AreByPlace fates.now →
+        applied (applied (D.world desk.old) delta.now) more ≡ fold with_fate (applied (D.world desk.old) delta.now) fates.now)) }
+    ensures changes { Trusted D.Units desk.old desk.new (
+        IfOk result (λ more. more ≡ filter_map (fate_change (applied (D.world desk.old) delta.now)) fates.now)) }
 {
     let mut more = Listed::new(alloc);
     for fate in fates {

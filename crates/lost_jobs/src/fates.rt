@@ -3,12 +3,13 @@
 ghost use Rattle.std.specs.Prelude.{◌≡◌, ◌+◌, ◌++◌, ◌∷◌, [], ◌&&◌, nat_le, map, IfOk, OnOk};
 ghost use Rattle.sched_book.specs.Count.{is_open};
 ghost use Rattle.sched_book.specs.Places.{deadline_of, status_at};
-ghost use Rattle.sched_book.specs.Fits.{estimate, fits, version_for};
+ghost use Rattle.sched_book.specs.Fits.{fits, version_for};
 ghost use Rattle.sched_book.specs.Lost.{deadline_after};
 ghost use Rattle.sched_book.specs.Step.{deadline_at};
+ghost use Rattle.sched_book.specs.Trusted.{Trusted};
 ghost use Rattle.lost_jobs.specs.Fates.{fate, resent_to};
 
-use job_choice::{estimate, fits};
+use job_choice::{fits, seconds_at};
 use sched_book::{
     Desk, HostRow, Instance, Moment, Place, Unavailable, Version, Workunit, count, status_at,
 };
@@ -21,16 +22,6 @@ pub struct Fate {
     pub place: Place,
     /// Its deadline where it is sent again, and none where it is dropped.
     pub resent: Option<u64>,
-}
-
-/// The seconds that so many operations take at so many a second, rounded up and at least 1; 1 where the speed is 0.
-pub fn seconds_at(fpops: u64, p_fpops: u64) -> u64
-    ensures { result ≡ estimate fpops p_fpops }
-{
-    if p_fpops == 0 {
-        return 1;
-    }
-    estimate(fpops, p_fpops)
 }
 
 /// Whether a job that takes so many seconds from now on is done by a deadline.
@@ -68,8 +59,8 @@ fn deadline_of(instance: &Instance) -> u64
 #[tactic(auto, using(crate::proofs::Standing::deadline_none, crate::proofs::Standing::deadline_some))]
 fn deadline_at<D: Desk>(alloc: Global, desk: &mut D, place: Place) -> Result<u64, Unavailable>
     ensures reads { D.reads desk.old desk.new }
-    ensures answer { D.honest desk.new → D.well_kept desk.old →
-        IfOk result (λ deadline. deadline ≡ deadline_at (D.world desk.old) place) }
+    ensures answer { Trusted D.Units desk.old desk.new (
+        IfOk result (λ deadline. deadline ≡ deadline_at (D.world desk.old) place)) }
 {
     match desk.instance(alloc, place.unit, place.number)? {
         None => Ok(0),
@@ -90,8 +81,8 @@ pub fn version_for<D: Desk>(
     app: &str,
 ) -> Result<Option<Version>, Unavailable>
     ensures reads { D.reads desk.old desk.new }
-    ensures answer { D.honest desk.new → D.well_kept desk.old →
-        IfOk result (λ version. version ≡ version_for (D.world desk.old) host.now app.now) }
+    ensures answer { Trusted D.Units desk.old desk.new (
+        IfOk result (λ version. version ≡ version_for (D.world desk.old) host.now app.now)) }
 {
     match desk.app_by_name(alloc, app)? {
         None => Ok(None),
@@ -108,8 +99,8 @@ fn is_for<D: Desk>(
     place: u32,
 ) -> Result<bool, Unavailable>
     ensures reads { D.reads desk.old desk.new }
-    ensures answer { D.honest desk.new → D.well_kept desk.old → IfOk result (λ is. is ≡
-        (is_open (status_at (D.world desk.old) place) && fits host.now unit.now (version_for (D.world desk.old) host.now unit.now.app))) }
+    ensures answer { Trusted D.Units desk.old desk.new (IfOk result (λ is. is ≡
+        (is_open (status_at (D.world desk.old) place) && fits host.now unit.now (version_for (D.world desk.old) host.now unit.now.app)))) }
 {
     if !count::is_open(status_at(alloc, desk, place)?) {
         return Ok(false);
@@ -128,8 +119,8 @@ fn resent_to<D: Desk>(
     now: Moment,
 ) -> Result<Option<u64>, Unavailable>
     ensures reads { D.reads desk.old desk.new }
-    ensures answer { D.honest desk.new → D.well_kept desk.old →
-        IfOk result (λ deadline. deadline ≡ resent_to (D.world desk.old) host.now now place) }
+    ensures answer { Trusted D.Units desk.old desk.new (
+        IfOk result (λ deadline. deadline ≡ resent_to (D.world desk.old) host.now now place)) }
 {
     let Some(unit) = desk.unit(alloc, place.unit)? else {
         return Ok(None);
@@ -152,8 +143,8 @@ fn add_fate<D: Desk>(
     fates: &mut Listed<Fate>,
 ) -> Result<(), Unavailable>
     ensures reads { D.reads desk.old desk.new }
-    ensures answer { D.honest desk.new → D.well_kept desk.old →
-        OnOk result (fates.new ≡ fates.old ++ fate (D.world desk.old) host.now now place ∷ []) }
+    ensures answer { Trusted D.Units desk.old desk.new (
+        OnOk result (fates.new ≡ fates.old ++ fate (D.world desk.old) host.now now place ∷ [])) }
 {
     let resent = resent_to(alloc, desk, host, place, now)?;
     fates.push(Fate { place, resent })?;
@@ -172,8 +163,8 @@ pub fn resend_or_drop<D: Desk>(
     now: Moment,
 ) -> Result<Listed<Fate>, Unavailable>
     ensures reads { D.reads desk.old desk.new }
-    ensures answer { D.honest desk.new → D.well_kept desk.old →
-        IfOk result (λ fates. fates ≡ map (fate (D.world desk.old) host.now now) lost.now) }
+    ensures answer { Trusted D.Units desk.old desk.new (
+        IfOk result (λ fates. fates ≡ map (fate (D.world desk.old) host.now now) lost.now)) }
 {
     let mut fates = Listed::new(alloc);
     for place in lost {

@@ -1,6 +1,7 @@
 //! Laws of the definitions. Each function does nothing; its contract is the law.
 
 ghost use Rattle.lost_jobs.specs.Laws.{ReportsHoldNoMore, ReportsKeepDeadlines, FatesResendOrDrop};
+ghost use Rattle.lost_jobs.specs.Requested.{LostJobsAreOfTheRequest};
 
 /// What a host holds after the reports of its call it held before.
 pub fn reports_hold_no_more()
@@ -15,4 +16,10 @@ pub fn reports_keep_deadlines()
 /// The fates of the jobs that a client lost come to sending each of them again or dropping it.
 pub fn fates_resend_or_drop()
     ensures { FatesResendOrDrop }
+{}
+
+/// The jobs that are lost after the reports of a request are what its host held before, and the request neither reports
+/// nor lists.
+pub fn lost_jobs_are_of_the_request()
+    ensures { LostJobsAreOfTheRequest }
 {}

@@ -4,8 +4,10 @@ ghost use Rattle.std.specs.Prelude.{◌≡◌, List, Some, ◌∷◌, ◌++◌, 
 ghost use Rattle.sched_book.specs.Places.{passes, is_held_by, name_at};
 ghost use Rattle.sched_book.specs.Lost.{unlisted, lost};
 ghost use Rattle.sched_book.specs.Delta.{applied};
+ghost use Rattle.sched_book.specs.Trusted.{Trusted};
 ghost use Rattle.sched_book.specs.declared.instance.Place.{Place};
 ghost use Rattle.lost_jobs.specs.Holding.{HoldsNoMore, is_missing};
+ghost use Rattle.lost_jobs.specs.Requested.{RecordsReports, AreLostBy};
 
 use crate::name_set::NameSet;
 use rpc_records::Request;
@@ -29,8 +31,8 @@ fn is_held_at<U: Units>(
     place: Place,
 ) -> Result<bool, Unavailable>
     ensures reads { U.reads units.old units.new }
-    ensures answer { U.honest units.new → U.well_kept units.old →
-        IfOk result (λ held. held ≡ passes (U.world units.old) (λ b x. is_held_by host x) place) }
+    ensures answer { Trusted U.Units units.old units.new (
+        IfOk result (λ held. held ≡ passes (U.world units.old) (λ b x. is_held_by host x) place)) }
 {
     match units.instance(alloc, place.unit, place.number)? {
         None => Ok(false),
@@ -42,8 +44,7 @@ fn is_held_at<U: Units>(
 #[tactic(auto, using(crate::proofs::Standing::name_none, crate::proofs::Standing::name_some))]
 fn name_at<U: Units>(alloc: Global, units: &mut U, place: Place) -> Result<Text, Unavailable>
     ensures reads { U.reads units.old units.new }
-    ensures answer { U.honest units.new → U.well_kept units.old →
-        IfOk result (λ name. name ≡ name_at (U.world units.old) place) }
+    ensures answer { Trusted U.Units units.old units.new (IfOk result (λ name. name ≡ name_at (U.world units.old) place)) }
 {
     match units.unit(alloc, place.unit)? {
         None => Ok(Text::copied(alloc, "")?),
@@ -60,8 +61,8 @@ fn is_missing<U: Units>(
     place: Place,
 ) -> Result<bool, Unavailable>
     ensures reads { U.reads units.old units.new }
-    ensures answer { U.honest units.new → U.well_kept units.old →
-        IfOk result (λ missing. missing ≡ is_missing (U.world units.old) host listed.now place) }
+    ensures answer { Trusted U.Units units.old units.new (
+        IfOk result (λ missing. missing ≡ is_missing (U.world units.old) host listed.now place)) }
 {
     if !is_held_at(alloc, units, host, place)? {
         return Ok(false);
@@ -80,8 +81,8 @@ fn is_missing_under<D: Desk>(
     place: Place,
 ) -> Result<bool, Unavailable>
     ensures reads { D.reads desk.old desk.new }
-    ensures answer { D.honest desk.new → D.well_kept desk.old →
-        IfOk result (λ missing. missing ≡ is_missing (applied (D.world desk.old) delta.now) host listed.now place) }
+    ensures answer { Trusted D.Units desk.old desk.new (
+        IfOk result (λ missing. missing ≡ is_missing (applied (D.world desk.old) delta.now) host listed.now place)) }
 {
     let mut patched = Patched { desk, delta };
     is_missing(alloc, &mut patched, host, listed, place)
@@ -98,9 +99,9 @@ fn add_missing<D: Desk>(
     missing: &mut Listed<Place>,
 ) -> Result<(), Unavailable>
     ensures reads { D.reads desk.old desk.new }
-    ensures answer { D.honest desk.new → D.well_kept desk.old → OnOk result ((later : List Place) →
+    ensures answer { Trusted D.Units desk.old desk.new (OnOk result ((later : List Place) →
         missing.new ++ filter (is_missing (applied (D.world desk.old) delta.now) host listed.now) later
-        ≡ missing.old ++ filter (is_missing (applied (D.world desk.old) delta.now) host listed.now) (place ∷ later)) }
+        ≡ missing.old ++ filter (is_missing (applied (D.world desk.old) delta.now) host listed.now) (place ∷ later))) }
 {
     if is_missing_under(alloc, desk, delta, host, listed, place)? {
         missing.push(place)?;
@@ -118,8 +119,8 @@ fn missing_among<D: Desk>(
     places: &[Place],
 ) -> Result<Listed<Place>, Unavailable>
     ensures reads { D.reads desk.old desk.new }
-    ensures answer { D.honest desk.new → D.well_kept desk.old → IfOk result (λ missing.
-        missing ≡ filter (is_missing (applied (D.world desk.old) delta.now) host listed.now) places.now) }
+    ensures answer { Trusted D.Units desk.old desk.new (IfOk result (λ missing.
+        missing ≡ filter (is_missing (applied (D.world desk.old) delta.now) host listed.now) places.now)) }
 {
     let mut missing = Listed::new(alloc);
     for place in places {
@@ -137,9 +138,9 @@ fn unlisted<D: Desk>(
     names: &[Text],
 ) -> Result<Listed<Place>, Unavailable>
     ensures reads { D.reads desk.old desk.new }
-    ensures answer { D.honest desk.new → D.well_kept desk.old → IfOk result (λ places.
+    ensures answer { Trusted D.Units desk.old desk.new (IfOk result (λ places.
         HoldsNoMore (D.world desk.old) (applied (D.world desk.old) delta.now) host →
-        places ≡ unlisted (applied (D.world desk.old) delta.now) host (Some names.now)) }
+        places ≡ unlisted (applied (D.world desk.old) delta.now) host (Some names.now))) }
 {
     let listed = NameSet::of(alloc, names)?;
     let held = desk.held_by(alloc, host)?;
@@ -149,15 +150,16 @@ fn unlisted<D: Desk>(
 /// Whether lost jobs are sent again.
 fn resends_lost<D: Desk>(alloc: Global, desk: &mut D) -> Result<bool, Unavailable>
     ensures reads { D.reads desk.old desk.new }
-    ensures answer { D.honest desk.new → D.well_kept desk.old →
-        IfOk result (λ resends. resends ≡ (D.world desk.old).settings.resend_lost_results) }
+    ensures answer { Trusted D.Units desk.old desk.new (
+        IfOk result (λ resends. resends ≡ (D.world desk.old).settings.resend_lost_results)) }
 {
     Ok(desk.settings(alloc)?.resend_lost_results)
 }
 
 /// The jobs of the host that its client lost: what it still holds after changes and the client does not list, by
 /// place. There are none where lost jobs are not sent again, or where the client sent no list. The changes must
-/// leave the host no job that it did not hold before.
+/// leave the host no job that it did not hold before; where they record the request's reports, the lost jobs are those
+/// that it held before, and that the request neither reports nor lists.
 #[tactic(auto, using(crate::proofs::Holding::settings_stay))]
 pub fn lost<D: Desk>(
     alloc: Global,
@@ -167,9 +169,12 @@ pub fn lost<D: Desk>(
     request: &Request,
 ) -> Result<Listed<Place>, Unavailable>
     ensures reads { D.reads desk.old desk.new }
-    ensures answer { D.honest desk.new → D.well_kept desk.old → IfOk result (λ places.
+    ensures answer { Trusted D.Units desk.old desk.new (IfOk result (λ places.
         HoldsNoMore (D.world desk.old) (applied (D.world desk.old) delta.now) host →
-        places ≡ lost (applied (D.world desk.old) delta.now) host request.now.other_results) }
+        places ≡ lost (applied (D.world desk.old) delta.now) host request.now.other_results)) }
+    ensures of_request { Trusted D.Units desk.old desk.new (IfOk result (λ places.
+        RecordsReports (D.world desk.old) delta.now host request.now →
+        AreLostBy (D.world desk.old) host request.now places)) }
 {
     if !resends_lost(alloc, desk)? {
         return Ok(Listed::new(alloc));

@@ -26,13 +26,12 @@ use Rattle.sched_book.specs.declared.machine.Caller.{Caller}
 use Rattle.sched_book.specs.declared.world.World.{World}
 use Rattle.sched_machine.specs.Admission as admission
 use Rattle.sched_machine.specs.Calling.{IsAdmitted, IsFull}
-use Rattle.sched_machine.specs.Well.{IsRequestInLimits}
 use Rattle.pasts.specs.Answers.{kept_after, kept_call}
 use Rattle.pasts.specs.ByNumber.{kept_at, calls_by_number}
 use Rattle.pasts.specs.FirstHeard.{names_host, has_host_room}
 use Rattle.pasts.specs.Leaves.{host_of_key}
 use Rattle.pasts.specs.Messages.{Rpc, Message, key_of}
-use Rattle.pasts.specs.Runs.{last_moment}
+use Rattle.sched_book.specs.Limits.{last_moment}
 use Rattle.pasts.specs.Stands.{Same, ServesAs, told_by}
 use Rattle.pasts.specs.Told.{told_fresh, told_heard, told_beside, told_call, told_account, told_number}
 use Rattle.pasts.specs.declared.answer.Answer.{Answer}
@@ -70,14 +69,6 @@ told_serves m answer w after calls later batches newer is left = λ sound. recor
 }
 
 -- ---- who calls
-
-request_in_limits : (r : Request) → IsInRange r → IsRequestInLimits r
-request_in_limits r range = record {
-  speed = (range.host.some_fpops, range.host.p_fpops);
-  memory = range.host.m_nbytes;
-  disk = range.host.d_free;
-  platforms = (range.some_platform, range.platform_count);
-}
 
 -- the two words for a call's number are one
 names_are : (hostid : ℕ) (number : Option ℕ) → names_host hostid number ≡ admission.names_host hostid number
@@ -235,7 +226,7 @@ pub kept_serves : {E : Type 0} (w u after : World) (calls d later : Calls) (batc
 kept_serves w u after calls d later batches b newer c r now delta reply text (Err e) world_is calls_are batches_are moment range spelt step soundly fits told commits = tt
 kept_serves w u after calls d later batches b newer c r now delta reply text (Ok answer) world_is calls_are batches_are moment range spelt step soundly fits told commits =
     λ may sound.
-    let admitted : IsAdmitted w c r = record { caller = may.0.0; limits = request_in_limits r range } in
+    let admitted : IsAdmitted w c r = record { caller = may.0.0; limits = range } in
     let commits_here : Fits w delta
     → IsCommitted delta (entry.Kept reply.hostid (kept_call r (reply_text_of reply))) w calls batches after later newer =
     subst

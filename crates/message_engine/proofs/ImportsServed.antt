@@ -12,7 +12,7 @@ use Rattle.rpc_records.specs.declared.fault.Fault.{Fault}
 use Rattle.rpc_records.specs.declared.fault.Fault.TheVariants as fault
 use Rattle.sched_book.specs.Delta.{applied, Fits}
 use Rattle.sched_book.specs.Imports.{AreChecked, fault_of_rows, shelf_of}
-use Rattle.sched_book.specs.Limits.{AreRowsInLimits}
+use Rattle.sched_book.specs.Limits.{last_moment, AreRowsInLimits}
 use Rattle.sched_book.specs.Sound.{Sound}
 use Rattle.sched_book.specs.Step.{ImportStep}
 use Rattle.sched_book.specs.declared.delta.Change.{Change}
@@ -93,7 +93,7 @@ entry_of kind batch text count = entry.Batch kind batch (record { text = text; a
 
 module _ (now count : ℕ) (kind : Kind) (batch text : List ℕ) (new : Rows) (delta : List Change)
     (u v w : World) (calls calls' calls'' : Calls) (batches batches' batches'' : Batches)
-    (soon : now ≤ 250000000000) (limits : AreRowsInLimits new) (left : IsLeft u calls batches v calls' batches')
+    (soon : now ≤ last_moment) (limits : AreRowsInLimits new) (left : IsLeft u calls batches v calls' batches')
     (step : Sound u → AreChecked u new → ImportStep u new (applied u delta) count)
     (after : Sound u → AreChecked u new → Sound (applied u delta)) (fits : Sound u → AreChecked u new → Fits u delta) where
   abbrev m : Message

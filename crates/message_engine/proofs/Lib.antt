@@ -5,3 +5,4 @@ mod ImportsServed
 mod TicksServed
 mod Meant
 mod Followed
+mod Begun

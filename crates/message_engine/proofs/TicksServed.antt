@@ -2,6 +2,7 @@
 use Rattle.std.proofs.Common.{◌≡◌, ℕ, ◌≤◌, List, sym, refl, subst}
 use Rattle.std.specs.Prelude.{Result, Ok, Err, IfOk, OnOk}
 use Rattle.sched_book.specs.Delta.{applied, Fits}
+use Rattle.sched_book.specs.Limits.{last_moment}
 use Rattle.sched_book.specs.Sound.{Sound}
 use Rattle.sched_book.specs.Step.{TickStep}
 use Rattle.sched_book.specs.declared.delta.Change.{Change}
@@ -19,7 +20,7 @@ use Rattle.message_engine.specs.declared.entry.Entry.TheVariants as entry
 use Rattle.message_engine.proofs.EntriesKept.{committed_on, step_serves}
 
 module _ (now count : ℕ) (delta : List Change) (u v w : World) (calls calls' calls'' : Calls) (batches batches' batches'' : Batches)
-    (soon : now ≤ 250000000000) (left : IsLeft u calls batches v calls' batches')
+    (soon : now ≤ last_moment) (left : IsLeft u calls batches v calls' batches')
     (step : Sound u → TickStep u now (applied u delta) count) (after : Sound u → Sound (applied u delta)) (fits : Sound u → Fits u delta) where
   tick_serves : (answer : Answer) → answer ≡ Good (lapsed_text count)
       → (Fits v delta → IsCommitted delta entry.Nothing v calls' batches' w calls'' batches'')

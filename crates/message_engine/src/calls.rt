@@ -7,6 +7,7 @@ ghost use Rattle.rpc_records.specs.Spelling.{canonical_text};
 ghost use Rattle.sched_book.specs.Delta.{applied, Fits};
 ghost use Rattle.sched_book.specs.Sound.{Sound};
 ghost use Rattle.sched_book.specs.Step.{RpcStep};
+ghost use Rattle.sched_book.specs.Trusted.{Trusted};
 ghost use Rattle.sched_book.specs.declared.machine.Call.TheVariants as call;
 ghost use Rattle.sched_machine.specs.Calling.{IsAdmitted, IsFull};
 ghost use Rattle.sched_machine.specs.declared.admission.Refused.TheVariants as refused;
@@ -51,7 +52,7 @@ fn kept_of<S: Store>(
     caller: &Caller,
 ) -> Result<Listed<Kept>, Unavailable>
     ensures reads { S.reads store.old store.new }
-    ensures kept { S.honest store.new → S.well_kept store.old → IfOk result (λ kept. kept ≡ kept_at (S.calls store.old) caller.now.host) }
+    ensures kept { Trusted S.Units store.old store.new (IfOk result (λ kept. kept ≡ kept_at (S.calls store.old) caller.now.host)) }
 {
     match caller.host {
         Some(number) => store.kept(alloc, number),
@@ -68,8 +69,8 @@ fn told_kept<S: Store>(
     text: &str,
 ) -> Result<Option<Answer>, Unavailable>
     ensures reads { S.reads store.old store.new }
-    ensures told { S.honest store.new → S.well_kept store.old → IfOk result (λ told.
-        told ≡ told_caller (S.calls store.old) caller.now seqno text.now) }
+    ensures told { Trusted S.Units store.old store.new (IfOk result (λ told.
+        told ≡ told_caller (S.calls store.old) caller.now seqno text.now)) }
 {
     let kept = kept_of(alloc, store, caller)?;
     Ok(told_beside(kept.as_slice(), seqno, text)?)
@@ -84,15 +85,15 @@ fn call_step<D: Desk>(
     now: Moment,
 ) -> Result<(Delta, Reply), Refused>
     ensures reads { D.reads desk.old desk.new }
-    ensures step { D.honest desk.new → D.well_kept desk.old → IfOk result (λ done.
+    ensures step { Trusted D.Units desk.old desk.new (IfOk result (λ done.
         Sound (D.world desk.old) → IsAdmitted (D.world desk.old) caller request →
-        RpcStep (D.world desk.old) caller request now (applied (D.world desk.old) done.0) done.1) }
-    ensures sound { D.honest desk.new → D.well_kept desk.old → IfOk result (λ done.
-        Sound (D.world desk.old) → IsAdmitted (D.world desk.old) caller request → Sound (applied (D.world desk.old) done.0)) }
-    ensures fits { D.honest desk.new → D.well_kept desk.old → IfOk result (λ done.
-        Sound (D.world desk.old) → IsAdmitted (D.world desk.old) caller request → Fits (D.world desk.old) done.0) }
-    ensures full { D.honest desk.new → D.well_kept desk.old → IsErrOf result refused.HostsFull →
-        IsFull (D.world desk.old) (call.Rpc caller request) }
+        RpcStep (D.world desk.old) caller request now (applied (D.world desk.old) done.0) done.1)) }
+    ensures sound { Trusted D.Units desk.old desk.new (IfOk result (λ done.
+        Sound (D.world desk.old) → IsAdmitted (D.world desk.old) caller request → Sound (applied (D.world desk.old) done.0))) }
+    ensures fits { Trusted D.Units desk.old desk.new (IfOk result (λ done.
+        Sound (D.world desk.old) → IsAdmitted (D.world desk.old) caller request → Fits (D.world desk.old) done.0)) }
+    ensures full { Trusted D.Units desk.old desk.new (IsErrOf result refused.HostsFull →
+        IsFull (D.world desk.old) (call.Rpc caller request)) }
 {
     let done = step(alloc, desk, &Call::Rpc(caller, request), now);
     let (delta, answered) = done?;
@@ -113,13 +114,13 @@ fn keep<S: Store>(
     text: Text,
 ) -> Result<Answer, Unavailable>
     ensures honest { S.honest store.new → S.honest store.old }
-    ensures kept { S.honest store.new → S.well_kept store.old → S.well_kept store.new }
+    ensures kept { Trusted S.Units store.old store.new (S.well_kept store.new) }
     ensures answer { IfOk result (λ answer. answer ≡ Good (reply_text_of reply.now)) }
-    ensures ok { S.honest store.new → S.well_kept store.old → OnOk result (Fits (S.world store.old) delta.now →
+    ensures ok { Trusted S.Units store.old store.new (OnOk result (Fits (S.world store.old) delta.now →
         IsCommitted delta.now (entry.Kept reply.now.hostid (record { seqno = seqno; text = text; reply = reply_text_of reply.now }))
-        (S.world store.old) (S.calls store.old) (S.batches store.old) (S.world store.new) (S.calls store.new) (S.batches store.new)) }
-    ensures err { S.honest store.new → S.well_kept store.old → OnErr result (
-        IsLeft (S.world store.old) (S.calls store.old) (S.batches store.old) (S.world store.new) (S.calls store.new) (S.batches store.new)) }
+        (S.world store.old) (S.calls store.old) (S.batches store.old) (S.world store.new) (S.calls store.new) (S.batches store.new))) }
+    ensures err { Trusted S.Units store.old store.new (OnErr result (
+        IsLeft (S.world store.old) (S.calls store.old) (S.batches store.old) (S.world store.new) (S.calls store.new) (S.batches store.new))) }
 {
     let body = reply_text(alloc, reply)?;
     let kept = Kept {
@@ -143,12 +144,12 @@ fn act<S: Store>(
     requires in_range { IsInRange request }
     requires text { text ≡ canonical_text request }
     ensures honest { S.honest store.new → S.honest store.old }
-    ensures kept { S.honest store.new → S.well_kept store.old → S.well_kept store.new }
-    ensures exact { S.honest store.new → S.well_kept store.old → IfOk result (λ answer.
+    ensures kept { Trusted S.Units store.old store.new (S.well_kept store.new) }
+    ensures exact { Trusted S.Units store.old store.new (IfOk result (λ answer.
         MayAct (S.world store.old) (S.calls store.old) caller request → ServesCall request now answer
-        (S.world store.old) (S.calls store.old) (S.batches store.old) (S.world store.new) (S.calls store.new) (S.batches store.new)) }
-    ensures err { S.honest store.new → S.well_kept store.old → OnErr result (
-        IsLeft (S.world store.old) (S.calls store.old) (S.batches store.old) (S.world store.new) (S.calls store.new) (S.batches store.new)) }
+        (S.world store.old) (S.calls store.old) (S.batches store.old) (S.world store.new) (S.calls store.new) (S.batches store.new))) }
+    ensures err { Trusted S.Units store.old store.new (OnErr result (
+        IsLeft (S.world store.old) (S.calls store.old) (S.batches store.old) (S.world store.new) (S.calls store.new) (S.batches store.new))) }
 {
     let seqno = request.rpc_seqno;
     match call_step(alloc, store, caller, request, now) {
@@ -168,12 +169,12 @@ fn call_of<S: Store>(
 ) -> Result<Answer, Unavailable>
     requires in_range { IsInRange request }
     ensures honest { S.honest store.new → S.honest store.old }
-    ensures kept { S.honest store.new → S.well_kept store.old → S.well_kept store.new }
-    ensures exact { S.honest store.new → S.well_kept store.old → IfOk result (λ answer.
+    ensures kept { Trusted S.Units store.old store.new (S.well_kept store.new) }
+    ensures exact { Trusted S.Units store.old store.new (IfOk result (λ answer.
         IsNamed (S.world store.old) caller request → ServesCall request now answer
-        (S.world store.old) (S.calls store.old) (S.batches store.old) (S.world store.new) (S.calls store.new) (S.batches store.new)) }
-    ensures err { S.honest store.new → S.well_kept store.old → OnErr result (
-        IsLeft (S.world store.old) (S.calls store.old) (S.batches store.old) (S.world store.new) (S.calls store.new) (S.batches store.new)) }
+        (S.world store.old) (S.calls store.old) (S.batches store.old) (S.world store.new) (S.calls store.new) (S.batches store.new))) }
+    ensures err { Trusted S.Units store.old store.new (OnErr result (
+        IsLeft (S.world store.old) (S.calls store.old) (S.batches store.old) (S.world store.new) (S.calls store.new) (S.batches store.new))) }
 {
     let text = request_text(alloc, &request)?;
     match told_kept(alloc, store, &caller, request.rpc_seqno, text.as_str())? {
@@ -196,12 +197,12 @@ pub fn call<S: Store>(
 ) -> Result<Answer, Unavailable>
     requires in_range { IsInRange request }
     ensures honest { S.honest store.new → S.honest store.old }
-    ensures kept { S.honest store.new → S.well_kept store.old → S.well_kept store.new }
-    ensures exact { S.honest store.new → S.well_kept store.old → IfOk result (λ answer.
+    ensures kept { Trusted S.Units store.old store.new (S.well_kept store.new) }
+    ensures exact { Trusted S.Units store.old store.new (IfOk result (λ answer.
         ServesIn (record { now = now; said = Rpc request }) answer
-        (S.world store.old) (S.calls store.old) (S.batches store.old) (S.world store.new) (S.calls store.new) (S.batches store.new)) }
-    ensures err { S.honest store.new → S.well_kept store.old → OnErr result (
-        IsLeft (S.world store.old) (S.calls store.old) (S.batches store.old) (S.world store.new) (S.calls store.new) (S.batches store.new)) }
+        (S.world store.old) (S.calls store.old) (S.batches store.old) (S.world store.new) (S.calls store.new) (S.batches store.new))) }
+    ensures err { Trusted S.Units store.old store.new (OnErr result (
+        IsLeft (S.world store.old) (S.calls store.old) (S.batches store.old) (S.world store.new) (S.calls store.new) (S.batches store.new))) }
 {
     match admit(alloc, store, &request) {
         Ok(caller) => call_of(alloc, store, caller, request, now),

@@ -8,6 +8,7 @@ ghost use Rattle.rpc_records.specs.declared.fault.Fault.TheVariants as fault;
 ghost use Rattle.sched_book.specs.Delta.{Fits};
 ghost use Rattle.sched_book.specs.Imports.{fault_of_rows, shelf_of};
 ghost use Rattle.sched_book.specs.Limits.{AreRowsInLimits};
+ghost use Rattle.sched_book.specs.Trusted.{Trusted};
 ghost use Rattle.sched_book.specs.declared.rows.Rows.{Rows};
 ghost use Rattle.pasts.specs.Answers.{imported_text};
 ghost use Rattle.pasts.specs.Kinds.{kind_name};
@@ -83,12 +84,12 @@ fn commit_batch<S: Store>(
     delta: &Delta,
 ) -> Result<(), Unavailable>
     ensures honest { S.honest store.new → S.honest store.old }
-    ensures kept { S.honest store.new → S.well_kept store.old → S.well_kept store.new }
-    ensures ok { S.honest store.new → S.well_kept store.old → OnOk result (Fits (S.world store.old) delta.now →
+    ensures kept { Trusted S.Units store.old store.new (S.well_kept store.new) }
+    ensures ok { Trusted S.Units store.old store.new (OnOk result (Fits (S.world store.old) delta.now →
         IsCommitted delta.now (entry.Batch kind batch.now (record { text = text.now; answer = body.now }))
-        (S.world store.old) (S.calls store.old) (S.batches store.old) (S.world store.new) (S.calls store.new) (S.batches store.new)) }
-    ensures err { S.honest store.new → S.well_kept store.old → OnErr result (
-        IsLeft (S.world store.old) (S.calls store.old) (S.batches store.old) (S.world store.new) (S.calls store.new) (S.batches store.new)) }
+        (S.world store.old) (S.calls store.old) (S.batches store.old) (S.world store.new) (S.calls store.new) (S.batches store.new))) }
+    ensures err { Trusted S.Units store.old store.new (OnErr result (
+        IsLeft (S.world store.old) (S.calls store.old) (S.batches store.old) (S.world store.new) (S.calls store.new) (S.batches store.new))) }
 {
     let entry = batch_entry(alloc, kind, batch, text, body)?;
     store.commit(delta, &entry)
@@ -105,13 +106,13 @@ fn keep_batch<S: Store>(
     count: u32,
 ) -> Result<Answer, Unavailable>
     ensures honest { S.honest store.new → S.honest store.old }
-    ensures kept { S.honest store.new → S.well_kept store.old → S.well_kept store.new }
+    ensures kept { Trusted S.Units store.old store.new (S.well_kept store.new) }
     ensures answer { IfOk result (λ answer. answer ≡ answers.Good (imported_text (kind_name kind) batch.now count)) }
-    ensures ok { S.honest store.new → S.well_kept store.old → OnOk result (Fits (S.world store.old) delta.now →
+    ensures ok { Trusted S.Units store.old store.new (OnOk result (Fits (S.world store.old) delta.now →
         IsCommitted delta.now (entry.Batch kind batch.now (record { text = text.now; answer = imported_text (kind_name kind) batch.now count }))
-        (S.world store.old) (S.calls store.old) (S.batches store.old) (S.world store.new) (S.calls store.new) (S.batches store.new)) }
-    ensures err { S.honest store.new → S.well_kept store.old → OnErr result (
-        IsLeft (S.world store.old) (S.calls store.old) (S.batches store.old) (S.world store.new) (S.calls store.new) (S.batches store.new)) }
+        (S.world store.old) (S.calls store.old) (S.batches store.old) (S.world store.new) (S.calls store.new) (S.batches store.new))) }
+    ensures err { Trusted S.Units store.old store.new (OnErr result (
+        IsLeft (S.world store.old) (S.calls store.old) (S.batches store.old) (S.world store.new) (S.calls store.new) (S.batches store.new))) }
 {
     let body = imported(alloc, kind.name(), batch.as_str(), count as u64)?;
     commit_batch(alloc, store, kind, batch, text, &body, delta)?;
@@ -130,13 +131,13 @@ fn add_rows<S: Store>(
 ) -> Result<Answer, Unavailable>
     requires limits { AreRowsInLimits rows }
     ensures honest { S.honest store.new → S.honest store.old }
-    ensures kept { S.honest store.new → S.well_kept store.old → S.well_kept store.new }
-    ensures exact { S.honest store.new → S.well_kept store.old → IfOk result (λ answer.
+    ensures kept { Trusted S.Units store.old store.new (S.well_kept store.new) }
+    ensures exact { Trusted S.Units store.old store.new (IfOk result (λ answer.
         S.batches store.old kind batch.now ≡ None → fault_of_rows (shelf_of (S.world store.old)) rows ≡ None →
         ServesIn (record { now = now; said = Import kind batch.now text.now (Ok rows) }) answer
-        (S.world store.old) (S.calls store.old) (S.batches store.old) (S.world store.new) (S.calls store.new) (S.batches store.new)) }
-    ensures err { S.honest store.new → S.well_kept store.old → OnErr result (
-        IsLeft (S.world store.old) (S.calls store.old) (S.batches store.old) (S.world store.new) (S.calls store.new) (S.batches store.new)) }
+        (S.world store.old) (S.calls store.old) (S.batches store.old) (S.world store.new) (S.calls store.new) (S.batches store.new))) }
+    ensures err { Trusted S.Units store.old store.new (OnErr result (
+        IsLeft (S.world store.old) (S.calls store.old) (S.batches store.old) (S.world store.new) (S.calls store.new) (S.batches store.new))) }
 {
     let (delta, count) = import_step(alloc, store, rows, now)?;
     keep_batch(alloc, store, kind, batch, text, &delta, count)
@@ -154,13 +155,13 @@ fn import_rows<S: Store>(
 ) -> Result<Answer, Unavailable>
     requires limits { AreRowsInLimits rows }
     ensures honest { S.honest store.new → S.honest store.old }
-    ensures kept { S.honest store.new → S.well_kept store.old → S.well_kept store.new }
-    ensures exact { S.honest store.new → S.well_kept store.old → IfOk result (λ answer.
+    ensures kept { Trusted S.Units store.old store.new (S.well_kept store.new) }
+    ensures exact { Trusted S.Units store.old store.new (IfOk result (λ answer.
         S.batches store.old kind batch.now ≡ None →
         ServesIn (record { now = now; said = Import kind batch.now text.now (Ok rows) }) answer
-        (S.world store.old) (S.calls store.old) (S.batches store.old) (S.world store.new) (S.calls store.new) (S.batches store.new)) }
-    ensures err { S.honest store.new → S.well_kept store.old → OnErr result (
-        IsLeft (S.world store.old) (S.calls store.old) (S.batches store.old) (S.world store.new) (S.calls store.new) (S.batches store.new)) }
+        (S.world store.old) (S.calls store.old) (S.batches store.old) (S.world store.new) (S.calls store.new) (S.batches store.new))) }
+    ensures err { Trusted S.Units store.old store.new (OnErr result (
+        IsLeft (S.world store.old) (S.calls store.old) (S.batches store.old) (S.world store.new) (S.calls store.new) (S.batches store.new))) }
 {
     match check_rows(alloc, store, &rows) {
         Ok(()) => add_rows(alloc, store, kind, batch, text, rows, now),
@@ -179,13 +180,13 @@ fn import_new<S: Store>(
     now: Moment,
 ) -> Result<Answer, Unavailable>
     ensures honest { S.honest store.new → S.honest store.old }
-    ensures kept { S.honest store.new → S.well_kept store.old → S.well_kept store.new }
-    ensures exact { S.honest store.new → S.well_kept store.old → IfOk result (λ answer.
+    ensures kept { Trusted S.Units store.old store.new (S.well_kept store.new) }
+    ensures exact { Trusted S.Units store.old store.new (IfOk result (λ answer.
         S.batches store.old kind batch.now ≡ None → (read : Result Rows Fault) × Reads kind text.now read ×
         ServesIn (record { now = now; said = Import kind batch.now text.now read }) answer
-        (S.world store.old) (S.calls store.old) (S.batches store.old) (S.world store.new) (S.calls store.new) (S.batches store.new)) }
-    ensures err { S.honest store.new → S.well_kept store.old → OnErr result (
-        IsLeft (S.world store.old) (S.calls store.old) (S.batches store.old) (S.world store.new) (S.calls store.new) (S.batches store.new)) }
+        (S.world store.old) (S.calls store.old) (S.batches store.old) (S.world store.new) (S.calls store.new) (S.batches store.new))) }
+    ensures err { Trusted S.Units store.old store.new (OnErr result (
+        IsLeft (S.world store.old) (S.calls store.old) (S.batches store.old) (S.world store.new) (S.calls store.new) (S.batches store.new))) }
 {
     match read_rows(alloc, kind, text) {
         Ok(rows) => import_rows(alloc, store, kind, batch, text, rows, now),
@@ -209,13 +210,13 @@ pub fn import<S: Store>(
     now: Moment,
 ) -> Result<Answer, Unavailable>
     ensures honest { S.honest store.new → S.honest store.old }
-    ensures kept { S.honest store.new → S.well_kept store.old → S.well_kept store.new }
-    ensures exact { S.honest store.new → S.well_kept store.old → IfOk result (λ answer.
+    ensures kept { Trusted S.Units store.old store.new (S.well_kept store.new) }
+    ensures exact { Trusted S.Units store.old store.new (IfOk result (λ answer.
         (read : Result Rows Fault) × Reads kind text.now read ×
         ServesIn (record { now = now; said = Import kind batch.now text.now read }) answer
-        (S.world store.old) (S.calls store.old) (S.batches store.old) (S.world store.new) (S.calls store.new) (S.batches store.new)) }
-    ensures err { S.honest store.new → S.well_kept store.old → OnErr result (
-        IsLeft (S.world store.old) (S.calls store.old) (S.batches store.old) (S.world store.new) (S.calls store.new) (S.batches store.new)) }
+        (S.world store.old) (S.calls store.old) (S.batches store.old) (S.world store.new) (S.calls store.new) (S.batches store.new))) }
+    ensures err { Trusted S.Units store.old store.new (OnErr result (
+        IsLeft (S.world store.old) (S.calls store.old) (S.batches store.old) (S.world store.new) (S.calls store.new) (S.batches store.new))) }
 {
     match store.kept_batch(alloc, kind, batch.as_str())? {
         Some(kept) => Ok(told_again(kept, text)),

@@ -4,10 +4,12 @@ ghost use Rattle.std.specs.Prelude.{◌≡◌, ℕ, [], ◌∷◌, ◌+◌, ◌<
 ghost use Rattle.std.specs.Option.{option_copied};
 ghost use Rattle.sched_book.specs.Delta.{applied};
 ghost use Rattle.sched_book.specs.Desk.{counts, agreement_at};
+ghost use Rattle.sched_book.specs.Limits.{AreSettingsInLimits};
 ghost use Rattle.sched_book.specs.Places.{unit_named, known_host, sent_on_day};
 ghost use Rattle.sched_book.specs.Step.{empty_world};
 ghost use Rattle.pasts.specs.Answers.{kept_beside_last};
 ghost use Rattle.pasts.specs.declared.kind.Kind.{Kind};
+ghost use Rattle.message_engine.specs.Arrivals.{StandsFor};
 ghost use Rattle.message_engine.specs.ListStores.{calls_at, is_batch, batch_at, world_of, calls_of, batches_of};
 ghost use Rattle.message_engine.specs.Stores.{IsCommitted, IsLeft};
 ghost use Rattle.message_engine.specs.declared.entry.Entry.TheVariants as entry;
@@ -104,11 +106,12 @@ fn find_batch<'a>(batches: &'a [Batch], kind: Kind, name: &str) -> Option<&'a Ba
 }
 
 impl ListStore {
-    /// A store with these settings, in which nothing stands and which has heard nothing.
+    /// A store with these settings, in which nothing stands and which has heard nothing. It stands for the empty past.
     pub fn new(alloc: Global, settings: &Settings) -> Result<ListStore, Memory>
         ensures world { IfOk result (λ store. world_of store ≡ empty_world settings.now) }
         ensures calls { IfOk result (λ store. (host : ℕ) → calls_of store host ≡ []) }
         ensures batches { IfOk result (λ store. (kind : Kind) (batch : List ℕ) → batches_of store kind batch ≡ None) }
+        ensures stands { IfOk result (λ store. AreSettingsInLimits settings.now → StandsFor (world_of store) (calls_of store) (batches_of store) []) }
     {
         Ok(ListStore {
             alloc,

@@ -1,6 +1,7 @@
 //! Whatever is posted, over any store.
 
 ghost use Rattle.std.specs.Prelude.{◌≡◌, ◌∷◌, length, List, Option, IfOk, OnErr};
+ghost use Rattle.sched_book.specs.Trusted.{Trusted};
 ghost use Rattle.pasts.specs.Messages.{Said, Rpc, Refused};
 ghost use Rattle.pasts.specs.declared.answer.Answer.{Answer};
 ghost use Rattle.message_engine.specs.Arrivals.{Came, StandsFor, followed};
@@ -28,12 +29,12 @@ fn hear<S: Store>(
     now: Moment,
 ) -> Result<Answer, Unavailable>
     ensures honest { S.honest store.new → S.honest store.old }
-    ensures kept { S.honest store.new → S.well_kept store.old → S.well_kept store.new }
-    ensures exact { S.honest store.new → S.well_kept store.old → IfOk result (λ answer.
+    ensures kept { Trusted S.Units store.old store.new (S.well_kept store.new) }
+    ensures exact { Trusted S.Units store.old store.new (IfOk result (λ answer.
         ServesIn (record { now = now; said = said_body body.now }) answer
-        (S.world store.old) (S.calls store.old) (S.batches store.old) (S.world store.new) (S.calls store.new) (S.batches store.new)) }
-    ensures err { S.honest store.new → S.well_kept store.old → OnErr result (
-        IsLeft (S.world store.old) (S.calls store.old) (S.batches store.old) (S.world store.new) (S.calls store.new) (S.batches store.new)) }
+        (S.world store.old) (S.calls store.old) (S.batches store.old) (S.world store.new) (S.calls store.new) (S.batches store.new))) }
+    ensures err { Trusted S.Units store.old store.new (OnErr result (
+        IsLeft (S.world store.old) (S.calls store.old) (S.batches store.old) (S.world store.new) (S.calls store.new) (S.batches store.new))) }
 {
     if is_body_too_long(body) {
         return Ok(Answer::Refusal(Fault::TooLarge));
@@ -56,12 +57,12 @@ fn import_sized<S: Store>(
     now: Moment,
 ) -> Result<Answer, Unavailable>
     ensures honest { S.honest store.new → S.honest store.old }
-    ensures kept { S.honest store.new → S.well_kept store.old → S.well_kept store.new }
-    ensures exact { S.honest store.new → S.well_kept store.old → IfOk result (λ answer.
+    ensures kept { Trusted S.Units store.old store.new (S.well_kept store.new) }
+    ensures exact { Trusted S.Units store.old store.new (IfOk result (λ answer.
         (said : Said) × MeansText (is_import_too_long text.now) kind batch.now text.now said × ServesIn (record { now = now; said = said }) answer
-        (S.world store.old) (S.calls store.old) (S.batches store.old) (S.world store.new) (S.calls store.new) (S.batches store.new)) }
-    ensures err { S.honest store.new → S.well_kept store.old → OnErr result (
-        IsLeft (S.world store.old) (S.calls store.old) (S.batches store.old) (S.world store.new) (S.calls store.new) (S.batches store.new)) }
+        (S.world store.old) (S.calls store.old) (S.batches store.old) (S.world store.new) (S.calls store.new) (S.batches store.new))) }
+    ensures err { Trusted S.Units store.old store.new (OnErr result (
+        IsLeft (S.world store.old) (S.calls store.old) (S.batches store.old) (S.world store.new) (S.calls store.new) (S.batches store.new))) }
 {
     if is_import_too_long(text) {
         return Ok(Answer::Refusal(Fault::TooLarge));
@@ -80,12 +81,12 @@ fn import_named<S: Store>(
     now: Moment,
 ) -> Result<Answer, Unavailable>
     ensures honest { S.honest store.new → S.honest store.old }
-    ensures kept { S.honest store.new → S.well_kept store.old → S.well_kept store.new }
-    ensures exact { S.honest store.new → S.well_kept store.old → IfOk result (λ answer.
+    ensures kept { Trusted S.Units store.old store.new (S.well_kept store.new) }
+    ensures exact { Trusted S.Units store.old store.new (IfOk result (λ answer.
         (said : Said) × MeansImport (kind_of kind.now) batch.now text.now said × ServesIn (record { now = now; said = said }) answer
-        (S.world store.old) (S.calls store.old) (S.batches store.old) (S.world store.new) (S.calls store.new) (S.batches store.new)) }
-    ensures err { S.honest store.new → S.well_kept store.old → OnErr result (
-        IsLeft (S.world store.old) (S.calls store.old) (S.batches store.old) (S.world store.new) (S.calls store.new) (S.batches store.new)) }
+        (S.world store.old) (S.calls store.old) (S.batches store.old) (S.world store.new) (S.calls store.new) (S.batches store.new))) }
+    ensures err { Trusted S.Units store.old store.new (OnErr result (
+        IsLeft (S.world store.old) (S.calls store.old) (S.batches store.old) (S.world store.new) (S.calls store.new) (S.batches store.new))) }
 {
     match Kind::of(kind.as_str()) {
         None => Ok(Answer::Refusal(Fault::NoRoute)),
@@ -107,12 +108,12 @@ pub fn answer<S: Store>(
     post: &Post,
 ) -> Result<Answer, Unavailable>
     ensures honest { S.honest store.new → S.honest store.old }
-    ensures kept { S.honest store.new → S.well_kept store.old → S.well_kept store.new }
-    ensures exact { S.honest store.new → S.well_kept store.old → IfOk result (λ answer.
+    ensures kept { Trusted S.Units store.old store.new (S.well_kept store.new) }
+    ensures exact { Trusted S.Units store.old store.new (IfOk result (λ answer.
         (said : Said) × Means post.now said × ServesIn (record { now = now; said = said }) answer
-        (S.world store.old) (S.calls store.old) (S.batches store.old) (S.world store.new) (S.calls store.new) (S.batches store.new)) }
-    ensures err { S.honest store.new → S.well_kept store.old → OnErr result (
-        IsLeft (S.world store.old) (S.calls store.old) (S.batches store.old) (S.world store.new) (S.calls store.new) (S.batches store.new)) }
+        (S.world store.old) (S.calls store.old) (S.batches store.old) (S.world store.new) (S.calls store.new) (S.batches store.new))) }
+    ensures err { Trusted S.Units store.old store.new (OnErr result (
+        IsLeft (S.world store.old) (S.calls store.old) (S.batches store.old) (S.world store.new) (S.calls store.new) (S.batches store.new))) }
 {
     match post {
         Post::Scheduler(body) => hear(alloc, store, body.as_slice(), now),
@@ -129,10 +130,10 @@ pub fn answer<S: Store>(
 #[tactic(auto, using(crate::proofs::Followed::lost_stands))]
 pub fn serve<S: Store>(alloc: Global, store: &mut S, arrival: &Arrival) -> Option<Answer>
     ensures honest { S.honest store.new → S.honest store.old }
-    ensures kept { S.honest store.new → S.well_kept store.old → S.well_kept store.new }
-    ensures stands { S.honest store.new → S.well_kept store.old → (before : List Came)
+    ensures kept { Trusted S.Units store.old store.new (S.well_kept store.new) }
+    ensures stands { Trusted S.Units store.old store.new ((before : List Came)
         → StandsFor (S.world store.old) (S.calls store.old) (S.batches store.old) before
-        → StandsFor (S.world store.new) (S.calls store.new) (S.batches store.new) (record { arrival = arrival.now; answer = result } ∷ before) }
+        → StandsFor (S.world store.new) (S.calls store.new) (S.batches store.new) (record { arrival = arrival.now; answer = result } ∷ before)) }
 {
     match answer(alloc, store, arrival.moment, &arrival.post) {
         Ok(answer) => Some(answer),
@@ -148,21 +149,21 @@ pub fn serve<S: Store>(alloc: Global, store: &mut S, arrival: &Arrival) -> Optio
 ///
 /// # Errors
 ///
-/// [`Memory`] where there is no room for an answer; the arrivals before it have acted.
+/// [`Memory`] where there is no room for an answer; its arrival and those before it have acted.
 pub fn run<S: Store>(
     alloc: Global,
     store: &mut S,
     arrivals: &[Arrival],
 ) -> Result<Vec<Option<Answer>>, Memory>
     ensures honest { S.honest store.new → S.honest store.old }
-    ensures kept { S.honest store.new → S.well_kept store.old → S.well_kept store.new }
+    ensures kept { Trusted S.Units store.old store.new (S.well_kept store.new) }
     ensures count { IfOk result (λ answers. length answers.items ≡ length arrivals.now) }
-    ensures stands { S.honest store.new → S.well_kept store.old → IfOk result (λ answers. (before : List Came)
+    ensures stands { Trusted S.Units store.old store.new (IfOk result (λ answers. (before : List Came)
         → StandsFor (S.world store.old) (S.calls store.old) (S.batches store.old) before
-        → StandsFor (S.world store.new) (S.calls store.new) (S.batches store.new) (followed before arrivals.now answers.items)) }
-    ensures memory { S.honest store.new → S.well_kept store.old → OnErr result ((before : List Came)
+        → StandsFor (S.world store.new) (S.calls store.new) (S.batches store.new) (followed before arrivals.now answers.items))) }
+    ensures memory { Trusted S.Units store.old store.new (OnErr result ((before : List Came)
         → StandsFor (S.world store.old) (S.calls store.old) (S.batches store.old) before
-        → (answers : List (Option Answer)) × StandsFor (S.world store.new) (S.calls store.new) (S.batches store.new) (followed before arrivals.now answers)) }
+        → (answers : List (Option Answer)) × StandsFor (S.world store.new) (S.calls store.new) (S.batches store.new) (followed before arrivals.now answers))) }
 {
     let mut answers = Vec::new(alloc);
     for arrival in arrivals {

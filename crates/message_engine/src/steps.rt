@@ -5,6 +5,7 @@ ghost use Rattle.sched_book.specs.Delta.{applied, Fits};
 ghost use Rattle.sched_book.specs.Imports.{AreChecked};
 ghost use Rattle.sched_book.specs.Sound.{Sound};
 ghost use Rattle.sched_book.specs.Step.{ImportStep, TickStep, Step};
+ghost use Rattle.sched_book.specs.Trusted.{Trusted};
 ghost use Rattle.sched_book.specs.declared.machine.Answered.TheVariants as answered;
 ghost use Rattle.sched_machine.specs.Calling.{MayBeTold};
 
@@ -19,12 +20,12 @@ pub(crate) fn tick_step<D: Desk>(
     now: Moment,
 ) -> Result<(Delta, u32), Unavailable>
     ensures reads { D.reads desk.old desk.new }
-    ensures step { D.honest desk.new → D.well_kept desk.old → IfOk result (λ done. Sound (D.world desk.old) →
-        TickStep (D.world desk.old) now (applied (D.world desk.old) done.0) done.1) }
-    ensures sound { D.honest desk.new → D.well_kept desk.old → IfOk result (λ done. Sound (D.world desk.old) →
-        Sound (applied (D.world desk.old) done.0)) }
-    ensures fits { D.honest desk.new → D.well_kept desk.old → IfOk result (λ done. Sound (D.world desk.old) →
-        Fits (D.world desk.old) done.0) }
+    ensures step { Trusted D.Units desk.old desk.new (IfOk result (λ done. Sound (D.world desk.old) →
+        TickStep (D.world desk.old) now (applied (D.world desk.old) done.0) done.1)) }
+    ensures sound { Trusted D.Units desk.old desk.new (IfOk result (λ done. Sound (D.world desk.old) →
+        Sound (applied (D.world desk.old) done.0))) }
+    ensures fits { Trusted D.Units desk.old desk.new (IfOk result (λ done. Sound (D.world desk.old) →
+        Fits (D.world desk.old) done.0)) }
 {
     let Ok((delta, answered)) = step(alloc, desk, &Call::Tick, now) else {
         return Err(Unavailable);
@@ -43,13 +44,13 @@ fn counted_step<D: Desk>(
     now: Moment,
 ) -> Result<(Delta, u32), Unavailable>
     ensures reads { D.reads desk.old desk.new }
-    ensures step { D.honest desk.new → D.well_kept desk.old → IfOk result (λ done.
+    ensures step { Trusted D.Units desk.old desk.new (IfOk result (λ done.
         Sound (D.world desk.old) → MayBeTold (D.world desk.old) call.now →
-        Step (D.world desk.old) call.now now (applied (D.world desk.old) done.0) (answered.Imported done.1)) }
-    ensures sound { D.honest desk.new → D.well_kept desk.old → IfOk result (λ done.
-        Sound (D.world desk.old) → MayBeTold (D.world desk.old) call.now → Sound (applied (D.world desk.old) done.0)) }
-    ensures fits { D.honest desk.new → D.well_kept desk.old → IfOk result (λ done.
-        Sound (D.world desk.old) → MayBeTold (D.world desk.old) call.now → Fits (D.world desk.old) done.0) }
+        Step (D.world desk.old) call.now now (applied (D.world desk.old) done.0) (answered.Imported done.1))) }
+    ensures sound { Trusted D.Units desk.old desk.new (IfOk result (λ done.
+        Sound (D.world desk.old) → MayBeTold (D.world desk.old) call.now → Sound (applied (D.world desk.old) done.0))) }
+    ensures fits { Trusted D.Units desk.old desk.new (IfOk result (λ done.
+        Sound (D.world desk.old) → MayBeTold (D.world desk.old) call.now → Fits (D.world desk.old) done.0)) }
 {
     let Ok((delta, answered)) = step(alloc, desk, call, now) else {
         return Err(Unavailable);
@@ -68,13 +69,13 @@ pub(crate) fn import_step<D: Desk>(
     now: Moment,
 ) -> Result<(Delta, u32), Unavailable>
     ensures reads { D.reads desk.old desk.new }
-    ensures step { D.honest desk.new → D.well_kept desk.old → IfOk result (λ done.
+    ensures step { Trusted D.Units desk.old desk.new (IfOk result (λ done.
         Sound (D.world desk.old) → AreChecked (D.world desk.old) rows →
-        ImportStep (D.world desk.old) rows (applied (D.world desk.old) done.0) done.1) }
-    ensures sound { D.honest desk.new → D.well_kept desk.old → IfOk result (λ done.
-        Sound (D.world desk.old) → AreChecked (D.world desk.old) rows → Sound (applied (D.world desk.old) done.0)) }
-    ensures fits { D.honest desk.new → D.well_kept desk.old → IfOk result (λ done.
-        Sound (D.world desk.old) → AreChecked (D.world desk.old) rows → Fits (D.world desk.old) done.0) }
+        ImportStep (D.world desk.old) rows (applied (D.world desk.old) done.0) done.1)) }
+    ensures sound { Trusted D.Units desk.old desk.new (IfOk result (λ done.
+        Sound (D.world desk.old) → AreChecked (D.world desk.old) rows → Sound (applied (D.world desk.old) done.0))) }
+    ensures fits { Trusted D.Units desk.old desk.new (IfOk result (λ done.
+        Sound (D.world desk.old) → AreChecked (D.world desk.old) rows → Fits (D.world desk.old) done.0)) }
 {
     let call = Call::Import(rows);
     counted_step(alloc, desk, &call, now)

@@ -1,6 +1,7 @@
 ghost use Rattle.std.specs.Prelude.{◌≡◌, ℕ, List, Option, IfOk, OnOk, OnErr};
 ghost use Rattle.reply_register.specs.declared.kept.Kept.{Kept};
 ghost use Rattle.sched_book.specs.Delta.{Fits};
+ghost use Rattle.sched_book.specs.Trusted.{Trusted};
 ghost use Rattle.pasts.specs.declared.batch.KeptBatch.{KeptBatch};
 ghost use Rattle.pasts.specs.declared.kind.Kind.{Kind};
 ghost use Rattle.message_engine.specs.Stores.{IsCommitted, IsLeft};
@@ -26,7 +27,7 @@ pub trait Store: Desk {
     /// What is kept of the calls of the host of this number, the last call first.
     fn kept(&mut self, alloc: Global, host: u32) -> Result<Listed<Kept>, Unavailable>
         ensures reads { Self.reads self.old self.new }
-        ensures answer { Self.honest self.new → Self.well_kept self.old → IfOk result (λ r. r ≡ calls self.old host) };
+        ensures answer { Trusted Self.Units self.old self.new (IfOk result (λ r. r ≡ calls self.old host)) };
 
     /// What is kept of the import of this kind and batch name.
     fn kept_batch(
@@ -36,17 +37,17 @@ pub trait Store: Desk {
         batch: &str,
     ) -> Result<Option<KeptBatch>, Unavailable>
         ensures reads { Self.reads self.old self.new }
-        ensures answer { Self.honest self.new → Self.well_kept self.old → IfOk result (λ r. r ≡ batches self.old kind batch.now) };
+        ensures answer { Trusted Self.Units self.old self.new (IfOk result (λ r. r ≡ batches self.old kind batch.now)) };
 
     /// Makes these changes and keeps this entry, at once: where it is unavailable, neither is done.
     fn commit(&mut self, delta: &Delta, entry: &Entry) -> Result<(), Unavailable>
         ensures honest { Self.honest self.new → Self.honest self.old }
-        ensures kept { Self.honest self.new → Self.well_kept self.old → Self.well_kept self.new }
-        ensures ok { Self.honest self.new → Self.well_kept self.old → OnOk result (Fits (Self.world self.old) delta.now →
+        ensures kept { Trusted Self.Units self.old self.new (Self.well_kept self.new) }
+        ensures ok { Trusted Self.Units self.old self.new (OnOk result (Fits (Self.world self.old) delta.now →
             IsCommitted delta.now entry.now (Self.world self.old) (calls self.old) (batches self.old)
-            (Self.world self.new) (calls self.new) (batches self.new)) }
-        ensures err { Self.honest self.new → Self.well_kept self.old → OnErr result (
-            IsLeft (Self.world self.old) (calls self.old) (batches self.old) (Self.world self.new) (calls self.new) (batches self.new)) };
+            (Self.world self.new) (calls self.new) (batches self.new))) }
+        ensures err { Trusted Self.Units self.old self.new (OnErr result (
+            IsLeft (Self.world self.old) (calls self.old) (batches self.old) (Self.world self.new) (calls self.new) (batches self.new))) };
 
     // Reading leaves what is kept as it is.
     ghost stays_calls: { (a b : Self) → Self.reads a b → Self.honest b → Self.well_kept a → (host : ℕ) → calls b host ≡ calls a host };

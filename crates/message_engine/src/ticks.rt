@@ -2,6 +2,7 @@
 
 ghost use Rattle.std.specs.Prelude.{◌≡◌, IfOk, OnOk, OnErr};
 ghost use Rattle.sched_book.specs.Delta.{Fits};
+ghost use Rattle.sched_book.specs.Trusted.{Trusted};
 ghost use Rattle.pasts.specs.Answers.{lapsed_text};
 ghost use Rattle.pasts.specs.Messages.{Tick};
 ghost use Rattle.pasts.specs.declared.answer.Answer.TheVariants as answers;
@@ -24,13 +25,13 @@ fn make_lapse<S: Store>(
     count: u32,
 ) -> Result<Answer, Unavailable>
     ensures honest { S.honest store.new → S.honest store.old }
-    ensures kept { S.honest store.new → S.well_kept store.old → S.well_kept store.new }
+    ensures kept { Trusted S.Units store.old store.new (S.well_kept store.new) }
     ensures answer { IfOk result (λ answer. answer ≡ answers.Good (lapsed_text count)) }
-    ensures ok { S.honest store.new → S.well_kept store.old → OnOk result (Fits (S.world store.old) delta.now →
+    ensures ok { Trusted S.Units store.old store.new (OnOk result (Fits (S.world store.old) delta.now →
         IsCommitted delta.now entry.Nothing (S.world store.old) (S.calls store.old) (S.batches store.old)
-        (S.world store.new) (S.calls store.new) (S.batches store.new)) }
-    ensures err { S.honest store.new → S.well_kept store.old → OnErr result (
-        IsLeft (S.world store.old) (S.calls store.old) (S.batches store.old) (S.world store.new) (S.calls store.new) (S.batches store.new)) }
+        (S.world store.new) (S.calls store.new) (S.batches store.new))) }
+    ensures err { Trusted S.Units store.old store.new (OnErr result (
+        IsLeft (S.world store.old) (S.calls store.old) (S.batches store.old) (S.world store.new) (S.calls store.new) (S.batches store.new))) }
 {
     let body = lapsed(alloc, count)?;
     store.commit(delta, &Entry::Nothing)?;
@@ -44,12 +45,12 @@ fn make_lapse<S: Store>(
 /// [`Unavailable`] leaves all as it was.
 pub fn tick<S: Store>(alloc: Global, store: &mut S, now: Moment) -> Result<Answer, Unavailable>
     ensures honest { S.honest store.new → S.honest store.old }
-    ensures kept { S.honest store.new → S.well_kept store.old → S.well_kept store.new }
-    ensures exact { S.honest store.new → S.well_kept store.old → IfOk result (λ answer.
+    ensures kept { Trusted S.Units store.old store.new (S.well_kept store.new) }
+    ensures exact { Trusted S.Units store.old store.new (IfOk result (λ answer.
         ServesIn (record { now = now; said = Tick }) answer
-        (S.world store.old) (S.calls store.old) (S.batches store.old) (S.world store.new) (S.calls store.new) (S.batches store.new)) }
-    ensures err { S.honest store.new → S.well_kept store.old → OnErr result (
-        IsLeft (S.world store.old) (S.calls store.old) (S.batches store.old) (S.world store.new) (S.calls store.new) (S.batches store.new)) }
+        (S.world store.old) (S.calls store.old) (S.batches store.old) (S.world store.new) (S.calls store.new) (S.batches store.new))) }
+    ensures err { Trusted S.Units store.old store.new (OnErr result (
+        IsLeft (S.world store.old) (S.calls store.old) (S.batches store.old) (S.world store.new) (S.calls store.new) (S.batches store.new))) }
 {
     let (delta, count) = tick_step(alloc, store, now)?;
     make_lapse(alloc, store, &delta, count)

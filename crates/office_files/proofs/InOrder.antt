@@ -2,6 +2,7 @@
 use Rattle.std.proofs.Common.{◌≡◌, ℕ, ◌+◌, Bool, true, false, cond, List, [], ◌∷◌, ◌++◌, length, Option, Some, None, Result, Ok, Err, sym, refl, ap, subst, ◌∙◌, arith}
 use Rattle.std.specs.Prelude.{IfErr, ok_or, option_and_then, ◌-◌, ◌==◌}
 use Rattle.csv.specs.Records.{field_at}
+use Rattle.sched_book.specs.Limits.{most_instances, most_delay, most_amount, most_credit, most_version_num}
 use Rattle.office_files.specs.Columns.{word_in, name_in, number_in, agreement_in}
 use Rattle.office_files.specs.Records.{Record}
 use Rattle.office_files.specs.Importing.{and_then, column_of, account_header, account_of, app_header, app_of, version_header, version_of, workunit_header, workunit_of, row_of, rows_from, rows_under}
@@ -39,23 +40,23 @@ unfolding version_of
 version_tells row fields =
     next row _ _ (at_column row 1 word_in fields) (λ a.
     next row _ _ (at_column row 2 word_in fields) (λ b.
-    next row _ _ (at_column row 3 (number_in 1 1000000) fields) (λ c. tt)))
+    next row _ _ (at_column row 3 (number_in 1 most_version_num) fields) (λ c. tt)))
 
 workunit_tells : (row : ℕ) (fields : Record) → TellsRow row (workunit_of row fields)
 unfolding workunit_of
 workunit_tells row fields =
     next row _ _ (at_column row 1 word_in fields) (λ name.
     next row _ _ (at_column row 2 word_in fields) (λ app.
-    next row _ _ (at_column row 3 (number_in 1 100) fields) (λ quorum.
-    next row _ _ (at_column row 4 (number_in quorum 100) fields) (λ target.
-    next row _ _ (at_column row 5 (number_in 0 100) fields) (λ errors.
-    next row _ _ (at_column row 6 (number_in target 100) fields) (λ total.
-    next row _ _ (at_column row 7 (number_in 0 100) fields) (λ successes.
-    next row _ _ (at_column row 8 (number_in 1 100000000) fields) (λ delay.
-    next row _ _ (at_column row 9 (number_in 1 1000000000000000000) fields) (λ work.
-    next row _ _ (at_column row 10 (number_in 0 1000000000000000000) fields) (λ memory.
-    next row _ _ (at_column row 11 (number_in 0 1000000000000000000) fields) (λ disk.
-    next row _ _ (at_column row 12 (number_in 0 100000000) fields) (λ credit. tt))))))))))))
+    next row _ _ (at_column row 3 (number_in 1 most_instances) fields) (λ quorum.
+    next row _ _ (at_column row 4 (number_in quorum most_instances) fields) (λ target.
+    next row _ _ (at_column row 5 (number_in 0 most_instances) fields) (λ errors.
+    next row _ _ (at_column row 6 (number_in target most_instances) fields) (λ total.
+    next row _ _ (at_column row 7 (number_in 0 most_instances) fields) (λ successes.
+    next row _ _ (at_column row 8 (number_in 1 most_delay) fields) (λ delay.
+    next row _ _ (at_column row 9 (number_in 1 most_amount) fields) (λ work.
+    next row _ _ (at_column row 10 (number_in 0 most_amount) fields) (λ memory.
+    next row _ _ (at_column row 11 (number_in 0 most_amount) fields) (λ disk.
+    next row _ _ (at_column row 12 (number_in 0 most_credit) fields) (λ credit. tt))))))))))))
 
 module _ {X : Type 0} (reads : ℕ → Record → Result X RowsFault) where
   sized : (b : Bool) (row : ℕ) (r : Result X RowsFault) → TellsRow row r → TellsRow row (cond b r (Err (BadCsv row 0)))

@@ -1,5 +1,6 @@
 -- How the rows of an import are checked beside what stands.
 use Rattle.std.specs.Prelude.{ℕ, ◌+◌, Bool, ◌&&◌, nat_le, length, ⊤}
+use Rattle.sched_book.specs.Limits.{most_accounts, most_apps, most_versions, most_workunits}
 use Rattle.sched_book.specs.declared.desk.Counts.{Counts}
 use Rattle.sched_book.specs.declared.rows.Rows.{Rows}
 use Rattle.sched_book.specs.declared.rows.Rows.TheVariants as rows
@@ -34,8 +35,8 @@ new_units (rows.Workunits xs) = length xs
 -- beside so many rows of each table there is room for the new ones
 abbrev pub has_room_beside : Counts → Rows → Bool
 has_room_beside c new =
-    nat_le (c.accounts + new_accounts new) 10000 && nat_le (c.apps + new_apps new) 100
-    && nat_le (c.versions + new_versions new) 1000 && nat_le (c.workunits + new_units new) 200000
+    nat_le (c.accounts + new_accounts new) most_accounts && nat_le (c.apps + new_apps new) most_apps
+    && nat_le (c.versions + new_versions new) most_versions && nat_le (c.workunits + new_units new) most_workunits
 
 -- the faults that checking rows may have
 abbrev pub IsOfChecking : RowsFault → Type 0

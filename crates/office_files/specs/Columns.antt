@@ -5,15 +5,16 @@ use Rattle.std.specs.List.{list_all, starts_with}
 use Rattle.std.specs.Str.{bytes_eq, is_utf8}
 use Rattle.std.specs.Str.Parse.{digits_value}
 use Rattle.texts.specs.Words.{is_word}
+use Rattle.sched_book.specs.Limits.{most_distance, is_user_name}
 use Rattle.sched_book.specs.declared.rows.Agreement.{Agreement}
 use Rattle.sched_book.specs.declared.rows.Agreement.TheVariants.{Exact, Within}
 
 abbrev pub word_in : List ℕ → Option (List ℕ)
 word_in field = if is_word field then Some field else None
 
--- 1 to 64 bytes of UTF-8
+-- a volunteer's name, in UTF-8
 abbrev pub name_in : List ℕ → Option (List ℕ)
-name_in field = if nat_le 1 (length field) && nat_le (length field) 64 && is_utf8 field then Some field else None
+name_in field = if is_user_name field && is_utf8 field then Some field else None
 
 -- `0`, or a digit 1 to 9 followed by digits
 abbrev pub is_count_text : List ℕ → Bool
@@ -35,4 +36,4 @@ number_in least most field = option_and_then (within least most) (count_in field
 abbrev pub agreement_in : List ℕ → Option Agreement
 agreement_in field =
     if bytes_eq field (codes "exact") then Some Exact
-    else (if starts_with nat_eq field (codes "within:") then option_map Within (number_in 0 1000000000 (drop 7 field)) else None)
+    else (if starts_with nat_eq field (codes "within:") then option_map Within (number_in 0 most_distance (drop 7 field)) else None)

@@ -1,9 +1,10 @@
 -- The rows that the records of an import say. The first record is the header and is row 0; data rows and columns count from 1.
 -- What is told of a faulty text is its first faulty row, and in that the first faulty column: column 0 where the number of
 -- fields is wrong, and row 0, column 0 where there is no record at all. The formats are this profile's.
-use Rattle.std.specs.Prelude.{◌≡◌, ℕ, ◌+◌, ◌-◌, ◌^◌, Bool, false, ◌==◌, if◌then◌else◌, List, [], ◌∷◌, length, codes, Option, Some, None, ok_or, option_map, option_and_then, unwrap_or, Result, Ok, Err, ⊤}
+use Rattle.std.specs.Prelude.{◌≡◌, ℕ, ◌+◌, ◌-◌, Bool, false, ◌==◌, if◌then◌else◌, List, [], ◌∷◌, length, codes, Option, Some, None, ok_or, option_map, option_and_then, unwrap_or, Result, Ok, Err, ⊤}
 use Rattle.std.specs.Str.{bytes_eq}
 use Rattle.csv.specs.Records.{field_at}
+use Rattle.sched_book.specs.Limits.{most_instances, most_delay, most_amount, most_credit, most_version_num}
 use Rattle.sched_book.specs.declared.rows.Account.{Account}
 use Rattle.sched_book.specs.declared.rows.App.{App}
 use Rattle.sched_book.specs.declared.rows.Rows.{Rows}
@@ -53,7 +54,7 @@ unfoldable pub version_of : ℕ → Record → Result Version RowsFault
 version_of row fields = do
   app ← column_of row 1 word_in fields
   platform ← column_of row 2 word_in fields
-  version_num ← column_of row 3 (number_in 1 1000000) fields
+  version_num ← column_of row 3 (number_in 1 most_version_num) fields
   Ok (record { app = app; platform = platform; version_num = version_num })
 
 abbrev pub workunit_header : Record
@@ -67,16 +68,16 @@ unfoldable pub workunit_of : ℕ → Record → Result Workunit RowsFault
 workunit_of row fields = do
   name ← column_of row 1 word_in fields
   app ← column_of row 2 word_in fields
-  min_quorum ← column_of row 3 (number_in 1 100) fields
-  target_nresults ← column_of row 4 (number_in min_quorum 100) fields
-  max_error_results ← column_of row 5 (number_in 0 100) fields
-  max_total_results ← column_of row 6 (number_in target_nresults 100) fields
-  max_success_results ← column_of row 7 (number_in 0 100) fields
-  delay_bound ← column_of row 8 (number_in 1 100000000) fields
-  rsc_fpops_est ← column_of row 9 (number_in 1 (10 ^ 18)) fields
-  rsc_memory_bound ← column_of row 10 (number_in 0 (10 ^ 18)) fields
-  rsc_disk_bound ← column_of row 11 (number_in 0 (10 ^ 18)) fields
-  credit ← column_of row 12 (number_in 0 100000000) fields
+  min_quorum ← column_of row 3 (number_in 1 most_instances) fields
+  target_nresults ← column_of row 4 (number_in min_quorum most_instances) fields
+  max_error_results ← column_of row 5 (number_in 0 most_instances) fields
+  max_total_results ← column_of row 6 (number_in target_nresults most_instances) fields
+  max_success_results ← column_of row 7 (number_in 0 most_instances) fields
+  delay_bound ← column_of row 8 (number_in 1 most_delay) fields
+  rsc_fpops_est ← column_of row 9 (number_in 1 most_amount) fields
+  rsc_memory_bound ← column_of row 10 (number_in 0 most_amount) fields
+  rsc_disk_bound ← column_of row 11 (number_in 0 most_amount) fields
+  credit ← column_of row 12 (number_in 0 most_credit) fields
   Ok (record {
     name = name;
     app = app;

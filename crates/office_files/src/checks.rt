@@ -4,6 +4,7 @@ ghost use Rattle.std.specs.Prelude.{◌≡◌, ◌≢◌, ◌≤◌, ◌+◌, �
 ghost use Rattle.std.specs.List.{list_any};
 ghost use Rattle.sched_book.specs.Imports.{shelf_of, shelved, first_known, duplicate_at, unknown_at, has_app, has_room, fault_of_rows};
 ghost use Rattle.sched_book.specs.Places.{place_where};
+ghost use Rattle.sched_book.specs.Trusted.{Trusted};
 ghost use Rattle.office_files.specs.Keys.{Key, same_key, has_key};
 ghost use Rattle.office_files.specs.Checking as spec;
 ghost use Rattle.office_files.specs.Faults.{refusal_of};
@@ -12,16 +13,9 @@ ghost use Rattle.office_files.specs.declared.fault.RowsFault.TheVariants as faul
 use crate::fault::RowsFault;
 use crate::named::{AppRow, NamedRow};
 use crate::seen_keys::SeenKeys;
+use sched_book::limits::{MOST_ACCOUNTS, MOST_APPS, MOST_VERSIONS, MOST_WORKUNITS};
 use sched_book::{Counts, Desk, Rows, Unavailable};
 use std::alloc::Global;
-
-const MOST_ACCOUNTS: usize = 10_000;
-
-const MOST_APPS: usize = 100;
-
-const MOST_VERSIONS: usize = 1_000;
-
-const MOST_WORKUNITS: usize = 200_000;
 
 /// Whether the name of a row stands or came by; it has come by then.
 fn is_taken<'a, D: Desk, R: NamedRow>(
@@ -31,8 +25,8 @@ fn is_taken<'a, D: Desk, R: NamedRow>(
     row: &'a R,
 ) -> Result<bool, Unavailable>
     ensures reads { D.reads desk.old desk.new }
-    ensures answer { D.honest desk.new → D.well_kept desk.old →
-        IfOk result (λ taken. taken ≡ (list_any (R.same row.now) (R.shelf (D.world desk.old)) || has_key seen.old (R.key_of row.now))) }
+    ensures answer { Trusted D.Units desk.old desk.new (
+        IfOk result (λ taken. taken ≡ (list_any (R.same row.now) (R.shelf (D.world desk.old)) || has_key seen.old (R.key_of row.now)))) }
     ensures seen { OnOk result ((other : Key) → has_key seen.new other ≡ (same_key other (R.key_of row.now) || has_key seen.old other)) }
 {
     let (version_num, platform, name) = row.key();
@@ -47,8 +41,8 @@ fn first_taken<D: Desk, R: NamedRow>(
     rows: &[R],
 ) -> Result<Option<u64>, Unavailable>
     ensures reads { D.reads desk.old desk.new }
-    ensures answer { D.honest desk.new → D.well_kept desk.old →
-        IfOk result (λ row. row ≡ first_known R.same 1 (R.shelf (D.world desk.old)) rows.now) }
+    ensures answer { Trusted D.Units desk.old desk.new (
+        IfOk result (λ row. row ≡ first_known R.same 1 (R.shelf (D.world desk.old)) rows.now)) }
 {
     let mut seen = SeenKeys::new(alloc);
     for (index, row) in rows.iter().enumerate() {
@@ -65,8 +59,8 @@ fn duplicate_in<D: Desk>(
     rows: &Rows,
 ) -> Result<Option<u64>, Unavailable>
     ensures reads { D.reads desk.old desk.new }
-    ensures answer { D.honest desk.new → D.well_kept desk.old →
-        IfOk result (λ row. row ≡ duplicate_at (shelf_of (D.world desk.old)) rows.now) }
+    ensures answer { Trusted D.Units desk.old desk.new (
+        IfOk result (λ row. row ≡ duplicate_at (shelf_of (D.world desk.old)) rows.now)) }
 {
     match rows {
         Rows::Accounts(accounts) => first_taken(alloc, desk, accounts.as_slice()),
@@ -79,8 +73,8 @@ fn duplicate_in<D: Desk>(
 #[tactic(auto, using(crate::proofs::LookUps::app_lacking))]
 fn lacks_app<D: Desk>(alloc: Global, desk: &mut D, app: &str) -> Result<bool, Unavailable>
     ensures reads { D.reads desk.old desk.new }
-    ensures answer { D.honest desk.new → D.well_kept desk.old →
-        IfOk result (λ lacks. lacks ≡ not (has_app (D.world desk.old).apps app.now)) }
+    ensures answer { Trusted D.Units desk.old desk.new (
+        IfOk result (λ lacks. lacks ≡ not (has_app (D.world desk.old).apps app.now))) }
 {
     Ok(desk.app_by_name(alloc, app)?.is_none())
 }
@@ -92,8 +86,8 @@ fn first_without_app<D: Desk, R: AppRow>(
     rows: &[R],
 ) -> Result<Option<u64>, Unavailable>
     ensures reads { D.reads desk.old desk.new }
-    ensures answer { D.honest desk.new → D.well_kept desk.old →
-        IfOk result (λ row. row ≡ place_where (λ x. not (has_app (D.world desk.old).apps (R.app_of x))) rows.now) }
+    ensures answer { Trusted D.Units desk.old desk.new (
+        IfOk result (λ row. row ≡ place_where (λ x. not (has_app (D.world desk.old).apps (R.app_of x))) rows.now)) }
 {
     for (index, row) in rows.iter().enumerate() {
         if lacks_app(alloc, desk, row.app())? {
@@ -105,8 +99,8 @@ fn first_without_app<D: Desk, R: AppRow>(
 
 fn unknown_in<D: Desk>(alloc: Global, desk: &mut D, rows: &Rows) -> Result<Option<u64>, Unavailable>
     ensures reads { D.reads desk.old desk.new }
-    ensures answer { D.honest desk.new → D.well_kept desk.old →
-        IfOk result (λ row. row ≡ unknown_at (shelf_of (D.world desk.old)) rows.now) }
+    ensures answer { Trusted D.Units desk.old desk.new (
+        IfOk result (λ row. row ≡ unknown_at (shelf_of (D.world desk.old)) rows.now)) }
 {
     match rows {
         Rows::Accounts(_) | Rows::Apps(_) => Ok(None),
@@ -117,7 +111,7 @@ fn unknown_in<D: Desk>(alloc: Global, desk: &mut D, rows: &Rows) -> Result<Optio
 
 /// Whether a table with so many rows may have more.
 fn fits(count: u32, new: usize, most: usize) -> bool
-    requires { most ≤ 200000 }
+    requires { most ≤ MOST_WORKUNITS }
     ensures { result ≡ nat_le (count + new) most }
 {
     new <= most && count as usize + new <= most
@@ -140,8 +134,8 @@ fn has_room_beside(counts: Counts, rows: &Rows) -> bool
 
 fn has_room<D: Desk>(desk: &mut D, rows: &Rows) -> Result<bool, Unavailable>
     ensures reads { D.reads desk.old desk.new }
-    ensures answer { D.honest desk.new → D.well_kept desk.old →
-        IfOk result (λ room. room ≡ has_room (shelved (shelf_of (D.world desk.old)) rows.now)) }
+    ensures answer { Trusted D.Units desk.old desk.new (
+        IfOk result (λ room. room ≡ has_room (shelved (shelf_of (D.world desk.old)) rows.now))) }
 {
     let counts = desk.counts()?;
     Ok(has_room_beside(counts, rows))
@@ -155,10 +149,10 @@ fn has_room<D: Desk>(desk: &mut D, rows: &Rows) -> Result<bool, Unavailable>
 /// memory, or the desk's.
 pub fn check_rows<D: Desk>(alloc: Global, desk: &mut D, rows: &Rows) -> Result<(), RowsFault>
     ensures reads { D.reads desk.old desk.new }
-    ensures ok { D.honest desk.new → D.well_kept desk.old →
-        OnOk result (fault_of_rows (shelf_of (D.world desk.old)) rows.now ≡ None) }
-    ensures err { D.honest desk.new → D.well_kept desk.old →
-        IfErr result (λ e. e ≢ fault.Unavailable → fault_of_rows (shelf_of (D.world desk.old)) rows.now ≡ Some (refusal_of e)) }
+    ensures ok { Trusted D.Units desk.old desk.new (
+        OnOk result (fault_of_rows (shelf_of (D.world desk.old)) rows.now ≡ None)) }
+    ensures err { Trusted D.Units desk.old desk.new (
+        IfErr result (λ e. e ≢ fault.Unavailable → fault_of_rows (shelf_of (D.world desk.old)) rows.now ≡ Some (refusal_of e))) }
     ensures kinds { IfErr result spec.IsOfChecking }
 {
     if let Some(row) = duplicate_in(alloc, desk, rows)? {

@@ -4,20 +4,20 @@ ghost use Rattle.std.specs.Prelude.{◌≡◌, ◌≤◌, ◌^◌, IsTrue, IfSom
 ghost use Rattle.std.specs.Char.{is_ascii_digit};
 ghost use Rattle.std.specs.List.{list_all};
 ghost use Rattle.std.specs.Str.Parse.{digits_value};
+ghost use Rattle.sched_book.specs.Limits.{is_user_name, distance_of};
 ghost use Rattle.office_files.specs.Columns as spec;
 
 use sched_book::Agreement;
+use sched_book::limits::MOST_DISTANCE;
 use texts::utf8_text;
 
 /// The most bytes of an account's name.
 const MOST_NAME_BYTES: usize = 64;
 
-/// How far apart two outputs may be that still agree.
-const MOST_DISTANCE: u64 = 1_000_000_000;
-
 /// A text of 1 to 64 bytes of UTF-8.
 pub(crate) fn name_in(field: &[u8]) -> Option<&str>
-    ensures { option_map (λ name. name.now) result ≡ spec.name_in field.now }
+    ensures value { option_map (λ name. name.now) result ≡ spec.name_in field.now }
+    ensures range { IfSome result (λ name. IsTrue (is_user_name name.now)) }
 {
     if field.is_empty() || MOST_NAME_BYTES < field.len() {
         return None;
@@ -71,7 +71,8 @@ pub(crate) fn number_in(field: &[u8], least: u64, most: u64) -> Option<u64>
 
 /// `exact`, or `within:` and a count text up to 1,000,000,000.
 pub(crate) fn agreement_in(field: &[u8]) -> Option<Agreement>
-    ensures { result ≡ spec.agreement_in field.now }
+    ensures value { result ≡ spec.agreement_in field.now }
+    ensures range { IfSome result (λ agreement. distance_of agreement ≤ MOST_DISTANCE) }
 {
     if field == b"exact".as_slice() {
         return Some(Agreement::Exact);

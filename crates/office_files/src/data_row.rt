@@ -1,5 +1,7 @@
-ghost use Rattle.std.specs.Prelude.{◌≡◌, ◌≤◌, ◌<◌, IfOk};
+ghost use Rattle.std.specs.Prelude.{◌≡◌, ◌≤◌, ◌<◌, IfOk, IsTrue};
 ghost use Rattle.csv.specs.Records.{fields_of};
+ghost use Rattle.rpc_records.specs.Ranges.{IsWord};
+ghost use Rattle.sched_book.specs.Limits.{most_distance, is_user_name, distance_of};
 ghost use Rattle.office_files.specs.Columns.{word_in, name_in, number_in, agreement_in};
 ghost use Rattle.office_files.specs.Faults.{Gives};
 ghost use Rattle.office_files.specs.Importing.{column_of};
@@ -33,7 +35,8 @@ impl<'a> DataRow<'a> {
     #[tactic(auto, unfolding(crate::specs::Importing::column_of))]
     pub(crate) fn word(&self, alloc: Global, column: usize) -> Result<Text, RowsFault>
         requires { 1 ≤ column }
-        ensures { Gives result (column_of self.now.number column word_in (fields_of self.now.record.now)) }
+        ensures said { Gives result (column_of self.now.number column word_in (fields_of self.now.record.now)) }
+        ensures range { IfOk result IsWord }
     {
         let word = self
             .record
@@ -47,7 +50,8 @@ impl<'a> DataRow<'a> {
     #[tactic(auto, unfolding(crate::specs::Importing::column_of))]
     pub(crate) fn name(&self, alloc: Global, column: usize) -> Result<Text, RowsFault>
         requires { 1 ≤ column }
-        ensures { Gives result (column_of self.now.number column name_in (fields_of self.now.record.now)) }
+        ensures said { Gives result (column_of self.now.number column name_in (fields_of self.now.record.now)) }
+        ensures range { IfOk result (λ name. IsTrue (is_user_name name)) }
     {
         let name = self
             .record
@@ -61,7 +65,8 @@ impl<'a> DataRow<'a> {
     #[tactic(auto, unfolding(crate::specs::Importing::column_of))]
     pub(crate) fn agreement(&self, column: usize) -> Result<Agreement, RowsFault>
         requires { 1 ≤ column }
-        ensures { Gives result (column_of self.now.number column agreement_in (fields_of self.now.record.now)) }
+        ensures said { Gives result (column_of self.now.number column agreement_in (fields_of self.now.record.now)) }
+        ensures range { IfOk result (λ agreement. distance_of agreement ≤ most_distance) }
     {
         self.record
             .get(column - 1)

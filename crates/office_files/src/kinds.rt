@@ -1,30 +1,20 @@
 //! The four kinds of rows that an import may bring.
 
-ghost use Rattle.std.specs.Prelude.{◌≡◌, ⊤, List, ℕ, Result, IfOk, map};
+ghost use Rattle.std.specs.Prelude.{◌≡◌, List, ℕ, Result, IfOk, map};
 ghost use Rattle.csv.specs.Records.{fields_of};
-ghost use Rattle.sched_book.specs.Limits.{IsVersionInLimits, IsUnitInLimits};
+ghost use Rattle.sched_book.specs.Limits.{IsAccountInLimits, IsAppInLimits, IsVersionInLimits, IsUnitInLimits};
 ghost use Rattle.office_files.specs.Faults.{Gives};
 ghost use Rattle.office_files.specs.Importing as spec;
 
 use crate::data_row::DataRow;
 use crate::fault::RowsFault;
 use csv::ByteRecord;
+use sched_book::limits::{MOST_AMOUNT, MOST_CREDIT, MOST_DELAY, MOST_INSTANCES, MOST_VERSION_NUM};
 use sched_book::{Account, App, Version, Workunit};
 use std::alloc::Global;
 
-/// 10^18: the most operations and the most bytes that a workunit may ask for.
-const MOST_AMOUNT: u64 = 1_000_000_000_000_000_000;
-
-/// The most instances, and the most results of any kind, of a workunit.
-const MOST_RESULTS: u32 = 100;
-
-const MOST_VERSION: u32 = 1_000_000;
-
-/// The longest delay bound, in seconds.
-const MOST_DELAY: u32 = 100_000_000;
-
-/// The most millicredits for one result.
-const MOST_CREDIT: u32 = 100_000_000;
+/// The most that any count of a workunit may ask for.
+const MOST_IN_UNIT: u32 = MOST_INSTANCES as u32;
 
 /// A kind of rows.
 pub(crate) trait ImportRow: Drop {
@@ -36,7 +26,7 @@ pub(crate) trait ImportRow: Drop {
     /// What a data row of so many fields says.
     ghost reads: { ℕ → List (List ℕ) → Result Self RowsFault };
 
-    /// The ranges of its numbers.
+    /// The ranges of its values.
     ghost is_in_limits: { Self → Type 0 };
 
     /// The column to tell of a faulty header: the first whose field is another, or 0 where their number is wrong.
@@ -85,7 +75,7 @@ impl ImportRow for Account {
 
     ghost reads = { spec.account_of };
 
-    ghost is_in_limits = { λ _. ⊤ };
+    ghost is_in_limits = { IsAccountInLimits };
 
     fn header_fault(fields: &ByteRecord) -> Option<u64> {
         header_fault(&["authenticator", "name"], fields)
@@ -105,7 +95,7 @@ impl ImportRow for App {
 
     ghost reads = { spec.app_of };
 
-    ghost is_in_limits = { λ _. ⊤ };
+    ghost is_in_limits = { IsAppInLimits };
 
     fn header_fault(fields: &ByteRecord) -> Option<u64> {
         header_fault(&["name", "agreement"], fields)
@@ -136,7 +126,7 @@ impl ImportRow for Version {
         Ok(Version {
             app: row.word(alloc, 1)?,
             platform: row.word(alloc, 2)?,
-            version_num: row.small(3, 1, MOST_VERSION)?,
+            version_num: row.small(3, 1, MOST_VERSION_NUM)?,
         })
     }
 }
@@ -172,11 +162,11 @@ impl ImportRow for Workunit {
     fn read(alloc: Global, row: &DataRow) -> Result<Workunit, RowsFault> {
         let name = row.word(alloc, 1)?;
         let app = row.word(alloc, 2)?;
-        let min_quorum = row.small(3, 1, MOST_RESULTS)?;
-        let target_nresults = row.small(4, min_quorum, MOST_RESULTS)?;
-        let max_error_results = row.small(5, 0, MOST_RESULTS)?;
-        let max_total_results = row.small(6, target_nresults, MOST_RESULTS)?;
-        let max_success_results = row.small(7, 0, MOST_RESULTS)?;
+        let min_quorum = row.small(3, 1, MOST_IN_UNIT)?;
+        let target_nresults = row.small(4, min_quorum, MOST_IN_UNIT)?;
+        let max_error_results = row.small(5, 0, MOST_IN_UNIT)?;
+        let max_total_results = row.small(6, target_nresults, MOST_IN_UNIT)?;
+        let max_success_results = row.small(7, 0, MOST_IN_UNIT)?;
         let delay_bound = row.small(8, 1, MOST_DELAY)?;
         let rsc_fpops_est = row.number(9, 1, MOST_AMOUNT)?;
         let rsc_memory_bound = row.number(10, 0, MOST_AMOUNT)?;

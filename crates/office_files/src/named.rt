@@ -3,6 +3,7 @@
 ghost use Rattle.std.specs.Prelude.{◌≡◌, Bool, List, ℕ, map, IfOk, refl};
 ghost use Rattle.std.specs.List.{list_any};
 ghost use Rattle.sched_book.specs.Imports.{same_account, same_app, same_version, same_unit};
+ghost use Rattle.sched_book.specs.Trusted.{Trusted};
 ghost use Rattle.sched_book.specs.declared.instance.UnitBook.{UnitBook};
 ghost use Rattle.office_files.specs.Keys.{Key, same_key, account_key, app_key, version_key, unit_key};
 
@@ -29,7 +30,7 @@ pub(crate) trait NamedRow {
     /// Whether its name stands.
     fn is_known<D: Desk>(&self, alloc: Global, desk: &mut D) -> Result<bool, Unavailable>
         ensures reads { D.reads desk.old desk.new }
-        ensures answer { D.honest desk.new → D.well_kept desk.old → IfOk result (λ known. known ≡ list_any (same self.now) (shelf (D.world desk.old))) };
+        ensures answer { Trusted D.Units desk.old desk.new (IfOk result (λ known. known ≡ list_any (same self.now) (shelf (D.world desk.old)))) };
 
     // Names are the same where keys are.
     ghost same_by_key: { (x y : Self) → same x y ≡ same_key (key_of x) (key_of y) };

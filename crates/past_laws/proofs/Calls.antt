@@ -1,5 +1,5 @@
 -- What one first-heard call does to deadlines and held jobs.
-use Rattle.std.proofs.Common.{◌≡◌, ◌⊎◌, ℕ, true, List, Some, None, sym, ◌∙◌, ap, subst, inl, inr}
+use Rattle.std.proofs.Common.{◌≡◌, ◌⊎◌, ℕ, true, List, [], ◌∷◌, Some, None, refl, sym, ◌∙◌, ap, subst, inl, inr}
 use Rattle.std.specs.Prelude.{Option}
 use Rattle.rpc_records.specs.declared.reply.Reply.{Reply}
 use Rattle.rpc_records.specs.declared.request.Request.{Request}
@@ -16,13 +16,15 @@ use Rattle.sched_book.specs.declared.world.World.{World}
 use Rattle.pasts.specs.Answers.{body_of}
 use Rattle.pasts.specs.Messages.{Said, Rpc, Import, Tick, Read, Refused, Message}
 use Rattle.pasts.specs.Runs.{IsToldBy}
-use Rattle.pasts.specs.Stands.{Commits, ServesAs, told_by}
+use Rattle.pasts.specs.Many.{ServesAll}
+use Rattle.pasts.specs.Stands.{Heard, Tables, Commits, Serves, ServesAs, told_by}
 use Rattle.pasts.specs.declared.answer.Answer.{Answer}
 use Rattle.pasts.specs.declared.answer.Answer.TheVariants.{Good}
-use Rattle.sched_machine.specs.Runs.{IsSentAgain}
+use Rattle.sched_machine.specs.Runs.{owner_at, OwnersStay, IsSentAgain}
 use Rattle.sched_machine.proofs.HeldNamed as named
 use Rattle.sched_machine.proofs.RunDeadlines as deadlines
-use Rattle.past_laws.specs.Laws.{IsSentAgainBy, DeadlinesMoveByResendsAlone, IsInSight, NoHeldJobDropsFromSight}
+use Rattle.sched_machine.proofs.RunLasting.{owners_stay_in_step}
+use Rattle.past_laws.specs.Laws.{IsSentAgainBy, DeadlinesMoveByResendsAlone, IsSentAgainBySome, DeadlinesMoveByResendsOverMessages, IsInSight, NoHeldJobDropsFromSight}
 use Rattle.past_laws.proofs.Sounds.{what_stands_is_sound}
 
 -- ---- deadlines
@@ -59,6 +61,42 @@ deadlines_move_by_resends_alone old new m answer serves p o owned = cases (told_
           | inl stays ↦ inl stays
           | inr again ↦ inr (sent_again old.world new.world m c.call c.answered c.is_call c.step p o again)
         ]
+
+-- through a message an instance that was given to a host stays that host's
+owner_stays : (old new : Tables) (m : Message) (answer : Answer) → Serves old m answer new → OwnersStay old.world new.world
+owner_stays old new m answer serves = cases (told_by old m.said) serves
+  where
+    cases : (told : Option Answer) → ServesAs told old m answer new → OwnersStay old.world new.world
+    cases (Some told) quiet = λ p o owned. (o, ap (λ w. owner_at w p) quiet.1.world ∙ owned, refl, refl)
+    cases None c = owners_stay_in_step old.world new.world c.call m.now c.answered c.step
+
+-- what is said of an owner is said of one with the same host
+same_host : (w : World) (m : Message) (p : Place) (n o : Owner) → n.host ≡ o.host → IsSentAgainBy w m p n → IsSentAgainBy w m p o
+same_host w m p n o same by = record {
+  caller = by.caller;
+  request = by.request;
+  said = by.said;
+  is_caller = by.is_caller;
+  again = (sym same ∙ by.again.0, by.again.1);
+}
+
+same_host_of_some : (old new : Tables) (more : List Heard) (all : ServesAll old more new) (p : Place) (n o : Owner) → n.host ≡ o.host
+    → IsSentAgainBySome old more new all p n → IsSentAgainBySome old more new all p o
+same_host_of_some old new [] all p n o same again = again
+same_host_of_some old new (h ∷ more) all p n o same (inl again) = inl (same_host old.world h.message p n o same again)
+same_host_of_some old new (h ∷ more) all p n o same (inr again) = inr (same_host_of_some all.0 new more all.2 p n o same again)
+
+pub deadlines_move_by_resends_over_messages : DeadlinesMoveByResendsOverMessages
+deadlines_move_by_resends_over_messages old new [] all p o owned = inl (ap (λ w. deadline_at w p) all.world)
+deadlines_move_by_resends_over_messages old new (h ∷ more) all p o owned =
+    let next = owner_stays old all.0 h.message h.answer all.1 p o owned in
+    elim (deadlines_move_by_resends_alone old all.0 h.message h.answer all.1 p o owned) [
+      | inr again ↦ inr (inl again)
+      | inl stays ↦ elim (deadlines_move_by_resends_over_messages all.0 new more all.2 p next.0 next.1) [
+        | inl later ↦ inl (later ∙ stays)
+        | inr again ↦ inr (inr (same_host_of_some all.0 new more all.2 p next.0 o next.2 again))
+      ]
+    ]
 
 -- ---- held jobs
 

@@ -1,36 +1,70 @@
 -- What holds through each run of the machine holds of tables, before and after messages.
-use Rattle.std.proofs.Common.{List, [], ◌∷◌, refl, subst, arith}
+use Rattle.std.proofs.Common.{◌≡◌, ℕ, List, [], ◌∷◌, length, sym, refl, ap, ◌∙◌, subst, arith}
+use Rattle.sched_book.specs.Limits.{AreSettingsInLimits}
 use Rattle.sched_book.specs.Sound.{Sound}
-use Rattle.sched_book.specs.Step.{empty_world}
+use Rattle.sched_book.specs.Step.{Trace, empty_world}
+use Rattle.sched_book.specs.declared.machine.Answered.{Answered}
+use Rattle.sched_book.specs.declared.machine.Call.{Call}
 use Rattle.sched_book.specs.declared.settings.Settings.{Settings}
 use Rattle.sched_book.specs.declared.world.World.{World}
-use Rattle.pasts.specs.Laws.{calls_in, worlds_in, IsRunTo, RunsTo}
+use Rattle.pasts.specs.Laws.{calls_in, worlds_in, last_world, IsRunTo, RunsTo}
+use Rattle.pasts.specs.Many.{ServesAll, followed}
 use Rattle.pasts.specs.Runs.{Turn}
-use Rattle.pasts.specs.Stands.{Tables, Same}
-use Rattle.pasts.proofs.OneRun.{is_one_run, serves_by_one_run}
+use Rattle.pasts.specs.Stands.{Heard, Tables, Same}
+use Rattle.pasts.proofs.OneRun.{is_one_run, serves_by_one_run, stands_is_carried_by_all}
 use Rattle.sched_machine.specs.Decisions.{CanonicalsStay, VerdictsStay, StatusesStay, CreditsStay, CreditsAddUp}
-use Rattle.sched_machine.specs.Runs.{HoldsInRuns, HoldsAlways, OwnersStay, ReportsStay, LapsesStay, OneForEachUser}
+use Rattle.sched_machine.specs.Laws.{AreCallsInLimits}
+use Rattle.sched_machine.specs.Runs.{HoldsInRuns, HoldsAlways, world_after, OwnersStay, ReportsStay, LapsesStay, OneForEachUser}
 use Rattle.sched_machine.proofs.DecidedRuns as decided
 use Rattle.sched_machine.proofs.RunLasting as lasting
+use Rattle.sched_machine.proofs.RunStretches.{settings_stay_in_step}
 use Rattle.sched_machine.proofs.RunUsers as users
 use Rattle.sched_machine.proofs.StepsSound.{the_empty_world_is_sound}
-use Rattle.past_laws.specs.Laws.{HoldsWhereTablesStand, HoldsOverMessages, HoldsOfMessages}
+use Rattle.past_laws.specs.Laws.{HaveStood, HoldsWhereTablesStand, HoldsOfMessages}
 use Rattle.past_laws.proofs.Sounds.{calls_in_limits, last_after, what_stands_is_sound}
 
+-- the first world of a run and its last
+to_the_last : (R : World → World → Type 0) → HoldsInRuns R → ((w : World) → R w w) → (w : World) (calls : List (Call × ℕ)) (turns : List (Answered × World))
+    → Sound w → AreCallsInLimits calls → Trace w calls turns → R w (last_world w turns)
+to_the_last R holds self w calls [] sound limits trace = self w
+to_the_last R holds self w calls (t ∷ ts) sound limits trace =
+    subst (R w) (after_all w (t ∷ ts)) (holds w calls (t ∷ ts) sound limits trace 0 (length (t ∷ ts)) (omega arith) (omega arith))
+  where
+    after_all : (w : World) (turns : List (Answered × World)) → world_after w turns (length turns) ≡ last_world w turns
+    after_all w [] = refl
+    after_all w (t ∷ ts) = after_all t.1 ts
+
 -- many messages are one run from a sound world
-over_messages : (R : World → World → Type 0) → HoldsInRuns R → ((w : World) → R w w) → HoldsOverMessages R
-over_messages R holds self old new more stood all =
+between : (R : World → World → Type 0) → HoldsInRuns R → ((w : World) → R w w) → (old new : Tables) (more : List Heard) → HaveStood old → ServesAll old more new
+    → R old.world new.world
+between R holds self old new more stood all =
     let runs : RunsTo old.world new.world = serves_by_one_run old new more all in
     let sound : Sound old.world = what_stands_is_sound old stood in
     subst (R old.world) runs.2.last
-    (last_after (R old.world) old.world runs.1 (self old.world)
-    (holds old.world runs.0 runs.1 sound (calls_in_limits runs.0 runs.2.limits) runs.2.trace))
+    (to_the_last R holds self old.world runs.0 runs.1 sound (calls_in_limits runs.0 runs.2.limits) runs.2.trace)
+
+-- the settings stay over a run, so that what stands after many messages stands for a longer past
+settings_stay : (w : World) (calls : List (Call × ℕ)) (turns : List (Answered × World)) → Trace w calls turns → (last_world w turns).settings ≡ w.settings
+settings_stay w calls [] trace = refl
+settings_stay w [] (t ∷ ts) trace = absurd trace
+settings_stay w (e ∷ es) (t ∷ ts) trace = settings_stay t.1 es ts trace.1 ∙ settings_stay_in_step w t.1 e.0 e.1 t.0 trace.0
+
+have_stood_on : (old mid : Tables) (some : List Heard) → HaveStood old → ServesAll old some mid → HaveStood mid
+have_stood_on old mid some stood all =
+    let runs : RunsTo old.world mid.world = serves_by_one_run old mid some all in record {
+      settings =
+          subst AreSettingsInLimits
+          (sym (ap (λ (w : World). w.settings) (sym runs.2.last) ∙ settings_stay old.world runs.0 runs.1 runs.2.trace)) stood.settings;
+      past = followed stood.past some;
+      stands = stands_is_carried_by_all old mid some all stood.past stood.stands;
+    }
 
 -- one message is the case of a list of one
 of_messages : (R : World → World → Type 0) → HoldsInRuns R → ((w : World) → R w w) → HoldsOfMessages R
-of_messages R holds self =
-    let many : HoldsOverMessages R = over_messages R holds self in
-    ((λ old new m answer stood serves. many old new (record { message = m; answer = answer } ∷ []) stood (new, serves, same new)), many)
+of_messages R holds self = (
+  λ old new m answer stood serves. between R holds self old new (record { message = m; answer = answer } ∷ []) stood (new, serves, same new),
+  λ old mid new some more stood first second. between R holds self mid new more (have_stood_on old mid some stood first) second,
+)
   where
     same : (t : Tables) → Same t t
     same t = record { world = refl; calls = λ key. refl; batches = λ kind batch. refl }

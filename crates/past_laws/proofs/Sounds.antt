@@ -2,6 +2,7 @@
 use Rattle.std.proofs.Common.{ℕ, List, [], ◌∷◌, subst}
 use Rattle.rpc_records.specs.Ranges.{IsInRange}
 use Rattle.rpc_records.specs.declared.request.Request.{Request}
+use Rattle.sched_book.specs.Calls.{IsCallInLimits}
 use Rattle.sched_book.specs.Sound.{Sound}
 use Rattle.sched_book.specs.Step.{empty_world}
 use Rattle.sched_book.specs.declared.machine.Answered.{Answered}
@@ -10,32 +11,18 @@ use Rattle.sched_book.specs.declared.machine.Call.TheVariants as call
 use Rattle.sched_book.specs.declared.settings.Settings.{Settings}
 use Rattle.sched_book.specs.declared.world.World.{World}
 use Rattle.pasts.specs.Laws.{calls_in, worlds_in, AreInLimits, last_world, IsRunTo}
-use Rattle.pasts.specs.Runs.{Turn, IsCallInRange}
+use Rattle.pasts.specs.Runs.{Turn}
 use Rattle.pasts.proofs.OneRun.{is_one_run}
-use Rattle.sched_machine.specs.Laws.{IsCallInLimits, AreCallsInLimits, AllSound}
+use Rattle.sched_machine.specs.Laws.{AreCallsInLimits, AllSound}
 use Rattle.sched_machine.specs.Runs.{AllAfter}
-use Rattle.sched_machine.specs.Well.{IsRequestInLimits}
 use Rattle.sched_machine.proofs.StepsSound.{runs_keep_sound, the_empty_world_is_sound}
 use Rattle.past_laws.specs.Laws.{StandsIsSound}
 
 -- ---- limits
 
-request_in_limits : (r : Request) → IsInRange r → IsRequestInLimits r
-request_in_limits r range = record {
-  speed = (range.host.some_fpops, range.host.p_fpops);
-  memory = range.host.m_nbytes;
-  disk = range.host.d_free;
-  platforms = (range.some_platform, range.platform_count);
-}
-
-call_in_limits : (c : Call) → IsCallInRange c → IsCallInLimits c
-call_in_limits (call.Rpc caller r) range = request_in_limits r range
-call_in_limits (call.Import new) range = tt
-call_in_limits call.Tick range = tt
-
 pub calls_in_limits : (calls : List (Call × ℕ)) → AreInLimits calls → AreCallsInLimits calls
 calls_in_limits [] limits = tt
-calls_in_limits (e ∷ es) limits = (call_in_limits e.0 limits.0.request, limits.0.moment, calls_in_limits es limits.1)
+calls_in_limits (e ∷ es) limits = (limits.0.request, limits.0.moment, calls_in_limits es limits.1)
 
 -- ---- the last world of a run
 

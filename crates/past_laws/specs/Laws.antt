@@ -1,5 +1,5 @@
 -- What holds of tables that stand for a past, and through messages. (This project's own: BOINC's rules are in the machine's step.)
-use Rattle.std.specs.Prelude.{◌≡◌, ◌⊎◌, ℕ, true, List, Some, None}
+use Rattle.std.specs.Prelude.{◌≡◌, ◌⊎◌, ℕ, true, List, [], ◌∷◌, Some, None}
 use Rattle.rpc_records.specs.Replies.{reply_text_of}
 use Rattle.rpc_records.specs.declared.reply.Reply.{Reply}
 use Rattle.rpc_records.specs.declared.request.Request.{Request}
@@ -36,9 +36,10 @@ HoldsWhereTablesStand P = (t : Tables) → HaveStood t → P t.world
 abbrev pub HoldsAtAMessage : (World → World → Type 0) → Type 0
 HoldsAtAMessage R = (old new : Tables) (m : Message) (answer : Answer) → HaveStood old → Serves old m answer new → R old.world new.world
 
--- and before many messages and after them
+-- and between any two worlds of many messages, the earlier first: what stands after some of them, and after more
 abbrev pub HoldsOverMessages : (World → World → Type 0) → Type 0
-HoldsOverMessages R = (old new : Tables) (more : List Heard) → HaveStood old → ServesAll old more new → R old.world new.world
+HoldsOverMessages R =
+    (old mid new : Tables) (some more : List Heard) → HaveStood old → ServesAll old some mid → ServesAll mid more new → R mid.world new.world
 
 abbrev pub HoldsOfMessages : (World → World → Type 0) → Type 0
 HoldsOfMessages R = HoldsAtAMessage R × HoldsOverMessages R
@@ -56,6 +57,17 @@ abbrev pub DeadlinesMoveByResendsAlone : Type 0
 DeadlinesMoveByResendsAlone =
     (old new : Tables) (m : Message) (answer : Answer) → Serves old m answer new → (p : Place) (o : Owner) → owner_at old.world p ≡ Some o
     → (deadline_at new.world p ≡ deadline_at old.world p) ⊎ IsSentAgainBy old.world m p o
+
+-- some message of these is a call of a host, which has the instance at a place sent again
+abbrev pub IsSentAgainBySome : (old : Tables) (more : List Heard) (new : Tables) → ServesAll old more new → Place → Owner → Type 0
+IsSentAgainBySome old [] new all p o = ⊥
+IsSentAgainBySome old (h ∷ more) new all p o = IsSentAgainBy old.world h.message p o ⊎ IsSentAgainBySome all.0 more new all.2 p o
+
+-- through many messages, whatever stands before them, the deadline stays, or a call of its host among them has it sent again
+abbrev pub DeadlinesMoveByResendsOverMessages : Type 0
+DeadlinesMoveByResendsOverMessages =
+    (old new : Tables) (more : List Heard) (all : ServesAll old more new) (p : Place) (o : Owner) → owner_at old.world p ≡ Some o
+    → (deadline_at new.world p ≡ deadline_at old.world p) ⊎ IsSentAgainBySome old more new all p o
 
 -- A call of this host was answered by this reply, and its host holds just what is listed or named.
 pub record IsInSight (old new : World) (r : Request) (names : List (List ℕ)) (answer : Answer) : Type 0 where

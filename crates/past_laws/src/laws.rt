@@ -1,7 +1,7 @@
 //! Laws of tables. Each function does nothing; its contract is the law. In each the settings are within their limits,
 //! and the tables before stand for some past.
 
-ghost use Rattle.past_laws.specs.Laws.{StandsIsSound, HoldsOfMessages, HoldsWhereTablesStand, DeadlinesMoveByResendsAlone, NoHeldJobDropsFromSight};
+ghost use Rattle.past_laws.specs.Laws.{StandsIsSound, HoldsOfMessages, HoldsWhereTablesStand, DeadlinesMoveByResendsAlone, DeadlinesMoveByResendsOverMessages, NoHeldJobDropsFromSight};
 ghost use Rattle.sched_machine.specs.Decisions.{CanonicalsStay, VerdictsStay, StatusesStay, CreditsStay, CreditsAddUp};
 ghost use Rattle.sched_machine.specs.Runs.{OwnersStay, ReportsStay, LapsesStay, OneForEachUser};
 
@@ -18,6 +18,11 @@ pub fn owners_stay()
 /// A deadline moves only where a call of the instance's host has it sent again.
 pub fn deadlines_move_by_resends_alone()
     ensures { DeadlinesMoveByResendsAlone }
+{}
+
+/// So it is over many messages, and so between any two of them.
+pub fn deadlines_move_by_resends_over_messages()
+    ensures { DeadlinesMoveByResendsOverMessages }
 {}
 
 /// What was reported of an instance stays.

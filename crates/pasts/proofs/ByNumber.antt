@@ -203,7 +203,7 @@ account_stands w account host cpid sound is =
     let parts = and_parts (x.1.account == account) (bytes_eq x.1.cpid cpid) x.4 in
     let there : get_or w.hosts x.0 x.1 ≡ x.1 = get_or_from_slice_get w.hosts x.0 x.1 x.1 x.3 in
     let P : HostRow → Type 0 = λ h. h.account ≤ length w.accounts in
-    let most : x.1.account ≤ length w.accounts = subst P there (sound.hosts x.0 x.1 (slice_get_within w.hosts x.0 x.1 x.3)).account.1 in
+    let most : x.1.account ≤ length w.accounts = subst P there (sound.rows.hosts x.0 x.1 (slice_get_within w.hosts x.0 x.1 x.3)).account.1 in
     let Q : ℕ → Type 0 = λ n. n ≤ length w.accounts in
     subst Q (eqb-true x.1.account account parts.0) most
 

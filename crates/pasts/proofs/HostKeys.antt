@@ -11,7 +11,7 @@ use Rattle.reply_register.specs.declared.key.Key.{Key}
 use Rattle.rpc_records.specs.declared.request.Request.{Request}
 use Rattle.sched_book.specs.Imports.{Shelf, shelf_of}
 use Rattle.sched_book.specs.Places.{place_where, account_place, is_host_of, known_host}
-use Rattle.sched_book.specs.Step.{IsCaller, told_host, hosts_told}
+use Rattle.sched_book.specs.Step.{IsCaller, row_of_call, hosts_at_entry}
 use Rattle.sched_book.specs.declared.machine.Caller.{Caller}
 use Rattle.sched_book.specs.declared.rows.Account.{Account}
 use Rattle.sched_book.specs.declared.rows.HostRow.{HostRow}
@@ -40,10 +40,10 @@ names_after name (Some number) names = names
 
 -- a call leaves each host its name, or makes one
 pub names_entered : (w : World) (c : Caller) (r : Request) → IsCaller w c r
-    → map host_name (hosts_told w c r c.host) ≡ names_after (c.account, r.host.host_cpid) c.host (map host_name w.hosts)
+    → map host_name (hosts_at_entry w c r c.host) ≡ names_after (c.account, r.host.host_cpid) c.host (map host_name w.hosts)
 names_entered w c r caller = cases c.host caller.host
   where
-    is_named : (h : HostRow) → is_host_of c.account r.host.host_cpid h ≡ true → host_name (told_host c r h.quota) ≡ host_name h
+    is_named : (h : HostRow) → is_host_of c.account r.host.host_cpid h ≡ true → host_name (row_of_call c r h.quota) ≡ host_name h
     is_named h passes =
         let parts = and_parts (h.account == c.account) (bytes_eq h.cpid r.host.host_cpid) passes in
         let account : c.account ≡ h.account = sym (eqb-true h.account c.account parts.0) in
@@ -51,10 +51,10 @@ names_entered w c r caller = cases c.host caller.host
         λ i. (account i, cpid i)
 
     cases : (o : Option ℕ) → known_host w c.account r.host.host_cpid ≡ o
-        → map host_name (hosts_told w c r o) ≡ names_after (c.account, r.host.host_cpid) o (map host_name w.hosts)
-    cases None is = map-append host_name w.hosts (told_host c r w.settings.daily_result_quota ∷ [])
+        → map host_name (hosts_at_entry w c r o) ≡ names_after (c.account, r.host.host_cpid) o (map host_name w.hosts)
+    cases None is = map-append host_name w.hosts (row_of_call c r w.settings.daily_result_quota ∷ [])
     cases (Some number) is =
-        map-changed_found host_name (λ (h : HostRow). told_host c r h.quota) (is_host_of c.account r.host.host_cpid) is_named w.hosts number is
+        map-changed_found host_name (λ (h : HostRow). row_of_call c r h.quota) (is_host_of c.account r.host.host_cpid) is_named w.hosts number is
 
 -- ---- names and keys side by side
 
@@ -172,7 +172,7 @@ keys_push shelf key account (n ∷ names) [] here are = absurd are
 keys_push shelf key account (n ∷ names) (k ∷ keys) here are = (are.0, are.1, keys_push shelf key account names keys here are.2)
 
 pub keys_entered : (w : World) (c : Caller) (r : Request) (keys : List Key) → IsCaller w c r → AreKeys (shelf_of w) (map host_name w.hosts) keys
-    → AreKeys (shelf_of w) (map host_name (hosts_told w c r c.host)) (with_key (key_of r) keys)
+    → AreKeys (shelf_of w) (map host_name (hosts_at_entry w c r c.host)) (with_key (key_of r) keys)
 keys_entered w c r keys caller are =
     let P : List (ℕ × List ℕ) × List Key → Type 0 = λ p. AreKeys (shelf_of w) p.0 p.1 in
     let number : position_from (same_key (key_of r)) 1 keys ≡ c.host =
@@ -181,7 +181,7 @@ keys_entered w c r keys caller are =
     let told : with_key (key_of r) keys ≡ keys_after (key_of r) c.host keys =
     with_key-is (key_of r) 1 keys ∙ ap (λ o. keys_after (key_of r) o keys) number in
     let both : ◌≡◌ {A = List (ℕ × List ℕ) × List Key} (names_after (c.account, r.host.host_cpid) c.host (map host_name w.hosts), keys_after (key_of r) c.host keys)
-    (map host_name (hosts_told w c r c.host), with_key (key_of r) keys) =
+    (map host_name (hosts_at_entry w c r c.host), with_key (key_of r) keys) =
     λ i. (sym (names_entered w c r caller) i, sym told i) in
     subst P both (cases c.host)
   where

@@ -2,8 +2,8 @@
 use Rattle.std.proofs.Common.{◌≡◌, ℕ, zero, suc, ◌+◌, Bool, true, false, cond, List, [], ◌∷◌, ◌++◌, map, Some, slice_get, sym, refl, ap, ◌∙◌, arith}
 use Rattle.std.specs.List.{position_from}
 use Rattle.sched_book.specs.Places.{place_where}
-use Rattle.sched_book.specs.Reports.{changed_at, changed_nth}
-use Rattle.sched_book.proofs.PlacesOf.{place_where-is, changed_nth-suc}
+use Rattle.sched_book.specs.Reports.{modify_at, modify_nth}
+use Rattle.sched_book.proofs.PlacesOf.{place_where-is, modify_nth-suc}
 
 -- what passes stands at the place that was found
 abbrev pub FoundFrom : {X : Type 0} → (X → Bool) → ℕ → List X → ℕ → Type 0
@@ -23,28 +23,28 @@ found p xs n is = found_from p 1 xs n (sym (place_where-is p xs) ∙ is)
 
 -- a change that a function does not see, at one index, and at all
 pub map-changed_here : {X Y : Type 0} (g : X → Y) (f : X → X) (xs : List X) (i : ℕ) (x : X) → slice_get xs i ≡ Some x → g (f x) ≡ g x
-    → map g (changed_at f xs i) ≡ map g xs
+    → map g (modify_at f xs i) ≡ map g xs
 map-changed_here g f [] i x there same = refl
 map-changed_here g f (y ∷ ys) zero x there same =
     let is : y ≡ x = cc in ap (λ z. z ∷ map g ys) (ap (λ z. g (f z)) is ∙ same ∙ ap g (sym is))
 map-changed_here g f (y ∷ ys) (suc i) x there same = ap (λ zs. g y ∷ zs) (map-changed_here g f ys i x there same)
 
-map-changed_at : {X Y : Type 0} (g : X → Y) (f : X → X) → ((x : X) → g (f x) ≡ g x) → (xs : List X) (i : ℕ) → map g (changed_at f xs i) ≡ map g xs
-map-changed_at g f same [] i = refl
-map-changed_at g f same (x ∷ xs) zero = ap (λ z. z ∷ map g xs) (same x)
-map-changed_at g f same (x ∷ xs) (suc i) = ap (λ zs. g x ∷ zs) (map-changed_at g f same xs i)
+map-modify_at : {X Y : Type 0} (g : X → Y) (f : X → X) → ((x : X) → g (f x) ≡ g x) → (xs : List X) (i : ℕ) → map g (modify_at f xs i) ≡ map g xs
+map-modify_at g f same [] i = refl
+map-modify_at g f same (x ∷ xs) zero = ap (λ z. z ∷ map g xs) (same x)
+map-modify_at g f same (x ∷ xs) (suc i) = ap (λ zs. g x ∷ zs) (map-modify_at g f same xs i)
 
-pub map-changed_nth : {X Y : Type 0} (g : X → Y) (f : X → X) → ((x : X) → g (f x) ≡ g x) → (xs : List X) (n : ℕ) → map g (changed_nth f xs n) ≡ map g xs
-map-changed_nth g f same xs zero = refl
-map-changed_nth g f same xs (suc i) = ap (map g) (changed_nth-suc f xs i) ∙ map-changed_at g f same xs i
+pub map-modify_nth : {X Y : Type 0} (g : X → Y) (f : X → X) → ((x : X) → g (f x) ≡ g x) → (xs : List X) (n : ℕ) → map g (modify_nth f xs n) ≡ map g xs
+map-modify_nth g f same xs zero = refl
+map-modify_nth g f same xs (suc i) = ap (map g) (modify_nth-suc f xs i) ∙ map-modify_at g f same xs i
 
 -- a change at the place of the first that passes
 pub map-changed_found : {X Y : Type 0} (g : X → Y) (f : X → X) (p : X → Bool) → ((x : X) → p x ≡ true → g (f x) ≡ g x) → (xs : List X) (n : ℕ)
-    → place_where p xs ≡ Some n → map g (changed_nth f xs n) ≡ map g xs
+    → place_where p xs ≡ Some n → map g (modify_nth f xs n) ≡ map g xs
 map-changed_found g f p same xs n is =
     let at : FoundFrom p 1 xs n = found p xs n is in
     let place : n ≡ suc at.0 = omega (arith, at.2) in
-    ap (λ k. map g (changed_nth f xs k)) place ∙ ap (map g) (changed_nth-suc f xs at.0)
+    ap (λ k. map g (modify_nth f xs k)) place ∙ ap (map g) (modify_nth-suc f xs at.0)
     ∙ map-changed_here g f xs at.0 at.1 at.3 (same at.1 at.4)
 
 -- the first that passes is still the first where more stand behind it

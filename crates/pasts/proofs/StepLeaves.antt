@@ -5,11 +5,12 @@ use Rattle.std.specs.List.{enumerate_from}
 use Rattle.rpc_records.specs.declared.request.Report.{Report}
 use Rattle.rpc_records.specs.declared.request.Request.{Request}
 use Rattle.sched_book.specs.Count.{is_open, need}
-use Rattle.sched_book.specs.Lost.{resend_or_drop, is_resent, with_deadline, deadline_after, estimate_at, delay_at, with_lapse}
+use Rattle.sched_book.specs.Fits.{estimate_at}
+use Rattle.sched_book.specs.Lost.{resend_or_drop, is_resent, with_deadline, deadline_after, delay_at, with_lapse}
 use Rattle.sched_book.specs.Places.{overdue, place_named, passes, book_status}
 use Rattle.sched_book.specs.Reports.{awaits_report, judged_place, with_number, with_changed, with_report, record_at, record_one, recorded, first_reports}
 use Rattle.sched_book.specs.Settle.{fresh, grown, with_grown, with_quota, settled}
-use Rattle.sched_book.specs.Step.{at_entry, after_reports, after_lost, after_settlement, host_number, host_told, lost_of, with_owner, grant_one, granted, lapsed}
+use Rattle.sched_book.specs.Step.{at_entry, after_reports, after_lost, after_settlement, host_number, host_at_entry, lost_of, with_owner, grant_one, granted, lapsed}
 use Rattle.sched_book.specs.declared.instance.Instance.{Instance}
 use Rattle.sched_book.specs.declared.instance.Lapse.TheVariants.{Late, Dropped}
 use Rattle.sched_book.specs.declared.instance.Place.{Place}
@@ -21,7 +22,7 @@ use Rattle.sched_book.specs.declared.rows.HostRow.{HostRow}
 use Rattle.sched_book.specs.declared.rows.Workunit.{Workunit}
 use Rattle.sched_book.specs.declared.world.World.{World}
 use Rattle.pasts.specs.Leaves.{host_name, Frame, frame, StepLeavesTheRest}
-use Rattle.pasts.proofs.Places.{map-changed_nth}
+use Rattle.pasts.proofs.Places.{map-modify_nth}
 
 -- the frame with these workunits and these hosts
 abbrev frame_with : World → List Workunit → List (ℕ × List ℕ) → Frame
@@ -36,7 +37,7 @@ unit_of b = b.unit
 
 changed_stays : (f : Instance → Instance) (w : World) (p : Place) → frame (with_changed f w p) ≡ frame w
 changed_stays f w p =
-    ap (λ us. frame_with w us (map host_name w.hosts)) (map-changed_nth unit_of (with_number f p.number) (λ b. refl) w.units p.unit)
+    ap (λ us. frame_with w us (map host_name w.hosts)) (map-modify_nth unit_of (with_number f p.number) (λ b. refl) w.units p.unit)
 
 -- the frame stays where each step of a fold leaves it
 fold_stays : {X : Type 0} (f : World → X → World) → ((w : World) (x : X) → frame (f w x) ≡ frame w) → (xs : List X) (w : World) → frame (fold f w xs) ≡ frame w
@@ -98,7 +99,7 @@ settlement_stays old changed = λ i. frame_with changed (units changed.units i) 
 call_stays : (w : World) (c : Caller) (r : Request) (now : ℕ) → frame (after_settlement w c r now) ≡ frame (at_entry w c r)
 call_stays w c r now =
     settlement_stays (at_entry w c r) (after_lost w c r now)
-    ∙ lost_jobs_stay (at_entry w c r) (host_told w c r) now (lost_of w c r) (after_reports w c r)
+    ∙ lost_jobs_stay (at_entry w c r) (host_at_entry w c r) now (lost_of w c r) (after_reports w c r)
     ∙ reports_stay (at_entry w c r) (host_number w c) r.results
 
 pub step_leaves : StepLeavesTheRest

@@ -3,7 +3,8 @@
 use Rattle.std.specs.Prelude.{◌≡◌, ℕ, ◌≤◌, List, [], ◌∷◌, map, Option, None, Ok}
 use Rattle.reply_register.specs.declared.kept.Kept.{Kept}
 use Rattle.reply_register.specs.declared.key.Key.{Key}
-use Rattle.rpc_records.specs.Ranges.{IsInRange}
+use Rattle.sched_book.specs.Calls.{IsCallInLimits}
+use Rattle.sched_book.specs.Limits.{last_moment}
 use Rattle.sched_book.specs.Step.{Step, empty_world}
 use Rattle.sched_book.specs.declared.machine.Answered.{Answered}
 use Rattle.sched_book.specs.declared.machine.Call.{Call}
@@ -22,17 +23,9 @@ IsToldBy (Import kind batch text read) (call.Import new) = read ≡ Ok new
 IsToldBy Tick call.Tick = Unit {0}
 IsToldBy said c = ⊥
 
--- the last moment, in seconds
-abbrev pub last_moment : ℕ
-last_moment = 250000000000
-
-abbrev pub IsCallInRange : Call → Type 0
-IsCallInRange (call.Rpc caller request) = IsInRange request
-IsCallInRange c = Unit {0}
-
 -- what the machine is told is within limits
 pub record IsInLimits (c : Call) (now : ℕ) : Type 0 where
-  pub request : IsCallInRange c
+  pub request : IsCallInLimits c
   pub moment : now ≤ last_moment
 
 -- A message, its call, the machine's answer and the world after it.

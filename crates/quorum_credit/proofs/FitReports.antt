@@ -1,24 +1,27 @@
 -- What reports change fits, in a world whose instances keep within limits.
-use Rattle.std.proofs.Common.{◌≡◌, ℕ, zero, suc, ◌+◌, ◌<◌, ◌≤◌, Bool, true, false, cond, eqb, List, [], ◌∷◌, ◌++◌, length, Option, Some, None, sym, refl, ap, ◌∙◌, subst, arith, IfSome}
-use Rattle.std.specs.Prelude.{◌&&◌, ◌||◌, IsTrue, count_by, is_none, is_some, option_map, option_and_then, unwrap_or, slice_get}
+use Rattle.std.proofs.Common.{◌≡◌, ℕ, zero, suc, ◌+◌, ◌<◌, ◌≤◌, Bool, true, false, cond, eqb, List, [], ◌∷◌, ◌++◌, length, Option, Some, None, get_or, sym, refl, ap, ◌∙◌, subst, arith, Bor, IfSome}
+use Rattle.std.specs.Prelude.{◌&&◌, ◌||◌, ◌==◌, not, All, IsTrue, count_by, is_none, is_some, option_map, option_and_then, unwrap_or, slice_get}
 use Rattle.std.proofs.lemmas.List.Sums.{count_by-le-length, fold-append, sum_by-cons}
 use Rattle.std.proofs.lemmas.Option.{slice_get_within}
+use Rattle.rpc_records.specs.Members.{is_output}
+use Rattle.rpc_records.specs.Ranges.{IsReport}
 use Rattle.rpc_records.specs.declared.request.Report.{Report}
 use Rattle.sched_book.specs.Count.{tells_success, tells_error, is_judged, has_failed}
-use Rattle.sched_book.specs.Places.{unit_at, instance_at, place_named, status_at, is_same, is_owned_by}
-use Rattle.sched_book.specs.Limits.{IsInstanceInLimits}
-use Rattle.sched_book.specs.Sound.{HasOwnerAmong, IsSoundUnit, Sound}
+use Rattle.sched_book.specs.Places.{unit_at, instance_at, place_named, status_at, is_same, is_owned_by, owner_host}
+use Rattle.sched_book.specs.Limits.{most_instances, IsInstanceInLimits}
+use Rattle.sched_book.specs.Sound.{IsBare, HasOwnerAmong, IsSoundUnit, Sound}
 use Rattle.sched_book.specs.Desk.{instances_at}
 use Rattle.sched_book.specs.Delta.{applied_one, applied, FitsOne, Fits}
-use Rattle.sched_book.specs.Reports.{changed_at, with_number, with_changed, awaits_report, with_report}
+use Rattle.sched_book.specs.Reports.{modify_at, with_number, with_changed, awaits_report, outcome_of, with_report}
 use Rattle.sched_book.specs.declared.delta.Change.{Change}
 use Rattle.sched_book.specs.declared.delta.Change.TheVariants as change
 use Rattle.sched_book.specs.declared.instance.Instance.{Instance}
 use Rattle.sched_book.specs.declared.instance.Outcome.{Outcome}
+use Rattle.sched_book.specs.declared.instance.Owner.{Owner}
 use Rattle.sched_book.specs.declared.instance.Place.{Place}
 use Rattle.sched_book.specs.declared.instance.UnitBook.{UnitBook}
 use Rattle.sched_book.specs.declared.world.World.{World}
-use Rattle.sched_book.proofs.PlacesOf.{nth-changed_nth}
+use Rattle.sched_book.proofs.PlacesOf.{nth-modify_nth}
 use Rattle.sched_book.proofs.Recording.{instance_at-with_changed, is_same-true}
 use Rattle.quorum_credit.specs.Taken.{place_among, reported_in, change_by}
 use Rattle.quorum_credit.specs.Limited.{IsLimited, FitWithin}
@@ -27,52 +30,55 @@ use Rattle.quorum_credit.proofs.Recorded.{with_changed-is}
 
 pub limited_from_sound : (w : World) → Sound w → IsLimited w
 limited_from_sound w sound = record {
-  few = λ unit b stands. (all_nth (IsSoundUnit w.hosts w.apps) w.units unit b sound.units stands).few;
+  few = λ unit b stands. (all_nth (IsSoundUnit w.hosts w.apps) w.units unit b sound.units stands).well.few;
   each = λ p x stands. cases p x (unit_at w p.unit) refl stands;
 }
   where
     cases : (p : Place) (x : Instance) (o : Option UnitBook) → unit_at w p.unit ≡ o
-        → option_and_then (λ (b : UnitBook). slice_get b.instances p.number) o ≡ Some x → HasOwnerAmong w.hosts x × IsInstanceInLimits x
+        → option_and_then (λ (b : UnitBook). slice_get b.instances p.number) o ≡ Some x → HasOwnerAmong w.hosts x × IsBare x × IsInstanceInLimits x
     cases p x None is none = absurd cc
     cases p x (Some b) is there =
-        let unit = all_nth (IsSoundUnit w.hosts w.apps) w.units p.unit b sound.units is in
-        (all_get (HasOwnerAmong w.hosts) b.instances p.number x unit.owners there, all_get IsInstanceInLimits b.instances p.number x unit.instances there)
+        let unit = (all_nth (IsSoundUnit w.hosts w.apps) w.units p.unit b sound.units is).well in (
+          all_get (HasOwnerAmong w.hosts) b.instances p.number x unit.owners there,
+          all_get IsBare b.instances p.number x unit.bare there,
+          all_get IsInstanceInLimits b.instances p.number x unit.instances there,
+        )
 
-length-changed : {X : Type 0} (f : X → X) (xs : List X) (i : ℕ) → length (changed_at f xs i) ≡ length xs
+length-changed : {X : Type 0} (f : X → X) (xs : List X) (i : ℕ) → length (modify_at f xs i) ≡ length xs
 length-changed f [] i = refl
 length-changed f (x ∷ xs) zero = refl
 length-changed f (x ∷ xs) (suc i) = ap suc (length-changed f xs i)
 
 -- an instance within limits put at a place
 module _ (f : Instance → Instance) (w : World) (p : Place) (limited : IsLimited w) where
-  few_after : (unit : ℕ) (b : UnitBook) → unit_at (with_changed f w p) unit ≡ Some b → length b.instances ≤ 100
-  few_after unit b stands = cases (eqb p.unit unit) (unit_at w unit) refl (sym (nth-changed_nth (with_number f p.number) w.units p.unit unit) ∙ stands)
+  few_after : (unit : ℕ) (b : UnitBook) → unit_at (with_changed f w p) unit ≡ Some b → length b.instances ≤ most_instances
+  few_after unit b stands = cases (eqb p.unit unit) (unit_at w unit) refl (sym (nth-modify_nth (with_number f p.number) w.units p.unit unit) ∙ stands)
     where
-      cases : (same : Bool) (o : Option UnitBook) → unit_at w unit ≡ o → cond same (option_map (with_number f p.number) o) o ≡ Some b → length b.instances ≤ 100
+      cases : (same : Bool) (o : Option UnitBook) → unit_at w unit ≡ o → cond same (option_map (with_number f p.number) o) o ≡ Some b → length b.instances ≤ most_instances
       cases true None was is = absurd cc
       cases true (Some u) was is =
           let changed : with_number f p.number u ≡ b = cc in
-          let few : length u.instances ≤ 100 = limited.few unit u was in
+          let few : length u.instances ≤ most_instances = limited.few unit u was in
           let long : length (with_number f p.number u).instances ≡ length u.instances = length-changed f u.instances p.number in
           let whole : length (with_number f p.number u).instances ≡ length b.instances = ap (λ (c : UnitBook). length c.instances) changed in
           omega arith
       cases false o was is = limited.few unit b (was ∙ is)
 
-  each_after : (x : Instance) → instance_at w p ≡ Some x → HasOwnerAmong w.hosts (f x) × IsInstanceInLimits (f x)
-      → (q : Place) (y : Instance) → instance_at (with_changed f w p) q ≡ Some y → HasOwnerAmong w.hosts y × IsInstanceInLimits y
+  each_after : (x : Instance) → instance_at w p ≡ Some x → HasOwnerAmong w.hosts (f x) × IsBare (f x) × IsInstanceInLimits (f x)
+      → (q : Place) (y : Instance) → instance_at (with_changed f w p) q ≡ Some y → HasOwnerAmong w.hosts y × IsBare y × IsInstanceInLimits y
   each_after x stood good q y stands = cases (is_same p q) refl (sym (instance_at-with_changed f w p q) ∙ stands)
     where
       cases : (same : Bool) → is_same p q ≡ same → cond same (option_map f (instance_at w q)) (instance_at w q) ≡ Some y
-          → HasOwnerAmong w.hosts y × IsInstanceInLimits y
+          → HasOwnerAmong w.hosts y × IsBare y × IsInstanceInLimits y
       cases true same is =
           let equal : p ≡ q = is_same-true p q same in
           let here : instance_at w q ≡ Some x = ap (instance_at w) (sym equal) ∙ stood in
           let value : Some (f x) ≡ Some y = sym (ap (option_map f) here) ∙ is in
           let put : f x ≡ y = cc in
-          subst (λ z. HasOwnerAmong w.hosts z × IsInstanceInLimits z) put good
+          subst (λ z. HasOwnerAmong w.hosts z × IsBare z × IsInstanceInLimits z) put good
       cases false same is = limited.each q y is
 
-  pub limited_after : (x : Instance) → instance_at w p ≡ Some x → HasOwnerAmong w.hosts (f x) × IsInstanceInLimits (f x) → IsLimited (with_changed f w p)
+  pub limited_after : (x : Instance) → instance_at w p ≡ Some x → HasOwnerAmong w.hosts (f x) × IsBare (f x) × IsInstanceInLimits (f x) → IsLimited (with_changed f w p)
   limited_after x stood good = record { few = few_after; each = each_after x stood good }
 
 -- an instance that awaits a report is not judged, so that not all are
@@ -100,16 +106,16 @@ fewer p (y ∷ xs) (suc i) x stands fails = count_step p y xs (suc (length xs)) 
     cases true less = omega arith
     cases false less = omega arith
 
-small_place : (failed : Bool) (n : ℕ) → n < 100 → unwrap_or (cond failed None (Some (1 + n))) 0 ≤ 100
+small_place : (failed : Bool) (n : ℕ) → n < most_instances → unwrap_or (cond failed None (Some (1 + n))) 0 ≤ most_instances
 small_place true n less = omega arith
 small_place false n less = omega arith
 
 -- what is done to an instance at a place fits, where what comes of it is within limits
 pub done_fits : (f : Instance → Instance) (w : World) (p : Place) (b : UnitBook) (x : Instance) → IsLimited w → unit_at w p.unit ≡ Some b
-    → slice_get b.instances p.number ≡ Some x → HasOwnerAmong w.hosts (f x) × IsInstanceInLimits (f x)
+    → slice_get b.instances p.number ≡ Some x → HasOwnerAmong w.hosts (f x) × IsBare (f x) × IsInstanceInLimits (f x)
     → FitsOne w (change.Instance p (f x)) × IsLimited (applied_one w (change.Instance p (f x)))
 done_fits f w p b x limited stands is good =
-    let few : length b.instances ≤ 100 = limited.few p.unit b stands in
+    let few : length b.instances ≤ most_instances = limited.few p.unit b stands in
     let within : p.number < length b.instances = slice_get_within b.instances p.number x is in
     let here : instance_at w p ≡ Some x = ap (option_and_then (λ (u : UnitBook). slice_get u.instances p.number)) stands ∙ is in (
       (
@@ -118,12 +124,27 @@ done_fits f w p b x limited stands is good =
         subst (λ (o : Option UnitBook). IfSome o (λ (u : UnitBook). p.number ≤ length u.instances)) (sym stands) (let low : p.number ≤ length b.instances = omega arith in low),
         good.0,
         good.1,
+        good.2,
       ),
       subst IsLimited (with_changed-is f w p b x stands is) (limited_after f w p limited x here good),
     )
 
--- one report more
-module _ (host : ℕ) (r : Report) (failed : Bool) (w : World) (p : Place) (limited : IsLimited w) where
+-- an instance that the host was given stays with it, so that it is bare in no case
+owned : (host : ℕ) (o : Option Owner) (b : Bool) → ((is_some o && (owner_host o == host)) && b) ≡ true → o ≡ None → ⊥
+owned host None b awaits none = absurd cc
+owned host (Some o) b awaits none = absurd cc
+
+-- a judged report has a place from 1 on
+some_place : (success failed : Bool) (n : ℕ)
+    → IsTrue ((success && is_some (cond failed None (Some (1 + n)))) || (not success && is_some (cond failed None (Some (1 + n)))))
+    → 1 ≤ unwrap_or (cond failed None (Some (1 + n))) 0
+some_place true true n judged = absurd cc
+some_place false true n judged = absurd cc
+some_place true false n judged = omega arith
+some_place false false n judged = omega arith
+
+-- one report more, whose output is in range
+module _ (host : ℕ) (r : Report) (short : IsTrue (is_output r.output)) (failed : Bool) (w : World) (p : Place) (limited : IsLimited w) where
   abbrev FitsAndStays : Change → Type 0
   FitsAndStays c = FitsOne w c × IsLimited (applied_one w c)
 
@@ -131,17 +152,20 @@ module _ (host : ℕ) (r : Report) (failed : Bool) (w : World) (p : Place) (limi
       → FitsAndStays (change.Instance p (with_report r (place_among failed b.instances) x))
   put_fits b x stands is awaits =
       let f = with_report r (place_among failed b.instances) in
-      let few : length b.instances ≤ 100 = limited.few p.unit b stands in
+      let few : length b.instances ≤ most_instances = limited.few p.unit b stands in
       let less : count_by is_judged b.instances < length b.instances =
       fewer is_judged b.instances p.number x is (not_judged x.report (is_owned_by host x) awaits) in
       let here : instance_at w p ≡ Some x = ap (option_and_then (λ (u : UnitBook). slice_get u.instances p.number)) stands ∙ is in
       let before = limited.each p x here in
       done_fits f w p b x limited stands is (
         before.0,
+        (λ none. absurd (owned host x.owner (is_none x.report) awaits none)),
         record {
-          sent = before.1.sent;
-          deadline = before.1.deadline;
+          sent = before.2.sent;
+          deadline = before.2.deadline;
+          output = short;
           place = small_place failed (count_by is_judged b.instances) (omega arith);
+          judged = some_place (outcome_of r None).success failed (count_by is_judged b.instances);
         },
       )
 
@@ -163,9 +187,9 @@ module _ (host : ℕ) (r : Report) (failed : Bool) (w : World) (p : Place) (limi
   pub report_fits : (y : Instance) → reported_in host r failed (instances_at w p.unit) p.number ≡ Some y → FitsAndStays (change.Instance p y)
   report_fits y puts = at_unit (unit_at w p.unit) refl y puts
 
-change_fits : (entry : World) (host : ℕ) (r : Report) (w : World) (c : Change) → IsLimited w → change_by entry host r w ≡ Some c
+change_fits : (entry : World) (host : ℕ) (r : Report) → IsTrue (is_output r.output) → (w : World) (c : Change) → IsLimited w → change_by entry host r w ≡ Some c
     → FitsOne w c × IsLimited (applied_one w c)
-change_fits entry host r w c limited some = cases (place_named entry r.name) some
+change_fits entry host r short w c limited some = cases (place_named entry r.name) some
   where
     puts : (p : Place) (q : Option Instance) → reported_in host r (has_failed (status_at entry p.unit)) (instances_at w p.unit) p.number ≡ q
         → option_map (change.Instance p) q ≡ Some c → FitsOne w c × IsLimited (applied_one w c)
@@ -173,7 +197,7 @@ change_fits entry host r w c limited some = cases (place_named entry r.name) som
     puts p (Some y) was is =
         let same : change.Instance p y ≡ c = cc in
         subst (λ d. FitsOne w d × IsLimited (applied_one w d)) same
-        (report_fits host r (has_failed (status_at entry p.unit)) w p limited y was)
+        (report_fits host r short (has_failed (status_at entry p.unit)) w p limited y was)
 
     cases : (o : Option Place)
         → option_and_then (λ p. option_map (change.Instance p) (reported_in host r (has_failed (status_at entry p.unit)) (instances_at w p.unit) p.number)) o ≡ Some c
@@ -199,10 +223,15 @@ fit_more entry cs more c pushed one before =
 pub fit_none : (w : World) → IsLimited w → FitWithin w []
 fit_none w limited = record { fits = tt; limited = limited }
 
-pub fit_some : (entry : World) (host : ℕ) (r : Report) (cs more : List Change) (c : Change) → Some c ≡ change_by entry host r (applied entry cs)
+pub fit_some : (entry : World) (host : ℕ) (r : Report) (cs more : List Change) (c : Change) → IsTrue (is_output r.output) → Some c ≡ change_by entry host r (applied entry cs)
     → more ≡ cs ++ c ∷ [] → FitWithin entry cs → FitWithin entry more
-fit_some entry host r cs more c some pushed =
-    fit_more entry cs more c pushed (λ limited. change_fits entry host r (applied entry cs) c limited (sym some))
+fit_some entry host r cs more c short some pushed =
+    fit_more entry cs more c pushed (λ limited. change_fits entry host r short (applied entry cs) c limited (sym some))
+
+-- the report of a number is in range where all are
+pub report_there : (reports : List (Bor Report)) (i : ℕ) (r d : Bor Report) → r ≡ get_or reports i d → i < length reports
+    → All (λ r. IsReport r.now) reports → IsReport r.now
+report_there reports i r d is within all = subst (λ (x : Bor Report). IsReport x.now) (sym is) (all i d within)
 
 -- for what one report changes
 pub ruleset fit_steps = (fit_none, limited_from_sound)

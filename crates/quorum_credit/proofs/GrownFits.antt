@@ -5,7 +5,7 @@ use Rattle.std.proofs.lemmas.Bool.{eq-eqb, ne_eqb}
 use borrow.Author.Tests.{ltb-false}
 use Rattle.sched_book.specs.Count.{canonical, errors, good, need, status, is_open}
 use Rattle.sched_book.specs.Places.{unit_at, agreement_of, book_status}
-use Rattle.sched_book.specs.Limits.{IsInstanceInLimits}
+use Rattle.sched_book.specs.Limits.{most_instances, IsInstanceInLimits}
 use Rattle.sched_book.specs.Settle.{fresh}
 use Rattle.sched_book.specs.Patched.{book_after}
 use Rattle.sched_book.specs.Delta.{applied_one, applied, Fits}
@@ -29,21 +29,22 @@ fits_then v [] ds front behind = behind
 fits_then v (c ∷ cs) ds front behind = (front.0, fits_then (applied_one v c) cs ds front.1 behind)
 
 -- an instance that nobody was given is within limits
-fresh_in_limits : IsInstanceInLimits fresh
-fresh_in_limits = record { sent = omega arith; deadline = omega arith; place = omega arith }
+pub fresh_in_limits : IsInstanceInLimits fresh
+fresh_in_limits = record { sent = omega arith; deadline = omega arith; output = refl; place = omega arith; judged = λ judged. absurd cc }
 
 -- so many fit behind a workunit's own, where they stay within a hundred
-fresh_fits : (v : World) (unit number many : ℕ) (b : UnitBook) → unit_at v unit ≡ Some b → number ≡ length b.instances → number + many ≤ 100
+fresh_fits : (v : World) (unit number many : ℕ) (b : UnitBook) → unit_at v unit ≡ Some b → number ≡ length b.instances → number + many ≤ most_instances
     → Fits v (fresh_changes unit number many)
 fresh_fits v unit number zero b stands last few = tt
 fresh_fits v unit number (suc many) b stands last few =
     let c = change.Instance (record { unit = unit; number = number }) fresh in (
       (
         subst (λ (o : Option UnitBook). IsTrue (is_some o)) (sym stands) refl,
-        (let low : number < 100 = omega arith in low),
+        (let low : number < most_instances = omega arith in low),
         subst (λ (o : Option UnitBook). IfSome o (λ (u : UnitBook). number ≤ length u.instances)) (sym stands)
             (let low : number ≤ length b.instances = omega arith in low),
         (λ given. absurd cc),
+        (λ none. (refl, refl)),
         fresh_in_limits,
       ),
       fresh_fits (applied_one v c) unit (number + 1) many (one_behind b)
@@ -79,7 +80,7 @@ module _ (w : World) (limits : AreUnitsInLimits w) where
       open_or_not b here stands false is_it = tt
       open_or_not b here stands true is_it =
           let total : length b.instances + need b.unit b.instances ≤ b.unit.max_total_results = open_total (agreement_of w b) b.unit b.instances is_it in
-          let most : b.unit.max_total_results ≤ 100 = (limits unit b here).total.1 in
+          let most : b.unit.max_total_results ≤ most_instances = (limits unit b here).total.1 in
           fresh_fits v unit (length b.instances) (need b.unit b.instances) b stands refl (omega arith)
 
       cases : (o : Option UnitBook) → unit_at w unit ≡ o → unit_at v unit ≡ o → Fits v (unwrap_or (option_map (growth_of w unit) o) [])

@@ -2,7 +2,7 @@
 use Rattle.std.proofs.Common.{◌≡◌, ℕ, List, [], ◌∷◌, refl, ap}
 use Rattle.std.specs.Prelude.{filter, filter_map, option_map}
 use Rattle.sched_book.specs.Places.{nth}
-use Rattle.sched_book.specs.Delta.{put_nth, applied_one, applied}
+use Rattle.sched_book.specs.Delta.{set_nth, applied_one, applied}
 use Rattle.sched_book.specs.declared.delta.Change.{Change}
 use Rattle.sched_book.specs.declared.delta.Change.TheVariants as change
 use Rattle.sched_book.specs.declared.rows.HostRow.{HostRow}
@@ -17,7 +17,7 @@ same_hosts w v same (change.App a ∷ cs) = same_hosts w (applied_one v (change.
 same_hosts w v same (change.Version a ∷ cs) = same_hosts w (applied_one v (change.Version a)) same cs
 same_hosts w v same (change.Workunit u ∷ cs) = same_hosts w (applied_one v (change.Workunit u)) same cs
 same_hosts w v same (change.Host n h ∷ cs) =
-    same_hosts (applied_one w (change.Host n h)) (applied_one v (change.Host n h)) (ap (λ hosts. put_nth hosts n h) same) cs
+    same_hosts (applied_one w (change.Host n h)) (applied_one v (change.Host n h)) (ap (λ hosts. set_nth hosts n h) same) cs
 same_hosts w v same (change.Instance p x ∷ cs) = same_hosts w (applied_one v (change.Instance p x)) same cs
 
 pub quotas_of_puts : (w : World) (limit : ℕ) (marks : List Mark) (cs : List Change)

@@ -1,7 +1,8 @@
 -- An instance that lapses late, as a change.
-use Rattle.std.proofs.Common.{◌≡◌, List, [], ◌∷◌, ◌++◌, Option, Some, None, sym, refl, ap, ◌∙◌, subst}
-use Rattle.std.specs.Prelude.{option_map, option_and_then, unwrap_or, slice_get}
+use Rattle.std.proofs.Common.{◌≡◌, Bool, true, false, cond, List, [], ◌∷◌, ◌++◌, Option, Some, None, sym, refl, ap, ◌∙◌, subst}
+use Rattle.std.specs.Prelude.{◌&&◌, is_none, is_some, option_map, option_and_then, unwrap_or, slice_get}
 use Rattle.std.proofs.lemmas.List.Sums.{fold-append}
+use Rattle.sched_book.specs.Count.{is_held}
 use Rattle.sched_book.specs.Places.{unit_at, instance_at}
 use Rattle.sched_book.specs.Desk.{instances_at}
 use Rattle.sched_book.specs.Delta.{applied_one, applied, FitsOne}
@@ -11,9 +12,11 @@ use Rattle.sched_book.specs.declared.delta.Change.{Change}
 use Rattle.sched_book.specs.declared.delta.Change.TheVariants as change
 use Rattle.sched_book.specs.declared.instance.Instance.{Instance}
 use Rattle.sched_book.specs.declared.instance.Lapse.TheVariants.{Late}
+use Rattle.sched_book.specs.declared.instance.Owner.{Owner}
 use Rattle.sched_book.specs.declared.instance.Place.{Place}
 use Rattle.sched_book.specs.declared.instance.UnitBook.{UnitBook}
 use Rattle.sched_book.specs.declared.world.World.{World}
+use Rattle.quorum_credit.specs.Late.{late_in}
 use Rattle.quorum_credit.specs.Limited.{IsLimited, FitWithin}
 use Rattle.quorum_credit.proofs.Recorded.{with_changed-is}
 use Rattle.quorum_credit.proofs.FitReports.{done_fits, fit_more}
@@ -24,44 +27,61 @@ record Stands (w : World) (p : Place) (x : Instance) : Type 0 where
   unit : unit_at w p.unit ≡ Some book
   number : slice_get book.instances p.number ≡ Some x
 
-standing : (w : World) (p : Place) (y : Instance) → Some y ≡ option_map (with_lapse Late) (slice_get (instances_at w p.unit) p.number)
-    → (x : Instance) × Stands w p x × (with_lapse Late x ≡ y)
+standing : (w : World) (p : Place) (y : Instance) → Some y ≡ late_in (instances_at w p.unit) p.number
+    → (x : Instance) × Stands w p x × (is_held x ≡ true) × (with_lapse Late x ≡ y)
 standing w p y puts = at_unit (unit_at w p.unit) refl (sym puts)
   where
     at_number : (b : UnitBook) → unit_at w p.unit ≡ Some b → (q : Option Instance) → slice_get b.instances p.number ≡ q
-        → option_map (with_lapse Late) q ≡ Some y → (x : Instance) × Stands w p x × (with_lapse Late x ≡ y)
-    at_number b stands None is puts = absurd cc
-    at_number b stands (Some x) is puts = (x, record { book = b; unit = stands; number = is }, (let value : with_lapse Late x ≡ y = cc in value))
+        → (t : Bool) → unwrap_or (option_map is_held q) false ≡ t → cond t (option_map (with_lapse Late) q) None ≡ Some y
+        → (x : Instance) × Stands w p x × (is_held x ≡ true) × (with_lapse Late x ≡ y)
+    at_number b stands q is false held puts = absurd cc
+    at_number b stands None is true held puts = absurd cc
+    at_number b stands (Some x) is true held puts =
+        (x, record { book = b; unit = stands; number = is }, held, (let value : with_lapse Late x ≡ y = cc in value))
 
     at_unit : (o : Option UnitBook) → unit_at w p.unit ≡ o
-        → option_map (with_lapse Late) (slice_get (unwrap_or (option_map (λ (b : UnitBook). b.instances) o) []) p.number) ≡ Some y
-        → (x : Instance) × Stands w p x × (with_lapse Late x ≡ y)
+        → late_in (unwrap_or (option_map (λ (b : UnitBook). b.instances) o) []) p.number ≡ Some y
+        → (x : Instance) × Stands w p x × (is_held x ≡ true) × (with_lapse Late x ≡ y)
     at_unit None stands puts = absurd cc
-    at_unit (Some b) stands puts = at_number b stands (slice_get b.instances p.number) refl puts
+    at_unit (Some b) stands puts = at_number b stands (slice_get b.instances p.number) refl _ refl puts
+
+-- what a host holds was given to it
+never_owned : (o : Option Owner) (b c : Bool) → (is_some o && b && c) ≡ true → o ≡ None → ⊥
+never_owned None b c held none = absurd cc
+never_owned (Some o) b c held none = absurd cc
 
 pub late_is : (entry : World) (cs : List Change) (p : Place) (y : Instance)
-    → Some y ≡ option_map (with_lapse Late) (slice_get (instances_at (applied entry cs) p.unit) p.number)
+    → Some y ≡ late_in (instances_at (applied entry cs) p.unit) p.number
     → applied entry (cs ++ change.Instance p y ∷ []) ≡ with_changed (with_lapse Late) (applied entry cs) p
 late_is entry cs p y puts =
     let w = applied entry cs in
     let found = standing w p y puts in
     fold-append applied_one entry cs (change.Instance p y ∷ [])
-    ∙ ap (λ z. applied_one w (change.Instance p z)) (sym found.2)
+    ∙ ap (λ z. applied_one w (change.Instance p z)) (sym found.3)
     ∙ sym (with_changed-is (with_lapse Late) w p found.1.book found.0 found.1.unit found.1.number)
 
-late_fits_one : (w : World) (p : Place) (y : Instance) → Some y ≡ option_map (with_lapse Late) (slice_get (instances_at w p.unit) p.number)
+late_fits_one : (w : World) (p : Place) (y : Instance) → Some y ≡ late_in (instances_at w p.unit) p.number
     → IsLimited w → FitsOne w (change.Instance p y) × IsLimited (applied_one w (change.Instance p y))
 late_fits_one w p y puts limited =
     let found = standing w p y puts in
     let here : instance_at w p ≡ Some found.0 =
     ap (option_and_then (λ (u : UnitBook). slice_get u.instances p.number)) found.1.unit ∙ found.1.number in
     let before = limited.each p found.0 here in
-    subst (λ z. FitsOne w (change.Instance p z) × IsLimited (applied_one w (change.Instance p z))) found.2
-    (done_fits (with_lapse Late) w p found.1.book found.0 limited found.1.unit found.1.number
-    (before.0, record { sent = before.1.sent; deadline = before.1.deadline; place = before.1.place }))
+    subst (λ z. FitsOne w (change.Instance p z) × IsLimited (applied_one w (change.Instance p z))) found.3
+    (done_fits (with_lapse Late) w p found.1.book found.0 limited found.1.unit found.1.number (
+      before.0,
+      (λ none. absurd (never_owned found.0.owner (is_none found.0.report) (is_none found.0.lapse) found.2 none)),
+      record {
+        sent = before.2.sent;
+        deadline = before.2.deadline;
+        output = before.2.output;
+        place = before.2.place;
+        judged = before.2.judged;
+      },
+    ))
 
 pub late_fits : (entry : World) (cs more : List Change) (p : Place) (y : Instance)
-    → Some y ≡ option_map (with_lapse Late) (slice_get (instances_at (applied entry cs) p.unit) p.number)
+    → Some y ≡ late_in (instances_at (applied entry cs) p.unit) p.number
     → more ≡ cs ++ change.Instance p y ∷ [] → FitWithin entry cs → FitWithin entry more
 late_fits entry cs more p y puts pushed = fit_more entry cs more (change.Instance p y) pushed (late_fits_one (applied entry cs) p y puts)
 

@@ -142,10 +142,12 @@ module _ (w : World) (limits : AreHostsInLimits w) (some : 1 ≤ w.settings.dail
         good.2,
         good.0,
         record {
+          cpid = good.1.cpid;
           speed = good.1.speed;
           memory = good.1.memory;
           disk = good.1.disk;
           platforms = good.1.platforms;
+          words = good.1.words;
           quota = quota_within w.settings.daily_result_quota h.quota s.charges s.merits some;
         },
       )

@@ -7,11 +7,11 @@ use Rattle.std.proofs.lemmas.Option.{slice_get_within}
 use Rattle.std.specs.Prelude.{map, option_map}
 use Rattle.std.specs.List.{enumerate_from}
 use Rattle.sched_book.specs.Places.{nth}
-use Rattle.sched_book.specs.Delta.{put_nth}
+use Rattle.sched_book.specs.Delta.{set_nth}
 use Rattle.sched_book.proofs.PlacesOf.{nth-suc}
 use Rattle.quorum_credit.specs.Tallies.{number_got}
 use Rattle.quorum_credit.proofs.ByPlace.{same_by_place, nth-map_places}
-use Rattle.quorum_credit.proofs.Quotas.{nth-put_nth}
+use Rattle.quorum_credit.proofs.Quotas.{nth-set_nth}
 
 pub length-numbered : {X Y : Type 0} (f : ℕ × X → Y) (xs : List X) → length (map f (enumerate_from 1 xs)) ≡ length xs
 length-numbered f xs = length-map (enumerate_from 1 xs) f ∙ length-enumerate_from 1 xs
@@ -41,9 +41,9 @@ number_within xs (suc i) x stands = let within = slice_get_within xs i x (sym (n
 
 -- a row put at the number of one that stands
 pub put_row : {X : Type 0} (f : ℕ × X → X) (h : X → X) (xs : List X) (n : ℕ) (x : X) → nth xs n ≡ Some x
-    → put_nth (map f (enumerate_from 1 xs)) n (h x) ≡ map (λ e. cond (eqb n e.0) (h e.1) (f e)) (enumerate_from 1 xs)
+    → set_nth (map f (enumerate_from 1 xs)) n (h x) ≡ map (λ e. cond (eqb n e.0) (h e.1) (f e)) (enumerate_from 1 xs)
 put_row {X} f h xs n x stands =
-    same_by_place (put_nth rows n (h x)) (map put (enumerate_from 1 xs)) (λ m. before m ∙ cases m (eqb n m) refl (nth xs m) refl ∙ sym (nth-map_places put xs m))
+    same_by_place (set_nth rows n (h x)) (map put (enumerate_from 1 xs)) (λ m. before m ∙ cases m (eqb n m) refl (nth xs m) refl ∙ sym (nth-map_places put xs m))
   where
     rows : List X
     rows = map f (enumerate_from 1 xs)
@@ -51,12 +51,12 @@ put_row {X} f h xs n x stands =
     put : ℕ × X → X
     put e = cond (eqb n e.0) (h e.1) (f e)
 
-    before : (m : ℕ) → nth (put_nth rows n (h x)) m ≡ cond (eqb n m) (Some (h x)) (option_map (λ y. f (m, y)) (nth xs m))
+    before : (m : ℕ) → nth (set_nth rows n (h x)) m ≡ cond (eqb n m) (Some (h x)) (option_map (λ y. f (m, y)) (nth xs m))
     before m =
         let within = number_within xs n x stands in
         let long : length rows ≡ length xs = length-numbered f xs in
         let got : number_got (length rows) n ≡ n = omega arith in
-        nth-put_nth rows n (h x) m
+        nth-set_nth rows n (h x) m
         ∙ ap (λ (b : Bool). cond b (nth rows m) (cond (eqb (number_got (length rows) n) m) (Some (h x)) (nth rows m))) (let some : eqb n 0 ≡ false = grind arith in some)
         ∙ ap (λ k. cond (eqb k m) (Some (h x)) (nth rows m)) got
         ∙ ap (λ o. cond (eqb n m) (Some (h x)) o) (nth-map_places f xs m)

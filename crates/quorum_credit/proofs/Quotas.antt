@@ -5,7 +5,7 @@ use Rattle.std.proofs.lemmas.List.{length-set}
 use Rattle.std.specs.Prelude.{max, slice_get}
 use borrow.Author.Tests.{ltb-true, ltb-false}
 use Rattle.sched_book.specs.Places.{nth, host_at}
-use Rattle.sched_book.specs.Delta.{put_at, put_nth, applied_one, applied}
+use Rattle.sched_book.specs.Delta.{set_at, set_nth, applied_one, applied}
 use Rattle.sched_book.specs.declared.delta.Change.{Change}
 use Rattle.sched_book.specs.declared.delta.Change.TheVariants as change
 use Rattle.sched_book.specs.declared.world.World.{World}
@@ -24,14 +24,14 @@ slice_get-set (y ∷ ys) (suc i) (suc j) x within =
     ∙ sym (ap (λ (b : Bool). cond b (Some x) (slice_get ys j)) (eqb-suc-suc i j))
 
 -- a row put at a place gets that place, or the next
-put_suc : {X : Type 0} (xs : List X) (i : ℕ) (x : X) → put_nth xs (suc i) x ≡ put_at xs i x
+put_suc : {X : Type 0} (xs : List X) (i : ℕ) (x : X) → set_nth xs (suc i) x ≡ set_at xs i x
 put_suc xs i x =
-    ap (λ (b : Bool). cond b xs (put_at xs (suc i - 1) x)) (eqb-suc-zero i)
-    ∙ ap (λ k. put_at xs k x) (let same : suc i - 1 ≡ i = omega arith in same)
+    ap (λ (b : Bool). cond b xs (set_at xs (suc i - 1) x)) (eqb-suc-zero i)
+    ∙ ap (λ k. set_at xs k x) (let same : suc i - 1 ≡ i = omega arith in same)
 
-nth-put_at : {X : Type 0} (xs : List X) (i : ℕ) (x : X) (n : ℕ)
-    → nth (put_at xs i x) n ≡ cond (eqb (number_got (length xs) (suc i)) n) (Some x) (nth xs n)
-nth-put_at {X} xs i x n = cases (ltb i (length xs)) refl
+nth-set_at : {X : Type 0} (xs : List X) (i : ℕ) (x : X) (n : ℕ)
+    → nth (set_at xs i x) n ≡ cond (eqb (number_got (length xs) (suc i)) n) (Some x) (nth xs n)
+nth-set_at {X} xs i x n = cases (ltb i (length xs)) refl
   where
     within : (n : ℕ) → i < length xs → nth (set xs i x) n ≡ cond (eqb (suc i) n) (Some x) (nth xs n)
     within zero less = sym (ap (λ (b : Bool). cond b (Some x) None) (eqb-suc-zero i))
@@ -51,17 +51,17 @@ nth-put_at {X} xs i x n = cases (ltb i (length xs)) refl
         nth-push xs x n
         ∙ ap (λ k. cond (eqb k n) (Some x) (nth xs n)) (let same : length xs + 1 ≡ number_got (length xs) (suc i) = omega arith in same)
 
-pub nth-put_nth : {X : Type 0} (xs : List X) (m : ℕ) (x : X) (n : ℕ)
-    → nth (put_nth xs m x) n ≡ cond (eqb m 0) (nth xs n) (cond (eqb (number_got (length xs) m) n) (Some x) (nth xs n))
-nth-put_nth xs zero x n = refl
-nth-put_nth xs (suc i) x n =
+pub nth-set_nth : {X : Type 0} (xs : List X) (m : ℕ) (x : X) (n : ℕ)
+    → nth (set_nth xs m x) n ≡ cond (eqb m 0) (nth xs n) (cond (eqb (number_got (length xs) m) n) (Some x) (nth xs n))
+nth-set_nth xs zero x n = refl
+nth-set_nth xs (suc i) x n =
     ap (λ ys. nth ys n) (put_suc xs i x)
-    ∙ nth-put_at xs i x n
+    ∙ nth-set_at xs i x n
     ∙ sym (ap (λ (b : Bool). cond b (nth xs n) (cond (eqb (number_got (length xs) (suc i)) n) (Some x) (nth xs n))) (eqb-suc-zero i))
 
-length-put_nth : {X : Type 0} (xs : List X) (m : ℕ) (x : X) → length (put_nth xs m x) ≡ max (length xs) (number_got (length xs) m)
-length-put_nth xs zero x = omega arith
-length-put_nth xs (suc i) x = ap length (put_suc xs i x) ∙ cases (ltb i (length xs)) refl
+length-set_nth : {X : Type 0} (xs : List X) (m : ℕ) (x : X) → length (set_nth xs m x) ≡ max (length xs) (number_got (length xs) m)
+length-set_nth xs zero x = omega arith
+length-set_nth xs (suc i) x = ap length (put_suc xs i x) ∙ cases (ltb i (length xs)) refl
   where
     cases : (b : Bool) → ltb i (length xs) ≡ b → length (cond b (set xs i x) (xs ++ x ∷ [])) ≡ max (length xs) (number_got (length xs) (suc i))
     cases true is =
@@ -77,7 +77,7 @@ count_one w (change.Account a) = refl
 count_one w (change.App a) = refl
 count_one w (change.Version v) = refl
 count_one w (change.Workunit u) = refl
-count_one w (change.Host n h) = length-put_nth w.hosts n h
+count_one w (change.Host n h) = length-set_nth w.hosts n h
 count_one w (change.Instance p x) = refl
 
 -- the host of a number after one change
@@ -86,7 +86,7 @@ host_one w number (change.Account a) = refl
 host_one w number (change.App a) = refl
 host_one w number (change.Version v) = refl
 host_one w number (change.Workunit u) = refl
-host_one w number (change.Host n h) = nth-put_nth w.hosts n h number
+host_one w number (change.Host n h) = nth-set_nth w.hosts n h number
 host_one w number (change.Instance p x) = refl
 
 -- the host of a number after changes

@@ -8,44 +8,44 @@ use Rattle.rpc_records.specs.declared.request.Report.{Report}
 use Rattle.sched_book.specs.Count.{is_judged, has_failed}
 use Rattle.sched_book.specs.Places.{nth, unit_at, passes, place_named, status_at}
 use Rattle.sched_book.specs.Desk.{instances_at}
-use Rattle.sched_book.specs.Delta.{put_at, with_instance, applied_one, applied}
-use Rattle.sched_book.specs.Reports.{changed_at, changed_nth, with_number, with_changed, awaits_report, with_report, judged_place, next_place, record_at, record_one}
+use Rattle.sched_book.specs.Delta.{set_at, with_instance, applied_one, applied}
+use Rattle.sched_book.specs.Reports.{modify_at, modify_nth, with_number, with_changed, awaits_report, with_report, judged_place, next_place, record_at, record_one}
 use Rattle.sched_book.specs.declared.delta.Change.{Change}
 use Rattle.sched_book.specs.declared.delta.Change.TheVariants as change
 use Rattle.sched_book.specs.declared.instance.Instance.{Instance}
 use Rattle.sched_book.specs.declared.instance.Place.{Place}
 use Rattle.sched_book.specs.declared.instance.UnitBook.{UnitBook}
 use Rattle.sched_book.specs.declared.world.World.{World}
-use Rattle.sched_book.proofs.Changes.{changed_at-set}
+use Rattle.sched_book.proofs.Changes.{modify_at-set}
 use Rattle.quorum_credit.specs.Taken.{place_among, reported_in, change_by}
 
 -- where an element stands, changing it is putting the changed one
-pub changed_at-put : {X : Type 0} (f : X → X) (xs : List X) (i : ℕ) (x : X) → slice_get xs i ≡ Some x → changed_at f xs i ≡ put_at xs i (f x)
-changed_at-put f xs i x stands =
+pub modify_at-put : {X : Type 0} (f : X → X) (xs : List X) (i : ℕ) (x : X) → slice_get xs i ≡ Some x → modify_at f xs i ≡ set_at xs i (f x)
+modify_at-put f xs i x stands =
     let within : i < length xs = slice_get_within xs i x stands in
-    changed_at-set f xs i x within (sym (get_or_from_slice_get xs i x x stands))
+    modify_at-set f xs i x within (sym (get_or_from_slice_get xs i x x stands))
     ∙ sym (ap (λ (b : Bool). cond b (slice_set xs i (f x)) (xs ++ f x ∷ [])) (lt-ltb i (length xs) within))
 
 -- two changes that do the same to what stands at a place
-changed_at-same : {X : Type 0} (f g : X → X) (xs : List X) (i : ℕ) (x : X) → slice_get xs i ≡ Some x → f x ≡ g x → changed_at f xs i ≡ changed_at g xs i
-changed_at-same f g [] i x stands same = refl
-changed_at-same f g (y ∷ xs) zero x stands same = let is : y ≡ x = cc in ap (λ z. z ∷ xs) (ap f is ∙ same ∙ sym (ap g is))
-changed_at-same f g (y ∷ xs) (suc i) x stands same = ap (λ ys. y ∷ ys) (changed_at-same f g xs i x stands same)
+modify_at-same : {X : Type 0} (f g : X → X) (xs : List X) (i : ℕ) (x : X) → slice_get xs i ≡ Some x → f x ≡ g x → modify_at f xs i ≡ modify_at g xs i
+modify_at-same f g [] i x stands same = refl
+modify_at-same f g (y ∷ xs) zero x stands same = let is : y ≡ x = cc in ap (λ z. z ∷ xs) (ap f is ∙ same ∙ sym (ap g is))
+modify_at-same f g (y ∷ xs) (suc i) x stands same = ap (λ ys. y ∷ ys) (modify_at-same f g xs i x stands same)
 
-pub changed_nth-same : {X : Type 0} (f g : X → X) (xs : List X) (n : ℕ) (x : X) → nth xs n ≡ Some x → f x ≡ g x → changed_nth f xs n ≡ changed_nth g xs n
-changed_nth-same {X} f g xs n x stands same = cases (eqb n 0) stands
+pub modify_nth-same : {X : Type 0} (f g : X → X) (xs : List X) (n : ℕ) (x : X) → nth xs n ≡ Some x → f x ≡ g x → modify_nth f xs n ≡ modify_nth g xs n
+modify_nth-same {X} f g xs n x stands same = cases (eqb n 0) stands
   where
-    cases : (b : Bool) → cond b None (slice_get xs (n - 1)) ≡ Some x → cond b xs (changed_at f xs (n - 1)) ≡ cond b xs (changed_at g xs (n - 1))
+    cases : (b : Bool) → cond b None (slice_get xs (n - 1)) ≡ Some x → cond b xs (modify_at f xs (n - 1)) ≡ cond b xs (modify_at g xs (n - 1))
     cases true none = refl
-    cases false there = changed_at-same f g xs (n - 1) x there same
+    cases false there = modify_at-same f g xs (n - 1) x there same
 
 -- what is done to the instance at a place, as a change
 pub with_changed-is : (f : Instance → Instance) (w : World) (p : Place) (b : UnitBook) (x : Instance) → unit_at w p.unit ≡ Some b
     → slice_get b.instances p.number ≡ Some x → with_changed f w p ≡ applied_one w (change.Instance p (f x))
 with_changed-is f w p b x stands is =
     ap (λ units. record w { units = units })
-    (changed_nth-same (with_number f p.number) (with_instance p.number (f x)) w.units p.unit b stands
-    (ap (λ xs. record b { instances = xs }) (changed_at-put f b.instances p.number x is)))
+    (modify_nth-same (with_number f p.number) (with_instance p.number (f x)) w.units p.unit b stands
+    (ap (λ xs. record b { instances = xs }) (modify_at-put f b.instances p.number x is)))
 
 module _ (entry : World) (host : ℕ) (w : World) (r : Report) (p : Place) where
   abbrev failed : Bool

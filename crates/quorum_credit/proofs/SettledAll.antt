@@ -15,7 +15,7 @@ use Rattle.sched_book.specs.declared.delta.Change.TheVariants as change
 use Rattle.sched_book.specs.declared.instance.UnitBook.{UnitBook}
 use Rattle.sched_book.specs.declared.rows.HostRow.{HostRow}
 use Rattle.sched_book.specs.declared.world.World.{World}
-use Rattle.sched_book.proofs.PlacesOf.{nth-suc, nth-changed_nth}
+use Rattle.sched_book.proofs.PlacesOf.{nth-suc, nth-modify_nth}
 use Rattle.sched_book.proofs.Settling.{settlement_is_pointwise}
 use Rattle.quorum_credit.specs.Marks.{charges_in, merits_in, unit_charges, unit_merits}
 use Rattle.quorum_credit.specs.Settling.{is_among, puts_row, TouchJust, with_grown_among, quota_by, with_quotas_by, AreHostsInLimits, AreUnitsInLimits}
@@ -25,7 +25,7 @@ use Rattle.quorum_credit.proofs.ByPlace.{all_nth}
 use Rattle.quorum_credit.proofs.Grown.{grown_sound, others_need_nothing}
 use Rattle.quorum_credit.specs.Tallies.{number_got}
 use Rattle.quorum_credit.proofs.Numbered.{number_within}
-use Rattle.quorum_credit.proofs.Quotas.{nth-put_nth}
+use Rattle.quorum_credit.proofs.Quotas.{nth-set_nth}
 use Rattle.quorum_credit.proofs.GrownFits.{fits_then}
 use Rattle.quorum_credit.proofs.NewQuotas.{all_settings_stay}
 use Rattle.quorum_credit.proofs.NewlyCounted.{charges_touched, merits_touched}
@@ -54,7 +54,7 @@ unit_stays w (change.Version v) unit puts other = absurd cc
 unit_stays w (change.Workunit u) unit puts other = absurd cc
 unit_stays w (change.Host number h) unit puts other = refl
 unit_stays w (change.Instance p x) unit puts other =
-    nth-changed_nth (with_instance p.number x) w.units p.unit unit
+    nth-modify_nth (with_instance p.number x) w.units p.unit unit
     ∙ ap (λ b. cond b (option_map (with_instance p.number x) (nth w.units unit)) (nth w.units unit)) other
 
 pub all_apps_stay : (w : World) (cs : List Change) → list_all puts_row cs ≡ true → (applied w cs).apps ≡ w.apps
@@ -123,9 +123,9 @@ is_there (x ∷ xs) (suc i) within = is_there xs i (omega arith)
 
 pub sound_hosts_in_limits : (w : World) → Sound w → AreHostsInLimits w
 sound_hosts_in_limits w sound host h stands =
-    let each = all_nth (IsSoundHost (length w.accounts) w.settings.daily_result_quota) w.hosts host h sound.hosts stands in
+    let each = all_nth (IsSoundHost (length w.accounts) w.settings.daily_result_quota) w.hosts host h sound.rows.hosts stands in
     let within = number_within w.hosts host h stands in
-    (stands_at w.accounts h.account each.account.0 each.account.1, each.limits, (let few : length w.hosts ≤ w.settings.max_hosts = sound.host_count in let here : host ≤ length w.hosts = within.1 in omega arith))
+    (stands_at w.accounts h.account each.account.0 each.account.1, each.limits, (let few : length w.hosts ≤ w.settings.max_hosts = sound.rows.host_count in let here : host ≤ length w.hosts = within.1 in omega arith))
   where
     stands_at : {X : Type 0} (xs : List X) (n : ℕ) → 1 ≤ n → n ≤ length xs → IsTrue (is_some (nth xs n))
     stands_at xs zero low high = absurd (omega arith)
@@ -137,7 +137,7 @@ hosts_one w (change.App a) puts limits fits = absurd cc
 hosts_one w (change.Version v) puts limits fits = absurd cc
 hosts_one w (change.Workunit u) puts limits fits = absurd cc
 hosts_one w (change.Instance p x) puts limits fits = limits
-hosts_one w (change.Host number h) puts limits fits = λ host k stands. cases host k (eqb number 0) (eqb (number_got (length w.hosts) number) host) refl (sym (nth-put_nth w.hosts number h host) ∙ stands)
+hosts_one w (change.Host number h) puts limits fits = λ host k stands. cases host k (eqb number 0) (eqb (number_got (length w.hosts) number) host) refl (sym (nth-set_nth w.hosts number h host) ∙ stands)
   where
     cases : (host : ℕ) (k : HostRow) (a b : Bool) → eqb (number_got (length w.hosts) number) host ≡ b → cond a (nth w.hosts host) (cond b (Some h) (nth w.hosts host)) ≡ Some k
         → IsTrue (is_some (nth w.accounts k.account)) × IsHostInLimits w.settings.daily_result_quota k × (host ≤ w.settings.max_hosts)
@@ -164,7 +164,7 @@ row_stays w (change.Version v) unit puts = absurd cc
 row_stays w (change.Workunit u) unit puts = absurd cc
 row_stays w (change.Host number h) unit puts = refl
 row_stays w (change.Instance p x) unit puts =
-    ap (option_map (λ (b : UnitBook). b.unit)) (nth-changed_nth (with_instance p.number x) w.units p.unit unit) ∙ cases (eqb p.unit unit) (nth w.units unit)
+    ap (option_map (λ (b : UnitBook). b.unit)) (nth-modify_nth (with_instance p.number x) w.units p.unit unit) ∙ cases (eqb p.unit unit) (nth w.units unit)
   where
     cases : (e : Bool) (o : Option UnitBook)
         → option_map (λ (b : UnitBook). b.unit) (cond e (option_map (with_instance p.number x) o) o) ≡ option_map (λ (b : UnitBook). b.unit) o
@@ -184,7 +184,7 @@ units_in_limits w cs sound puts unit b stands = cases (unit_at w unit) refl (sym
     cases None is none = absurd cc
     cases (Some c) is row =
         let same : c.unit ≡ b.unit = cc in
-        subst IsUnitInLimits same (all_nth (IsSoundUnit w.hosts w.apps) w.units unit c sound.units is).limits
+        subst IsUnitInLimits same (all_nth (IsSoundUnit w.hosts w.apps) w.units unit c sound.units is).well.limits
 
 -- The three steps: new instances, marks, and quotas, as the functions tell of them.
 pub record AreSteps (w : World) (cs grows quotas : List Change) (units : List ℕ) (marks : List Mark) : Type 0 where
@@ -254,4 +254,4 @@ module _ (w : World) (cs grows quotas : List Change) (units : List ℕ) (marks :
   settling_fits =
       fits_then w cs (grows ++ quotas) fits
       (fits_then (applied w cs) grows quotas (steps.grew_fitting touched.rising (units_in_limits w cs sound steps.puts))
-      (subst (λ v. Fits v quotas) split (steps.quoted_fitting limits sound.settings.quota.0)))
+      (subst (λ v. Fits v quotas) split (steps.quoted_fitting limits sound.rows.settings.quota.0)))

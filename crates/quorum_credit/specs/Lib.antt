@@ -3,6 +3,7 @@ pub mod Taken
 pub mod Touched
 pub mod Firsts
 pub mod Limited
+pub mod Late
 pub mod Marks
 pub mod Settling
 pub mod Tallies

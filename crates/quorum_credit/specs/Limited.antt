@@ -1,8 +1,8 @@
 -- Changes that fit, in a world whose instances keep within limits.
 use Rattle.std.specs.Prelude.{◌≡◌, ℕ, ◌≤◌, List, length, Some}
 use Rattle.sched_book.specs.Places.{unit_at, instance_at}
-use Rattle.sched_book.specs.Limits.{IsInstanceInLimits}
-use Rattle.sched_book.specs.Sound.{HasOwnerAmong}
+use Rattle.sched_book.specs.Limits.{most_instances, IsInstanceInLimits}
+use Rattle.sched_book.specs.Sound.{IsBare, HasOwnerAmong}
 use Rattle.sched_book.specs.Delta.{applied, Fits}
 use Rattle.sched_book.specs.declared.delta.Change.{Change}
 use Rattle.sched_book.specs.declared.instance.Instance.{Instance}
@@ -10,10 +10,11 @@ use Rattle.sched_book.specs.declared.instance.Place.{Place}
 use Rattle.sched_book.specs.declared.instance.UnitBook.{UnitBook}
 use Rattle.sched_book.specs.declared.world.World.{World}
 
--- no workunit has more instances than it may; the hosts that have them stand, and their numbers are in range
+-- no workunit has more instances than it may; the hosts that have them stand, what nobody was given is bare, and their
+-- values are in range
 pub record IsLimited (w : World) : Type 0 where
-  pub few : (unit : ℕ) (b : UnitBook) → unit_at w unit ≡ Some b → length b.instances ≤ 100
-  pub each : (p : Place) (x : Instance) → instance_at w p ≡ Some x → HasOwnerAmong w.hosts x × IsInstanceInLimits x
+  pub few : (unit : ℕ) (b : UnitBook) → unit_at w unit ≡ Some b → length b.instances ≤ most_instances
+  pub each : (p : Place) (x : Instance) → instance_at w p ≡ Some x → HasOwnerAmong w.hosts x × IsBare x × IsInstanceInLimits x
 
 -- the changes fit, and leave such a world
 pub record FitWithin (w : World) (changes : List Change) : Type 0 where

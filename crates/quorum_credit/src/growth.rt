@@ -3,13 +3,14 @@
 ghost use Rattle.std.specs.Prelude.{◌≡◌, ◌≤◌, ◌+◌, ◌-◌, ◌++◌, true, length, IfOk, IfSome, OnOk};
 ghost use Rattle.std.specs.List.{list_all};
 ghost use Rattle.sched_book.specs.Delta.{applied, Fits};
+ghost use Rattle.sched_book.specs.Trusted.{Trusted};
 ghost use Rattle.quorum_credit.specs.Growing.{fresh_changes, growth, all_growth};
 ghost use Rattle.quorum_credit.specs.Settled.{new_instances};
 ghost use Rattle.quorum_credit.specs.Settling.{AreUnitsInLimits, puts_row, with_grown_among};
 ghost use Rattle.quorum_credit.specs.Taken.{AreRising};
 
 use crate::settlement::new_instances;
-use sched_book::count::MOST_INSTANCES;
+use sched_book::limits::MOST_INSTANCES;
 use sched_book::{
     Agreement, Change, Delta, Desk, Instance, Patched, Place, Unavailable, Units, Workunit,
 };
@@ -42,8 +43,8 @@ fn numbers_for(agreement: &Agreement, unit: &Workunit, instances: &[Instance]) -
 /// The numbers of the instances that the workunit at a place is to get. A place where none stands is refused.
 fn numbers_at<U: Units>(alloc: Global, units: &mut U, unit: u32) -> Result<Numbers, Unavailable>
     ensures reads { U.reads units.old units.new }
-    ensures answer { U.honest units.new → U.well_kept units.old → IfOk result (λ numbers.
-        fresh_changes unit numbers.first (numbers.end - numbers.first) ≡ growth (U.world units.old) unit) }
+    ensures answer { Trusted U.Units units.old units.new (IfOk result (λ numbers.
+        fresh_changes unit numbers.first (numbers.end - numbers.first) ≡ growth (U.world units.old) unit)) }
 {
     let Some(row) = units.unit(alloc, unit)? else {
         return Err(Unavailable);
@@ -53,6 +54,7 @@ fn numbers_at<U: Units>(alloc: Global, units: &mut U, unit: u32) -> Result<Numbe
     };
     let instances = units.instances_of(alloc, unit)?;
     match numbers_for(&agreement, &row, instances.as_slice()) {
+        // Not met by workunits within limits: an open one has and needs at most `max_total_results`, which is at most 100.
         None => Err(Unavailable),
         Some(numbers) => Ok(numbers),
     }
@@ -66,8 +68,8 @@ fn numbers_under<D: Desk>(
     unit: u32,
 ) -> Result<Numbers, Unavailable>
     ensures reads { D.reads desk.old desk.new }
-    ensures answer { D.honest desk.new → D.well_kept desk.old → IfOk result (λ numbers.
-        fresh_changes unit numbers.first (numbers.end - numbers.first) ≡ growth (applied (D.world desk.old) delta.now) unit) }
+    ensures answer { Trusted D.Units desk.old desk.new (IfOk result (λ numbers.
+        fresh_changes unit numbers.first (numbers.end - numbers.first) ≡ growth (applied (D.world desk.old) delta.now) unit)) }
 {
     let mut patched = Patched { desk, delta };
     numbers_at(alloc, &mut patched, unit)
@@ -100,8 +102,8 @@ fn grow_one<D: Desk>(
     more: &mut Delta,
 ) -> Result<(), Unavailable>
     ensures reads { D.reads desk.old desk.new }
-    ensures answer { D.honest desk.new → D.well_kept desk.old →
-        OnOk result (more.new ≡ more.old ++ growth (applied (D.world desk.old) delta.now) unit) }
+    ensures answer { Trusted D.Units desk.old desk.new (
+        OnOk result (more.new ≡ more.old ++ growth (applied (D.world desk.old) delta.now) unit)) }
     ensures puts { OnOk result (list_all puts_row more.old ≡ true → list_all puts_row more.new ≡ true) }
 {
     let numbers = numbers_under(alloc, desk, delta, unit)?;
@@ -117,10 +119,10 @@ pub(crate) fn grow_touched<D: Desk>(
     touched: &[u32],
 ) -> Result<Delta, Unavailable>
     ensures reads { D.reads desk.old desk.new }
-    ensures grown { D.honest desk.new → D.well_kept desk.old → IfOk result (λ more.
-        AreRising touched.now → applied (applied (D.world desk.old) delta.now) more ≡ with_grown_among touched.now (applied (D.world desk.old) delta.now)) }
-    ensures fits { D.honest desk.new → D.well_kept desk.old → IfOk result (λ more.
-        AreRising touched.now → AreUnitsInLimits (applied (D.world desk.old) delta.now) → Fits (applied (D.world desk.old) delta.now) more) }
+    ensures grown { Trusted D.Units desk.old desk.new (IfOk result (λ more.
+        AreRising touched.now → applied (applied (D.world desk.old) delta.now) more ≡ with_grown_among touched.now (applied (D.world desk.old) delta.now))) }
+    ensures fits { Trusted D.Units desk.old desk.new (IfOk result (λ more.
+        AreRising touched.now → AreUnitsInLimits (applied (D.world desk.old) delta.now) → Fits (applied (D.world desk.old) delta.now) more)) }
     ensures puts { IfOk result (λ more. list_all puts_row more ≡ true) }
 {
     let mut more = Listed::new(alloc);

@@ -6,6 +6,7 @@ ghost use Rattle.std.specs.List.{list_all};
 ghost use Rattle.std.specs.Ordering.{nat_cmp};
 ghost use Rattle.sched_book.specs.Places.{host_at};
 ghost use Rattle.sched_book.specs.Delta.{applied, Fits};
+ghost use Rattle.sched_book.specs.Trusted.{Trusted};
 ghost use Rattle.quorum_credit.specs.Settling.{puts_row, AreHostsInLimits, with_quotas_by};
 ghost use Rattle.quorum_credit.specs.Tallies.{number_got, hosts_after, host_by, host_after, with_quota_by, new_quota, new_quotas, tally_with, tally_after, tally_in, puts_host, AreSums};
 
@@ -83,8 +84,8 @@ fn read_changed_host<D: Desk>(
     number: u32,
 ) -> Result<Option<HostRow>, Unavailable>
     ensures reads { D.reads desk.old desk.new }
-    ensures answer { D.honest desk.new → D.well_kept desk.old → IfOk result (λ r.
-        r ≡ host_after number (length (D.world desk.old).hosts) (host_at (D.world desk.old) number) delta.now) }
+    ensures answer { Trusted D.Units desk.old desk.new (IfOk result (λ r.
+        r ≡ host_after number (length (D.world desk.old).hosts) (host_at (D.world desk.old) number) delta.now)) }
 {
     let count = desk.counts()?.hosts;
     let host = desk.host_by_id(alloc, number)?;
@@ -103,8 +104,8 @@ pub fn host_under<D: Desk>(
     number: u32,
 ) -> Result<Option<HostRow>, Unavailable>
     ensures reads { D.reads desk.old desk.new }
-    ensures answer { D.honest desk.new → D.well_kept desk.old →
-        IfOk result (λ r. r ≡ host_at (applied (D.world desk.old) delta.now) number) }
+    ensures answer { Trusted D.Units desk.old desk.new (
+        IfOk result (λ r. r ≡ host_at (applied (D.world desk.old) delta.now) number)) }
 {
     read_changed_host(alloc, desk, delta, number)
 }
@@ -128,8 +129,8 @@ fn new_quota<D: Desk>(
     mark: &Mark,
 ) -> Result<Option<Change>, Unavailable>
     ensures reads { D.reads desk.old desk.new }
-    ensures answer { D.honest desk.new → D.well_kept desk.old →
-        IfOk result (λ change. change ≡ new_quota (applied (D.world desk.old) delta.now) limit mark.now) }
+    ensures answer { Trusted D.Units desk.old desk.new (
+        IfOk result (λ change. change ≡ new_quota (applied (D.world desk.old) delta.now) limit mark.now)) }
 {
     match host_under(alloc, desk, delta, mark.host)? {
         None => Ok(None),
@@ -150,8 +151,8 @@ fn put_quota<D: Desk>(
     mark: &Mark,
 ) -> Result<(), Unavailable>
     ensures reads { D.reads desk.old desk.new }
-    ensures answer { D.honest desk.new → D.well_kept desk.old → OnOk result
-        (quotas.new ≡ quotas.old ++ new_quotas (applied (D.world desk.old) delta.now) limit (mark.now ∷ [])) }
+    ensures answer { Trusted D.Units desk.old desk.new (OnOk result
+        (quotas.new ≡ quotas.old ++ new_quotas (applied (D.world desk.old) delta.now) limit (mark.now ∷ []))) }
 {
     match new_quota(alloc, desk, delta, limit, mark)? {
         None => Err(Unavailable),
@@ -171,8 +172,8 @@ fn quotas_in_turn<D: Desk>(
     marks: &[Mark],
 ) -> Result<Delta, Unavailable>
     ensures reads { D.reads desk.old desk.new }
-    ensures answer { D.honest desk.new → D.well_kept desk.old → IfOk result (λ quotas.
-        quotas ≡ new_quotas (applied (D.world desk.old) delta.now) limit marks.now) }
+    ensures answer { Trusted D.Units desk.old desk.new (IfOk result (λ quotas.
+        quotas ≡ new_quotas (applied (D.world desk.old) delta.now) limit marks.now)) }
 {
     let mut quotas = Listed::new(alloc);
     for mark in marks {
@@ -188,6 +189,8 @@ fn tally_with(tally: Option<Mark>, mark: &Mark) -> Result<Mark, Unavailable>
     let Some(before) = tally else {
         return Ok(*mark);
     };
+    // Not met in a sound world, where a step charges a host at most 60,000,000 times and has at most 20,000,000 merits
+    // for it: `sched_book::laws::charges_are_few`.
     let Some(charges) = before.charges.checked_add(mark.charges) else {
         return Err(Unavailable);
     };
@@ -280,8 +283,8 @@ fn quotas_under<D: Desk>(
     marks: &[Mark],
 ) -> Result<Delta, Unavailable>
     ensures reads { D.reads desk.old desk.new }
-    ensures answer { D.honest desk.new → D.well_kept desk.old → IfOk result (λ quotas.
-        quotas ≡ new_quotas (applied (D.world desk.old) delta.now) limit marks.now) }
+    ensures answer { Trusted D.Units desk.old desk.new (IfOk result (λ quotas.
+        quotas ≡ new_quotas (applied (D.world desk.old) delta.now) limit marks.now)) }
 {
     let puts = host_puts(alloc, delta.as_slice())?;
     quotas_in_turn(alloc, desk, &puts, limit, marks)
@@ -295,8 +298,8 @@ fn quotas_by<D: Desk>(
     marks: &[Mark],
 ) -> Result<Delta, Unavailable>
     ensures reads { D.reads desk.old desk.new }
-    ensures answer { D.honest desk.new → D.well_kept desk.old → IfOk result (λ quotas. quotas ≡
-        new_quotas (applied (D.world desk.old) delta.now) (D.world desk.old).settings.daily_result_quota marks.now) }
+    ensures answer { Trusted D.Units desk.old desk.new (IfOk result (λ quotas. quotas ≡
+        new_quotas (applied (D.world desk.old) delta.now) (D.world desk.old).settings.daily_result_quota marks.now)) }
 {
     let limit = desk.settings(alloc)?.daily_result_quota;
     quotas_under(alloc, desk, delta, limit, marks)
@@ -310,13 +313,13 @@ pub(crate) fn new_quotas<D: Desk>(
     marks: &[Mark],
 ) -> Result<Delta, Unavailable>
     ensures reads { D.reads desk.old desk.new }
-    ensures quotas { D.honest desk.new → D.well_kept desk.old → IfOk result (λ more.
+    ensures quotas { Trusted D.Units desk.old desk.new (IfOk result (λ more.
         AreHostsInLimits (applied (D.world desk.old) delta.now) →
-        applied (applied (D.world desk.old) delta.now) more ≡ with_quotas_by marks.now (applied (D.world desk.old) delta.now)) }
-    ensures fits { D.honest desk.new → D.well_kept desk.old → IfOk result (λ more.
+        applied (applied (D.world desk.old) delta.now) more ≡ with_quotas_by marks.now (applied (D.world desk.old) delta.now))) }
+    ensures fits { Trusted D.Units desk.old desk.new (IfOk result (λ more.
         AreHostsInLimits (applied (D.world desk.old) delta.now) → (1 ≤ (D.world desk.old).settings.daily_result_quota) →
-        Fits (applied (D.world desk.old) delta.now) more) }
-    ensures puts { D.honest desk.new → D.well_kept desk.old → IfOk result (λ more. list_all puts_row more ≡ true) }
+        Fits (applied (D.world desk.old) delta.now) more)) }
+    ensures puts { Trusted D.Units desk.old desk.new (IfOk result (λ more. list_all puts_row more ≡ true)) }
 {
     let sums = sums_of(alloc, marks)?;
     quotas_by(alloc, desk, delta, sums.as_slice())

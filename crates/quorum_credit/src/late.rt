@@ -1,6 +1,6 @@
 //! Instances whose deadline went by.
 
-ghost use Rattle.std.specs.Prelude.{◌≡◌, length, fold, slice_get, option_map, IfOk, OnOk};
+ghost use Rattle.std.specs.Prelude.{◌≡◌, length, fold, IfOk, OnOk};
 ghost use Rattle.sched_book.specs.Places.{overdue};
 ghost use Rattle.sched_book.specs.Desk.{instances_at};
 ghost use Rattle.sched_book.specs.Reports.{with_changed};
@@ -8,12 +8,15 @@ ghost use Rattle.sched_book.specs.Lost.{with_lapse};
 ghost use Rattle.sched_book.specs.Step.{lapsed};
 ghost use Rattle.sched_book.specs.Delta.{applied, Fits};
 ghost use Rattle.sched_book.specs.Sound.{Sound};
+ghost use Rattle.sched_book.specs.Trusted.{Trusted};
 ghost use Rattle.sched_book.specs.declared.instance.Lapse.TheVariants as lapse;
+ghost use Rattle.quorum_credit.specs.Late.{late_in};
 ghost use Rattle.quorum_credit.specs.Limited.{IsLimited, FitWithin};
 ghost use Rattle.quorum_credit.specs.Taken.{AreTouched};
 
 use crate::changed::instances_under;
 use crate::touched::touched_by;
+use sched_book::count::is_held;
 use sched_book::{Change, Delta, Desk, Instance, Lapse, Moment, Place, Unavailable, copy_of};
 use std::alloc::Global;
 use texts::{Listed, Memory};
@@ -38,17 +41,17 @@ fn made_late(instance: &Instance) -> Result<Instance, Memory>
     Ok(row)
 }
 
-/// The instance of this number, late, where it stands.
+/// The instance of this number, late, where a host holds it.
 fn late_in(instances: &[Instance], number: u32) -> Result<Option<Instance>, Memory>
-    ensures { IfOk result (λ row. row ≡ option_map (with_lapse lapse.Late) (slice_get instances.now number)) }
+    ensures { IfOk result (λ row. row ≡ late_in instances.now number) }
 {
     match instances.get(number as usize) {
-        None => Ok(None),
-        Some(instance) => Ok(Some(made_late(instance)?)),
+        Some(instance) if is_held(instance) => Ok(Some(made_late(instance)?)),
+        _ => Ok(None),
     }
 }
 
-/// The instance at a place, late, after changes.
+/// The instance at a place, late, where a host holds it after changes.
 fn late_at<D: Desk>(
     alloc: Global,
     desk: &mut D,
@@ -56,14 +59,14 @@ fn late_at<D: Desk>(
     place: Place,
 ) -> Result<Option<Instance>, Unavailable>
     ensures reads { D.reads desk.old desk.new }
-    ensures answer { D.honest desk.new → D.well_kept desk.old → IfOk result (λ row. row ≡
-        option_map (with_lapse lapse.Late) (slice_get (instances_at (applied (D.world desk.old) delta.now) place.unit) place.number)) }
+    ensures answer { Trusted D.Units desk.old desk.new (
+        IfOk result (λ row. row ≡ late_in (instances_at (applied (D.world desk.old) delta.now) place.unit) place.number)) }
 {
     let instances = instances_under(alloc, desk, delta, place.unit)?;
     Ok(late_in(instances.as_slice(), place.number)?)
 }
 
-/// Puts the lapse of one instance behind the changes so far. A place where none stands is refused.
+/// Puts the lapse of one instance behind the changes so far. An instance that no host holds is refused.
 #[tactic(auto, using(crate::proofs::LateOnes::late_steps))]
 fn put_late<D: Desk>(
     alloc: Global,
@@ -72,10 +75,10 @@ fn put_late<D: Desk>(
     place: Place,
 ) -> Result<(), Unavailable>
     ensures reads { D.reads desk.old desk.new }
-    ensures answer { D.honest desk.new → D.well_kept desk.old →
-        OnOk result (applied (D.world desk.old) delta.new ≡ with_changed (with_lapse lapse.Late) (applied (D.world desk.old) delta.old) place) }
-    ensures fits { D.honest desk.new → D.well_kept desk.old →
-        OnOk result (FitWithin (D.world desk.old) delta.old → FitWithin (D.world desk.old) delta.new) }
+    ensures answer { Trusted D.Units desk.old desk.new (
+        OnOk result (applied (D.world desk.old) delta.new ≡ with_changed (with_lapse lapse.Late) (applied (D.world desk.old) delta.old) place)) }
+    ensures fits { Trusted D.Units desk.old desk.new (
+        OnOk result (FitWithin (D.world desk.old) delta.old → FitWithin (D.world desk.old) delta.new)) }
 {
     match late_at(alloc, desk, delta, place)? {
         None => Err(Unavailable),
@@ -94,10 +97,10 @@ fn late_in_turn<D: Desk>(
     places: &[Place],
 ) -> Result<Delta, Unavailable>
     ensures reads { D.reads desk.old desk.new }
-    ensures answer { D.honest desk.new → D.well_kept desk.old → IfOk result (λ delta.
-        applied (D.world desk.old) delta ≡ fold (with_changed (with_lapse lapse.Late)) (D.world desk.old) places.now) }
-    ensures fits { D.honest desk.new → D.well_kept desk.old →
-        IfOk result (λ delta. IsLimited (D.world desk.old) → FitWithin (D.world desk.old) delta) }
+    ensures answer { Trusted D.Units desk.old desk.new (IfOk result (λ delta.
+        applied (D.world desk.old) delta ≡ fold (with_changed (with_lapse lapse.Late)) (D.world desk.old) places.now)) }
+    ensures fits { Trusted D.Units desk.old desk.new (
+        IfOk result (λ delta. IsLimited (D.world desk.old) → FitWithin (D.world desk.old) delta)) }
 {
     let mut delta = Listed::new(alloc);
     for place in places {
@@ -110,16 +113,17 @@ fn late_in_turn<D: Desk>(
 #[tactic(auto, using(crate::proofs::FitReports::fit_steps))]
 pub fn lapse_late<D: Desk>(alloc: Global, desk: &mut D, now: Moment) -> Result<Lapsed, Unavailable>
     ensures reads { D.reads desk.old desk.new }
-    ensures delta { D.honest desk.new → D.well_kept desk.old →
-        IfOk result (λ late. applied (D.world desk.old) late.delta ≡ lapsed (D.world desk.old) now) }
-    ensures fits { D.honest desk.new → D.well_kept desk.old →
-        IfOk result (λ late. Sound (D.world desk.old) → Fits (D.world desk.old) late.delta) }
-    ensures count { D.honest desk.new → D.well_kept desk.old →
-        IfOk result (λ late. late.count ≡ length (overdue (D.world desk.old) now)) }
+    ensures delta { Trusted D.Units desk.old desk.new (
+        IfOk result (λ late. applied (D.world desk.old) late.delta ≡ lapsed (D.world desk.old) now)) }
+    ensures fits { Trusted D.Units desk.old desk.new (
+        IfOk result (λ late. Sound (D.world desk.old) → Fits (D.world desk.old) late.delta)) }
+    ensures count { Trusted D.Units desk.old desk.new (
+        IfOk result (λ late. late.count ≡ length (overdue (D.world desk.old) now))) }
     ensures touched { IfOk result (λ late. AreTouched late.delta late.touched) }
 {
     let places = desk.due_before(alloc, now)?;
     let Ok(count) = u32::try_from(places.len()) else {
+        // Not met in a sound world, where no more than 20,000,000 are overdue: `sched_book::laws::instances_are_few`.
         return Err(Unavailable);
     };
     let delta = late_in_turn(alloc, desk, places.as_slice())?;

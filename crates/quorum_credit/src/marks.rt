@@ -2,8 +2,10 @@
 
 ghost use Rattle.std.specs.Prelude.{◌≡◌, ◌≤◌, List, ◌++◌, ℕ, length, map, sum_by, IfOk, OnOk};
 ghost use Rattle.sched_book.specs.Count.{is_invalid};
+ghost use Rattle.sched_book.specs.Limits.{most_instances};
 ghost use Rattle.sched_book.specs.Settle.{is_late};
 ghost use Rattle.sched_book.specs.Delta.{applied};
+ghost use Rattle.sched_book.specs.Trusted.{Trusted};
 ghost use Rattle.quorum_credit.specs.Marks.{standing_with, one_if_new, charges_between, merits_between, unit_charges, unit_merits, charges_in, merits_in};
 ghost use Rattle.quorum_credit.specs.Marking.{owned_standing, standings_by, standings_in, standings_at, standing_of, mark_of, with_mark, marks_from, marks_at};
 ghost use Rattle.quorum_credit.specs.declared.marks.Mark.{Mark};
@@ -100,7 +102,7 @@ fn standings_in(
     unit: &Workunit,
     instances: &[Instance],
 ) -> Result<Vec<OwnedStanding>, Memory>
-    requires { length instances.now ≤ 100 }
+    requires { length instances.now ≤ most_instances }
     ensures { IfOk result (λ rows. rows.items ≡ standings_in agreement.now unit.now instances.now) }
 {
     let canonical = count::canonical(agreement, unit, instances);
@@ -114,7 +116,7 @@ fn standings_at<D: Units>(
     unit: u32,
 ) -> Result<Vec<OwnedStanding>, Unavailable>
     ensures reads { D.reads desk.old desk.new }
-    ensures answer { D.honest desk.new → D.well_kept desk.old → IfOk result (λ rows. rows.items ≡ standings_at (D.world desk.old) unit) }
+    ensures answer { Trusted D.Units desk.old desk.new (IfOk result (λ rows. rows.items ≡ standings_at (D.world desk.old) unit)) }
 {
     let Some(row) = desk.unit(alloc, unit)? else {
         return Ok(Vec::new(alloc));
@@ -134,8 +136,8 @@ fn standings_under<D: Desk>(
     unit: u32,
 ) -> Result<Vec<OwnedStanding>, Unavailable>
     ensures reads { D.reads desk.old desk.new }
-    ensures answer { D.honest desk.new → D.well_kept desk.old →
-        IfOk result (λ rows. rows.items ≡ standings_at (applied (D.world desk.old) delta.now) unit) }
+    ensures answer { Trusted D.Units desk.old desk.new (
+        IfOk result (λ rows. rows.items ≡ standings_at (applied (D.world desk.old) delta.now) unit)) }
 {
     let mut patched = Patched { desk, delta };
     standings_at(alloc, &mut patched, unit)
@@ -236,8 +238,8 @@ fn mark_unit<D: Desk>(
     unit: u32,
 ) -> Result<(), Unavailable>
     ensures reads { D.reads desk.old desk.new }
-    ensures answer { D.honest desk.new → D.well_kept desk.old →
-        OnOk result (marks.new ≡ marks.old ++ marks_at (D.world desk.old) (applied (D.world desk.old) delta.now) unit) }
+    ensures answer { Trusted D.Units desk.old desk.new (
+        OnOk result (marks.new ≡ marks.old ++ marks_at (D.world desk.old) (applied (D.world desk.old) delta.now) unit)) }
 {
     let old = standings_at(alloc, desk, unit)?;
     let new = standings_under(alloc, desk, delta, unit)?;
@@ -253,10 +255,10 @@ pub(crate) fn marks_of_touched<D: Desk>(
     touched: &[u32],
 ) -> Result<Listed<Mark>, Unavailable>
     ensures reads { D.reads desk.old desk.new }
-    ensures charges { D.honest desk.new → D.well_kept desk.old → IfOk result (λ marks. (host : ℕ) →
-        charges_in marks host ≡ sum_by (unit_charges (D.world desk.old) (applied (D.world desk.old) delta.now) host) touched.now) }
-    ensures merits { D.honest desk.new → D.well_kept desk.old → IfOk result (λ marks. (host : ℕ) →
-        merits_in marks host ≡ sum_by (unit_merits (D.world desk.old) (applied (D.world desk.old) delta.now) host) touched.now) }
+    ensures charges { Trusted D.Units desk.old desk.new (IfOk result (λ marks. (host : ℕ) →
+        charges_in marks host ≡ sum_by (unit_charges (D.world desk.old) (applied (D.world desk.old) delta.now) host) touched.now)) }
+    ensures merits { Trusted D.Units desk.old desk.new (IfOk result (λ marks. (host : ℕ) →
+        merits_in marks host ≡ sum_by (unit_merits (D.world desk.old) (applied (D.world desk.old) delta.now) host) touched.now)) }
 {
     let mut marks = Listed::new(alloc);
     for unit in touched {

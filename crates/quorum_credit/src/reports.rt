@@ -1,13 +1,16 @@
 //! The reports of a call.
 
-ghost use Rattle.std.specs.Prelude.{◌≡◌, List, ◌∷◌, ◌++◌, ◌==◌, ◌+◌, ◌≤◌, length, map, count_by, fold, IfOk, OnOk};
+ghost use Rattle.std.specs.Prelude.{◌≡◌, All, List, ◌∷◌, ◌++◌, ◌==◌, ◌+◌, ◌≤◌, length, map, count_by, fold, IfOk, OnOk};
+ghost use Rattle.rpc_records.specs.Ranges.{IsReport};
 ghost use Rattle.rpc_records.specs.declared.request.Report.{Report};
 ghost use Rattle.sched_book.specs.Count.{is_judged, has_failed};
+ghost use Rattle.sched_book.specs.Limits.{most_instances};
 ghost use Rattle.sched_book.specs.Places.{status_at};
 ghost use Rattle.sched_book.specs.Desk.{instances_at};
 ghost use Rattle.sched_book.specs.Reports.{first_reports, awaits_report, outcome_of, with_report, record_one, recorded};
 ghost use Rattle.sched_book.specs.Delta.{applied, Fits};
 ghost use Rattle.sched_book.specs.Sound.{Sound};
+ghost use Rattle.sched_book.specs.Trusted.{Trusted};
 ghost use Rattle.texts.specs.Seen.{has_seen};
 ghost use Rattle.quorum_credit.specs.Firsts.{first_beyond};
 ghost use Rattle.quorum_credit.specs.Limited.{IsLimited, FitWithin};
@@ -99,7 +102,7 @@ fn judged_count(instances: &[Instance]) -> usize
 
 /// The place that the next report of a workunit with these instances gets: none where the workunit had failed.
 fn place_among(failed: bool, instances: &[Instance]) -> Option<u32>
-    requires { length instances.now ≤ 100 }
+    requires { length instances.now ≤ most_instances }
     ensures { result ≡ place_among failed instances.now }
 {
     if failed {
@@ -139,7 +142,7 @@ fn reported_in(
     instances: &[Instance],
     number: u32,
 ) -> Result<Option<Instance>, Memory>
-    requires { length instances.now ≤ 100 }
+    requires { length instances.now ≤ most_instances }
     ensures { IfOk result (λ row. row ≡ reported_in host report.now failed instances.now number) }
 {
     match instances.get(number as usize) {
@@ -165,9 +168,9 @@ fn reported_at<D: Desk>(
     place: Place,
 ) -> Result<Option<Instance>, Unavailable>
     ensures reads { D.reads desk.old desk.new }
-    ensures answer { D.honest desk.new → D.well_kept desk.old → IfOk result (λ row. row ≡
+    ensures answer { Trusted D.Units desk.old desk.new (IfOk result (λ row. row ≡
         reported_in host report.now (has_failed (status_at (D.world desk.old) place.unit))
-        (instances_at (applied (D.world desk.old) delta.now) place.unit) place.number) }
+        (instances_at (applied (D.world desk.old) delta.now) place.unit) place.number)) }
 {
     let failed = count::has_failed(status_at(alloc, desk, place.unit)?);
     let instances = instances_under(alloc, desk, delta, place.unit)?;
@@ -183,8 +186,8 @@ fn change_by<D: Desk>(
     report: &Report,
 ) -> Result<Option<Change>, Unavailable>
     ensures reads { D.reads desk.old desk.new }
-    ensures answer { D.honest desk.new → D.well_kept desk.old → IfOk result (λ change.
-        change ≡ change_by (D.world desk.old) host report.now (applied (D.world desk.old) delta.now)) }
+    ensures answer { Trusted D.Units desk.old desk.new (IfOk result (λ change.
+        change ≡ change_by (D.world desk.old) host report.now (applied (D.world desk.old) delta.now))) }
 {
     let Some(place) = place_named(alloc, desk, report.name.as_str())? else {
         return Ok(None);
@@ -205,10 +208,10 @@ fn take_report<D: Desk>(
     report: &Report,
 ) -> Result<(), Unavailable>
     ensures reads { D.reads desk.old desk.new }
-    ensures answer { D.honest desk.new → D.well_kept desk.old →
-        OnOk result (applied (D.world desk.old) delta.new ≡ record_one (D.world desk.old) host (applied (D.world desk.old) delta.old) report.now) }
-    ensures fits { D.honest desk.new → D.well_kept desk.old →
-        OnOk result (FitWithin (D.world desk.old) delta.old → FitWithin (D.world desk.old) delta.new) }
+    ensures answer { Trusted D.Units desk.old desk.new (
+        OnOk result (applied (D.world desk.old) delta.new ≡ record_one (D.world desk.old) host (applied (D.world desk.old) delta.old) report.now)) }
+    ensures fits { Trusted D.Units desk.old desk.new (
+        OnOk result (IsReport report.now → FitWithin (D.world desk.old) delta.old → FitWithin (D.world desk.old) delta.new)) }
 {
     match change_by(alloc, desk, delta, host, report)? {
         None => Ok(()),
@@ -228,10 +231,10 @@ fn take_in_turn<D: Desk>(
     reports: &[&Report],
 ) -> Result<Delta, Unavailable>
     ensures reads { D.reads desk.old desk.new }
-    ensures answer { D.honest desk.new → D.well_kept desk.old → IfOk result (λ delta.
-        applied (D.world desk.old) delta ≡ fold (record_one (D.world desk.old) host) (D.world desk.old) (map (λ r. r.now) reports.now)) }
-    ensures fits { D.honest desk.new → D.well_kept desk.old →
-        IfOk result (λ delta. IsLimited (D.world desk.old) → FitWithin (D.world desk.old) delta) }
+    ensures answer { Trusted D.Units desk.old desk.new (IfOk result (λ delta.
+        applied (D.world desk.old) delta ≡ fold (record_one (D.world desk.old) host) (D.world desk.old) (map (λ r. r.now) reports.now))) }
+    ensures fits { Trusted D.Units desk.old desk.new (
+        IfOk result (λ delta. All (λ r. IsReport r.now) reports.now → IsLimited (D.world desk.old) → FitWithin (D.world desk.old) delta)) }
 {
     let mut delta = Listed::new(alloc);
     for report in reports {
@@ -253,11 +256,11 @@ pub fn take_reports<D: Desk>(
     request: &Request,
 ) -> Result<Taken, Unavailable>
     ensures reads { D.reads desk.old desk.new }
-    ensures delta { D.honest desk.new → D.well_kept desk.old →
-        IfOk result (λ taken. applied (D.world desk.old) taken.delta ≡ recorded (D.world desk.old) host request.now.results) }
+    ensures delta { Trusted D.Units desk.old desk.new (
+        IfOk result (λ taken. applied (D.world desk.old) taken.delta ≡ recorded (D.world desk.old) host request.now.results)) }
     ensures acked { IfOk result (λ taken. taken.acked ≡ map (λ (r : Report). r.name) (first_reports request.now.results)) }
-    ensures fits { D.honest desk.new → D.well_kept desk.old →
-        IfOk result (λ taken. Sound (D.world desk.old) → Fits (D.world desk.old) taken.delta) }
+    ensures fits { Trusted D.Units desk.old desk.new (
+        IfOk result (λ taken. All IsReport request.now.results → Sound (D.world desk.old) → Fits (D.world desk.old) taken.delta)) }
     ensures touched { IfOk result (λ taken. AreTouched taken.delta taken.touched) }
 {
     let firsts = first_reports(alloc, request.results.as_slice())?;

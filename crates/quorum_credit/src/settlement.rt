@@ -5,7 +5,7 @@ ghost use Rattle.sched_book.specs.Count.{agree, canonical, status, verdict_by};
 ghost use Rattle.quorum_credit.specs.Settled.{new_instances, verdicts};
 
 use arrayvec::ArrayVec;
-use sched_book::count::MOST_INSTANCES;
+use sched_book::limits::MOST_INSTANCES;
 use sched_book::{Agreement, Instance, Status, Verdict, Workunit, count};
 use std::marker::Model;
 

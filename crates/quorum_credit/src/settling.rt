@@ -6,6 +6,7 @@ ghost use Rattle.sched_book.specs.Delta.{applied, Fits};
 ghost use Rattle.sched_book.specs.Settle.{settled};
 ghost use Rattle.sched_book.specs.Sound.{Sound};
 ghost use Rattle.sched_book.specs.Step.{lapsed};
+ghost use Rattle.sched_book.specs.Trusted.{Trusted};
 ghost use Rattle.quorum_credit.specs.Settling.{puts_row};
 ghost use Rattle.quorum_credit.specs.Taken.{AreTouched};
 
@@ -15,7 +16,7 @@ use crate::late::{Lapsed, lapse_late};
 use crate::marks::marks_of_touched;
 use sched_book::{Change, Delta, Desk, Moment, Unavailable, copy_of};
 use std::alloc::Global;
-use texts::{Listed, Memory};
+use texts::Listed;
 
 /// A copy of a change that puts a host or an instance; any other is refused.
 fn copied_change(change: &Change) -> Result<Change, Unavailable>
@@ -42,16 +43,6 @@ fn push_copies(delta: &mut Delta, changes: &[Change]) -> Result<(), Unavailable>
 {
     for change in changes {
         delta.push(copied_change(change)?)?;
-    }
-    Ok(())
-}
-
-/// Puts changes behind others.
-fn push_all(delta: &mut Delta, changes: Delta) -> Result<(), Memory>
-    ensures { OnOk result (delta.new ≡ delta.old ++ changes) }
-{
-    for change in changes.into_vec() {
-        delta.push(change)?;
     }
     Ok(())
 }
@@ -83,19 +74,19 @@ pub fn settle_all<D: Desk>(
     touched: &[u32],
 ) -> Result<Delta, Unavailable>
     ensures reads { D.reads desk.old desk.new }
-    ensures settled { D.honest desk.new → D.well_kept desk.old → IfOk result (λ more.
+    ensures settled { Trusted D.Units desk.old desk.new (IfOk result (λ more.
         Sound (D.world desk.old) → Fits (D.world desk.old) delta.now → AreTouched delta.now touched.now →
-        applied (D.world desk.old) (delta.now ++ more) ≡ settled (D.world desk.old) (applied (D.world desk.old) delta.now)) }
-    ensures fits { D.honest desk.new → D.well_kept desk.old → IfOk result (λ more.
+        applied (D.world desk.old) (delta.now ++ more) ≡ settled (D.world desk.old) (applied (D.world desk.old) delta.now))) }
+    ensures fits { Trusted D.Units desk.old desk.new (IfOk result (λ more.
         Sound (D.world desk.old) → Fits (D.world desk.old) delta.now → AreTouched delta.now touched.now →
-        Fits (D.world desk.old) (delta.now ++ more)) }
-    ensures puts { D.honest desk.new → D.well_kept desk.old → IfOk result (λ more. list_all puts_row (delta.now ++ more) ≡ true) }
+        Fits (D.world desk.old) (delta.now ++ more))) }
+    ensures puts { Trusted D.Units desk.old desk.new (IfOk result (λ more. list_all puts_row (delta.now ++ more) ≡ true)) }
 {
     let mut more = grow_touched(alloc, desk, delta, touched)?;
     let all = joined(alloc, delta, &more)?;
     let marks = marks_of_touched(alloc, desk, &all, touched)?;
     let quotas = new_quotas(alloc, desk, &all, marks.as_slice())?;
-    push_all(&mut more, quotas)?;
+    more.append(quotas)?;
     Ok(more)
 }
 
@@ -106,10 +97,10 @@ pub fn settle_all<D: Desk>(
 /// [`Unavailable`] where memory is wanting or the desk is unavailable.
 pub fn lapse<D: Desk>(alloc: Global, desk: &mut D, now: Moment) -> Result<Delta, Unavailable>
     ensures reads { D.reads desk.old desk.new }
-    ensures settled { D.honest desk.new → D.well_kept desk.old → IfOk result (λ delta.
-        Sound (D.world desk.old) → applied (D.world desk.old) delta ≡ settled (D.world desk.old) (lapsed (D.world desk.old) now)) }
-    ensures fits { D.honest desk.new → D.well_kept desk.old →
-        IfOk result (λ delta. Sound (D.world desk.old) → Fits (D.world desk.old) delta) }
+    ensures settled { Trusted D.Units desk.old desk.new (IfOk result (λ delta.
+        Sound (D.world desk.old) → applied (D.world desk.old) delta ≡ settled (D.world desk.old) (lapsed (D.world desk.old) now))) }
+    ensures fits { Trusted D.Units desk.old desk.new (
+        IfOk result (λ delta. Sound (D.world desk.old) → Fits (D.world desk.old) delta)) }
 {
     let Lapsed {
         mut delta,
@@ -117,6 +108,6 @@ pub fn lapse<D: Desk>(alloc: Global, desk: &mut D, now: Moment) -> Result<Delta,
         touched,
     } = lapse_late(alloc, desk, now)?;
     let more = settle_all(alloc, desk, &delta, touched.as_slice())?;
-    push_all(&mut delta, more)?;
+    delta.append(more)?;
     Ok(delta)
 }

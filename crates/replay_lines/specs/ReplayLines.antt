@@ -6,13 +6,10 @@ use Rattle.jiff.specs.Words.{parse_timestamp}
 use Rattle.texts.specs.Words.{is_word}
 use Rattle.serde_json.specs.Find.{as_str}
 use Rattle.rpc_records.specs.Reading.{json_of}
+use Rattle.sched_book.specs.Limits.{last_moment}
 use Rattle.message_engine.specs.declared.arrival.Arrival.{Arrival}
 use Rattle.message_engine.specs.declared.arrival.Post.{Post}
 use Rattle.message_engine.specs.declared.arrival.Post.TheVariants.{Import, Scheduler, Tick}
-
--- the latest moment of an arrival, in seconds since 1970-01-01T00:00:00Z
-abbrev pub last_moment : ℕ
-last_moment = 250_000_000_000
 
 -- the moment of an instant, in nanoseconds from 1970-01-01T00:00:00Z: it is on a whole second and within the moments
 abbrev pub moment_of_nanoseconds : ℤ → Option ℕ

@@ -6,22 +6,22 @@ use Rattle.std.proofs.lemmas.List.Elements.{All-append}
 use borrow.Author.Tests.{ltb-false}
 use Rattle.sched_book.specs.Settle.{fresh}
 use Rattle.sched_book.specs.Imports.{new_unit}
-use Rattle.sched_book.specs.Limits.{IsBounded}
-use Rattle.sched_book.specs.Reports.{changed_at, changed_nth}
-use Rattle.sched_book.specs.Delta.{put_at, put_nth, with_instance, applied_one, FitsOne}
+use Rattle.sched_book.specs.Limits.{most_accounts, most_apps, most_versions, most_workunits, most_hosts, most_instances, IsBounded}
+use Rattle.sched_book.specs.Reports.{modify_at, modify_nth}
+use Rattle.sched_book.specs.Delta.{set_at, set_nth, with_instance, applied_one, FitsOne}
 use Rattle.sched_book.specs.Laws.{FittingKeepsBounds}
 use Rattle.sched_book.specs.declared.delta.Change.{Change}
 use Rattle.sched_book.specs.declared.delta.Change.TheVariants as change
 use Rattle.sched_book.specs.declared.instance.UnitBook.{UnitBook}
 use Rattle.sched_book.specs.declared.world.World.{World}
-use Rattle.sched_book.proofs.PlacesOf.{length-changed_nth}
+use Rattle.sched_book.proofs.PlacesOf.{length-modify_nth}
 
 -- one more is as many as the limit at most
 pushed : {X : Type 0} (xs : List X) (x : X) (limit : ℕ) → length xs < limit → length (xs ++ x ∷ []) ≤ limit
 pushed xs x limit room = let long : length (xs ++ x ∷ []) ≡ length xs + 1 = length-append xs (x ∷ []) in omega arith
 
 -- put at an index below the limit, the list stays within it
-put_within : {X : Type 0} (xs : List X) (i : ℕ) (x : X) (limit : ℕ) → length xs ≤ limit → i < limit → length (put_at xs i x) ≤ limit
+put_within : {X : Type 0} (xs : List X) (i : ℕ) (x : X) (limit : ℕ) → length xs ≤ limit → i < limit → length (set_at xs i x) ≤ limit
 put_within xs i x limit short below = cases (ltb i (length xs)) refl
   where
     cases : (b : Bool) → ltb i (length xs) ≡ b → length (cond b (set xs i x) (xs ++ x ∷ [])) ≤ limit
@@ -36,34 +36,34 @@ all_cons P x xs here there (suc k) d within = there k d (omega arith)
 all_tail : {X : Type 0} (P : X → Type 0) (x : X) (xs : List X) → All P (x ∷ xs) → All P xs
 all_tail P x xs all = λ k d within. all (suc k) d (omega arith)
 
-all_changed_at : {X : Type 0} (P : X → Type 0) (f : X → X) → ((x : X) → P x → P (f x)) → (xs : List X) (i : ℕ) → All P xs → All P (changed_at f xs i)
+all_changed_at : {X : Type 0} (P : X → Type 0) (f : X → X) → ((x : X) → P x → P (f x)) → (xs : List X) (i : ℕ) → All P xs → All P (modify_at f xs i)
 all_changed_at P f keeps [] i all = all
 all_changed_at P f keeps (x ∷ xs) zero all = all_cons P (f x) xs (keeps x (all 0 x (omega arith))) (all_tail P x xs all)
 all_changed_at P f keeps (x ∷ xs) (suc i) all =
-    all_cons P x (changed_at f xs i) (all 0 x (omega arith)) (all_changed_at P f keeps xs i (all_tail P x xs all))
+    all_cons P x (modify_at f xs i) (all 0 x (omega arith)) (all_changed_at P f keeps xs i (all_tail P x xs all))
 
-all_changed_nth : {X : Type 0} (P : X → Type 0) (f : X → X) → ((x : X) → P x → P (f x)) → (xs : List X) (n : ℕ) → All P xs → All P (changed_nth f xs n)
+all_changed_nth : {X : Type 0} (P : X → Type 0) (f : X → X) → ((x : X) → P x → P (f x)) → (xs : List X) (n : ℕ) → All P xs → All P (modify_nth f xs n)
 all_changed_nth P f keeps xs n all = cases (eqb n 0)
   where
-    cases : (b : Bool) → All P (cond b xs (changed_at f xs (n - 1)))
+    cases : (b : Bool) → All P (cond b xs (modify_at f xs (n - 1)))
     cases true = all
     cases false = all_changed_at P f keeps xs (n - 1) all
 
 abbrev HasFew : UnitBook → Type 0
-HasFew b = length b.instances ≤ 100
+HasFew b = length b.instances ≤ most_instances
 
 -- a host put at an old number or the next
-hosts_within : {X : Type 0} (xs : List X) (n : ℕ) (x : X) → length xs ≤ 100000 → n ≤ 100000 → length (put_nth xs n x) ≤ 100000
+hosts_within : {X : Type 0} (xs : List X) (n : ℕ) (x : X) → length xs ≤ most_hosts → n ≤ most_hosts → length (set_nth xs n x) ≤ most_hosts
 hosts_within xs zero x short low = short
 hosts_within xs (suc i) x short low = cases (eqb (suc i) 0)
   where
-    cases : (b : Bool) → length (cond b xs (put_at xs (suc i - 1) x)) ≤ 100000
+    cases : (b : Bool) → length (cond b xs (set_at xs (suc i - 1) x)) ≤ most_hosts
     cases true = short
-    cases false = put_within xs (suc i - 1) x 100000 short (omega arith)
+    cases false = put_within xs (suc i - 1) x most_hosts short (omega arith)
 
-fitting_keeps_one : (w : World) (c : Change) → w.settings.max_hosts ≤ 100000 → IsBounded w → FitsOne w c → IsBounded (applied_one w c)
+fitting_keeps_one : (w : World) (c : Change) → w.settings.max_hosts ≤ most_hosts → IsBounded w → FitsOne w c → IsBounded (applied_one w c)
 fitting_keeps_one w (change.Account a) limit bounded fits = record {
-  accounts = pushed w.accounts a 10000 fits;
+  accounts = pushed w.accounts a most_accounts fits.0;
   apps = bounded.apps;
   versions = bounded.versions;
   hosts = bounded.hosts;
@@ -71,7 +71,7 @@ fitting_keeps_one w (change.Account a) limit bounded fits = record {
   instances = bounded.instances;
 }
 fitting_keeps_one w (change.App a) limit bounded fits = record {
-  apps = pushed w.apps a 100 fits;
+  apps = pushed w.apps a most_apps fits.0;
   accounts = bounded.accounts;
   versions = bounded.versions;
   hosts = bounded.hosts;
@@ -79,7 +79,7 @@ fitting_keeps_one w (change.App a) limit bounded fits = record {
   instances = bounded.instances;
 }
 fitting_keeps_one w (change.Version v) limit bounded fits = record {
-  versions = pushed w.versions v 1000 fits.0;
+  versions = pushed w.versions v most_versions fits.0;
   accounts = bounded.accounts;
   apps = bounded.apps;
   hosts = bounded.hosts;
@@ -87,7 +87,7 @@ fitting_keeps_one w (change.Version v) limit bounded fits = record {
   instances = bounded.instances;
 }
 fitting_keeps_one w (change.Workunit u) limit bounded fits = record {
-  units = pushed w.units (new_unit u) 200000 fits.0;
+  units = pushed w.units (new_unit u) most_workunits fits.0;
   instances = All-append HasFew w.units (new_unit u ∷ []) bounded.instances
       (all_cons HasFew (new_unit u) [] (let long : length (replicate u.target_nresults fresh) ≡ u.target_nresults = length-replicate u.target_nresults fresh in omega (arith, fits.2.target.1)) (λ k d none. absurd (omega arith)));
   accounts = bounded.accounts;
@@ -104,8 +104,8 @@ fitting_keeps_one w (change.Host number h) limit bounded fits = record {
   instances = bounded.instances;
 }
 fitting_keeps_one w (change.Instance p x) limit bounded fits = record {
-  units = let same : length (changed_nth (with_instance p.number x) w.units p.unit) ≡ length w.units = length-changed_nth (with_instance p.number x) w.units p.unit in omega (arith, bounded.units);
-  instances = all_changed_nth HasFew (with_instance p.number x) (λ b few. put_within b.instances p.number x 100 few fits.1) w.units p.unit bounded.instances;
+  units = let same : length (modify_nth (with_instance p.number x) w.units p.unit) ≡ length w.units = length-modify_nth (with_instance p.number x) w.units p.unit in omega (arith, bounded.units);
+  instances = all_changed_nth HasFew (with_instance p.number x) (λ b few. put_within b.instances p.number x most_instances few fits.1) w.units p.unit bounded.instances;
   accounts = bounded.accounts;
   apps = bounded.apps;
   versions = bounded.versions;
@@ -124,5 +124,5 @@ settings_stay w (change.Instance p x) = refl
 pub fitting_keeps_bounds : FittingKeepsBounds
 fitting_keeps_bounds w [] limit bounded fits = bounded
 fitting_keeps_bounds w (c ∷ cs) limit bounded fits =
-    fitting_keeps_bounds (applied_one w c) cs (subst (λ s. s.max_hosts ≤ 100000) (sym (settings_stay w c)) limit)
+    fitting_keeps_bounds (applied_one w c) cs (subst (λ s. s.max_hosts ≤ most_hosts) (sym (settings_stay w c)) limit)
     (fitting_keeps_one w c limit bounded fits.0) fits.1

@@ -7,7 +7,7 @@ use Rattle.std.proofs.lemmas.List.Elements.{filter-append}
 use Rattle.std.proofs.lemmas.List.Sums.{sum_by-cons, sum_by-append}
 use Rattle.std.specs.Prelude.{replicate, map, filter, count_by, sum_by, option_map, unwrap_or, is_some, slice_get, ◌&&◌, ◌||◌, ◌==◌, All}
 use Rattle.std.specs.List.{list_any}
-use Rattle.sched_book.specs.Reports.{changed_at, changed_nth}
+use Rattle.sched_book.specs.Reports.{modify_at, modify_nth}
 use Rattle.sched_book.specs.Places.{nth, owned_by, held_by, sent_on_day, is_owned_by, is_held_by, is_of_user, owner_host, account_in, was_sent, places_in, places_among}
 use Rattle.sched_book.specs.Count.{is_held}
 use Rattle.sched_book.specs.Desk.{units_from, units_of_user}
@@ -21,7 +21,7 @@ use Rattle.sched_book.specs.declared.instance.Place.{Place}
 use Rattle.sched_book.specs.declared.instance.UnitBook.{UnitBook}
 use Rattle.sched_book.specs.declared.rows.HostRow.{HostRow}
 use Rattle.sched_book.specs.declared.world.World.{World}
-use Rattle.sched_book.proofs.PlacesOf.{nth-suc, changed_nth-suc}
+use Rattle.sched_book.proofs.PlacesOf.{nth-suc, modify_nth-suc}
 
 -- each element by its number
 pub map_from-same : {X Y : Type 0} (n : ℕ) (f g : ℕ → X → Y) → ((m : ℕ) (x : X) → f m x ≡ g m x) → (xs : List X) → map_from n f xs ≡ map_from n g xs
@@ -45,7 +45,7 @@ past f k n (x ∷ xs) before =
     ap (λ (b : Bool). cond b (f x) x ∷ map_from (n + 1) (λ m y. cond (eqb k m) (f y) y) xs) (ne_eqb k n other)
     ∙ ap (λ ys. x ∷ ys) (past f k (n + 1) xs (omega arith))
 
-one : {X : Type 0} (f : X → X) (xs : List X) (i n k : ℕ) → k ≡ i + n → changed_at f xs i ≡ map_from n (λ m x. cond (eqb k m) (f x) x) xs
+one : {X : Type 0} (f : X → X) (xs : List X) (i n k : ℕ) → k ≡ i + n → modify_at f xs i ≡ map_from n (λ m x. cond (eqb k m) (f x) x) xs
 one f [] i n k is = refl
 one f (x ∷ xs) zero n k is =
     let same : k ≡ n = omega arith in
@@ -56,9 +56,9 @@ one f (x ∷ xs) (suc i) n k is =
     ap (λ ys. x ∷ ys) (one f xs i (n + 1) k (omega arith))
     ∙ ap (λ (b : Bool). cond b (f x) x ∷ map_from (n + 1) (λ m y. cond (eqb k m) (f y) y) xs) (sym (ne_eqb k n other))
 
-pub changed_nth-map_from : {X : Type 0} (f : X → X) (xs : List X) (k : ℕ) → changed_nth f xs k ≡ map_from 1 (λ m x. cond (eqb k m) (f x) x) xs
-changed_nth-map_from f xs zero = sym (past f 0 1 xs (omega arith))
-changed_nth-map_from f xs (suc i) = changed_nth-suc f xs i ∙ one f xs i 1 (suc i) (omega arith)
+pub modify_nth-map_from : {X : Type 0} (f : X → X) (xs : List X) (k : ℕ) → modify_nth f xs k ≡ map_from 1 (λ m x. cond (eqb k m) (f x) x) xs
+modify_nth-map_from f xs zero = sym (past f 0 1 xs (omega arith))
+modify_nth-map_from f xs (suc i) = modify_nth-suc f xs i ∙ one f xs i 1 (suc i) (omega arith)
 
 -- an instance that nobody was given
 not_listed : (by : By) (hosts : List HostRow) (x : Instance) → x.owner ≡ None → (n : ℕ) → is_listed_by by hosts n x ≡ false
@@ -76,9 +76,9 @@ listed Host hosts x o is n = ap (λ (o : Option Owner). is_some o && eqb (owner_
 listed User hosts x o is n = ap (λ (o : Option Owner). is_some o && eqb (account_in hosts (owner_host o)) n) is
 
 pub one_more : (by : By) (hosts : List HostRow) (p : Place) (x : Instance) (o : Owner) (g : Given) (ls : List (List Given)) → x.owner ≡ Some o
-    → g ≡ given_as p x → changed_nth (λ (l : List Given). l ++ g ∷ []) ls (number_by by hosts (Some o)) ≡ map_from 1 (λ n. with_given (is_listed_by by hosts n) p x) ls
+    → g ≡ given_as p x → modify_nth (λ (l : List Given). l ++ g ∷ []) ls (number_by by hosts (Some o)) ≡ map_from 1 (λ n. with_given (is_listed_by by hosts n) p x) ls
 one_more by hosts p x o g ls is given =
-    changed_nth-map_from (λ (l : List Given). l ++ g ∷ []) ls (number_by by hosts (Some o))
+    modify_nth-map_from (λ (l : List Given). l ++ g ∷ []) ls (number_by by hosts (Some o))
     ∙ map_from-same 1 _ _ (λ n l. ap (λ (b : Bool). cond b (l ++ g ∷ []) l) (sym (listed by hosts x o is n))
     ∙ ap (λ (h : Given). cond (is_listed_by by hosts n x) (l ++ h ∷ []) l) given) ls
 

@@ -17,3 +17,10 @@ pub mod FirstOfEach
 pub mod Recording
 pub mod MadeNames
 pub mod Fitting
+pub mod PlacesWhere
+pub mod Rising
+pub mod EachName
+pub mod GoodReports
+pub mod PlaceChanges
+pub mod LostPlaces
+pub mod Bounded

@@ -18,7 +18,7 @@ use Rattle.sched_book.specs.declared.instance.UnitBook.{UnitBook}
 use Rattle.sched_book.specs.declared.rows.Agreement.TheVariants.{Exact}
 use Rattle.sched_book.specs.declared.rows.App.{App}
 use Rattle.sched_book.specs.declared.world.World.{World}
-use Rattle.sched_book.proofs.PlacesOf.{nth-push, nth-changed_nth, length-changed_nth, place_where-push, place_where-changed_nth, find-is}
+use Rattle.sched_book.proofs.PlacesOf.{nth-push, nth-modify_nth, length-modify_nth, place_where-push, place_where-modify_nth, find-is}
 
 -- how many workunits stand after one change
 count_one : (w : World) (c : Change) → length (applied_one w c).units ≡ count_after (length w.units) c
@@ -27,7 +27,7 @@ count_one w (change.App a) = refl
 count_one w (change.Version v) = refl
 count_one w (change.Workunit u) = length-append w.units (new_unit u ∷ [])
 count_one w (change.Host number h) = refl
-count_one w (change.Instance p x) = length-changed_nth (with_instance p.number x) w.units p.unit
+count_one w (change.Instance p x) = length-modify_nth (with_instance p.number x) w.units p.unit
 
 -- the workunit at a place after one change
 book_one : (w : World) (unit : ℕ) (c : Change) → unit_at (applied_one w c) unit ≡ book_by unit (length w.units) (unit_at w unit) c
@@ -36,7 +36,7 @@ book_one w unit (change.App a) = refl
 book_one w unit (change.Version v) = refl
 book_one w unit (change.Workunit u) = nth-push w.units (new_unit u) unit
 book_one w unit (change.Host number h) = refl
-book_one w unit (change.Instance p x) = nth-changed_nth (with_instance p.number x) w.units p.unit unit
+book_one w unit (change.Instance p x) = nth-modify_nth (with_instance p.number x) w.units p.unit unit
 
 pub unit_at-applied : (w : World) (unit : ℕ) (cs : List Change) → unit_at (applied w cs) unit ≡ book_after unit (length w.units) (unit_at w unit) cs
 unit_at-applied w unit [] = refl
@@ -62,7 +62,7 @@ place_one w name (change.Version v) = kept (unit_named w name)
 place_one w name (change.Workunit u) = place_where-push (λ (b : UnitBook). bytes_eq b.unit.name name) w.units (new_unit u)
 place_one w name (change.Host number h) = kept (unit_named w name)
 place_one w name (change.Instance p x) =
-    place_where-changed_nth (λ (b : UnitBook). bytes_eq b.unit.name name) (with_instance p.number x) (λ b. refl) w.units p.unit
+    place_where-modify_nth (λ (b : UnitBook). bytes_eq b.unit.name name) (with_instance p.number x) (λ b. refl) w.units p.unit
     ∙ kept (unit_named w name)
 
 place_on : (o : Option ℕ) (n : ℕ) (name : List ℕ) (c : Change) (cs : List Change)

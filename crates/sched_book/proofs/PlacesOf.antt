@@ -7,7 +7,7 @@ use Rattle.std.specs.Prelude.{find, option_map, option_and_then, slice_get}
 use Rattle.std.specs.Option.{option_or}
 use Rattle.std.specs.List.{position_from}
 use Rattle.sched_book.specs.Places.{nth, place_where}
-use Rattle.sched_book.specs.Reports.{changed_at, changed_nth}
+use Rattle.sched_book.specs.Reports.{modify_at, modify_nth}
 
 -- what stands at a place after zero
 pub nth-suc : {X : Type 0} (xs : List X) (i : ℕ) → nth xs (suc i) ≡ slice_get xs i
@@ -15,10 +15,10 @@ nth-suc xs i =
     ap (λ (b : Bool). cond b None (slice_get xs (suc i - 1))) (eqb-suc-zero i)
     ∙ ap (slice_get xs) (let same : suc i - 1 ≡ i = omega arith in same)
 
-pub changed_nth-suc : {X : Type 0} (f : X → X) (xs : List X) (i : ℕ) → changed_nth f xs (suc i) ≡ changed_at f xs i
-changed_nth-suc f xs i =
-    ap (λ (b : Bool). cond b xs (changed_at f xs (suc i - 1))) (eqb-suc-zero i)
-    ∙ ap (changed_at f xs) (let same : suc i - 1 ≡ i = omega arith in same)
+pub modify_nth-suc : {X : Type 0} (f : X → X) (xs : List X) (i : ℕ) → modify_nth f xs (suc i) ≡ modify_at f xs i
+modify_nth-suc f xs i =
+    ap (λ (b : Bool). cond b xs (modify_at f xs (suc i - 1))) (eqb-suc-zero i)
+    ∙ ap (modify_at f xs) (let same : suc i - 1 ≡ i = omega arith in same)
 
 -- one element more, behind the others
 slice_get-push : {X : Type 0} (xs : List X) (x : X) (i : ℕ) → slice_get (xs ++ x ∷ []) i ≡ cond (eqb (length xs) i) (Some x) (slice_get xs i)
@@ -39,39 +39,39 @@ nth-push xs x (suc i) =
     ∙ ap (λ (b : Bool). cond b (Some x) (nth xs (suc i))) (eqb-suc-suc (length xs) i))
 
 -- one element changed
-length-changed_at : {X : Type 0} (f : X → X) (xs : List X) (i : ℕ) → length (changed_at f xs i) ≡ length xs
-length-changed_at f [] i = refl
-length-changed_at f (x ∷ xs) zero = refl
-length-changed_at f (x ∷ xs) (suc i) = ap suc (length-changed_at f xs i)
+length-modify_at : {X : Type 0} (f : X → X) (xs : List X) (i : ℕ) → length (modify_at f xs i) ≡ length xs
+length-modify_at f [] i = refl
+length-modify_at f (x ∷ xs) zero = refl
+length-modify_at f (x ∷ xs) (suc i) = ap suc (length-modify_at f xs i)
 
-pub length-changed_nth : {X : Type 0} (f : X → X) (xs : List X) (n : ℕ) → length (changed_nth f xs n) ≡ length xs
-length-changed_nth f xs zero = refl
-length-changed_nth f xs (suc i) = ap length (changed_nth-suc f xs i) ∙ length-changed_at f xs i
+pub length-modify_nth : {X : Type 0} (f : X → X) (xs : List X) (n : ℕ) → length (modify_nth f xs n) ≡ length xs
+length-modify_nth f xs zero = refl
+length-modify_nth f xs (suc i) = ap length (modify_nth-suc f xs i) ∙ length-modify_at f xs i
 
 pub same_none : {X : Type 0} (b : Bool) (o : Option X) → o ≡ cond b o o
 same_none true o = refl
 same_none false o = refl
 
-pub slice_get-changed_at : {X : Type 0} (f : X → X) (xs : List X) (i j : ℕ)
-    → slice_get (changed_at f xs i) j ≡ cond (eqb i j) (option_map f (slice_get xs j)) (slice_get xs j)
-slice_get-changed_at f [] i j = same_none (eqb i j) None
-slice_get-changed_at f (x ∷ xs) zero zero = refl
-slice_get-changed_at f (x ∷ xs) zero (suc j) =
+pub slice_get-modify_at : {X : Type 0} (f : X → X) (xs : List X) (i j : ℕ)
+    → slice_get (modify_at f xs i) j ≡ cond (eqb i j) (option_map f (slice_get xs j)) (slice_get xs j)
+slice_get-modify_at f [] i j = same_none (eqb i j) None
+slice_get-modify_at f (x ∷ xs) zero zero = refl
+slice_get-modify_at f (x ∷ xs) zero (suc j) =
     sym (ap (λ (b : Bool). cond b (option_map f (slice_get xs j)) (slice_get xs j)) (eqb-zero-suc j))
-slice_get-changed_at f (x ∷ xs) (suc i) zero = sym (ap (λ (b : Bool). cond b (Some (f x)) (Some x)) (eqb-suc-zero i))
-slice_get-changed_at f (x ∷ xs) (suc i) (suc j) =
-    slice_get-changed_at f xs i j
+slice_get-modify_at f (x ∷ xs) (suc i) zero = sym (ap (λ (b : Bool). cond b (Some (f x)) (Some x)) (eqb-suc-zero i))
+slice_get-modify_at f (x ∷ xs) (suc i) (suc j) =
+    slice_get-modify_at f xs i j
     ∙ sym (ap (λ (b : Bool). cond b (option_map f (slice_get xs j)) (slice_get xs j)) (eqb-suc-suc i j))
 
-pub nth-changed_nth : {X : Type 0} (f : X → X) (xs : List X) (n m : ℕ)
-    → nth (changed_nth f xs n) m ≡ cond (eqb n m) (option_map f (nth xs m)) (nth xs m)
-nth-changed_nth f xs zero zero = refl
-nth-changed_nth f xs zero (suc j) = sym (ap (λ (b : Bool). cond b (option_map f (nth xs (suc j))) (nth xs (suc j))) (eqb-zero-suc j))
-nth-changed_nth f xs (suc i) zero = sym (ap (λ (b : Bool). cond b None None) (eqb-suc-zero i))
-nth-changed_nth f xs (suc i) (suc j) =
-    ap (λ ys. nth ys (suc j)) (changed_nth-suc f xs i)
-    ∙ nth-suc (changed_at f xs i) j
-    ∙ slice_get-changed_at f xs i j
+pub nth-modify_nth : {X : Type 0} (f : X → X) (xs : List X) (n m : ℕ)
+    → nth (modify_nth f xs n) m ≡ cond (eqb n m) (option_map f (nth xs m)) (nth xs m)
+nth-modify_nth f xs zero zero = refl
+nth-modify_nth f xs zero (suc j) = sym (ap (λ (b : Bool). cond b (option_map f (nth xs (suc j))) (nth xs (suc j))) (eqb-zero-suc j))
+nth-modify_nth f xs (suc i) zero = sym (ap (λ (b : Bool). cond b None None) (eqb-suc-zero i))
+nth-modify_nth f xs (suc i) (suc j) =
+    ap (λ ys. nth ys (suc j)) (modify_nth-suc f xs i)
+    ∙ nth-suc (modify_at f xs i) j
+    ∙ slice_get-modify_at f xs i j
     ∙ ap (λ o. cond (eqb i j) (option_map f o) o) (sym (nth-suc xs j))
     ∙ sym (ap (λ (b : Bool). cond b (option_map f (nth xs (suc j))) (nth xs (suc j))) (eqb-suc-suc i j))
 
@@ -108,19 +108,19 @@ place_where-push p xs x =
     ∙ ap (λ o. option_or o (cond (p x) (Some (length xs + 1)) None)) (sym (place_where-is p xs))
 
 -- a change that the test does not see
-position_from-changed_at : {X : Type 0} (p : X → Bool) (f : X → X) → ((x : X) → p (f x) ≡ p x) → (n : ℕ) (xs : List X) (i : ℕ)
-    → position_from p n (changed_at f xs i) ≡ position_from p n xs
-position_from-changed_at p f same n [] i = refl
-position_from-changed_at p f same n (x ∷ xs) zero = ap (λ (b : Bool). cond b (Some n) (position_from p (n + 1) xs)) (same x)
-position_from-changed_at p f same n (x ∷ xs) (suc i) = ap (λ o. cond (p x) (Some n) o) (position_from-changed_at p f same (n + 1) xs i)
+position_from-modify_at : {X : Type 0} (p : X → Bool) (f : X → X) → ((x : X) → p (f x) ≡ p x) → (n : ℕ) (xs : List X) (i : ℕ)
+    → position_from p n (modify_at f xs i) ≡ position_from p n xs
+position_from-modify_at p f same n [] i = refl
+position_from-modify_at p f same n (x ∷ xs) zero = ap (λ (b : Bool). cond b (Some n) (position_from p (n + 1) xs)) (same x)
+position_from-modify_at p f same n (x ∷ xs) (suc i) = ap (λ o. cond (p x) (Some n) o) (position_from-modify_at p f same (n + 1) xs i)
 
-pub place_where-changed_nth : {X : Type 0} (p : X → Bool) (f : X → X) → ((x : X) → p (f x) ≡ p x) → (xs : List X) (n : ℕ)
-    → place_where p (changed_nth f xs n) ≡ place_where p xs
-place_where-changed_nth p f same xs zero = refl
-place_where-changed_nth p f same xs (suc i) =
-    ap (place_where p) (changed_nth-suc f xs i)
-    ∙ place_where-is p (changed_at f xs i)
-    ∙ position_from-changed_at p f same 1 xs i
+pub place_where-modify_nth : {X : Type 0} (p : X → Bool) (f : X → X) → ((x : X) → p (f x) ≡ p x) → (xs : List X) (n : ℕ)
+    → place_where p (modify_nth f xs n) ≡ place_where p xs
+place_where-modify_nth p f same xs zero = refl
+place_where-modify_nth p f same xs (suc i) =
+    ap (place_where p) (modify_nth-suc f xs i)
+    ∙ place_where-is p (modify_at f xs i)
+    ∙ position_from-modify_at p f same 1 xs i
     ∙ sym (place_where-is p xs)
 
 -- the first that passes stands at the first place that passes

@@ -13,7 +13,7 @@ use Rattle.sched_book.specs.declared.instance.Instance.{Instance}
 use Rattle.sched_book.specs.declared.instance.Place.{Place}
 use Rattle.sched_book.specs.declared.instance.UnitBook.{UnitBook}
 use Rattle.sched_book.specs.declared.world.World.{World}
-use Rattle.sched_book.proofs.PlacesOf.{nth-changed_nth, slice_get-changed_at, same_none}
+use Rattle.sched_book.proofs.PlacesOf.{nth-modify_nth, slice_get-modify_at, same_none}
 use Rattle.sched_book.proofs.Newest.{none_in_nothing, in_front, behind, front_of}
 
 -- the instance at a place after a change at another or the same one
@@ -21,13 +21,13 @@ in_unit : (f : Instance → Instance) (m n : ℕ) (b : Bool) (o : Option UnitBoo
     → option_and_then (λ (u : UnitBook). slice_get u.instances n) (cond b (option_map (with_number f m) o) o)
     ≡ cond (b && eqb m n) (option_map f (option_and_then (λ (u : UnitBook). slice_get u.instances n) o)) (option_and_then (λ (u : UnitBook). slice_get u.instances n) o)
 in_unit f m n true None = same_none (eqb m n) None
-in_unit f m n true (Some u) = slice_get-changed_at f u.instances m n
+in_unit f m n true (Some u) = slice_get-modify_at f u.instances m n
 in_unit f m n false o = refl
 
 pub instance_at-with_changed : (f : Instance → Instance) (w : World) (q p : Place)
     → instance_at (with_changed f w q) p ≡ cond (is_same q p) (option_map f (instance_at w p)) (instance_at w p)
 instance_at-with_changed f w q p =
-    ap (option_and_then (λ (u : UnitBook). slice_get u.instances p.number)) (nth-changed_nth (with_number f q.number) w.units q.unit p.unit)
+    ap (option_and_then (λ (u : UnitBook). slice_get u.instances p.number)) (nth-modify_nth (with_number f q.number) w.units q.unit p.unit)
     ∙ in_unit f q.number p.number (eqb q.unit p.unit) (unit_at w p.unit)
 
 -- places that are the same are equal

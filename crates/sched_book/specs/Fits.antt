@@ -1,9 +1,9 @@
 -- What a host can run. The bounds are those of BOINC's workunits; how they are compared is this profile's.
-use Rattle.std.specs.Prelude.{ℕ, ◌+◌, ◌-◌, ◌/◌, max, Bool, not, ◌&&◌, nat_le, if◌then◌else◌, List, [], ◌∷◌, filter, fold, Option, Some, None, option_and_then, is_some, is_none}
+use Rattle.std.specs.Prelude.{ℕ, ◌+◌, ◌-◌, ◌/◌, max, Bool, not, ◌&&◌, nat_le, if◌then◌else◌, List, [], ◌∷◌, filter, fold, Option, Some, None, option_and_then, option_map, is_some, is_none, unwrap_or}
 use Rattle.std.specs.List.{list_any}
 use Rattle.std.specs.Str.{bytes_eq}
 use Rattle.sched_book.specs.Count.{is_open}
-use Rattle.sched_book.specs.Places.{nth, status_of, user_had, passes}
+use Rattle.sched_book.specs.Places.{nth, unit_at, status_of, user_had, passes}
 use Rattle.sched_book.specs.declared.rows.HostRow.{HostRow}
 use Rattle.sched_book.specs.declared.rows.Version.{Version}
 use Rattle.sched_book.specs.declared.rows.Workunit.{Workunit}
@@ -14,6 +14,10 @@ use Rattle.sched_book.specs.declared.world.World.{World}
 -- the seconds that the work takes at this speed, rounded up, and at least one
 abbrev pub estimate : ℕ → ℕ → ℕ
 estimate fpops p_fpops = max 1 ((fpops + p_fpops - 1) / p_fpops)
+
+-- the seconds of the instance at a place on a host
+abbrev pub estimate_at : World → HostRow → Place → ℕ
+estimate_at w h p = unwrap_or (option_map (λ b. estimate b.unit.rsc_fpops_est h.p_fpops) (unit_at w p.unit)) 0
 
 -- the newer of the best so far and one more version, the best so far where they are equal
 abbrev pub newer : Option Version → Version → Option Version

@@ -2,7 +2,7 @@
 use Rattle.std.specs.Prelude.{ℕ, ◌+◌, ◌/◌, ◌<◌, ◌≤◌, Bool, ◌||◌, ◌==◌, nat_le, if◌then◌else◌, IsTrue, List, length, take, sum_by, filter, All, AllPairs, EachIndex, unwrap_or, option_map}
 use Rattle.std.specs.List.{list_any, list_all}
 use Rattle.sched_book.specs.Places.{places, unit_at, sent_on_day, is_before, is_same}
-use Rattle.sched_book.specs.Fits.{is_eligible, estimate}
+use Rattle.sched_book.specs.Fits.{is_eligible, estimate_at}
 use Rattle.rpc_records.specs.declared.reply.EndWord.{EndWord}
 use Rattle.rpc_records.specs.declared.reply.EndWord.TheVariants.{Enough, ReplyLimit, InProgressLimit, DailyQuota, NoEligibleWork}
 use Rattle.sched_book.specs.declared.rows.HostRow.{HostRow}
@@ -22,13 +22,9 @@ pub record Asking : Type 0 where
   pub asked : ℕ
   pub now : ℕ
 
--- the seconds of the instance at a place on the host that asks
-abbrev pub seconds_at : World → Asking → Place → ℕ
-seconds_at w q p = unwrap_or (option_map (λ b. estimate b.unit.rsc_fpops_est q.host.p_fpops) (unit_at w p.unit)) 0
-
 -- the seconds of the jobs that are sent again and of these
 abbrev pub seconds_of : World → Asking → List Place → ℕ
-seconds_of w q jobs = q.before + sum_by (seconds_at w q) jobs
+seconds_of w q jobs = q.before + sum_by (estimate_at w q.host) jobs
 
 abbrev pub sent_today : World → Asking → ℕ
 sent_today w q = sent_on_day w q.number (q.now / 86400)

@@ -4,7 +4,7 @@ use Rattle.std.specs.List.{list_any}
 use Rattle.std.specs.Str.{bytes_eq}
 use Rattle.rpc_records.specs.declared.fault.Fault.{Fault}
 use Rattle.rpc_records.specs.declared.fault.Fault.TheVariants.{DuplicateName, UnknownReference, TableFull}
-use Rattle.sched_book.specs.Limits.{AreRowsInLimits}
+use Rattle.sched_book.specs.Limits.{most_accounts, most_apps, most_versions, most_workunits, AreRowsInLimits}
 use Rattle.sched_book.specs.Places.{place_where}
 use Rattle.sched_book.specs.Settle.{fresh}
 use Rattle.sched_book.specs.declared.instance.UnitBook.{UnitBook}
@@ -75,7 +75,9 @@ unknown_at s (rows.Workunits xs) = place_where (λ (u : Workunit). not (has_app 
 
 -- no table has more rows than it may have
 abbrev pub has_room : Shelf → Bool
-has_room s = nat_le (length s.accounts) 10000 && nat_le (length s.apps) 100 && nat_le (length s.versions) 1000 && nat_le (length s.units) 200000
+has_room s =
+    nat_le (length s.accounts) most_accounts && nat_le (length s.apps) most_apps
+    && nat_le (length s.versions) most_versions && nat_le (length s.units) most_workunits
 
 -- a duplicate name comes before an unknown reference, and that before a full table
 abbrev pub first_fault : Option ℕ → Option ℕ → Bool → Option Fault
@@ -88,7 +90,7 @@ first_fault None None true = None
 abbrev pub fault_of_rows : Shelf → Rows → Option Fault
 fault_of_rows s new = first_fault (duplicate_at s new) (unknown_at s new) (has_room (shelved s new))
 
--- the rows are such as an import may add: their numbers in range, and nothing to refuse
+-- the rows are such as an import may add: their values in range, and nothing to refuse
 pub record AreChecked (w : World) (new : Rows) : Type 0 where
   pub in_limits : AreRowsInLimits new
   pub unrefused : fault_of_rows (shelf_of w) new ≡ None

@@ -6,7 +6,7 @@ use Rattle.sched_book.specs.Fits.{is_version_for, version_among}
 use Rattle.std.specs.Str.{bytes_eq}
 use Rattle.rpc_records.specs.declared.request.Report.{Report}
 use Rattle.sched_book.specs.Names.{instance_name, name_parts}
-use Rattle.sched_book.specs.Limits.{IsBounded}
+use Rattle.sched_book.specs.Limits.{most_hosts, IsBounded}
 use Rattle.sched_book.specs.Delta.{applied, Fits}
 use Rattle.sched_book.specs.declared.delta.Change.{Change}
 use Rattle.sched_book.specs.Count.{has_failed}
@@ -114,4 +114,4 @@ SplitNamesAreMade = (name unit : List ℕ) (number : ℕ) → name_parts name �
 
 -- changes that fit keep every table within its bounds
 abbrev pub FittingKeepsBounds : Type 0
-FittingKeepsBounds = (w : World) (changes : List Change) → w.settings.max_hosts ≤ 100000 → IsBounded w → Fits w changes → IsBounded (applied w changes)
+FittingKeepsBounds = (w : World) (changes : List Change) → w.settings.max_hosts ≤ most_hosts → IsBounded w → Fits w changes → IsBounded (applied w changes)

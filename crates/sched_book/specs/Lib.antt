@@ -10,11 +10,15 @@ pub mod Settle
 pub mod Limits
 pub mod Imports
 pub mod Step
+pub mod Calls
 pub mod Sound
 pub mod Offers
 pub mod Delta
 pub mod Desk
+pub mod Trusted
 pub mod Given
 pub mod Undo
 pub mod Patched
 pub mod Laws
+pub mod PlaceLaws
+pub mod Bounds

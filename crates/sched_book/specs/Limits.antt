@@ -1,9 +1,16 @@
--- The ranges of the numbers of a world. They are this profile's.
-use Rattle.std.specs.Prelude.{ℕ, ◌^◌, ◌≤◌, length, All}
-use Rattle.sched_book.specs.Count.{told_place}
+-- The ranges of the values of a world. They are this profile's, and stand here alone: rows that are read, changes that
+-- fit and worlds that are sound cite them.
+use Rattle.std.specs.Prelude.{ℕ, ◌^◌, ◌≤◌, Bool, ◌&&◌, nat_le, IsTrue, List, length, All}
+use Rattle.rpc_records.specs.Members.{is_output}
+use Rattle.rpc_records.specs.Ranges.{IsWord}
+use Rattle.sched_book.specs.Count.{is_judged, told_output, told_place}
 use Rattle.sched_book.specs.Places.{deadline_of, sent_at}
 use Rattle.sched_book.specs.declared.instance.Instance.{Instance}
 use Rattle.sched_book.specs.declared.instance.UnitBook.{UnitBook}
+use Rattle.sched_book.specs.declared.rows.Account.{Account}
+use Rattle.sched_book.specs.declared.rows.Agreement.{Agreement}
+use Rattle.sched_book.specs.declared.rows.Agreement.TheVariants.{Exact, Within}
+use Rattle.sched_book.specs.declared.rows.App.{App}
 use Rattle.sched_book.specs.declared.rows.HostRow.{HostRow}
 use Rattle.sched_book.specs.declared.rows.Rows.{Rows}
 use Rattle.sched_book.specs.declared.rows.Rows.TheVariants as rows
@@ -12,54 +19,141 @@ use Rattle.sched_book.specs.declared.rows.Workunit.{Workunit}
 use Rattle.sched_book.specs.declared.settings.Settings.{Settings}
 use Rattle.sched_book.specs.declared.world.World.{World}
 
-pub record AreSettingsInLimits (s : Settings) : Type 0 where
-  pub quota : (1 ≤ s.daily_result_quota) × (s.daily_result_quota ≤ 1000000)
-  pub hosts : (1 ≤ s.max_hosts) × (s.max_hosts ≤ 100000)
-  pub in_progress : (1 ≤ s.max_wus_in_progress) × (s.max_wus_in_progress ≤ 1000)
-  pub to_send : (1 ≤ s.max_wus_to_send) × (s.max_wus_to_send ≤ 100)
-  pub delay : s.request_delay ≤ 2592000
+-- the most rows of each table
+abbrev pub most_accounts : ℕ
+most_accounts = 10000
 
-abbrev pub IsVersionInLimits : Version → Type 0
-IsVersionInLimits v = (1 ≤ v.version_num) × (v.version_num ≤ 1000000)
+abbrev pub most_apps : ℕ
+most_apps = 100
+
+abbrev pub most_versions : ℕ
+most_versions = 1000
+
+abbrev pub most_workunits : ℕ
+most_workunits = 200000
+
+abbrev pub most_hosts : ℕ
+most_hosts = 100000
+
+-- the most instances of a workunit, and the most that any of its counts may ask for
+abbrev pub most_instances : ℕ
+most_instances = 100
+
+-- the last moment of an arrival, and the last deadline, in seconds
+abbrev pub last_moment : ℕ
+last_moment = 250000000000
+
+abbrev pub last_deadline : ℕ
+last_deadline = 250100000000
+
+-- the most of a workunit's and of a host's amounts: operations, bytes
+abbrev pub most_amount : ℕ
+most_amount = 10 ^ 18
+
+-- the longest delay bound, in seconds
+abbrev pub most_delay : ℕ
+most_delay = 100000000
+
+-- the most millicredits for one result
+abbrev pub most_credit : ℕ
+most_credit = 100000000
+
+abbrev pub most_version_num : ℕ
+most_version_num = 1000000
+
+-- the most that two outputs may be apart and agree
+abbrev pub most_distance : ℕ
+most_distance = 1000000000
+
+abbrev pub most_quota : ℕ
+most_quota = 1000000
+
+abbrev pub most_in_progress : ℕ
+most_in_progress = 1000
+
+abbrev pub most_to_send : ℕ
+most_to_send = 100
+
+-- the most seconds that a client may be told to wait
+abbrev pub most_request_delay : ℕ
+most_request_delay = 2592000
+
+abbrev pub most_platforms : ℕ
+most_platforms = 8
+
+pub record AreSettingsInLimits (s : Settings) : Type 0 where
+  pub quota : (1 ≤ s.daily_result_quota) × (s.daily_result_quota ≤ most_quota)
+  pub hosts : (1 ≤ s.max_hosts) × (s.max_hosts ≤ most_hosts)
+  pub in_progress : (1 ≤ s.max_wus_in_progress) × (s.max_wus_in_progress ≤ most_in_progress)
+  pub to_send : (1 ≤ s.max_wus_to_send) × (s.max_wus_to_send ≤ most_to_send)
+  pub delay : s.request_delay ≤ most_request_delay
+
+-- a volunteer's name has 1 to 64 bytes
+abbrev pub is_user_name : List ℕ → Bool
+is_user_name text = nat_le 1 (length text) && nat_le (length text) 64
+
+pub record IsAccountInLimits (a : Account) : Type 0 where
+  pub authenticator : IsWord a.authenticator
+  pub name : IsTrue (is_user_name a.name)
+
+-- how far apart two outputs may be that agree
+abbrev pub distance_of : Agreement → ℕ
+distance_of Exact = 0
+distance_of (Within n) = n
+
+pub record IsAppInLimits (a : App) : Type 0 where
+  pub name : IsWord a.name
+  pub distance : distance_of a.agreement ≤ most_distance
+
+pub record IsVersionInLimits (v : Version) : Type 0 where
+  pub app : IsWord v.app
+  pub platform : IsWord v.platform
+  pub number : (1 ≤ v.version_num) × (v.version_num ≤ most_version_num)
 
 pub record IsUnitInLimits (u : Workunit) : Type 0 where
-  pub quorum : (1 ≤ u.min_quorum) × (u.min_quorum ≤ 100)
-  pub target : (u.min_quorum ≤ u.target_nresults) × (u.target_nresults ≤ 100)
-  pub errors : u.max_error_results ≤ 100
-  pub total : (u.target_nresults ≤ u.max_total_results) × (u.max_total_results ≤ 100)
-  pub successes : u.max_success_results ≤ 100
-  pub delay : (1 ≤ u.delay_bound) × (u.delay_bound ≤ 100000000)
-  pub work : (1 ≤ u.rsc_fpops_est) × (u.rsc_fpops_est ≤ 10 ^ 18)
-  pub memory : u.rsc_memory_bound ≤ 10 ^ 18
-  pub disk : u.rsc_disk_bound ≤ 10 ^ 18
-  pub credit : u.credit ≤ 100000000
+  pub name : IsWord u.name
+  pub app : IsWord u.app
+  pub quorum : (1 ≤ u.min_quorum) × (u.min_quorum ≤ most_instances)
+  pub target : (u.min_quorum ≤ u.target_nresults) × (u.target_nresults ≤ most_instances)
+  pub errors : u.max_error_results ≤ most_instances
+  pub total : (u.target_nresults ≤ u.max_total_results) × (u.max_total_results ≤ most_instances)
+  pub successes : u.max_success_results ≤ most_instances
+  pub delay : (1 ≤ u.delay_bound) × (u.delay_bound ≤ most_delay)
+  pub work : (1 ≤ u.rsc_fpops_est) × (u.rsc_fpops_est ≤ most_amount)
+  pub memory : u.rsc_memory_bound ≤ most_amount
+  pub disk : u.rsc_disk_bound ≤ most_amount
+  pub credit : u.credit ≤ most_credit
 
 -- the rows of an import
 abbrev pub AreRowsInLimits : Rows → Type 0
-AreRowsInLimits (rows.Accounts xs) = Unit {0}
-AreRowsInLimits (rows.Apps xs) = Unit {0}
+AreRowsInLimits (rows.Accounts xs) = All IsAccountInLimits xs
+AreRowsInLimits (rows.Apps xs) = All IsAppInLimits xs
 AreRowsInLimits (rows.Versions xs) = All IsVersionInLimits xs
 AreRowsInLimits (rows.Workunits xs) = All IsUnitInLimits xs
 
 -- a host, under a limit of its quota
 pub record IsHostInLimits (limit : ℕ) (h : HostRow) : Type 0 where
-  pub speed : (1 ≤ h.p_fpops) × (h.p_fpops ≤ 10 ^ 18)
-  pub memory : h.m_nbytes ≤ 10 ^ 18
-  pub disk : h.d_free ≤ 10 ^ 18
-  pub platforms : (1 ≤ length h.platforms) × (length h.platforms ≤ 8)
+  pub cpid : IsWord h.cpid
+  pub speed : (1 ≤ h.p_fpops) × (h.p_fpops ≤ most_amount)
+  pub memory : h.m_nbytes ≤ most_amount
+  pub disk : h.d_free ≤ most_amount
+  pub platforms : (1 ≤ length h.platforms) × (length h.platforms ≤ most_platforms)
+  pub words : All IsWord h.platforms
   pub quota : (1 ≤ h.quota) × (h.quota ≤ limit)
 
--- the moment of sending, the deadline, and the place of the report
+-- the moment of sending, the deadline, what was reported and the place of a judged report
 pub record IsInstanceInLimits (x : Instance) : Type 0 where
-  pub sent : sent_at x.owner ≤ 250000000000
-  pub deadline : deadline_of x.owner ≤ 250100000000
-  pub place : told_place x.report ≤ 100
+  pub sent : sent_at x.owner ≤ last_moment
+  pub deadline : deadline_of x.owner ≤ last_deadline
+  pub output : IsTrue (is_output (told_output x.report))
+  pub place : told_place x.report ≤ most_instances
+  pub judged : IsTrue (is_judged x) → 1 ≤ told_place x.report
 
 -- no list is longer than its table may be
 pub record IsBounded (w : World) : Type 0 where
-  pub accounts : length w.accounts ≤ 10000
-  pub apps : length w.apps ≤ 100
-  pub versions : length w.versions ≤ 1000
-  pub hosts : length w.hosts ≤ 100000
-  pub units : length w.units ≤ 200000
-  pub instances : All (λ (b : UnitBook). length b.instances ≤ 100) w.units
+  pub accounts : length w.accounts ≤ most_accounts
+  pub apps : length w.apps ≤ most_apps
+  pub versions : length w.versions ≤ most_versions
+  pub hosts : length w.hosts ≤ most_hosts
+  pub units : length w.units ≤ most_workunits
+  pub instances : All (λ (b : UnitBook). length b.instances ≤ most_instances) w.units

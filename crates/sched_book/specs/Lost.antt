@@ -5,7 +5,7 @@ use Rattle.std.specs.List.{list_any}
 use Rattle.std.specs.Str.{bytes_eq}
 use Rattle.sched_book.specs.Count.{is_open, has_failed}
 use Rattle.sched_book.specs.Places.{unit_at, passes, held_by, status_at, place_named, name_at}
-use Rattle.sched_book.specs.Fits.{estimate, unit_fits}
+use Rattle.sched_book.specs.Fits.{unit_fits, estimate_at}
 use Rattle.sched_book.specs.Reports.{with_changed, first_of_each, awaits_report}
 use Rattle.sched_book.specs.declared.rows.HostRow.{HostRow}
 use Rattle.sched_book.specs.declared.instance.Instance.{Instance}
@@ -32,10 +32,7 @@ lost w host names = if w.settings.resend_lost_results then unlisted w host names
 abbrev pub is_resent : World → HostRow → Place → Bool
 is_resent entry h p = unwrap_or (option_map (λ b. is_open (status_at entry p.unit) && unit_fits entry h b) (unit_at entry p.unit)) false
 
--- the seconds of the instance at a place on a host, and from its sending to its deadline
-abbrev pub estimate_at : World → HostRow → Place → ℕ
-estimate_at w h p = unwrap_or (option_map (λ b. estimate b.unit.rsc_fpops_est h.p_fpops) (unit_at w p.unit)) 0
-
+-- the seconds from the sending of the instance at a place to its deadline
 abbrev pub delay_at : World → Place → ℕ
 delay_at w p = unwrap_or (option_map (λ b. b.unit.delay_bound) (unit_at w p.unit)) 0
 

@@ -12,22 +12,22 @@ use Rattle.sched_book.specs.declared.instance.UnitBook.{UnitBook}
 use Rattle.sched_book.specs.declared.world.World.{World}
 
 -- the list with f of the element at an index
-abbrev pub changed_at : {X : Type 0} → (X → X) → List X → ℕ → List X
-changed_at f [] i = []
-changed_at f (x ∷ xs) zero = f x ∷ xs
-changed_at f (x ∷ xs) (suc i) = x ∷ changed_at f xs i
+abbrev pub modify_at : {X : Type 0} → (X → X) → List X → ℕ → List X
+modify_at f [] i = []
+modify_at f (x ∷ xs) zero = f x ∷ xs
+modify_at f (x ∷ xs) (suc i) = x ∷ modify_at f xs i
 
 -- the same where places count from 1; at place 0 nothing changes
-abbrev pub changed_nth : {X : Type 0} → (X → X) → List X → ℕ → List X
-changed_nth f xs n = if n == 0 then xs else changed_at f xs (n - 1)
+abbrev pub modify_nth : {X : Type 0} → (X → X) → List X → ℕ → List X
+modify_nth f xs n = if n == 0 then xs else modify_at f xs (n - 1)
 
 -- a workunit with f of the instance of a number
 abbrev pub with_number : (Instance → Instance) → ℕ → UnitBook → UnitBook
-with_number f number b = record b { instances = changed_at f b.instances number }
+with_number f number b = record b { instances = modify_at f b.instances number }
 
 -- the world with f of the instance at a place; where none stands nothing changes
 abbrev pub with_changed : (Instance → Instance) → World → Place → World
-with_changed f w p = record w { units = changed_nth (with_number f p.number) w.units p.unit }
+with_changed f w p = record w { units = modify_nth (with_number f p.number) w.units p.unit }
 
 -- the elements with a text that none before them has, beyond the texts that were seen
 abbrev pub first_of_each : {X : Type 0} → (X → List ℕ) → List (List ℕ) → List X → List X

@@ -3,7 +3,7 @@ use Rattle.std.specs.Prelude.{◌≡◌, ◌≢◌, ℕ, ◌+◌, ◌<◌, ◌�
 use Rattle.std.specs.List.{list_any}
 use Rattle.sched_book.specs.Count.{is_open, need, is_judged, told_place}
 use Rattle.sched_book.specs.Places.{nth, book_status, account_in, owner_host}
-use Rattle.sched_book.specs.Limits.{AreSettingsInLimits, IsVersionInLimits, IsUnitInLimits, IsHostInLimits, IsInstanceInLimits}
+use Rattle.sched_book.specs.Limits.{most_accounts, most_apps, most_versions, most_workunits, most_instances, AreSettingsInLimits, IsAccountInLimits, IsAppInLimits, IsVersionInLimits, IsUnitInLimits, IsHostInLimits, IsInstanceInLimits}
 use Rattle.sched_book.specs.Imports.{has_app, same_version}
 use Rattle.sched_book.specs.declared.instance.Instance.{Instance}
 use Rattle.sched_book.specs.declared.instance.UnitBook.{UnitBook}
@@ -29,10 +29,9 @@ HasOwnerAmong hosts x = IsTrue (is_some x.owner) → IsTrue (is_some (nth hosts 
 abbrev pub has_place : List Instance → ℕ → Bool
 has_place xs n = list_any (λ x. is_judged x && (told_place x.report == n)) xs
 
--- A workunit with its instances, where these are the hosts and applications.
-pub record IsSoundUnit (hosts : List HostRow) (apps : List App) (b : UnitBook) : Type 0 where
-  -- an open workunit has all instances that it needs
-  pub satisfied : IsTrue (is_open (book_status apps b)) → need b.unit b.instances ≡ 0
+-- A workunit with its instances, where these are the hosts and applications: all but that it has the instances that it
+-- needs, which holds between two steps and not within one.
+pub record IsWellUnit (hosts : List HostRow) (apps : List App) (b : UnitBook) : Type 0 where
   pub one_for_each_user : AllPairs (AreOfOtherUsers hosts) b.instances
   -- the places of the judged reports are 1 up to their count
   pub places : (n : ℕ) → n < count_by is_judged b.instances → IsTrue (has_place b.instances (n + 1))
@@ -40,9 +39,14 @@ pub record IsSoundUnit (hosts : List HostRow) (apps : List App) (b : UnitBook) :
   pub bare : All IsBare b.instances
   pub owners : All (HasOwnerAmong hosts) b.instances
   pub app : IsTrue (has_app apps b.unit.app)
-  pub few : length b.instances ≤ 100
+  pub few : length b.instances ≤ most_instances
   pub limits : IsUnitInLimits b.unit
   pub instances : All IsInstanceInLimits b.instances
+
+-- A sound workunit is a well one that has all instances that it needs while it is open.
+pub record IsSoundUnit (hosts : List HostRow) (apps : List App) (b : UnitBook) : Type 0 where
+  pub well : IsWellUnit hosts apps b
+  pub satisfied : IsTrue (is_open (book_status apps b)) → need b.unit b.instances ≡ 0
 
 -- A host, where there are so many accounts, and its quota has this limit.
 pub record IsSoundHost (accounts limit : ℕ) (h : HostRow) : Type 0 where
@@ -57,11 +61,13 @@ pub record IsSoundVersion (apps : List App) (v : Version) : Type 0 where
 abbrev pub HaveOtherKeys : HostRow → HostRow → Type 0
 HaveOtherKeys h k = h.account ≡ k.account → h.cpid ≢ k.cpid
 
-pub record Sound (w : World) : Type 0 where
+-- all of soundness that speaks of no instance
+pub record AreRowsSound (w : World) : Type 0 where
   pub settings : AreSettingsInLimits w.settings
-  pub units : All (IsSoundUnit w.hosts w.apps) w.units
-  pub hosts : All (IsSoundHost (length w.accounts) w.settings.daily_result_quota) w.hosts
+  pub accounts : All IsAccountInLimits w.accounts
+  pub apps : All IsAppInLimits w.apps
   pub versions : All (IsSoundVersion w.apps) w.versions
+  pub hosts : All (IsSoundHost (length w.accounts) w.settings.daily_result_quota) w.hosts
   -- names, authenticators and keys stand once
   pub account_names : AllPairs (λ a b. a.authenticator ≢ b.authenticator) w.accounts
   pub app_names : AllPairs (λ a b. a.name ≢ b.name) w.apps
@@ -69,8 +75,18 @@ pub record Sound (w : World) : Type 0 where
   pub unit_names : AllPairs (λ a b. a.unit.name ≢ b.unit.name) w.units
   pub host_keys : AllPairs HaveOtherKeys w.hosts
   -- no table is longer than it may be
-  pub account_count : length w.accounts ≤ 10000
-  pub app_count : length w.apps ≤ 100
-  pub version_count : length w.versions ≤ 1000
-  pub unit_count : length w.units ≤ 200000
+  pub account_count : length w.accounts ≤ most_accounts
+  pub app_count : length w.apps ≤ most_apps
+  pub version_count : length w.versions ≤ most_versions
+  pub unit_count : length w.units ≤ most_workunits
   pub host_count : length w.hosts ≤ w.settings.max_hosts
+
+-- what holds within a step
+pub record IsWell (w : World) : Type 0 where
+  pub rows : AreRowsSound w
+  pub units : All (IsWellUnit w.hosts w.apps) w.units
+
+-- what holds between two steps
+pub record Sound (w : World) : Type 0 where
+  pub rows : AreRowsSound w
+  pub units : All (IsSoundUnit w.hosts w.apps) w.units

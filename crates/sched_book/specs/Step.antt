@@ -6,10 +6,10 @@ use Rattle.rpc_records.specs.declared.reply.Reply.{Reply}
 use Rattle.rpc_records.specs.declared.request.Report.{Report}
 use Rattle.rpc_records.specs.declared.request.Request.{Request}
 use Rattle.sched_book.specs.Places.{nth, unit_at, instance_at, held_by, host_at, overdue, deadline_of, name_at, host_credit, user_credit, account_place, known_host}
-use Rattle.sched_book.specs.Fits.{estimate, version_for}
+use Rattle.sched_book.specs.Fits.{estimate, version_for, estimate_at}
 use Rattle.sched_book.specs.Grant.{Asking, IsGrant, end_word}
-use Rattle.sched_book.specs.Reports.{changed_nth, with_changed, recorded, first_reports}
-use Rattle.sched_book.specs.Lost.{lost, is_resent, resend_or_drop, estimate_at, delay_at, aborts, with_lapse}
+use Rattle.sched_book.specs.Reports.{modify_nth, with_changed, recorded, first_reports}
+use Rattle.sched_book.specs.Lost.{lost, is_resent, resend_or_drop, delay_at, aborts, with_lapse}
 use Rattle.sched_book.specs.Settle.{settled}
 use Rattle.sched_book.specs.Imports.{AreChecked, with_rows, row_count}
 use Rattle.sched_book.specs.declared.instance.Instance.{Instance}
@@ -43,8 +43,8 @@ abbrev pub host_number : World → Caller → ℕ
 host_number w c = unwrap_or c.host (length w.hosts + 1)
 
 -- a host's row as its call tells it
-abbrev pub told_host : Caller → Request → ℕ → HostRow
-told_host c r quota = record {
+abbrev pub row_of_call : Caller → Request → ℕ → HostRow
+row_of_call c r quota = record {
   account = c.account;
   cpid = r.host.host_cpid;
   p_fpops = r.host.p_fpops;
@@ -55,13 +55,13 @@ told_host c r quota = record {
 }
 
 -- the hosts with the caller's renewed, or made behind the others
-abbrev pub hosts_told : World → Caller → Request → Option ℕ → List HostRow
-hosts_told w c r (Some host) = changed_nth (λ (h : HostRow). told_host c r h.quota) w.hosts host
-hosts_told w c r None = w.hosts ++ told_host c r w.settings.daily_result_quota ∷ []
+abbrev pub hosts_at_entry : World → Caller → Request → Option ℕ → List HostRow
+hosts_at_entry w c r (Some host) = modify_nth (λ (h : HostRow). row_of_call c r h.quota) w.hosts host
+hosts_at_entry w c r None = w.hosts ++ row_of_call c r w.settings.daily_result_quota ∷ []
 
 -- The worlds on the way of a call.
 abbrev pub at_entry : World → Caller → Request → World
-at_entry w c r = record w { hosts = hosts_told w c r c.host }
+at_entry w c r = record w { hosts = hosts_at_entry w c r c.host }
 
 abbrev pub after_reports : World → Caller → Request → World
 after_reports w c r = recorded (at_entry w c r) (host_number w c) r.results
@@ -71,18 +71,18 @@ abbrev pub lost_of : World → Caller → Request → List Place
 lost_of w c r = lost (after_reports w c r) (host_number w c) r.other_results
 
 -- the caller's host as told now
-abbrev pub host_told : World → Caller → Request → HostRow
-host_told w c r = unwrap_or (host_at (at_entry w c r) (host_number w c)) (told_host c r 1)
+abbrev pub host_at_entry : World → Caller → Request → HostRow
+host_at_entry w c r = unwrap_or (host_at (at_entry w c r) (host_number w c)) (row_of_call c r 1)
 
 abbrev pub after_lost : World → Caller → Request → ℕ → World
-after_lost w c r now = fold (resend_or_drop (at_entry w c r) (host_told w c r) now) (after_reports w c r) (lost_of w c r)
+after_lost w c r now = fold (resend_or_drop (at_entry w c r) (host_at_entry w c r) now) (after_reports w c r) (lost_of w c r)
 
 abbrev pub after_settlement : World → Caller → Request → ℕ → World
 after_settlement w c r now = settled (at_entry w c r) (after_lost w c r now)
 
 -- the lost jobs that are sent again
 abbrev pub resent_of : World → Caller → Request → List Place
-resent_of w c r = filter (is_resent (at_entry w c r) (host_told w c r)) (lost_of w c r)
+resent_of w c r = filter (is_resent (at_entry w c r) (host_at_entry w c r)) (lost_of w c r)
 
 -- what is asked of the grant, in the world after settlement
 abbrev pub asking_of : World → Caller → Request → ℕ → Asking
@@ -90,8 +90,8 @@ asking_of w c r now =
     let settlement = after_settlement w c r now in
     record {
       number = host_number w c;
-      host = unwrap_or (host_at settlement (host_number w c)) (host_told w c r);
-      before = sum_by (estimate_at settlement (host_told w c r)) (resent_of w c r);
+      host = unwrap_or (host_at settlement (host_number w c)) (host_at_entry w c r);
+      before = sum_by (estimate_at settlement (host_at_entry w c r)) (resent_of w c r);
       held = length (held_by settlement (host_number w c));
       asked = r.asked;
       now = now;
@@ -143,8 +143,8 @@ pub record RpcStep (w : World) (c : Caller) (r : Request) (now : ℕ) (after : W
     request_delay = w.settings.request_delay;
     result_abort = aborts (after_settlement w c r now) (host_number w c) r.other_results;
     result_ack = map (λ (x : Report). x.name) (first_reports r.results);
-    results = filter_map (job_at after (host_told w c r) true) (resent_of w c r)
-        ++ filter_map (job_at after (host_told w c r) false) jobs;
+    results = filter_map (job_at after (host_at_entry w c r) true) (resent_of w c r)
+        ++ filter_map (job_at after (host_at_entry w c r) false) jobs;
     rpc_seqno = r.rpc_seqno;
     user_name = user_name w c.account;
     user_total_credit = user_credit after c.account;

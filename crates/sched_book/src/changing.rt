@@ -1,8 +1,8 @@
 //! Changes of a world in place, and how they are taken back.
 
 ghost use Rattle.std.specs.Prelude.{◌≡◌, [], IfOk, OnOk, OnErr};
-ghost use Rattle.sched_book.specs.Delta.{put_at, put_nth, with_instance, applied_one, applied};
-ghost use Rattle.sched_book.specs.Reports.{changed_nth};
+ghost use Rattle.sched_book.specs.Delta.{set_at, set_nth, with_instance, applied_one, applied};
+ghost use Rattle.sched_book.specs.Reports.{modify_nth};
 ghost use Rattle.sched_book.specs.Undo.{back, undone_one, undone};
 
 use crate::delta::{Change, changed_book, new_book};
@@ -40,7 +40,7 @@ pub enum Undo {
 
 /// Puts a row at an index: in the place of what stands there, or else behind the others.
 pub(crate) fn put<T: Drop>(rows: &mut Listed<T>, index: usize, row: T) -> Result<Back<T>, Memory>
-    ensures ok { OnOk result (rows.new ≡ put_at rows.old index row) }
+    ensures ok { OnOk result (rows.new ≡ set_at rows.old index row) }
     ensures back { IfOk result (λ done. back rows.new done ≡ rows.old) }
     ensures err { OnErr result (rows.new ≡ rows.old) }
 {
@@ -54,8 +54,8 @@ pub(crate) fn put<T: Drop>(rows: &mut Listed<T>, index: usize, row: T) -> Result
 }
 
 /// The same where places count from 1; at place 0 nothing changes.
-fn put_nth<T: Drop>(rows: &mut Listed<T>, place: u32, row: T) -> Result<Back<T>, Memory>
-    ensures ok { OnOk result (rows.new ≡ put_nth rows.old place row) }
+fn set_nth<T: Drop>(rows: &mut Listed<T>, place: u32, row: T) -> Result<Back<T>, Memory>
+    ensures ok { OnOk result (rows.new ≡ set_nth rows.old place row) }
     ensures back { IfOk result (λ done. back rows.new done ≡ rows.old) }
     ensures err { OnErr result (rows.new ≡ rows.old) }
 {
@@ -73,7 +73,7 @@ fn put_instance(
     place: Place,
     row: Instance,
 ) -> Result<Back<UnitBook>, Memory>
-    ensures ok { OnOk result (books.new ≡ changed_nth (with_instance place.number row) books.old place.unit) }
+    ensures ok { OnOk result (books.new ≡ modify_nth (with_instance place.number row) books.old place.unit) }
     ensures back { IfOk result (λ done. back books.new done ≡ books.old) }
     ensures err { OnErr result (books.new ≡ books.old) }
 {
@@ -112,7 +112,7 @@ fn change_one(alloc: Global, world: &mut World, change: &Change) -> Result<Undo,
             world.units.push(new_book(alloc, unit)?)?;
             Ok(Undo::Workunit(Back::Pushed))
         }
-        Change::Host { number, row } => Ok(Undo::Host(put_nth(
+        Change::Host { number, row } => Ok(Undo::Host(set_nth(
             &mut world.hosts,
             *number,
             copy_of(row)?,

@@ -11,13 +11,11 @@ ghost use Rattle.sched_book.specs.Limits.{IsBounded};
 ghost use Rattle.sched_book.specs.Places.{agreement_by, book_status, is_owned_by, credit_in, host_credit, user_credit};
 
 use crate::instance::{Instance, Status, UnitBook, Verdict};
+use crate::limits::MOST_INSTANCES;
 use crate::rows::{Agreement, App, Workunit};
 use crate::whole_numbers::{are_numbers_within, whole_number_of};
 use crate::world::World;
 use arrayvec::ArrayVec;
-
-/// The most instances that a workunit may have.
-pub const MOST_INSTANCES: usize = 100;
 
 /// Whether two outputs of an application agree.
 pub fn agree(agreement: &Agreement, left: &str, right: &str) -> bool

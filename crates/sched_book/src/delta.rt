@@ -8,9 +8,11 @@ ghost use Rattle.sched_book.specs.declared.instance.UnitBook.{UnitBook};
 ghost use Rattle.sched_book.specs.Delta.{with_instance};
 
 use crate::changing::put;
-use crate::count::MOST_INSTANCES;
 use crate::desk::Unavailable;
 use crate::instance::{Instance, Place, UnitBook};
+use crate::limits::{
+    MOST_ACCOUNTS, MOST_APPS, MOST_HOSTS, MOST_INSTANCES, MOST_VERSIONS, MOST_WORKUNITS,
+};
 use crate::rows::{Account, App, HostRow, Version, Workunit};
 use crate::world::World;
 use std::alloc::Global;
@@ -86,10 +88,10 @@ fn are_books_bounded(books: &[UnitBook]) -> bool
 pub(crate) fn is_bounded(world: &World) -> bool
     ensures { IsTrue result → IsBounded world.now }
 {
-    world.accounts.len() <= 10_000
-        && world.apps.len() <= 100
-        && world.versions.len() <= 1_000
-        && world.hosts.len() <= 100_000
-        && world.units.len() <= 200_000
+    world.accounts.len() <= MOST_ACCOUNTS
+        && world.apps.len() <= MOST_APPS
+        && world.versions.len() <= MOST_VERSIONS
+        && world.hosts.len() <= MOST_HOSTS
+        && world.units.len() <= MOST_WORKUNITS
         && are_books_bounded(world.units.as_slice())
 }

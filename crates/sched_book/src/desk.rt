@@ -1,6 +1,7 @@
 //! What a desk is: who stands for a world, and answers what that world says.
 
 ghost use Rattle.std.specs.Prelude.{◌≡◌, ◌≤◌, length, IfOk, OnOk, OnErr};
+ghost use Rattle.sched_book.specs.Limits.{most_instances};
 ghost use Rattle.sched_book.specs.Places.{instance_at, host_at, unit_named, known_host, held_by, owned_by, overdue, sent_on_day};
 ghost use Rattle.sched_book.specs.Fits.{version_at};
 ghost use Rattle.sched_book.specs.Offers.{unsent, OffersAll, OffersSome};
@@ -124,7 +125,7 @@ pub trait Units {
     /// The instances of the workunit at this place, by number.
     fn instances_of(&mut self, alloc: Global, unit: u32) -> Result<Listed<Instance>, Unavailable>
         ensures reads { reads self.old self.new }
-        ensures few { IfOk result (λ r. length r ≤ 100) }
+        ensures few { IfOk result (λ r. length r ≤ most_instances) }
         ensures answer { honest self.new → well_kept self.old → IfOk result (λ r. r ≡ instances_at (world self.old) unit) };
 
     // No call at all reads nothing, and reading may go on.
@@ -142,13 +143,15 @@ pub trait Units {
 
 /// Who stands for a whole world.
 pub trait Desk: Units {
+    ghost use Rattle.sched_book.specs.Trusted.{Trusted};
+
     fn settings(&mut self, alloc: Global) -> Result<Settings, Unavailable>
         ensures reads { Self.reads self.old self.new }
-        ensures answer { Self.honest self.new → Self.well_kept self.old → IfOk result (λ r. r ≡ (Self.world self.old).settings) };
+        ensures answer { Trusted Self.Units self.old self.new (IfOk result (λ r. r ≡ (Self.world self.old).settings)) };
 
     fn counts(&mut self) -> Result<Counts, Unavailable>
         ensures reads { Self.reads self.old self.new }
-        ensures answer { Self.honest self.new → Self.well_kept self.old → IfOk result (λ r. r ≡ counts (Self.world self.old)) };
+        ensures answer { Trusted Self.Units self.old self.new (IfOk result (λ r. r ≡ counts (Self.world self.old))) };
 
     /// The account with this authenticator.
     fn account_by_key(
@@ -157,43 +160,43 @@ pub trait Desk: Units {
         authenticator: &str,
     ) -> Result<Option<Placed<Account>>, Unavailable>
         ensures reads { Self.reads self.old self.new }
-        ensures answer { Self.honest self.new → Self.well_kept self.old →
-            IfOk result (λ r. r ≡ account_by_key (Self.world self.old) authenticator.now) };
+        ensures answer { Trusted Self.Units self.old self.new (
+            IfOk result (λ r. r ≡ account_by_key (Self.world self.old) authenticator.now)) };
 
     /// The application of this name.
     fn app_by_name(&mut self, alloc: Global, name: &str) -> Result<Option<Placed<App>>, Unavailable>
         ensures reads { Self.reads self.old self.new }
-        ensures answer { Self.honest self.new → Self.well_kept self.old → IfOk result (λ r. r ≡ app_by_name (Self.world self.old) name.now) };
+        ensures answer { Trusted Self.Units self.old self.new (IfOk result (λ r. r ≡ app_by_name (Self.world self.old) name.now)) };
 
     /// The number of the host that belongs to this account and has this name for itself.
     fn host_by_key(&mut self, account: u32, cpid: &str) -> Result<Option<u32>, Unavailable>
         ensures reads { Self.reads self.old self.new }
-        ensures answer { Self.honest self.new → Self.well_kept self.old → IfOk result (λ r. r ≡ known_host (Self.world self.old) account cpid.now) };
+        ensures answer { Trusted Self.Units self.old self.new (IfOk result (λ r. r ≡ known_host (Self.world self.old) account cpid.now)) };
 
     /// The host of this number.
     fn host_by_id(&mut self, alloc: Global, host: u32) -> Result<Option<HostRow>, Unavailable>
         ensures reads { Self.reads self.old self.new }
-        ensures answer { Self.honest self.new → Self.well_kept self.old → IfOk result (λ r. r ≡ host_at (Self.world self.old) host) };
+        ensures answer { Trusted Self.Units self.old self.new (IfOk result (λ r. r ≡ host_at (Self.world self.old) host)) };
 
     /// The places of the instances that the host holds, in order.
     fn held_by(&mut self, alloc: Global, host: u32) -> Result<Listed<Place>, Unavailable>
         ensures reads { Self.reads self.old self.new }
-        ensures answer { Self.honest self.new → Self.well_kept self.old → IfOk result (λ r. r ≡ held_by (Self.world self.old) host) };
+        ensures answer { Trusted Self.Units self.old self.new (IfOk result (λ r. r ≡ held_by (Self.world self.old) host)) };
 
     /// The places of the instances that were given to the host, in order.
     fn owned_by(&mut self, alloc: Global, host: u32) -> Result<Listed<Place>, Unavailable>
         ensures reads { Self.reads self.old self.new }
-        ensures answer { Self.honest self.new → Self.well_kept self.old → IfOk result (λ r. r ≡ owned_by (Self.world self.old) host) };
+        ensures answer { Trusted Self.Units self.old self.new (IfOk result (λ r. r ≡ owned_by (Self.world self.old) host)) };
 
     /// How many of the host's instances were sent on this day.
     fn sent_on_day(&mut self, host: u32, day: u64) -> Result<u32, Unavailable>
         ensures reads { Self.reads self.old self.new }
-        ensures answer { Self.honest self.new → Self.well_kept self.old → IfOk result (λ r. r ≡ sent_on_day (Self.world self.old) host day) };
+        ensures answer { Trusted Self.Units self.old self.new (IfOk result (λ r. r ≡ sent_on_day (Self.world self.old) host day)) };
 
     /// The places of the workunits of which some instance was given to a host of the user, in order.
     fn units_of_user(&mut self, alloc: Global, account: u32) -> Result<Listed<u32>, Unavailable>
         ensures reads { Self.reads self.old self.new }
-        ensures answer { Self.honest self.new → Self.well_kept self.old → IfOk result (λ r. r ≡ units_of_user (Self.world self.old) account) };
+        ensures answer { Trusted Self.Units self.old self.new (IfOk result (λ r. r ≡ units_of_user (Self.world self.old) account)) };
 
     /// The version that a host runs of the application at this place: the newest for the first of the host's
     /// platforms that has any.
@@ -204,7 +207,7 @@ pub trait Desk: Units {
         app: u32,
     ) -> Result<Option<Version>, Unavailable>
         ensures reads { Self.reads self.old self.new }
-        ensures answer { Self.honest self.new → Self.well_kept self.old → IfOk result (λ r. r ≡ version_at (Self.world self.old) host.now app) };
+        ensures answer { Trusted Self.Units self.old self.new (IfOk result (λ r. r ≡ version_at (Self.world self.old) host.now app)) };
 
     /// The version of this application, for this platform, with this number.
     fn version_by_key(
@@ -215,20 +218,20 @@ pub trait Desk: Units {
         version_num: u32,
     ) -> Result<Option<Version>, Unavailable>
         ensures reads { Self.reads self.old self.new }
-        ensures answer { Self.honest self.new → Self.well_kept self.old →
-            IfOk result (λ r. r ≡ version_by_key (Self.world self.old) app.now platform.now version_num) };
+        ensures answer { Trusted Self.Units self.old self.new (
+            IfOk result (λ r. r ≡ version_by_key (Self.world self.old) app.now platform.now version_num)) };
 
     /// The places of the held instances whose deadline is before this moment, in order.
     fn due_before(&mut self, alloc: Global, now: Moment) -> Result<Listed<Place>, Unavailable>
         ensures reads { Self.reads self.old self.new }
-        ensures answer { Self.honest self.new → Self.well_kept self.old → IfOk result (λ r. r ≡ overdue (Self.world self.old) now) };
+        ensures answer { Trusted Self.Units self.old self.new (IfOk result (λ r. r ≡ overdue (Self.world self.old) now)) };
 
     /// Offers the instances of open workunits that nobody was given, in the order of their places and from this
     /// place on, until the taker says stop. None is skipped; where the desk is unavailable the offers end early.
     fn unsent_from<T: Taker>(&mut self, from: Place, taker: &mut T) -> Result<(), Unavailable>
         ensures reads { Self.reads self.old self.new }
-        ensures all { Self.honest self.new → Self.well_kept self.old →
-            OnOk result (OffersAll T.takes taker.old (unsent (Self.world self.old) from) taker.new) }
-        ensures some { Self.honest self.new → Self.well_kept self.old →
-            OnErr result (OffersSome T.takes taker.old (unsent (Self.world self.old) from) taker.new) };
+        ensures all { Trusted Self.Units self.old self.new (
+            OnOk result (OffersAll T.takes taker.old (unsent (Self.world self.old) from) taker.new)) }
+        ensures some { Trusted Self.Units self.old self.new (
+            OnErr result (OffersSome T.takes taker.old (unsent (Self.world self.old) from) taker.new)) };
 }

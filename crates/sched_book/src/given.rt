@@ -1,9 +1,9 @@
 //! What each host and each user was given, listed by number.
 
 ghost use Rattle.std.specs.Prelude.{◌≡◌, ◌≤◌, ◌==◌, ◌++◌, [], ◌∷◌, List, All, length, map, filter, count_by, replicate, IfOk, OnOk};
-ghost use Rattle.sched_book.specs.Reports.{changed_nth};
+ghost use Rattle.sched_book.specs.Reports.{modify_nth};
 ghost use Rattle.sched_book.specs.Given.{map_from, given_in, is_listed_by, number_by, with_given, lists_by, units_in, IsListed};
-ghost use Rattle.sched_book.specs.Limits.{IsBounded};
+ghost use Rattle.sched_book.specs.Limits.{most_instances, most_workunits, IsBounded};
 ghost use Rattle.sched_book.specs.declared.given.Given.{Given};
 ghost use Rattle.sched_book.specs.declared.instance.UnitBook.{UnitBook};
 
@@ -35,7 +35,7 @@ pub enum By {
 
 /// Puts an instance behind the others of a number; where no list has this number nothing changes.
 fn list_one(lists: &mut [Listed<Given>], number: u32, given: Given) -> Result<(), Memory>
-    ensures { OnOk result (lists.new ≡ changed_nth (λ (l : List Given). l ++ given ∷ []) lists.old number) }
+    ensures { OnOk result (lists.new ≡ modify_nth (λ (l : List Given). l ++ given ∷ []) lists.old number) }
 {
     if number == 0 {
         return Ok(());
@@ -89,7 +89,7 @@ fn list_instances(
     unit: u32,
     instances: &[Instance],
 ) -> Result<(), Memory>
-    requires { length instances.now ≤ 100 }
+    requires { length instances.now ≤ most_instances }
     ensures { OnOk result (lists.new ≡ map_from 1 (λ n l. l ++ given_in unit 0 (is_listed_by by hosts.now n) instances.now) lists.old) }
 {
     for (number, instance) in instances.iter().enumerate() {
@@ -128,8 +128,8 @@ fn lists_by(
     books: &[UnitBook],
     count: usize,
 ) -> Result<Listed<Listed<Given>>, Memory>
-    requires books { length books.now ≤ 200000 }
-    requires instances { All (λ (b : UnitBook). length b.instances ≤ 100) books.now }
+    requires books { length books.now ≤ most_workunits }
+    requires instances { All (λ (b : UnitBook). length b.instances ≤ most_instances) books.now }
     ensures { IfOk result (λ lists. lists ≡ lists_by by hosts.now books.now count) }
 {
     let mut lists = empty_lists(alloc, count)?;

@@ -13,6 +13,7 @@ pub mod desk;
 mod given;
 pub mod instance;
 pub mod laws;
+pub mod limits;
 pub mod list_desk;
 mod listings;
 mod look_ups;

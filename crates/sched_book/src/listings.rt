@@ -2,6 +2,7 @@
 
 ghost use Rattle.std.specs.Prelude.{◌≡◌, ◌≤◌, ◌*◌, ◌++◌, All, length, count_by, sum_by, IfOk, OnOk};
 ghost use Rattle.std.specs.List.{list_any};
+ghost use Rattle.sched_book.specs.Limits.{most_instances, most_workunits};
 ghost use Rattle.sched_book.specs.Places.{account_in, is_of_user, is_overdue, was_sent, places_in, places_among};
 ghost use Rattle.sched_book.specs.Desk.{is_listed_in, units_from};
 ghost use Rattle.sched_book.specs.declared.instance.UnitBook.{UnitBook};
@@ -52,7 +53,7 @@ fn add_places(
     unit: u32,
     instances: &[Instance],
 ) -> Result<(), Memory>
-    requires { length instances.now ≤ 100 }
+    requires { length instances.now ≤ most_instances }
     ensures { OnOk result (places.new ≡ places.old ++ places_in unit 0 (is_listed_in listing.now) instances.now) }
 {
     for (number, instance) in instances.iter().enumerate() {
@@ -72,8 +73,8 @@ pub(crate) fn list_places(
     listing: &Listing,
     books: &[UnitBook],
 ) -> Result<Listed<Place>, Memory>
-    requires books { length books.now ≤ 200000 }
-    requires instances { All (λ (b : UnitBook). length b.instances ≤ 100) books.now }
+    requires books { length books.now ≤ most_workunits }
+    requires instances { All (λ (b : UnitBook). length b.instances ≤ most_instances) books.now }
     ensures { IfOk result (λ places. places ≡ places_among 1 (λ b x. is_listed_in listing.now x) books.now) }
 {
     let mut places = Listed::new(alloc);
@@ -110,8 +111,8 @@ fn count_sent(host: u32, day: u64, instances: &[Instance]) -> usize
 
 /// How many instances were sent to the host on this day.
 pub(crate) fn count_sent_on_day(books: &[UnitBook], host: u32, day: u64) -> u32
-    requires books { length books.now ≤ 200000 }
-    requires instances { All (λ (b : UnitBook). length b.instances ≤ 100) books.now }
+    requires books { length books.now ≤ most_workunits }
+    requires instances { All (λ (b : UnitBook). length b.instances ≤ most_instances) books.now }
     ensures { result ≡ sum_by (λ (b : UnitBook). count_by (was_sent host day) b.instances) books.now }
 {
     let mut sent = 0;
@@ -155,7 +156,7 @@ pub(crate) fn list_units_of_user(
     books: &[UnitBook],
     account: u32,
 ) -> Result<Listed<u32>, Memory>
-    requires { length books.now ≤ 200000 }
+    requires { length books.now ≤ most_workunits }
     ensures { IfOk result (λ units. units ≡ units_from 1 (λ (b : UnitBook). list_any (is_of_user hosts.now account) b.instances) books.now) }
 {
     let mut units = Listed::new(alloc);

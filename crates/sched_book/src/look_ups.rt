@@ -12,11 +12,12 @@ ghost use Rattle.sched_book.specs.declared.rows.App.{App};
 
 use crate::desk::Placed;
 use crate::instance::{Instance, UnitBook};
+use crate::limits::MOST_WORKUNITS;
 use crate::rows::{Account, App, HostRow, Version};
 use texts::{Memory, Same};
 
-/// The most rows that a table may have.
-pub(crate) const MOST_ROWS: usize = 200_000;
+/// The most rows that any table may have.
+pub(crate) const MOST_ROWS: usize = MOST_WORKUNITS;
 
 /// The row at a place.
 pub(crate) fn nth<T>(rows: &[T], place: u32) -> Option<&T>

@@ -1,6 +1,7 @@
 //! Offers to a taker, one candidate at a time.
 
 ghost use Rattle.std.specs.Prelude.{◌≡◌, ◌≤◌, ◌&&◌, not, is_none, All, length, IfOk, OnOk, OnErr};
+ghost use Rattle.sched_book.specs.Limits.{most_instances, most_workunits};
 ghost use Rattle.sched_book.specs.Places.{is_before};
 ghost use Rattle.sched_book.specs.Offers.{unsent, unsent_in, OffersAll, OffersSome, Offered, OfferedSome};
 ghost use Rattle.sched_book.specs.declared.instance.UnitBook.{UnitBook};
@@ -32,7 +33,7 @@ fn offer_unit<T: Taker>(
     unit: u32,
     book: &UnitBook,
 ) -> Result<Flow, Memory>
-    requires { length book.now.instances ≤ 100 }
+    requires { length book.now.instances ≤ most_instances }
     ensures ok { IfOk result (Offered T.takes taker.old (unsent_in from unit book.now.unit 0 book.now.instances) taker.new) }
     ensures err { OnErr result (OfferedSome T.takes taker.old (unsent_in from unit book.now.unit 0 book.now.instances) taker.new) }
 {
@@ -57,8 +58,8 @@ fn offer_unit<T: Taker>(
 
 /// Offers all candidates from a place on.
 pub(crate) fn offer_all<T: Taker>(world: &World, from: Place, taker: &mut T) -> Result<(), Memory>
-    requires units { length world.now.units ≤ 200000 }
-    requires instances { All (λ (b : UnitBook). length b.instances ≤ 100) world.now.units }
+    requires units { length world.now.units ≤ most_workunits }
+    requires instances { All (λ (b : UnitBook). length b.instances ≤ most_instances) world.now.units }
     ensures all { OnOk result (OffersAll T.takes taker.old (unsent world.now from) taker.new) }
     ensures some { OnErr result (OffersSome T.takes taker.old (unsent world.now from) taker.new) }
 {

@@ -4,12 +4,13 @@ ghost use Rattle.std.specs.Prelude.{◌≡◌, ◌<◌, ◌≤◌, ◌+◌, ◌-
 ghost use Rattle.sched_book.specs.Places.{unit_at, unit_named, agreement_by};
 ghost use Rattle.sched_book.specs.Delta.{applied, with_instance};
 ghost use Rattle.sched_book.specs.Patched.{count_after, book_by, book_after, adds_named, added_named, added_apps, place_after, agreement_after};
+ghost use Rattle.sched_book.specs.Trusted.{Trusted};
 ghost use Rattle.sched_book.specs.declared.instance.UnitBook.{UnitBook};
 
-use crate::count::MOST_INSTANCES;
 use crate::delta::{Change, Delta, changed_book, new_book};
 use crate::desk::{Desk, Placed, Unavailable, Units};
 use crate::instance::{Instance, UnitBook};
+use crate::limits::MOST_INSTANCES;
 use crate::look_ups::{copy_instance, copy_of};
 use crate::rows::{Agreement, App, Workunit};
 use std::alloc::Global;
@@ -191,7 +192,7 @@ fn read_book<D: Desk>(
     unit: u32,
 ) -> Result<Option<UnitBook>, Unavailable>
     ensures reads { D.reads desk.old desk.new }
-    ensures answer { D.honest desk.new → D.well_kept desk.old → IfOk result (λ r. r ≡ unit_at (D.world desk.old) unit) }
+    ensures answer { Trusted D.Units desk.old desk.new (IfOk result (λ r. r ≡ unit_at (D.world desk.old) unit)) }
 {
     match desk.unit(alloc, unit)? {
         None => Ok(None),
@@ -214,7 +215,7 @@ fn book_under<D: Desk>(
 ) -> Result<Option<UnitBook>, Unavailable>
     ensures reads { D.reads desk.old desk.new }
     ensures few { IfOk result (λ r. IfSome r (λ (b : UnitBook). length b.instances ≤ MOST_INSTANCES)) }
-    ensures answer { D.honest desk.new → D.well_kept desk.old → IfOk result (λ r. r ≡ unit_at (applied (D.world desk.old) changes.now) unit) }
+    ensures answer { Trusted D.Units desk.old desk.new (IfOk result (λ r. r ≡ unit_at (applied (D.world desk.old) changes.now) unit)) }
 {
     let count = desk.counts()?.workunits;
     let before = read_book(desk, alloc, unit)?;
@@ -229,7 +230,7 @@ fn place_under<D: Desk>(
     name: &str,
 ) -> Result<Option<u32>, Unavailable>
     ensures reads { D.reads desk.old desk.new }
-    ensures answer { D.honest desk.new → D.well_kept desk.old → IfOk result (λ r. r ≡ unit_named (applied (D.world desk.old) changes.now) name.now) }
+    ensures answer { Trusted D.Units desk.old desk.new (IfOk result (λ r. r ≡ unit_named (applied (D.world desk.old) changes.now) name.now)) }
 {
     let count = desk.counts()?.workunits;
     let found = desk.unit_by_name(name)?;
@@ -245,8 +246,8 @@ fn agreement_under<D: Desk>(
     name: &str,
 ) -> Result<Agreement, Unavailable>
     ensures reads { D.reads desk.old desk.new }
-    ensures answer { D.honest desk.new → D.well_kept desk.old →
-        IfOk result (λ r. r ≡ agreement_by (applied (D.world desk.old) changes.now).apps name.now) }
+    ensures answer { Trusted D.Units desk.old desk.new (
+        IfOk result (λ r. r ≡ agreement_by (applied (D.world desk.old) changes.now).apps name.now)) }
 {
     let found = desk.app_by_name(alloc, name)?;
     Ok(agreement_or_added(found, name, changes))

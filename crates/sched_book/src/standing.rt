@@ -2,6 +2,7 @@
 
 ghost use Rattle.std.specs.Prelude.{◌≡◌, IfOk};
 ghost use Rattle.sched_book.specs.Places.{status_at, place_named, place_of_parts};
+ghost use Rattle.sched_book.specs.Trusted.{Trusted};
 
 use crate::count;
 use crate::desk::{Unavailable, Units};
@@ -12,7 +13,7 @@ use std::alloc::Global;
 /// The status of the workunit at a place; one that does not stand counts as failed.
 pub fn status_at<U: Units>(alloc: Global, units: &mut U, unit: u32) -> Result<Status, Unavailable>
     ensures reads { U.reads units.old units.new }
-    ensures answer { U.honest units.new → U.well_kept units.old → IfOk result (λ status. status ≡ status_at (U.world units.old) unit) }
+    ensures answer { Trusted U.Units units.old units.new (IfOk result (λ status. status ≡ status_at (U.world units.old) unit)) }
 {
     let Some(row) = units.unit(alloc, unit)? else {
         return Ok(Status::FailedTotal);
@@ -32,8 +33,8 @@ fn place_of_parts<U: Units>(
     number: u32,
 ) -> Result<Option<Place>, Unavailable>
     ensures reads { U.reads units.old units.new }
-    ensures answer { U.honest units.new → U.well_kept units.old →
-        IfOk result (λ place. place ≡ place_of_parts (U.world units.old) (name.now, number)) }
+    ensures answer { Trusted U.Units units.old units.new (
+        IfOk result (λ place. place ≡ place_of_parts (U.world units.old) (name.now, number))) }
 {
     let Some(unit) = units.unit_by_name(name)? else {
         return Ok(None);
@@ -51,8 +52,8 @@ pub fn place_named<U: Units>(
     name: &str,
 ) -> Result<Option<Place>, Unavailable>
     ensures reads { U.reads units.old units.new }
-    ensures answer { U.honest units.new → U.well_kept units.old →
-        IfOk result (λ place. place ≡ place_named (U.world units.old) name.now) }
+    ensures answer { Trusted U.Units units.old units.new (
+        IfOk result (λ place. place ≡ place_named (U.world units.old) name.now)) }
 {
     match split_name(name) {
         None => Ok(None),

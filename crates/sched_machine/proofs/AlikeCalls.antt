@@ -4,7 +4,8 @@ use Rattle.std.specs.Prelude.{◌&&◌, ◌==◌, All, fold, is_none, is_some, o
 use Rattle.std.proofs.lemmas.List.Elements.{All-nil, All-filter, All-head, All-tail}
 use Rattle.rpc_records.specs.declared.request.Report.{Report}
 use Rattle.sched_book.specs.Count.{is_held}
-use Rattle.sched_book.specs.Lost.{is_listed, unlisted, lost, is_resent, estimate_at, delay_at, deadline_after, with_deadline, with_lapse, resend_or_drop}
+use Rattle.sched_book.specs.Fits.{estimate_at}
+use Rattle.sched_book.specs.Lost.{is_listed, unlisted, lost, is_resent, delay_at, deadline_after, with_deadline, with_lapse, resend_or_drop}
 use Rattle.sched_book.specs.Places.{passes, place_named, held_by, is_held_by, is_owned_by, owner_host, sent_at}
 use Rattle.sched_book.specs.Reports.{with_changed, awaits_report, with_report, judged_place, record_at, record_one}
 use Rattle.sched_book.specs.declared.instance.Lapse.{Lapse}

@@ -8,14 +8,14 @@ use Rattle.std.proofs.lemmas.Option.{slice_get-get_or, slice_get_within}
 use Rattle.sched_book.specs.Places.{nth, place_where, account_in, owner_host, is_owned_by, is_of_user, is_host_of, known_host}
 use Rattle.sched_book.specs.Settle.{with_quota}
 use Rattle.sched_book.specs.Sound.{HasOwnerAmong}
-use Rattle.sched_book.specs.Step.{IsCaller, host_number, told_host, hosts_told}
+use Rattle.sched_book.specs.Step.{IsCaller, host_number, row_of_call, hosts_at_entry}
 use Rattle.rpc_records.specs.declared.request.Request.{Request}
 use Rattle.sched_book.specs.declared.instance.Instance.{Instance}
 use Rattle.sched_book.specs.declared.instance.UnitBook.{UnitBook}
 use Rattle.sched_book.specs.declared.machine.Caller.{Caller}
 use Rattle.sched_book.specs.declared.rows.HostRow.{HostRow}
 use Rattle.sched_book.specs.declared.world.World.{World}
-use Rattle.sched_book.proofs.PlacesOf.{nth-suc, nth-push, nth-changed_nth}
+use Rattle.sched_book.proofs.PlacesOf.{nth-suc, nth-push, nth-modify_nth}
 use Rattle.quorum_credit.proofs.ByPlace.{nth-map_places}
 use Rattle.sched_machine.proofs.AlikeLists.{any_same, any_implied}
 use Rattle.sched_machine.proofs.AlikeUnits.{HasOne}
@@ -45,23 +45,23 @@ known_account w account cpid n d known =
 
 -- the hosts as the call tells them
 module _ (w : World) (c : Caller) (r : Request) (caller : IsCaller w c r) where
-  pub account_told : account_in (hosts_told w c r c.host) (host_number w c) ≡ c.account
+  pub account_told : account_in (hosts_at_entry w c r c.host) (host_number w c) ≡ c.account
   account_told = cases c.host caller.host
     where
       cases : (o : Option ℕ) → known_host w c.account r.host.host_cpid ≡ o
-          → account_in (hosts_told w c r o) (unwrap_or o (length w.hosts + 1)) ≡ c.account
+          → account_in (hosts_at_entry w c r o) (unwrap_or o (length w.hosts + 1)) ≡ c.account
       cases None is =
-          ap account_by (nth-push w.hosts (told_host c r w.settings.daily_result_quota) (length w.hosts + 1)
-          ∙ ap (λ (b : Bool). cond b (Some (told_host c r w.settings.daily_result_quota)) (nth w.hosts (length w.hosts + 1)))
+          ap account_by (nth-push w.hosts (row_of_call c r w.settings.daily_result_quota) (length w.hosts + 1)
+          ∙ ap (λ (b : Bool). cond b (Some (row_of_call c r w.settings.daily_result_quota)) (nth w.hosts (length w.hosts + 1)))
           (eq-eqb (length w.hosts + 1) (length w.hosts + 1) refl))
       cases (Some n) is =
-          let there = known_account w c.account r.host.host_cpid n (told_host c r 1) is in
-          let renew : HostRow → HostRow = λ h. told_host c r h.quota in
-          ap account_by (nth-changed_nth renew w.hosts n n
+          let there = known_account w c.account r.host.host_cpid n (row_of_call c r 1) is in
+          let renew : HostRow → HostRow = λ h. row_of_call c r h.quota in
+          ap account_by (nth-modify_nth renew w.hosts n n
           ∙ ap (λ (b : Bool). cond b (option_map renew (nth w.hosts n)) (nth w.hosts n)) (eq-eqb n n refl)
           ∙ ap (option_map renew) there.1)
 
-  pub account_stays : (n : ℕ) → is_some (nth w.hosts n) ≡ true → account_in (hosts_told w c r c.host) n ≡ account_in w.hosts n
+  pub account_stays : (n : ℕ) → is_some (nth w.hosts n) ≡ true → account_in (hosts_at_entry w c r c.host) n ≡ account_in w.hosts n
   account_stays n stands = cases c.host caller.host
     where
       past : (i : ℕ) → length w.hosts + 1 ≡ i → is_some (nth w.hosts i) ≡ true → ⊥
@@ -73,20 +73,20 @@ module _ (w : World) (c : Caller) (r : Request) (caller : IsCaller w c r) where
           none (Some h) is also = let within : length w.hosts < length w.hosts = slice_get_within w.hosts (length w.hosts) h is in omega arith
 
       renewed : (n m : ℕ) → (h : HostRow) × (nth w.hosts m ≡ Some h) × (h.account ≡ c.account) → (b : Bool) → eqb m n ≡ b
-          → account_by (cond b (option_map (λ (h : HostRow). told_host c r h.quota) (nth w.hosts n)) (nth w.hosts n)) ≡ account_in w.hosts n
+          → account_by (cond b (option_map (λ (h : HostRow). row_of_call c r h.quota) (nth w.hosts n)) (nth w.hosts n)) ≡ account_in w.hosts n
       renewed n m there false other = refl
       renewed n m there true is =
           let here : nth w.hosts n ≡ Some there.0 = ap (nth w.hosts) (sym (eqb-true m n is)) ∙ there.1 in
-          ap (λ o. account_by (option_map (λ (h : HostRow). told_host c r h.quota) o)) here ∙ sym there.2 ∙ sym (ap account_by here)
+          ap (λ o. account_by (option_map (λ (h : HostRow). row_of_call c r h.quota) o)) here ∙ sym there.2 ∙ sym (ap account_by here)
 
-      cases : (o : Option ℕ) → known_host w c.account r.host.host_cpid ≡ o → account_in (hosts_told w c r o) n ≡ account_in w.hosts n
+      cases : (o : Option ℕ) → known_host w c.account r.host.host_cpid ≡ o → account_in (hosts_at_entry w c r o) n ≡ account_in w.hosts n
       cases None is =
-          ap account_by (nth-push w.hosts (told_host c r w.settings.daily_result_quota) n
-          ∙ ap (λ (b : Bool). cond b (Some (told_host c r w.settings.daily_result_quota)) (nth w.hosts n))
+          ap account_by (nth-push w.hosts (row_of_call c r w.settings.daily_result_quota) n
+          ∙ ap (λ (b : Bool). cond b (Some (row_of_call c r w.settings.daily_result_quota)) (nth w.hosts n))
           (ne_eqb (length w.hosts + 1) n (λ same. past n same stands)))
       cases (Some m) is =
-          ap account_by (nth-changed_nth (λ (h : HostRow). told_host c r h.quota) w.hosts m n)
-          ∙ renewed n m (known_account w c.account r.host.host_cpid m (told_host c r 1) is) (eqb m n) refl
+          ap account_by (nth-modify_nth (λ (h : HostRow). row_of_call c r h.quota) w.hosts m n)
+          ∙ renewed n m (known_account w c.account r.host.host_cpid m (row_of_call c r 1) is) (eqb m n) refl
 
 -- a new quota leaves them
 pub account_settled : (old new : World) (hosts : List HostRow) (n : ℕ)

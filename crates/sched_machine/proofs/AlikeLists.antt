@@ -5,7 +5,7 @@ use Rattle.std.specs.List.{list_any}
 use Rattle.std.proofs.lemmas.List.Elements.{All-head, All-tail}
 use Rattle.std.proofs.lemmas.List.Sums.{sum_by-cons}
 use Rattle.sched_book.specs.Places.{nth}
-use Rattle.sched_book.specs.Reports.{changed_at, changed_nth}
+use Rattle.sched_book.specs.Reports.{modify_at, modify_nth}
 
 abbrev pub Along : {X : Type 0} → (X → X → Type 0) → List X → List X → Type 0
 Along R [] [] = Unit {0}
@@ -20,7 +20,7 @@ along_same R same (x ∷ xs) = (same x, along_same R same xs)
 
 -- one element of the second changed
 along_changed_at : {X : Type 0} (R : X → X → Type 0) (f : X → X) (xs ys : List X) (i : ℕ) → Along R xs ys
-    → ((x y : X) → R x y → slice_get ys i ≡ Some y → R x (f y)) → Along R xs (changed_at f ys i)
+    → ((x y : X) → R x y → slice_get ys i ≡ Some y → R x (f y)) → Along R xs (modify_at f ys i)
 along_changed_at R f [] [] i along here = tt
 along_changed_at R f [] (y ∷ ys) i along here = absurd along
 along_changed_at R f (x ∷ xs) [] i along here = absurd along
@@ -28,11 +28,11 @@ along_changed_at R f (x ∷ xs) (y ∷ ys) zero along here = (here x y along.0 r
 along_changed_at R f (x ∷ xs) (y ∷ ys) (suc i) along here = (along.0, along_changed_at R f xs ys i along.1 here)
 
 pub along_changed_nth : {X : Type 0} (R : X → X → Type 0) (f : X → X) (xs ys : List X) (n : ℕ) → Along R xs ys
-    → ((x y : X) → R x y → nth ys n ≡ Some y → R x (f y)) → Along R xs (changed_nth f ys n)
+    → ((x y : X) → R x y → nth ys n ≡ Some y → R x (f y)) → Along R xs (modify_nth f ys n)
 along_changed_nth {X} R f xs ys n along here = cases (eqb n 0) here
   where
     cases : (b : Bool) → ((x y : X) → R x y → cond b None (slice_get ys (n - 1)) ≡ Some y → R x (f y))
-        → Along R xs (cond b ys (changed_at f ys (n - 1)))
+        → Along R xs (cond b ys (modify_at f ys (n - 1)))
     cases true at = along
     cases false at = along_changed_at R f xs ys (n - 1) along at
 

@@ -11,7 +11,7 @@ use Rattle.sched_book.specs.Places.{nth, status_of, host_at, user_had, account_i
 use Rattle.sched_book.specs.Reports.{first_reports}
 use Rattle.sched_book.specs.Settle.{grown, with_grown, settled}
 use Rattle.sched_book.specs.Sound.{IsSoundUnit, Sound}
-use Rattle.sched_book.specs.Step.{IsCaller, host_number, told_host, at_entry, after_reports, host_told, lost_of, after_lost, after_settlement, asking_of}
+use Rattle.sched_book.specs.Step.{IsCaller, host_number, row_of_call, at_entry, after_reports, host_at_entry, lost_of, after_lost, after_settlement, asking_of}
 use Rattle.sched_book.specs.declared.instance.Instance.{Instance}
 use Rattle.sched_book.specs.declared.instance.UnitBook.{UnitBook}
 use Rattle.sched_book.specs.declared.machine.Caller.{Caller}
@@ -75,7 +75,7 @@ module _ (w : World) (hosts : List HostRow) (units : List UnitBook) (q : Asking)
     }
       where
         users : user_had after q.host.account b ≡ user_had w q.host.account b
-        users = same_user w.hosts hosts q.host.account b.instances same whole.0.owners
+        users = same_user w.hosts hosts q.host.account b.instances same whole.0.well.owners
 
         unchanged : (number : ℕ) → d ≡ b → may_get (is_for after q.host (grown w.apps d)) number (grown w.apps d) ≡ may_get (is_for w q.host b) number b
         unchanged number is =
@@ -115,7 +115,7 @@ before_settlement w c r now =
     let reported : IsFrom host entry (after_reports w c r) =
     from_reports entry entry host (first_reports r.results) entry
     (record { units = along_same (IsKept host) (kept_self host) entry.units; rest = refl }) in
-    from_lost entry entry (host_told w c r) now host (lost_of w c r) (after_reports w c r)
+    from_lost entry entry (host_at_entry w c r) now host (lost_of w c r) (after_reports w c r)
     (lost_owned (after_reports w c r) host r.other_results) reported
 
 -- the law
@@ -141,11 +141,11 @@ module _ (w : World) (c : Caller) (r : Request) (now : ℕ) (sound : Sound w) (c
 
   account_asking : asking.host.account ≡ c.account
   account_asking =
-      account_or (host_at (after_settlement w c r now) number) (host_told w c r) c.account
+      account_or (host_at (after_settlement w c r now) number) (host_at_entry w c r) c.account
       (account_settled entry (with_grown left) left.hosts number
       ∙ ap (λ (v : World). account_in v.hosts number) from.rest
       ∙ account_told w c r caller)
-      (account_or (host_at entry number) (told_host c r 1) c.account (account_told w c r caller) refl)
+      (account_or (host_at entry number) (row_of_call c r 1) c.account (account_told w c r caller) refl)
 
   abbrev hosts_after : List HostRow
   hosts_after = (settled entry changed).hosts

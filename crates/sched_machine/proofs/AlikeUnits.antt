@@ -15,7 +15,7 @@ use Rattle.sched_book.specs.declared.instance.UnitBook.{UnitBook}
 use Rattle.sched_book.specs.declared.rows.App.{App}
 use Rattle.sched_book.specs.declared.world.World.{World}
 use Rattle.sched_book.proofs.Recording.{instance_at-with_changed}
-use Rattle.sched_machine.proofs.UnitsAlike.{changed_at-none, count_same, any_here}
+use Rattle.sched_machine.proofs.UnitsAlike.{modify_at-none, count_same, any_here}
 use Rattle.sched_machine.proofs.AlikeLists.{Along, along_changed_nth}
 
 -- the host was given some instance of the workunit
@@ -46,7 +46,7 @@ kept_changed host f i b d stays kept owned = cases (slice_get d.instances i) ref
 
     cases : (o : Option Instance) → slice_get d.instances i ≡ o → IsKept host b (with_number f i d)
     cases None is =
-        let same : d ≡ with_number f i d = ap (λ xs. record d { instances = xs }) (sym (changed_at-none f d.instances i is)) in
+        let same : d ≡ with_number f i d = ap (λ xs. record d { instances = xs }) (sym (modify_at-none f d.instances i is)) in
         subst (IsKept host b) same kept
     cases (Some x) is = record {
       row = kept.row;

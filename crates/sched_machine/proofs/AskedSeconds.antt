@@ -4,8 +4,8 @@ use Rattle.std.specs.Prelude.{option_map, unwrap_or, sum_by, map, filter}
 use Rattle.std.specs.List.{cons_option}
 use Rattle.std.proofs.lemmas.List.Sums.{sum_by-cons}
 use Rattle.sched_book.specs.Desk.{workunit_at}
-use Rattle.sched_book.specs.Fits.{estimate}
-use Rattle.sched_book.specs.Lost.{estimate_at, delay_at, deadline_after, is_resent}
+use Rattle.sched_book.specs.Fits.{estimate, estimate_at}
+use Rattle.sched_book.specs.Lost.{delay_at, deadline_after, is_resent}
 use Rattle.sched_book.specs.Places.{unit_at}
 use Rattle.sched_book.specs.Step.{deadline_at}
 use Rattle.sched_book.specs.declared.instance.Place.{Place}

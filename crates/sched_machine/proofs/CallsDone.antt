@@ -6,13 +6,15 @@ use Rattle.rpc_records.specs.declared.reply.EndWord.{EndWord}
 use Rattle.rpc_records.specs.declared.reply.Reply.{Reply}
 use Rattle.rpc_records.specs.declared.request.Report.{Report}
 use Rattle.rpc_records.specs.declared.request.Request.{Request}
+use Rattle.sched_book.specs.Calls.{IsCallInLimits}
 use Rattle.sched_book.specs.Delta.{applied, Fits}
 use Rattle.sched_book.specs.Grant.{IsGrant, end_word}
 use Rattle.sched_book.specs.Lost.{aborts}
+use Rattle.sched_book.specs.Limits.{last_moment}
 use Rattle.sched_book.specs.Places.{host_at, host_credit, user_credit}
 use Rattle.sched_book.specs.Reports.{first_reports}
 use Rattle.sched_book.specs.Sound.{Sound}
-use Rattle.sched_book.specs.Step.{IsCaller, RpcStep, Step, host_told, after_settlement, asking_of, granted, resent_of, job_at, user_name}
+use Rattle.sched_book.specs.Step.{IsCaller, RpcStep, Step, host_at_entry, after_settlement, asking_of, granted, resent_of, job_at, user_name}
 use Rattle.sched_book.specs.declared.delta.Change.{Change}
 use Rattle.sched_book.specs.declared.machine.Answered.{Answered}
 use Rattle.sched_book.specs.declared.machine.Call.{Call}
@@ -24,11 +26,10 @@ use Rattle.lost_jobs.specs.declared.fates.Fate.{Fate}
 use Rattle.quorum_credit.specs.Settling.{puts_row}
 use Rattle.sched_machine.specs.Asked.{resent_places}
 use Rattle.sched_machine.specs.Calling.{IsCalling, MayBeTold}
-use Rattle.sched_machine.specs.Laws.{IsCallInLimits}
 use Rattle.sched_machine.specs.declared.entry.Calling.{Calling}
 use Rattle.sched_machine.proofs.StepsSound.{settled_sound, host_stands, step_keeps_sound}
 
-module _ (w : World) (r : Request) (k : Calling) (now : ℕ) (calling : IsCalling w r k) (soon : now ≤ 250000000000)
+module _ (w : World) (r : Request) (k : Calling) (now : ℕ) (calling : IsCalling w r k) (soon : now ≤ last_moment)
     (before : List Change) (prepared : applied w before ≡ after_settlement w k.caller r now) where
   -- the world before the grant is sound, and has the caller's host
   pub settled_is_sound : Sound (applied w before)
@@ -85,8 +86,8 @@ module _ (w : World) (r : Request) (k : Calling) (now : ℕ) (calling : IsCallin
         (aborted_is ∙ ap (λ (v : World). aborts v k.number r.other_results) prepared)
         ∙ ap (λ names. said w r k all told_word k.number (aborts (after_settlement w k.caller r now) k.number r.other_results) names k.host resent jobs) acked_is
         ∙ ap (λ h. said w r k all told_word k.number (aborts (after_settlement w k.caller r now) k.number r.other_results) firsts h resent jobs) calling.host
-        ∙ ap (λ ps. said w r k all told_word k.number (aborts (after_settlement w k.caller r now) k.number r.other_results) firsts (host_told w k.caller r) ps jobs) resent_is
-        ∙ ap (λ n. said w r k all told_word n (aborts (after_settlement w k.caller r now) n r.other_results) firsts (host_told w k.caller r) (resent_of w k.caller r) jobs) calling.number;
+        ∙ ap (λ ps. said w r k all told_word k.number (aborts (after_settlement w k.caller r now) k.number r.other_results) firsts (host_at_entry w k.caller r) ps jobs) resent_is
+        ∙ ap (λ n. said w r k all told_word n (aborts (after_settlement w k.caller r now) n r.other_results) firsts (host_at_entry w k.caller r) (resent_of w k.caller r) jobs) calling.number;
   }
     where
       told_word : EndWord
@@ -96,7 +97,7 @@ module _ (w : World) (r : Request) (k : Calling) (now : ℕ) (calling : IsCallin
       firsts = map (λ (x : Report). x.name) (first_reports r.results)
 
 -- what gives the jobs fits, told of a world that is the same
-pub giving_fits : (w v : World) (r : Request) (k : Calling) (now : ℕ) (before all : List Change) → v ≡ w → now ≤ 250000000000
+pub giving_fits : (w v : World) (r : Request) (k : Calling) (now : ℕ) (before all : List Change) → v ≡ w → now ≤ last_moment
     → (Sound (applied v before) → IsTrue (is_some (host_at (applied v before) k.number)) → Fits v before → Fits v all)
     → IsCalling w r k → applied w before ≡ after_settlement w k.caller r now → Fits w before → Fits w all
 giving_fits w v r k now before all same soon given calling prepared fits =
@@ -152,7 +153,7 @@ told_in_limits w (call.Rpc c r) told = told.limits
 told_in_limits w (call.Import new) told = tt
 told_in_limits w call.Tick told = tt
 
-pub step_leaves_sound : (w after : World) (told given : Call) (now : ℕ) (answer : Answered) → told ≡ given → now ≤ 250000000000
+pub step_leaves_sound : (w after : World) (told given : Call) (now : ℕ) (answer : Answered) → told ≡ given → now ≤ last_moment
     → Sound w → MayBeTold w told → (MayBeTold w given → Step w given now after answer) → Sound after
 step_leaves_sound w after told given now answer same soon sound may step =
     let may_given = subst (MayBeTold w) same may in

@@ -3,7 +3,8 @@ use Rattle.std.proofs.Common.{◌≡◌, ℕ, zero, suc, ◌+◌, ◌<◌, ◌�
 use Rattle.std.specs.Prelude.{◌&&◌, ◌||◌, ◌==◌, fold, map, count_by, is_some, is_none, nat_abs, option_map, option_and_then, unwrap_or, replicate, slice_get}
 use Rattle.rpc_records.specs.declared.request.Report.{Report}
 use Rattle.sched_book.specs.Count.{tells_success, tells_error, is_judged, told_place, is_live, is_held, is_open, has_failed, need, status}
-use Rattle.sched_book.specs.Lost.{with_deadline, with_lapse, deadline_after, estimate_at, delay_at, is_resent, resend_or_drop}
+use Rattle.sched_book.specs.Fits.{estimate_at}
+use Rattle.sched_book.specs.Lost.{with_deadline, with_lapse, deadline_after, delay_at, is_resent, resend_or_drop}
 use Rattle.sched_book.specs.Places.{nth, unit_at, passes, place_named, agreement_by, book_status, status_at, is_owned_by, owner_host}
 use Rattle.sched_book.specs.Reports.{with_number, with_changed, awaits_report, with_report, next_place, judged_place, record_at, record_one}
 use Rattle.sched_book.specs.Settle.{fresh, grown}
@@ -19,7 +20,7 @@ use Rattle.sched_book.specs.declared.instance.UnitBook.{UnitBook}
 use Rattle.sched_book.specs.declared.rows.App.{App}
 use Rattle.sched_book.specs.declared.rows.HostRow.{HostRow}
 use Rattle.sched_book.specs.declared.world.World.{World}
-use Rattle.sched_book.proofs.PlacesOf.{nth-changed_nth, slice_get-changed_at}
+use Rattle.sched_book.proofs.PlacesOf.{nth-modify_nth, slice_get-modify_at}
 use Rattle.sched_book.proofs.Settling.{nth-map}
 use Rattle.sched_machine.proofs.UnitsAlike.{length_changed}
 use Rattle.sched_machine.proofs.DecidedGood.{IsLate, BecameAt, AllBecame}
@@ -70,7 +71,7 @@ unit_changed : (apps : List App) (f : Instance → Instance) (number : ℕ) (b c
 unit_changed apps f number b c was keeps = record {
   row = was.row;
   became = λ i.
-      subst (BecameAt n failed (slice_get b.instances i)) (sym (slice_get-changed_at f c.instances number i))
+      subst (BecameAt n failed (slice_get b.instances i)) (sym (slice_get-modify_at f c.instances number i))
       (cases i (eqb number i) refl (slice_get c.instances i) refl (was.became i));
   many = λ failed. length_changed f c.instances number ∙ was.many failed;
 }
@@ -92,7 +93,7 @@ pub units_changed : (apps : List App) (bs : List UnitBook) (f : Instance → Ins
     → ((b c : UnitBook) (y : Instance) → nth bs p.unit ≡ Some b → unit_at w p.unit ≡ Some c → UnitBecame apps b c → slice_get c.instances p.number ≡ Some y → KeepsBecame b apps y (f y))
     → UnitsBecame apps bs (with_changed f w p).units
 units_changed apps bs f w p was keeps k =
-    subst (UnitBecameAt apps (nth bs k)) (sym (nth-changed_nth (with_number f p.number) w.units p.unit k))
+    subst (UnitBecameAt apps (nth bs k)) (sym (nth-modify_nth (with_number f p.number) w.units p.unit k))
     (cases (eqb p.unit k) refl (nth bs k) refl (nth w.units k) refl (was k))
   where
     cases : (t : Bool) → eqb p.unit k ≡ t → (o : Option UnitBook) → nth bs k ≡ o → (q : Option UnitBook) → nth w.units k ≡ q → UnitBecameAt apps o q

@@ -1,11 +1,11 @@
 -- The good reports of a workunit stay in their order, and later ones come behind them.
 use Rattle.std.proofs.Common.{◌≡◌, ℕ, suc, ◌+◌, ◌<◌, ◌≤◌, ◌⊎◌, inl, inr, Bool, true, false, cond, List, [], ◌∷◌, ◌++◌, Option, Some, None, sym, refl, ap, ◌∙◌, subst, zero-add, arith}
-use Rattle.std.specs.Prelude.{◌||◌, fold, insert, nat_le, slice_get, option_and_then}
-use Rattle.std.specs.List.{prefix_len}
+use Rattle.std.specs.Prelude.{◌||◌, fold, nat_le, slice_get, option_and_then}
 use borrow.Author.Tests.{le-leb, lt-leb}
 use Rattle.sched_book.specs.Count.{tells_success, tells_error, is_judged, told_place, is_live, report_of, place_of, numbers_from, put_by, good}
 use Rattle.sched_book.specs.Places.{is_owned_by}
 use Rattle.sched_book.specs.declared.instance.Instance.{Instance}
+use Rattle.sched_book.proofs.GoodReports.{put_step}
 
 -- An instance and what became of it, where n reports were judged before and the workunit had failed or not: its
 -- report stays; a new one that is judged has a later place, and is of no failed workunit.
@@ -35,18 +35,6 @@ AllBecame n failed xs ys = (i : ℕ) → BecameAt n failed (slice_get xs i) (sli
 abbrev pub Each : (ℕ → Type 0) → List ℕ → Type 0
 Each P [] = Unit {0}
 Each P (i ∷ is) = P i × Each P is
-
--- a number goes to its place behind the front whose keys are not greater
-put_step : (key : ℕ → ℕ) (j : ℕ) (js : List ℕ) (i : ℕ) (b : Bool) → nat_le (key j) (key i) ≡ b
-    → put_by key (j ∷ js) i ≡ cond b (j ∷ put_by key js i) (i ∷ j ∷ js)
-put_step key j js i b is =
-    ap (λ (c : Bool). insert (j ∷ js) (cond {A = ℕ} c (1 + prefix_len (λ k. nat_le (key k) (key i)) js) 0) i) is ∙ go b
-  where
-    go : (c : Bool) → insert (j ∷ js) (cond {A = ℕ} c (1 + prefix_len (λ k. nat_le (key k) (key i)) js) 0) i ≡ cond c (j ∷ put_by key js i) (i ∷ j ∷ js)
-    go true =
-        let m : ℕ = prefix_len (λ k. nat_le (key k) (key i)) js in
-        ap (λ k. insert (j ∷ js) k i) (let same : 1 + m ≡ suc m = omega arith in same)
-    go false = refl
 
 -- what holds of each goes on to hold with one more
 each_put : (P : ℕ → Type 0) (key : ℕ → ℕ) (js : List ℕ) (i : ℕ) → Each P js → P i → Each P (put_by key js i)

@@ -13,7 +13,7 @@ use Rattle.sched_book.specs.Places.{nth, instance_at, agreement_by, overdue}
 use Rattle.sched_book.specs.Reports.{with_changed, first_reports}
 use Rattle.sched_book.specs.Settle.{grown, with_grown, with_quota, settled}
 use Rattle.sched_book.specs.Sound.{IsSoundUnit, Sound}
-use Rattle.sched_book.specs.Step.{IsCaller, RpcStep, TickStep, Step, at_entry, after_reports, after_lost, after_settlement, host_number, host_told, hosts_told, told_host, lost_of, asking_of, lapsed, with_owner, grant_one, granted}
+use Rattle.sched_book.specs.Step.{IsCaller, RpcStep, TickStep, Step, at_entry, after_reports, after_lost, after_settlement, host_number, host_at_entry, hosts_at_entry, row_of_call, lost_of, asking_of, lapsed, with_owner, grant_one, granted}
 use Rattle.sched_book.specs.declared.instance.Instance.{Instance}
 use Rattle.sched_book.specs.declared.instance.Lapse.TheVariants.{Late}
 use Rattle.sched_book.specs.declared.instance.Owner.{Owner}
@@ -29,7 +29,7 @@ use Rattle.sched_book.specs.declared.rows.HostRow.{HostRow}
 use Rattle.sched_book.specs.declared.rows.Rows.{Rows}
 use Rattle.sched_book.specs.declared.rows.Rows.TheVariants as rows
 use Rattle.sched_book.specs.declared.world.World.{World}
-use Rattle.sched_book.proofs.PlacesOf.{nth-push, nth-changed_nth, nth-suc}
+use Rattle.sched_book.proofs.PlacesOf.{nth-push, nth-modify_nth, nth-suc}
 use Rattle.sched_book.proofs.Recording.{instance_at-with_changed}
 use Rattle.job_choice.proofs.Candidates.{Stood, stood}
 use Rattle.quorum_credit.proofs.ByPlace.{all_get, all_nth, nth-map_places}
@@ -50,7 +50,7 @@ pub record WorldBecame (w v : World) : Type 0 where
 pub in_range : (w : World) → Sound w → (k : ℕ) (b : UnitBook) → nth w.units k ≡ Some b → IsInRange b
 in_range w sound k b stands i x there is =
     all_get (λ (y : Instance). IsTrue (is_judged y) → told_place y.report ≤ count_by is_judged b.instances) b.instances i x
-    (all_nth (IsSoundUnit w.hosts w.apps) w.units k b sound.units stands).in_range there
+    (all_nth (IsSoundUnit w.hosts w.apps) w.units k b sound.units stands).well.in_range there
     (ap (λ (t : Bool). t || tells_error x.report) is)
 
 -- a grant, where nobody was given what is granted
@@ -122,29 +122,29 @@ accounts_settled : (old new : World) (hosts : List HostRow) → AccountsStay hos
 accounts_settled old new hosts n h stands =
     (with_quota old new (n, h), nth-map_places (with_quota old new) hosts n ∙ ap (option_map (λ k. with_quota old new (n, k))) stands, refl)
 
-accounts_told : (w : World) (c : Caller) (r : Request) → IsCaller w c r → AccountsStay w.hosts (hosts_told w c r c.host)
-accounts_told w c r caller n h stands = cases (nth (hosts_told w c r c.host) n) refl
+accounts_told : (w : World) (c : Caller) (r : Request) → IsCaller w c r → AccountsStay w.hosts (hosts_at_entry w c r c.host)
+accounts_told w c r caller n h stands = cases (nth (hosts_at_entry w c r c.host) n) refl
   where
-    still : (o : Option ℕ) → is_some (nth (hosts_told w c r o) n) ≡ true
+    still : (o : Option ℕ) → is_some (nth (hosts_at_entry w c r o) n) ≡ true
     still None =
-        ap is_some (nth-push w.hosts (told_host c r w.settings.daily_result_quota) n) ∙ either (eqb (length w.hosts + 1) n) ∙ ap is_some stands
+        ap is_some (nth-push w.hosts (row_of_call c r w.settings.daily_result_quota) n) ∙ either (eqb (length w.hosts + 1) n) ∙ ap is_some stands
       where
-        either : (b : Bool) → is_some (cond b (Some (told_host c r w.settings.daily_result_quota)) (nth w.hosts n)) ≡ is_some (nth w.hosts n)
+        either : (b : Bool) → is_some (cond b (Some (row_of_call c r w.settings.daily_result_quota)) (nth w.hosts n)) ≡ is_some (nth w.hosts n)
         either true = sym (ap is_some stands)
         either false = refl
     still (Some m) =
-        ap is_some (nth-changed_nth (λ (h : HostRow). told_host c r h.quota) w.hosts m n)
-        ∙ ap (λ o. is_some (cond (eqb m n) (option_map (λ (h : HostRow). told_host c r h.quota) o) o)) stands
+        ap is_some (nth-modify_nth (λ (h : HostRow). row_of_call c r h.quota) w.hosts m n)
+        ∙ ap (λ o. is_some (cond (eqb m n) (option_map (λ (h : HostRow). row_of_call c r h.quota) o) o)) stands
         ∙ either (eqb m n)
       where
-        either : (b : Bool) → is_some (cond b (Some (told_host c r h.quota)) (Some h)) ≡ true
+        either : (b : Bool) → is_some (cond b (Some (row_of_call c r h.quota)) (Some h)) ≡ true
         either true = refl
         either false = refl
 
-    same : account_by (nth (hosts_told w c r c.host) n) ≡ h.account
+    same : account_by (nth (hosts_at_entry w c r c.host) n) ≡ h.account
     same = account_stays w c r caller n (ap is_some stands) ∙ ap account_by stands
 
-    cases : (o : Option HostRow) → nth (hosts_told w c r c.host) n ≡ o → (k : HostRow) × (nth (hosts_told w c r c.host) n ≡ Some k) × (k.account ≡ h.account)
+    cases : (o : Option HostRow) → nth (hosts_at_entry w c r c.host) n ≡ o → (k : HostRow) × (nth (hosts_at_entry w c r c.host) n ≡ Some k) × (k.account ≡ h.account)
     cases None is = absurd (let never : false ≡ true = sym (ap is_some is) ∙ still c.host in cc)
     cases (Some k) is = (k, is, sym (ap account_by is) ∙ same)
 
@@ -158,7 +158,7 @@ module _ (w : World) (c : Caller) (r : Request) (now : ℕ) (sound : Sound w) (c
 
   units_left : UnitsBecame w.apps w.units left.units
   units_left =
-      lost_kept entry (host_number w c) (host_told w c r) now (lost_of w c r) (after_reports w c r)
+      lost_kept entry (host_number w c) (host_at_entry w c r) now (lost_of w c r) (after_reports w c r)
       (reports_kept entry (host_number w c) (first_reports r.results) entry (units_same w.apps w.units))
 
   apps_left : left.apps ≡ w.apps

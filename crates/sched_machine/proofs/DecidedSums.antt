@@ -94,7 +94,7 @@ module _ (w : World) (sound : Sound w) where
   has_host b unit i x there valid = cases x.owner refl
     where
       cases : (o : Option Owner) → x.owner ≡ o → is_some o ≡ true
-      cases None is = absurd (valid_reported w b x valid (all_get IsBare b.instances i x unit.bare there is).1)
+      cases None is = absurd (valid_reported w b x valid (all_get IsBare b.instances i x unit.well.bare there is).1)
       cases (Some o) is = refl
 
   -- one result's worth goes to one host
@@ -122,7 +122,7 @@ module _ (w : World) (sound : Sound w) where
           sum_alike (λ (e : ℕ × HostRow). cond (is_owned_by e.0 x && true) b.unit.credit 0) (λ e. cond (eqb (owner_host x.owner) e.0) b.unit.credit 0)
           (enumerate_from 1 w.hosts)
           (λ i e at. ap (λ (s : Bool). cond (s && eqb (owner_host x.owner) e.0 && true) b.unit.credit 0) owned ∙ also (eqb (owner_host x.owner) e.0))
-          ∙ of_place b.unit.credit w.hosts (owner_host x.owner) (all_get (HasOwnerAmong w.hosts) b.instances i x unit.owners there owned)
+          ∙ of_place b.unit.credit w.hosts (owner_host x.owner) (all_get (HasOwnerAmong w.hosts) b.instances i x unit.well.owners there owned)
         where
           also : (s : Bool) → cond (s && true) b.unit.credit 0 ≡ cond s b.unit.credit 0
           also true = refl
@@ -176,7 +176,7 @@ module _ (w : World) (sound : Sound w) where
       stands i e (Some h) is put =
           let value : (1 + i, h) ≡ e = (let both : Some (1 + i, h) ≡ Some e = put in cc) in
           subst (λ (f : ℕ × HostRow). is_some (nth w.accounts f.1.account) ≡ true) value
-          (account_stands h (all_get (IsSoundHost (length w.accounts) w.settings.daily_result_quota) w.hosts i h sound.hosts is))
+          (account_stands h (all_get (IsSoundHost (length w.accounts) w.settings.daily_result_quota) w.hosts i h sound.rows.hosts is))
 
 pub sound_credits_add_up : (w : World) → Sound w → CreditsAddUp w
 sound_credits_add_up w sound = record { hosts = hosts_add_up w sound; users = users_add_up w sound ∙ hosts_add_up w sound }

@@ -85,7 +85,7 @@ module _ (old new : World) (sound : Sound old) (became : WorldBecame old new) wh
         stands = stands;
         is = is;
         agreement = ap (λ u. agreement_by new.apps u.app) is.row
-            ∙ became.agreements b.unit.app (all_nth (IsSoundUnit old.hosts old.apps) old.units unit b sound.units stood).app;
+            ∙ became.agreements b.unit.app (all_nth (IsSoundUnit old.hosts old.apps) old.units unit b sound.units stood).well.app;
       }
 
   abbrev agreement : UnitBook → Agreement

@@ -3,14 +3,15 @@ use Rattle.std.proofs.Common.{◌≡◌, ℕ, ◌+◌, ◌-◌, ◌<◌, ◌≤�
 use Rattle.std.specs.Prelude.{IsTrue, bytes_eq, fold, is_some, option_map, unwrap_or}
 use Rattle.std.proofs.lemmas.Bool.{eqb-true, eq-eqb}
 use Rattle.std.proofs.lemmas.List.Sums.{fold-append}
+use Rattle.rpc_records.specs.Ranges.{IsInRange}
 use Rattle.rpc_records.specs.declared.request.Report.{Report}
 use Rattle.rpc_records.specs.declared.request.Request.{Request}
 use Rattle.sched_book.specs.Places.{nth, host_at, passes, place_named, is_host_of, known_host}
-use Rattle.sched_book.specs.Delta.{put_at, put_nth, applied_one, applied, FitsOne, Fits}
+use Rattle.sched_book.specs.Delta.{set_at, set_nth, applied_one, applied, FitsOne, Fits}
 use Rattle.sched_book.specs.Limits.{IsHostInLimits}
-use Rattle.sched_book.specs.Reports.{changed_nth, with_changed, awaits_report, with_report, judged_place, record_at, record_one, recorded, first_reports}
+use Rattle.sched_book.specs.Reports.{modify_nth, with_changed, awaits_report, with_report, judged_place, record_at, record_one, recorded, first_reports}
 use Rattle.sched_book.specs.Sound.{IsSoundHost, Sound}
-use Rattle.sched_book.specs.Step.{IsCaller, host_number, told_host, hosts_told, at_entry, host_told, after_reports}
+use Rattle.sched_book.specs.Step.{IsCaller, host_number, row_of_call, hosts_at_entry, at_entry, host_at_entry, after_reports}
 use Rattle.sched_book.specs.declared.delta.Change.{Change}
 use Rattle.sched_book.specs.declared.delta.Change.TheVariants as change
 use Rattle.sched_book.specs.declared.instance.Place.{Place}
@@ -18,15 +19,14 @@ use Rattle.sched_book.specs.declared.machine.Caller.{Caller}
 use Rattle.sched_book.specs.declared.rows.Account.{Account}
 use Rattle.sched_book.specs.declared.rows.HostRow.{HostRow}
 use Rattle.sched_book.specs.declared.world.World.{World}
-use Rattle.sched_book.proofs.PlacesOf.{nth-push, nth-changed_nth}
+use Rattle.sched_book.proofs.PlacesOf.{nth-push, nth-modify_nth}
 use Rattle.quorum_credit.specs.Tallies.{number_got}
 use Rattle.quorum_credit.proofs.ByPlace.{same_by_place, all_nth}
 use Rattle.quorum_credit.proofs.GrownFits.{fits_then}
 use Rattle.quorum_credit.proofs.Numbered.{number_within}
-use Rattle.quorum_credit.proofs.Quotas.{nth-put_nth}
+use Rattle.quorum_credit.proofs.Quotas.{nth-set_nth}
 use Rattle.sched_machine.specs.Calling.{IsCalling}
 use Rattle.sched_machine.specs.Entry.{quota_of}
-use Rattle.sched_machine.specs.Well.{IsRequestInLimits}
 use Rattle.sched_machine.specs.declared.entry.Calling.{Calling}
 use Rattle.sched_machine.proofs.RowsListed.{place_found}
 
@@ -66,15 +66,15 @@ recorded_as_in : (w : World) (host : ℕ) (other : World) (reports : List Report
 recorded_as_in w host other reports = all_as_in w host other (first_reports reports) w
 
 -- a row put at the number of one that stands is that one changed
-put_changed : {X : Type 0} (f : X → X) (xs : List X) (n : ℕ) (x : X) → nth xs n ≡ Some x → put_nth xs n (f x) ≡ changed_nth f xs n
+put_changed : {X : Type 0} (f : X → X) (xs : List X) (n : ℕ) (x : X) → nth xs n ≡ Some x → set_nth xs n (f x) ≡ modify_nth f xs n
 put_changed {X} f xs n x stands =
-    same_by_place (put_nth xs n (f x)) (changed_nth f xs n) (λ m. before m ∙ cases m (eqb n m) refl ∙ sym (nth-changed_nth f xs n m))
+    same_by_place (set_nth xs n (f x)) (modify_nth f xs n) (λ m. before m ∙ cases m (eqb n m) refl ∙ sym (nth-modify_nth f xs n m))
   where
-    before : (m : ℕ) → nth (put_nth xs n (f x)) m ≡ cond (eqb n m) (Some (f x)) (nth xs m)
+    before : (m : ℕ) → nth (set_nth xs n (f x)) m ≡ cond (eqb n m) (Some (f x)) (nth xs m)
     before m =
         let within = number_within xs n x stands in
         let got : number_got (length xs) n ≡ n = omega arith in
-        nth-put_nth xs n (f x) m
+        nth-set_nth xs n (f x) m
         ∙ ap (λ (b : Bool). cond b (nth xs m) (cond (eqb (number_got (length xs) n) m) (Some (f x)) (nth xs m))) (let some : eqb n 0 ≡ false = grind arith in some)
         ∙ ap (λ k. cond (eqb k m) (Some (f x)) (nth xs m)) got
 
@@ -83,10 +83,10 @@ put_changed {X} f xs n x stands =
     cases m false is = refl
 
 -- a row put at the next number stands behind the others
-put_next : {X : Type 0} (xs : List X) (x : X) → put_nth xs (length xs + 1) x ≡ xs ++ x ∷ []
+put_next : {X : Type 0} (xs : List X) (x : X) → set_nth xs (length xs + 1) x ≡ xs ++ x ∷ []
 put_next xs x =
-    ap (λ (b : Bool). cond b xs (put_at xs (length xs + 1 - 1) x)) (let some : eqb (length xs + 1) 0 ≡ false = grind arith in some)
-    ∙ ap (λ k. put_at xs k x) (let same : length xs + 1 - 1 ≡ length xs = omega arith in same)
+    ap (λ (b : Bool). cond b xs (set_at xs (length xs + 1 - 1) x)) (let some : eqb (length xs + 1) 0 ≡ false = grind arith in some)
+    ∙ ap (λ k. set_at xs k x) (let same : length xs + 1 - 1 ≡ length xs = omega arith in same)
     ∙ ap (λ (b : Bool). cond b (set xs (length xs) x) (xs ++ x ∷ [])) (let past : ltb (length xs) (length xs) ≡ false = grind arith in past)
 
 -- the caller's row put at its number
@@ -95,78 +95,80 @@ module _ (w : World) (c : Caller) (r : Request) (caller : IsCaller w c r) where
   quota_at : (host : ℕ) (h : HostRow) → host_at w host ≡ Some h → quota_of w (Some host) ≡ h.quota
   quota_at host h stands = ap (λ o. unwrap_or (option_map (λ (k : HostRow). k.quota) o) w.settings.daily_result_quota) stands
 
-  puts_told : put_nth w.hosts (host_number w c) (told_host c r (quota_of w c.host)) ≡ hosts_told w c r c.host
+  puts_told : set_nth w.hosts (host_number w c) (row_of_call c r (quota_of w c.host)) ≡ hosts_at_entry w c r c.host
   puts_told = cases c.host caller.host
     where
       cases : (o : Option ℕ) → known_host w c.account r.host.host_cpid ≡ o
-          → put_nth w.hosts (unwrap_or o (length w.hosts + 1)) (told_host c r (quota_of w o)) ≡ hosts_told w c r o
-      cases None is = put_next w.hosts (told_host c r w.settings.daily_result_quota)
+          → set_nth w.hosts (unwrap_or o (length w.hosts + 1)) (row_of_call c r (quota_of w o)) ≡ hosts_at_entry w c r o
+      cases None is = put_next w.hosts (row_of_call c r w.settings.daily_result_quota)
       cases (Some host) is =
           let found = place_found (is_host_of c.account r.host.host_cpid) w.hosts host is in
-          ap (λ quota. put_nth w.hosts host (told_host c r quota)) (quota_at host found.0 found.1)
-          ∙ put_changed (λ (h : HostRow). told_host c r h.quota) w.hosts host found.0 found.1
+          ap (λ quota. set_nth w.hosts host (row_of_call c r quota)) (quota_at host found.0 found.1)
+          ∙ put_changed (λ (h : HostRow). row_of_call c r h.quota) w.hosts host found.0 found.1
 
   -- it is the caller's host as told now
-  pub row_told : told_host c r (quota_of w c.host) ≡ host_told w c r
+  pub row_told : row_of_call c r (quota_of w c.host) ≡ host_at_entry w c r
   row_told = cases c.host caller.host
     where
       cases : (o : Option ℕ) → known_host w c.account r.host.host_cpid ≡ o
-          → told_host c r (quota_of w o) ≡ unwrap_or (nth (hosts_told w c r o) (unwrap_or o (length w.hosts + 1))) (told_host c r 1)
+          → row_of_call c r (quota_of w o) ≡ unwrap_or (nth (hosts_at_entry w c r o) (unwrap_or o (length w.hosts + 1))) (row_of_call c r 1)
       cases None is =
-          let told = told_host c r w.settings.daily_result_quota in
-          sym (ap (λ (o : Option HostRow). unwrap_or o (told_host c r 1)) (
+          let told = row_of_call c r w.settings.daily_result_quota in
+          sym (ap (λ (o : Option HostRow). unwrap_or o (row_of_call c r 1)) (
           nth-push w.hosts told (length w.hosts + 1)
           ∙ ap (λ (b : Bool). cond b (Some told) (nth w.hosts (length w.hosts + 1))) (eq-eqb (length w.hosts + 1) (length w.hosts + 1) refl)))
       cases (Some host) is =
           let found = place_found (is_host_of c.account r.host.host_cpid) w.hosts host is in
-          let renewed : HostRow → HostRow = λ (h : HostRow). told_host c r h.quota in
-          ap (told_host c r) (quota_at host found.0 found.1)
-          ∙ sym (ap (λ (o : Option HostRow). unwrap_or o (told_host c r 1)) (
-          nth-changed_nth renewed w.hosts host host
+          let renewed : HostRow → HostRow = λ (h : HostRow). row_of_call c r h.quota in
+          ap (row_of_call c r) (quota_at host found.0 found.1)
+          ∙ sym (ap (λ (o : Option HostRow). unwrap_or o (row_of_call c r 1)) (
+          nth-modify_nth renewed w.hosts host host
           ∙ ap (λ (b : Bool). cond b (option_map renewed (nth w.hosts host)) (nth w.hosts host)) (eq-eqb host host refl)
           ∙ ap (option_map renewed) found.1))
 
 -- reports and then the caller's row are the row and then the reports
 pub entered : (w : World) (c : Caller) (r : Request) → Sound w → IsCaller w c r → (cs : List Change)
     → applied w cs ≡ recorded w (host_number w c) r.results
-    → applied w (cs ++ change.Host (host_number w c) (told_host c r (quota_of w c.host)) ∷ []) ≡ after_reports w c r
+    → applied w (cs ++ change.Host (host_number w c) (row_of_call c r (quota_of w c.host)) ∷ []) ≡ after_reports w c r
 entered w c r sound caller cs are =
     let n = host_number w c in
-    let row = told_host c r (quota_of w c.host) in
+    let row = row_of_call c r (quota_of w c.host) in
     fold-append applied_one w cs (change.Host n row ∷ [])
     ∙ ap (λ v. applied_one v (change.Host n row)) (are ∙ recorded_as_in w n w r.results)
     ∙ ap (λ hosts. as_in (record w { hosts = hosts }) (recorded w n r.results)) (puts_told w c r caller)
     ∙ sym (recorded_as_in w n (at_entry w c r) r.results)
 
 -- the row fits, with its number
-module _ (w : World) (c : Caller) (r : Request) (sound : Sound w) (caller : IsCaller w c r) (limits : IsRequestInLimits r) where
-  told_limits : (quota : ℕ) → (1 ≤ quota) × (quota ≤ w.settings.daily_result_quota) → IsHostInLimits w.settings.daily_result_quota (told_host c r quota)
+module _ (w : World) (c : Caller) (r : Request) (sound : Sound w) (caller : IsCaller w c r) (limits : IsInRange r) where
+  told_limits : (quota : ℕ) → (1 ≤ quota) × (quota ≤ w.settings.daily_result_quota) → IsHostInLimits w.settings.daily_result_quota (row_of_call c r quota)
   told_limits quota within = record {
-    speed = limits.speed;
-    memory = limits.memory;
-    disk = limits.disk;
-    platforms = limits.platforms;
+    cpid = limits.host.host_cpid;
+    speed = (limits.host.some_fpops, limits.host.p_fpops);
+    memory = limits.host.m_nbytes;
+    disk = limits.host.d_free;
+    platforms = (limits.some_platform, limits.platform_count);
+    words = limits.platforms;
     quota = within;
   }
 
   account_stands : IsTrue (is_some (nth w.accounts c.account))
   account_stands = ap is_some (place_found (λ (a : Account). bytes_eq a.authenticator r.authenticator) w.accounts c.account caller.account).1
 
-  told_fits : (c.host ≡ None → length w.hosts < w.settings.max_hosts) → FitsOne w (change.Host (host_number w c) (told_host c r (quota_of w c.host)))
+  told_fits : (c.host ≡ None → length w.hosts < w.settings.max_hosts) → FitsOne w (change.Host (host_number w c) (row_of_call c r (quota_of w c.host)))
   told_fits room = cases c.host caller.host room
     where
       cases : (o : Option ℕ) → known_host w c.account r.host.host_cpid ≡ o → (o ≡ None → length w.hosts < w.settings.max_hosts)
-          → FitsOne w (change.Host (unwrap_or o (length w.hosts + 1)) (told_host c r (quota_of w o)))
+          → FitsOne w (change.Host (unwrap_or o (length w.hosts + 1)) (row_of_call c r (quota_of w o)))
       cases None is left =
           let few : length w.hosts < w.settings.max_hosts = left refl in
           let same : w.settings.daily_result_quota ≤ w.settings.daily_result_quota = omega arith in
-          (omega arith, omega arith, omega arith, account_stands, told_limits w.settings.daily_result_quota (sound.settings.quota.0, same))
+          (omega arith, omega arith, omega arith, account_stands, told_limits w.settings.daily_result_quota (sound.rows.settings.quota.0, same))
       cases (Some host) is left =
           let found = place_found (is_host_of c.account r.host.host_cpid) w.hosts host is in
           let within = number_within w.hosts host found.0 found.1 in
-          let few : length w.hosts ≤ w.settings.max_hosts = sound.host_count in
+          let few : length w.hosts ≤ w.settings.max_hosts = sound.rows.host_count in
           let quota : quota_of w (Some host) ≡ found.0.quota = quota_at w c r caller host found.0 found.1 in
-          let before = (all_nth (IsSoundHost (length w.accounts) w.settings.daily_result_quota) w.hosts host found.0 sound.hosts found.1).limits.quota in (
+          let before = (all_nth (IsSoundHost (length w.accounts) w.settings.daily_result_quota) w.hosts host found.0 sound.rows.hosts found.1).limits.quota in (
             within.0,
             omega arith,
             omega arith,
@@ -177,18 +179,18 @@ module _ (w : World) (c : Caller) (r : Request) (sound : Sound w) (caller : IsCa
   -- so the reports with the row behind them fit
   pub entered_fits : (c.host ≡ None → length w.hosts < w.settings.max_hosts) → (cs : List Change)
       → applied w cs ≡ recorded w (host_number w c) r.results → Fits w cs
-      → Fits w (cs ++ change.Host (host_number w c) (told_host c r (quota_of w c.host)) ∷ [])
+      → Fits w (cs ++ change.Host (host_number w c) (row_of_call c r (quota_of w c.host)) ∷ [])
   entered_fits room cs are fits =
-      let row = change.Host (host_number w c) (told_host c r (quota_of w c.host)) in
+      let row = change.Host (host_number w c) (row_of_call c r (quota_of w c.host)) in
       fits_then w cs (row ∷ []) fits
       (subst (λ v. FitsOne v row) (sym (are ∙ recorded_as_in w (host_number w c) w r.results)) (told_fits room), tt)
 
 -- the same of a call that is acted on
 module _ (w : World) (r : Request) (k : Calling) (calling : IsCalling w r k) (cs : List Change) (are : applied w cs ≡ recorded w k.number r.results) where
-  row_is : told_host k.caller r (quota_of w k.caller.host) ≡ k.host
+  row_is : row_of_call k.caller r (quota_of w k.caller.host) ≡ k.host
   row_is = row_told w k.caller r calling.admitted.caller ∙ sym calling.host
 
-  change_is : change.Host (host_number w k.caller) (told_host k.caller r (quota_of w k.caller.host)) ≡ change.Host k.number k.host
+  change_is : change.Host (host_number w k.caller) (row_of_call k.caller r (quota_of w k.caller.host)) ≡ change.Host k.number k.host
   change_is = ap (change.Host (host_number w k.caller)) row_is ∙ ap (λ n. change.Host n k.host) (sym calling.number)
 
   told : applied w cs ≡ recorded w (host_number w k.caller) r.results

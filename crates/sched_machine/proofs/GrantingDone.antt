@@ -7,6 +7,7 @@ use Rattle.std.proofs.lemmas.List.Folds.{list_all-append}
 use Rattle.sched_book.specs.Places.{unit_at, instance_at, host_at, is_same}
 use Rattle.sched_book.specs.Delta.{applied_one, applied, FitsOne, Fits}
 use Rattle.sched_book.specs.Lost.{delay_at}
+use Rattle.sched_book.specs.Limits.{last_moment, last_deadline, most_delay}
 use Rattle.sched_book.specs.Reports.{with_number, with_changed}
 use Rattle.sched_book.specs.Step.{with_owner, grant_one, granted}
 use Rattle.sched_book.specs.declared.delta.Change.{Change}
@@ -17,7 +18,7 @@ use Rattle.sched_book.specs.declared.instance.Place.{Place}
 use Rattle.sched_book.specs.declared.instance.UnitBook.{UnitBook}
 use Rattle.sched_book.specs.declared.rows.Workunit.{Workunit}
 use Rattle.sched_book.specs.declared.world.World.{World}
-use Rattle.sched_book.proofs.PlacesOf.{nth-changed_nth}
+use Rattle.sched_book.proofs.PlacesOf.{nth-modify_nth}
 use Rattle.sched_book.proofs.Recording.{instance_at-with_changed}
 use Rattle.quorum_credit.specs.Limited.{IsLimited, FitWithin}
 use Rattle.quorum_credit.specs.Settling.{AreUnitsInLimits, puts_row}
@@ -58,7 +59,7 @@ module _ (host now : ℕ) (before : World) where
   like_next : (w : World) (o : Owner) (q : Place) → Like w → Like (with_changed (with_owner o) w q)
   like_next w o q like = record {
     delay = λ p.
-        ap (λ b. unwrap_or (option_map (λ (b : UnitBook). b.unit.delay_bound) b) 0) (nth-changed_nth (with_number (with_owner o) q.number) w.units q.unit p.unit)
+        ap (λ b. unwrap_or (option_map (λ (b : UnitBook). b.unit.delay_bound) b) 0) (nth-modify_nth (with_number (with_owner o) q.number) w.units q.unit p.unit)
         ∙ delay_over (with_owner o) q.number (eqb q.unit p.unit) (unit_at w p.unit)
         ∙ like.delay p;
     rest = λ r p.
@@ -126,17 +127,26 @@ module _ (host now : ℕ) (before : World) where
       ∙ in_turn (grant_one host now w p) ps cs (like_next w (owner_for host now (delay_at w p)) p like) tail
 
   -- the changes fit where the host stands and nothing is too late
-  module _ (soon : now ≤ 250000000000) (short : (p : Place) → delay_at before p ≤ 100000000) where
+  module _ (soon : now ≤ last_moment) (short : (p : Place) → delay_at before p ≤ most_delay) where
     one_fits : (w : World) → Like w → IsLimited w → IsTrue (is_some (host_at w host)) → (p : Place) (y : Instance) → given_at before host now p ≡ Some y
         → FitsOne w (change.Instance p y) × IsLimited (applied_one w (change.Instance p y))
     one_fits w like limited stands p y some =
         let at = standing w like p y some in
         let here : instance_at w p ≡ Some at.x = ap (option_and_then (λ (u : UnitBook). slice_get u.instances p.number)) at.unit ∙ at.number in
-        let few : delay_at w p ≤ 100000000 = subst (λ d. d ≤ 100000000) (sym (like.delay p)) (short p) in
-        let late : now + delay_at w p ≤ 250100000000 = omega arith in
+        let few : delay_at w p ≤ most_delay = subst (λ d. d ≤ most_delay) (sym (like.delay p)) (short p) in
+        let late : now + delay_at w p ≤ last_deadline = omega arith in
         subst (λ z. FitsOne w (change.Instance p z) × IsLimited (applied_one w (change.Instance p z))) at.given
-        (done_fits (with_owner (owner_for host now (delay_at w p))) w p at.book at.x limited at.unit at.number
-        ((λ given. stands), record { sent = soon; deadline = late; place = (limited.each p at.x here).1.place }))
+        (done_fits (with_owner (owner_for host now (delay_at w p))) w p at.book at.x limited at.unit at.number (
+          (λ given. stands),
+          (λ none. absurd cc),
+          record {
+            sent = soon;
+            deadline = late;
+            output = (limited.each p at.x here).2.output;
+            place = (limited.each p at.x here).2.place;
+            judged = (limited.each p at.x here).2.judged;
+          },
+        ))
 
     fit_in_turn : (w : World) (ps : List Place) (cs : List Change) → Like w → IsLimited w → IsTrue (is_some (host_at w host))
         → map Some cs ≡ map (given_change before host now) ps → Fits w cs × IsLimited (applied w cs)
@@ -155,10 +165,10 @@ module _ (host now : ℕ) (before : World) where
         ((one.0, rest.0), rest.1)
 
 -- no workunit gives too long
-short_delays : (w : World) → AreUnitsInLimits w → (p : Place) → delay_at w p ≤ 100000000
+short_delays : (w : World) → AreUnitsInLimits w → (p : Place) → delay_at w p ≤ most_delay
 short_delays w limits p = cases (unit_at w p.unit) refl
   where
-    cases : (o : Option UnitBook) → unit_at w p.unit ≡ o → unwrap_or (option_map (λ (b : UnitBook). b.unit.delay_bound) o) 0 ≤ 100000000
+    cases : (o : Option UnitBook) → unit_at w p.unit ≡ o → unwrap_or (option_map (λ (b : UnitBook). b.unit.delay_bound) o) 0 ≤ most_delay
     cases None is = omega arith
     cases (Some b) is = (limits p.unit b is).delay.1
 
@@ -167,7 +177,7 @@ pub grants_are : (w : World) (host now : ℕ) (ps : List Place) (cs : List Chang
     → applied w cs ≡ granted w host now ps
 grants_are w host now ps cs are = in_turn host now w w ps cs (record { delay = λ p. refl; rest = λ o p. refl }) are
 
-pub grants_fit : (w : World) (host now : ℕ) (ps : List Place) (cs : List Change) → now ≤ 250000000000 → map Some cs ≡ map (given_change w host now) ps
+pub grants_fit : (w : World) (host now : ℕ) (ps : List Place) (cs : List Change) → now ≤ last_moment → map Some cs ≡ map (given_change w host now) ps
     → IsLimited w → AreUnitsInLimits w → IsTrue (is_some (host_at w host)) → FitWithin w cs
 grants_fit w host now ps cs soon are limited units stands =
     let both = fit_in_turn host now w soon (short_delays w units) w ps cs (record { delay = λ p. refl; rest = λ o p. refl }) limited stands are in

@@ -12,7 +12,7 @@ use Rattle.sched_book.specs.Names.{instance_name}
 use Rattle.sched_book.specs.Places.{instance_at, held_by, is_held_by, is_owned_by, name_at, owner_host}
 use Rattle.sched_book.specs.Reports.{first_reports}
 use Rattle.sched_book.specs.Sound.{IsBare, IsSoundUnit, Sound}
-use Rattle.sched_book.specs.Step.{after_lost, after_reports, after_settlement, asking_of, at_entry, granted, host_number, host_told, lost_of, resent_of}
+use Rattle.sched_book.specs.Step.{after_lost, after_reports, after_settlement, asking_of, at_entry, granted, host_number, host_at_entry, lost_of, resent_of}
 use Rattle.sched_book.specs.declared.instance.Instance.{Instance}
 use Rattle.sched_book.specs.declared.instance.Owner.{Owner}
 use Rattle.sched_book.specs.declared.instance.Place.{Place}
@@ -121,22 +121,22 @@ module _ (w : World) (c : Caller) (r : Request) where
           then = sym (settled_same (at_entry w c r) left host p) ∙ held
 
           before : holds reported host p ≡ true
-          before = lost_hold_no_more (at_entry w c r) (host_told w c r) now host (lost_of w c r) reported p then
+          before = lost_hold_no_more (at_entry w c r) (host_at_entry w c r) now host (lost_of w c r) reported p then
 
           cases : (b : Bool) → is_listed reported names p ≡ b → IsRetained w c r names p ⊎ Contains (resent_of w c r) p
           cases true listed =
               inl (record { kept = (reports_end_holding w c r p).0 before; listed = sym (listed_stays names p) ∙ listed })
           cases false unlisted =
               let there : Contains (lost_of w c r) p = held_and_unlisted p before unlisted in
-              inr (passes_filter (is_resent (at_entry w c r) (host_told w c r)) (lost_of w c r) p there
-              (lost_held (at_entry w c r) (host_told w c r) now host p (lost_of w c r) reported there then))
+              inr (passes_filter (is_resent (at_entry w c r) (host_at_entry w c r)) (lost_of w c r) p there
+              (lost_held (at_entry w c r) (host_at_entry w c r) now host p (lost_of w c r) reported there then))
 
       -- what is retained is held
       settled_retained : (p : Place) → IsRetained w c r names p → holds settlement host p ≡ true
       settled_retained p kept =
           settled_same (at_entry w c r) left host p
           ∙ passes-is left (is_held_by host) p
-          ∙ ap (is_held_in host) (lost_elsewhere (at_entry w c r) (host_told w c r) now host p (lost_of w c r) reported nowhere)
+          ∙ ap (is_held_in host) (lost_elsewhere (at_entry w c r) (host_at_entry w c r) now host p (lost_of w c r) reported nowhere)
           ∙ sym (passes-is reported (is_held_by host) p)
           ∙ (reports_end_holding w c r p).1 kept.kept
         where
@@ -147,9 +147,9 @@ module _ (w : World) (c : Caller) (r : Request) where
       settled_resent : (p : Place) → Contains (resent_of w c r) p → holds settlement host p ≡ true
       settled_resent p there =
           settled_same (at_entry w c r) left host p
-          ∙ lost_resent (at_entry w c r) (host_told w c r) now host p (lost_of w c r) reported
-          (passed_filter (is_resent (at_entry w c r) (host_told w c r)) (lost_of w c r) p there)
-          ∙ lost_was_held p (in_filter (is_resent (at_entry w c r) (host_told w c r)) (lost_of w c r) p there)
+          ∙ lost_resent (at_entry w c r) (host_at_entry w c r) now host p (lost_of w c r) reported
+          (passed_filter (is_resent (at_entry w c r) (host_at_entry w c r)) (lost_of w c r) p there)
+          ∙ lost_was_held p (in_filter (is_resent (at_entry w c r) (host_at_entry w c r)) (lost_of w c r) p there)
 
       -- what is eligible is neither reported nor lapsed
       eligible_is_unspoiled : Sound w → (p : Place) → is_eligible w (asking_of w c r now).host p ≡ true → IsUnspoiled settlement p
@@ -172,7 +172,7 @@ module _ (w : World) (c : Caller) (r : Request) where
           bare : (at.x.lapse ≡ None) × (at.x.report ≡ None)
           bare =
               all_get IsBare at.book.instances p.number at.x
-              (all_nth (IsSoundUnit w.hosts w.apps) w.units p.unit at.book sound.units at.at).bare at.stands free
+              (all_nth (IsSoundUnit w.hosts w.apps) w.units p.unit at.book sound.units at.at).well.bare at.stands free
 
           reports_stand : instance_at reported p ≡ Some at.x
           reports_stand = elim (reports_are_recorded_by_place (at_entry w c r) host r.results p).stays_or_recorded [
@@ -187,7 +187,7 @@ module _ (w : World) (c : Caller) (r : Request) where
 
           lost_stands : instance_at reported p ≡ Some at.x → instance_at left p ≡ Some at.x
           lost_stands there =
-              lost_elsewhere (at_entry w c r) (host_told w c r) now host p (lost_of w c r) reported
+              lost_elsewhere (at_entry w c r) (host_at_entry w c r) now host p (lost_of w c r) reported
               (λ lost.
               free_not_held host at.x free
               (sym (passes-is reported (is_held_by host) p ∙ ap (is_held_in host) there) ∙ lost_was_held p lost))

@@ -2,7 +2,8 @@
 use Rattle.std.proofs.Common.{◌≡◌, ℕ, ◌<◌, Bool, true, false, cond, List, [], ◌∷◌, ◌++◌, Option, Some, None, sym, refl, ap, ◌∙◌, subst, inl, inr, arith}
 use Rattle.std.specs.Prelude.{Contains, fold, option_map, option_and_then, replicate, slice_get}
 use Rattle.sched_book.specs.Count.{is_open, need}
-use Rattle.sched_book.specs.Lost.{is_resent, estimate_at, delay_at, deadline_after, with_deadline, with_lapse, resend_or_drop}
+use Rattle.sched_book.specs.Fits.{estimate_at}
+use Rattle.sched_book.specs.Lost.{is_resent, delay_at, deadline_after, with_deadline, with_lapse, resend_or_drop}
 use Rattle.sched_book.specs.Places.{unit_at, instance_at, book_status, is_held_by, is_same}
 use Rattle.sched_book.specs.Reports.{with_changed}
 use Rattle.sched_book.specs.Settle.{fresh, grown, settled}

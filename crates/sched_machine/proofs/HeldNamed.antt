@@ -8,10 +8,11 @@ use Rattle.rpc_records.specs.declared.reply.Reply.{Reply}
 use Rattle.rpc_records.specs.declared.request.Request.{Request}
 use Rattle.sched_book.specs.Fits.{is_eligible, is_for}
 use Rattle.sched_book.specs.Lost.{is_resent}
+use Rattle.sched_book.specs.Limits.{most_instances}
 use Rattle.sched_book.specs.Names.{instance_name, name_parts}
 use Rattle.sched_book.specs.Places.{instance_at, is_held_by, name_at, unit_at}
 use Rattle.sched_book.specs.Sound.{IsSoundUnit, Sound}
-use Rattle.sched_book.specs.Step.{after_settlement, asking_of, at_entry, granted, host_number, host_told, job_at, lost_of, resent_of}
+use Rattle.sched_book.specs.Step.{after_settlement, asking_of, at_entry, granted, host_number, host_at_entry, job_at, lost_of, resent_of}
 use Rattle.sched_book.specs.declared.instance.Instance.{Instance}
 use Rattle.sched_book.specs.declared.instance.Place.{Place}
 use Rattle.sched_book.specs.declared.instance.UnitBook.{UnitBook}
@@ -76,7 +77,7 @@ parts_are : (w : World) → Sound w → (p : Place) → (at : Standing w p) → 
 parts_are w sound p at =
     ap name_parts (ap (λ o. unwrap_or (option_map (λ (b : UnitBook). instance_name b.unit.name p.number) o) []) at.unit)
     ∙ made_names_are_split at.book.unit.name p.number
-    (let few : length at.book.instances ≤ 100 = (all_nth (IsSoundUnit w.hosts w.apps) w.units p.unit at.book sound.units at.unit).few in
+    (let few : length at.book.instances ≤ most_instances = (all_nth (IsSoundUnit w.hosts w.apps) w.units p.unit at.book sound.units at.unit).well.few in
     let within : p.number < length at.book.instances = slice_get_within at.book.instances p.number at.x at.number in
     omega arith)
 
@@ -104,7 +105,7 @@ one_place w sound p q first second same =
     units =
         let i = nth_found w.units p.unit here.book here.unit in
         let j = nth_found w.units q.unit there.book there.unit in
-        i.1 ∙ ap (λ n. 1 + n) (one_unit w.units i.0 j.0 here.book there.book sound.unit_names i.2 j.2 named) ∙ sym j.1
+        i.1 ∙ ap (λ n. 1 + n) (one_unit w.units i.0 j.0 here.book there.book sound.rows.unit_names i.2 j.2 named) ∙ sym j.1
 
 -- what is held stands
 held_stands : (w : World) (host : ℕ) (p : Place) → holds w host p ≡ true → is_some (instance_at w p) ≡ true
@@ -125,10 +126,10 @@ module _ (w : World) (c : Caller) (r : Request) (now : ℕ) (reply : Reply) (nam
   after = granted (after_settlement w c r now) (host_number w c) now jobs
 
   abbrev sent : List Job
-  sent = filter_map (job_at after (host_told w c r) true) (resent_of w c r)
+  sent = filter_map (job_at after (host_at_entry w c r) true) (resent_of w c r)
 
   abbrev given : List Job
-  given = filter_map (job_at after (host_told w c r) false) jobs
+  given = filter_map (job_at after (host_at_entry w c r) false) jobs
 
   module _ (results : reply.results ≡ sent ++ given) (sound : Sound w)
       (eligible : (p : Place) → Contains jobs p → is_eligible w (asking_of w c r now).host p ≡ true)
@@ -136,21 +137,21 @@ module _ (w : World) (c : Caller) (r : Request) (now : ℕ) (reply : Reply) (nam
     -- what is sent again is named
     resent_named : (p : Place) → Contains (resent_of w c r) p → IsNamed w reply p
     resent_named p there =
-        let told = told_of w c r now jobs (host_told w c r) true p
-        (resent_runs w c r now jobs p (passed_filter (is_resent (at_entry w c r) (host_told w c r)) (lost_of w c r) p there)) in (
+        let told = told_of w c r now jobs (host_at_entry w c r) true p
+        (resent_runs w c r now jobs p (passed_filter (is_resent (at_entry w c r) (host_at_entry w c r)) (lost_of w c r) p there)) in (
           told.0,
           subst (λ js. Contains js told.0) (sym results)
-              (Contains-append_left sent given told.0 (given_by (job_at after (host_told w c r) true) (resent_of w c r) p told.0 there told.1)),
+              (Contains-append_left sent given told.0 (given_by (job_at after (host_at_entry w c r) true) (resent_of w c r) p told.0 there told.1)),
           told.2,
         )
 
     -- so is what is granted
     granted_named : (p : Place) → Contains jobs p → IsNamed w reply p
     granted_named p there =
-        let told = told_of w c r now jobs (host_told w c r) false p (eligible_runs w c r now jobs p (eligible p there)) in (
+        let told = told_of w c r now jobs (host_at_entry w c r) false p (eligible_runs w c r now jobs p (eligible p there)) in (
           told.0,
           subst (λ js. Contains js told.0) (sym results)
-              (Contains-append_right sent given told.0 (given_by (job_at after (host_told w c r) false) jobs p told.0 there told.1)),
+              (Contains-append_right sent given told.0 (given_by (job_at after (host_at_entry w c r) false) jobs p told.0 there told.1)),
           told.2,
         )
 
@@ -173,11 +174,11 @@ module _ (w : World) (c : Caller) (r : Request) (now : ℕ) (reply : Reply) (nam
     job_held : (j : Job) → Contains reply.results j → (p : Place) × (name_at w p ≡ j.name) × (holds after (host_number w c) p ≡ true)
     job_held j there = elim (Contains-append_cases sent given j (subst (λ js. Contains js j) results there)) [
       | inl again ↦ (
-          let found = gave (job_at after (host_told w c r) true) (resent_of w c r) j again in
-          (found.0, sym (told_name w c r now jobs (host_told w c r) true found.0 j found.2), (by_place found.0).resent found.1))
+          let found = gave (job_at after (host_at_entry w c r) true) (resent_of w c r) j again in
+          (found.0, sym (told_name w c r now jobs (host_at_entry w c r) true found.0 j found.2), (by_place found.0).resent found.1))
       | inr new ↦ (
-          let found = gave (job_at after (host_told w c r) false) jobs j new in
-          (found.0, sym (told_name w c r now jobs (host_told w c r) false found.0 j found.2), (by_place found.0).granted found.1))
+          let found = gave (job_at after (host_at_entry w c r) false) jobs j new in
+          (found.0, sym (told_name w c r now jobs (host_at_entry w c r) false found.0 j found.2), (by_place found.0).granted found.1))
     ]
 
     -- so that each instance of such a name is held, since names are distinct
@@ -200,10 +201,10 @@ a_host_holds_what_is_listed_or_named w after c r now reply names step sound rese
     left : World
     left = granted (after_settlement w c r now) (host_number w c) now step.jobs
 
-    results : reply.results ≡ filter_map (job_at left (host_told w c r) true) (resent_of w c r) ++ filter_map (job_at left (host_told w c r) false) step.jobs
+    results : reply.results ≡ filter_map (job_at left (host_at_entry w c r) true) (resent_of w c r) ++ filter_map (job_at left (host_at_entry w c r) false) step.jobs
     results =
         ap (λ (z : Reply). z.results) step.answer
-        ∙ ap (λ v. filter_map (job_at v (host_told w c r) true) (resent_of w c r) ++ filter_map (job_at v (host_told w c r) false) step.jobs) step.left
+        ∙ ap (λ v. filter_map (job_at v (host_at_entry w c r) true) (resent_of w c r) ++ filter_map (job_at v (host_at_entry w c r) false) step.jobs) step.left
 
     eligible : (p : Place) → Contains step.jobs p → is_eligible w (asking_of w c r now).host p ≡ true
     eligible p job =

@@ -13,7 +13,7 @@ use Rattle.sched_book.specs.Names.{instance_name}
 use Rattle.sched_book.specs.Places.{host_at, name_at, nth, status_at, status_of, unit_at, user_had}
 use Rattle.sched_book.specs.Reports.{with_number}
 use Rattle.sched_book.specs.Settle.{with_grown, with_quota}
-use Rattle.sched_book.specs.Step.{after_lost, after_settlement, asking_of, at_entry, deadline_at, grant_one, granted, host_number, host_told, job_at, job_by, told_host, with_owner}
+use Rattle.sched_book.specs.Step.{after_lost, after_settlement, asking_of, at_entry, deadline_at, grant_one, granted, host_number, host_at_entry, job_at, job_by, row_of_call, with_owner}
 use Rattle.sched_book.specs.declared.instance.Instance.{Instance}
 use Rattle.sched_book.specs.declared.instance.Place.{Place}
 use Rattle.sched_book.specs.declared.instance.UnitBook.{UnitBook}
@@ -24,7 +24,7 @@ use Rattle.sched_book.specs.declared.rows.Version.{Version}
 use Rattle.sched_book.specs.declared.rows.Workunit.{Workunit}
 use Rattle.sched_book.specs.declared.world.World.{World}
 use Rattle.sched_book.proofs.Newest.{behind, front_of, in_front, none_in_nothing}
-use Rattle.sched_book.proofs.PlacesOf.{nth-changed_nth}
+use Rattle.sched_book.proofs.PlacesOf.{nth-modify_nth}
 use Rattle.job_choice.proofs.Candidates.{Stood, stood}
 use Rattle.lost_jobs.proofs.Standing.{name_none, name_some}
 use Rattle.quorum_credit.proofs.ByPlace.{nth-map_places}
@@ -72,7 +72,7 @@ module _ (host now : ℕ) where
   row_granted [] v n = refl
   row_granted (q ∷ jobs) v n =
       row_granted jobs (grant_one host now v q) n
-      ∙ ap (option_map (λ (b : UnitBook). b.unit)) (nth-changed_nth (with_number f q.number) v.units q.unit n)
+      ∙ ap (option_map (λ (b : UnitBook). b.unit)) (nth-modify_nth (with_number f q.number) v.units q.unit n)
       ∙ cases (eqb q.unit n) (unit_at v n)
     where
       f : Instance → Instance
@@ -172,25 +172,25 @@ module _ (w : World) (c : Caller) (r : Request) (now : ℕ) (jobs : List Place) 
       record { unit = b.unit; version = found.0; stands = ap (option_map (λ (b : UnitBook). b.unit)) stands; found = found.1 }
 
   -- what is sent again to it
-  pub resent_runs : (p : Place) → is_resent (at_entry w c r) (host_told w c r) p ≡ true → Runs (host_told w c r) p
+  pub resent_runs : (p : Place) → is_resent (at_entry w c r) (host_at_entry w c r) p ≡ true → Runs (host_at_entry w c r) p
   resent_runs p is = cases (unit_at w p.unit) refl is
     where
       cases : (o : Option UnitBook) → unit_at w p.unit ≡ o
-          → unwrap_or (option_map (λ (b : UnitBook). is_open (status_at (at_entry w c r) p.unit) && unit_fits (at_entry w c r) (host_told w c r) b) o) false ≡ true
-          → Runs (host_told w c r) p
+          → unwrap_or (option_map (λ (b : UnitBook). is_open (status_at (at_entry w c r) p.unit) && unit_fits (at_entry w c r) (host_at_entry w c r) b) o) false ≡ true
+          → Runs (host_at_entry w c r) p
       cases None stands is = absurd cc
       cases (Some b) stands is =
-          fits_runs (host_told w c r) p b stands
-          (last_true (is_open (status_at (at_entry w c r) p.unit)) (unit_fits (at_entry w c r) (host_told w c r) b) is)
+          fits_runs (host_at_entry w c r) p b stands
+          (last_true (is_open (status_at (at_entry w c r) p.unit)) (unit_fits (at_entry w c r) (host_at_entry w c r) b) is)
 
   -- the host that asks for jobs has the platforms that it is told with
-  platforms_stay : (asking_of w c r now).host.platforms ≡ (host_told w c r).platforms
+  platforms_stay : (asking_of w c r now).host.platforms ≡ (host_at_entry w c r).platforms
   platforms_stay =
-      ap (λ o. (unwrap_or o (host_told w c r)).platforms)
+      ap (λ o. (unwrap_or o (host_at_entry w c r)).platforms)
       (nth-map_places (with_quota (at_entry w c r) (with_grown (after_lost w c r now))) (after_lost w c r now).hosts (host_number w c)
       ∙ ap (λ (v : World). option_map (λ h. with_quota (at_entry w c r) (with_grown (after_lost w c r now)) (host_number w c, h)) (nth v.hosts (host_number w c)))
       (before_settlement w c r now).rest)
-      ∙ cases (host_at (at_entry w c r) (host_number w c)) (told_host c r 1)
+      ∙ cases (host_at (at_entry w c r) (host_number w c)) (row_of_call c r 1)
     where
       cases : (o : Option HostRow) (d : HostRow)
           → (unwrap_or (option_map (λ h. with_quota (at_entry w c r) (with_grown (after_lost w c r now)) (host_number w c, h)) o) (unwrap_or o d)).platforms
@@ -199,7 +199,7 @@ module _ (w : World) (c : Caller) (r : Request) (now : ℕ) (jobs : List Place) 
       cases (Some h) d = refl
 
   -- and what is eligible
-  pub eligible_runs : (p : Place) → is_eligible w (asking_of w c r now).host p ≡ true → Runs (host_told w c r) p
+  pub eligible_runs : (p : Place) → is_eligible w (asking_of w c r now).host p ≡ true → Runs (host_at_entry w c r) p
   eligible_runs p eligible = record {
     unit = runs.unit;
     version = runs.version;

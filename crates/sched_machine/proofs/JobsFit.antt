@@ -1,17 +1,20 @@
 -- What a call's lost jobs change fits behind what its reports change.
 use Rattle.std.proofs.Common.{◌≡◌, ℕ, ◌≤◌, Bool, true, false, cond, List, [], ◌∷◌, ◌++◌, map, Option, Some, None, sym, refl, subst, arith}
-use Rattle.std.specs.Prelude.{filter_map, option_map, option_and_then, unwrap_or, slice_get}
+use Rattle.std.specs.Prelude.{All, filter_map, is_some, option_map, option_and_then, unwrap_or, slice_get}
 use Rattle.std.specs.List.{cons_option}
+use Rattle.std.proofs.lemmas.List.Elements.{All-head, All-tail}
 use Rattle.rpc_records.specs.declared.request.Request.{Request}
 use Rattle.sched_book.specs.Delta.{applied_one, applied, FitsOne, Fits}
-use Rattle.sched_book.specs.Limits.{IsInstanceInLimits}
-use Rattle.sched_book.specs.Lost.{is_resent, estimate_at, delay_at, deadline_after, with_deadline}
+use Rattle.sched_book.specs.Limits.{last_moment, last_deadline, IsInstanceInLimits}
+use Rattle.sched_book.specs.Fits.{estimate_at}
+use Rattle.sched_book.specs.Lost.{is_resent, delay_at, deadline_after, with_deadline}
 use Rattle.sched_book.specs.Places.{unit_at, instance_at, deadline_of}
-use Rattle.sched_book.specs.Sound.{HasOwnerAmong}
-use Rattle.sched_book.specs.Step.{after_reports, deadline_at, host_told, lost_of}
+use Rattle.sched_book.specs.Sound.{IsBare, HasOwnerAmong, IsWellUnit, IsWell}
+use Rattle.sched_book.specs.Step.{after_reports, deadline_at, host_number, host_at_entry, lost_of}
 use Rattle.sched_book.specs.declared.delta.Change.{Change}
 use Rattle.sched_book.specs.declared.delta.Change.TheVariants as change
 use Rattle.sched_book.specs.declared.instance.Instance.{Instance}
+use Rattle.sched_book.specs.declared.instance.Lapse.TheVariants.{Dropped}
 use Rattle.sched_book.specs.declared.instance.Place.{Place}
 use Rattle.sched_book.specs.declared.instance.UnitBook.{UnitBook}
 use Rattle.sched_book.specs.declared.rows.HostRow.{HostRow}
@@ -25,11 +28,12 @@ use Rattle.quorum_credit.proofs.ByPlace.{all_get, all_nth}
 use Rattle.quorum_credit.proofs.FitReports.{done_fits}
 use Rattle.quorum_credit.proofs.GrownFits.{fits_then}
 use Rattle.sched_machine.specs.Calling.{IsCalling}
-use Rattle.sched_machine.specs.Well.{IsWellUnit, IsWell}
 use Rattle.sched_machine.specs.declared.entry.Calling.{Calling}
 use Rattle.sched_machine.proofs.JobsLost.{fates_told}
 use Rattle.sched_machine.proofs.StepsSound.{sound_is_well, reported}
-use Rattle.sched_machine.proofs.UnitsLost.{deadline_keeps, delay_is_low, deadline_is_low}
+use Rattle.sched_machine.proofs.UnitsGiven.{IsGiven, given_after}
+use Rattle.sched_machine.proofs.UnitsLapsed.{lapse_keeps}
+use Rattle.sched_machine.proofs.UnitsLost.{lost_given, still_some, deadline_keeps, delay_is_low, deadline_is_low}
 use Rattle.sched_machine.proofs.UnitsWell.{Keeps, owner_among}
 
 -- a world that is well keeps its instances within limits
@@ -40,75 +44,88 @@ limited_from_well w well = record {
 }
   where
     cases : (p : Place) (x : Instance) (o : Option UnitBook) → unit_at w p.unit ≡ o
-        → option_and_then (λ (b : UnitBook). slice_get b.instances p.number) o ≡ Some x → HasOwnerAmong w.hosts x × IsInstanceInLimits x
+        → option_and_then (λ (b : UnitBook). slice_get b.instances p.number) o ≡ Some x → HasOwnerAmong w.hosts x × IsBare x × IsInstanceInLimits x
     cases p x None is none = absurd cc
     cases p x (Some b) is there =
-        let unit = all_nth (IsWellUnit w.hosts w.apps) w.units p.unit b well.units is in
-        (all_get (HasOwnerAmong w.hosts) b.instances p.number x unit.owners there, all_get IsInstanceInLimits b.instances p.number x unit.instances there)
+        let unit = all_nth (IsWellUnit w.hosts w.apps) w.units p.unit b well.units is in (
+          all_get (HasOwnerAmong w.hosts) b.instances p.number x unit.owners there,
+          all_get IsBare b.instances p.number x unit.bare there,
+          all_get IsInstanceInLimits b.instances p.number x unit.instances there,
+        )
 
 -- a fate leaves an instance within limits, where its deadline is
-fated_good : (hosts : List HostRow) (o : Option ℕ) (x : Instance) → ((d : ℕ) → o ≡ Some d → d ≤ 250100000000)
-    → HasOwnerAmong hosts x × IsInstanceInLimits x → HasOwnerAmong hosts (fated o x) × IsInstanceInLimits (fated o x)
-fated_good hosts None x low good = (good.0, record { sent = good.1.sent; deadline = good.1.deadline; place = good.1.place })
-fated_good hosts (Some d) x low good =
-    let keeps : Keeps x (with_deadline (λ before. d) x) = deadline_keeps (λ before. d) (λ before was. low d refl) x in
-    (owner_among hosts x (with_deadline (λ before. d) x) keeps good.0, keeps.limits good.1)
+fated_good : (hosts : List HostRow) (o : Option ℕ) (x : Instance) → ((d : ℕ) → o ≡ Some d → d ≤ last_deadline)
+    → is_some x.owner ≡ true → HasOwnerAmong hosts x × IsBare x × IsInstanceInLimits x
+    → HasOwnerAmong hosts (fated o x) × IsBare (fated o x) × IsInstanceInLimits (fated o x)
+fated_good hosts o x low given good =
+    let keeps : Keeps x (fated o x) = fated_keeps o low in
+    (owner_among hosts x (fated o x) keeps good.0, keeps.bare good.1, keeps.limits good.2)
+  where
+    fated_keeps : (o : Option ℕ) → ((d : ℕ) → o ≡ Some d → d ≤ last_deadline) → Keeps x (fated o x)
+    fated_keeps None low = lapse_keeps Dropped x given
+    fated_keeps (Some d) low = deadline_keeps (λ before. d) (λ before was. low d refl) x
+
+-- it takes no owner away
+fated_given : (o : Option ℕ) (x : Instance) → is_some (fated o x).owner ≡ is_some x.owner
+fated_given None x = refl
+fated_given (Some d) x = still_some (λ before. d) x.owner
 
 -- fates that follow from the places, with deadlines within limits
-module _ (r : Place → Option ℕ) (before : World) (low : (p : Place) (d : ℕ) → r p ≡ Some d → d ≤ 250100000000) where
+module _ (r : Place → Option ℕ) (before : World) (low : (p : Place) (d : ℕ) → r p ≡ Some d → d ≤ last_deadline) where
   -- one of them fits where an instance stands
-  one_fits : (v : World) (p : Place) (y : Instance) → IsLimited v → instance_at v p ≡ Some y
+  one_fits : (v : World) (p : Place) (y : Instance) → IsLimited v → is_some y.owner ≡ true → instance_at v p ≡ Some y
       → FitsOne v (change.Instance p (fated (r p) y)) × IsLimited (applied_one v (change.Instance p (fated (r p) y)))
-  one_fits v p y limited is = at_unit (unit_at v p.unit) refl is
+  one_fits v p y limited given is = at_unit (unit_at v p.unit) refl is
     where
       at_unit : (o : Option UnitBook) → unit_at v p.unit ≡ o → option_and_then (λ (b : UnitBook). slice_get b.instances p.number) o ≡ Some y
           → FitsOne v (change.Instance p (fated (r p) y)) × IsLimited (applied_one v (change.Instance p (fated (r p) y)))
       at_unit None stands there = absurd cc
-      at_unit (Some b) stands there = done_fits (fated (r p)) v p b y limited stands there (fated_good v.hosts (r p) y (low p) (limited.each p y is))
+      at_unit (Some b) stands there = done_fits (fated (r p)) v p b y limited stands there (fated_good v.hosts (r p) y (low p) given (limited.each p y is))
 
   -- its change, before others
-  step_fits : (v : World) (p : Place) (rest : List Change) (o now : Option Instance) → IsLimited v → instance_at v p ≡ now
+  step_fits : (v : World) (p : Place) (rest : List Change) (o now : Option Instance) → IsLimited v → IsGiven v p → instance_at v p ≡ now
       → option_map (fated (r p)) now ≡ option_map (fated (r p)) o
       → Fits v rest → (IsLimited (with_fate v (by_place r before p)) → Fits (with_fate v (by_place r before p)) rest)
       → Fits v (cons_option (option_map (λ x. change.Instance p (fated (r p) x)) o) rest)
-  step_fits v p rest None now limited is same nothing later = nothing
-  step_fits v p rest (Some x) None limited is same nothing later = absurd cc
-  step_fits v p rest (Some x) (Some y) limited is same nothing later =
+  step_fits v p rest None now limited given is same nothing later = nothing
+  step_fits v p rest (Some x) None limited given is same nothing later = absurd cc
+  step_fits v p rest (Some x) (Some y) limited given is same nothing later =
       let alike : fated (r p) y ≡ fated (r p) x = cc in
-      let one = one_fits v p y limited is in
+      let one = one_fits v p y limited (given y is) is in
       let made : with_fate v (by_place r before p) ≡ applied_one v (change.Instance p (fated (r p) y)) = with_changed-is v p (fated (r p)) y is in
       subst (λ z. FitsOne v (change.Instance p z) × Fits (applied_one v (change.Instance p z)) rest) alike
       (one.0, subst (λ u. Fits u rest) made (later (subst IsLimited (sym made) one.1)))
 
-  in_turn_fit : (v : World) (ps : List Place) → Alike r before v → IsLimited v → Fits v (filter_map (fate_change before) (map (by_place r before) ps))
-  in_turn_fit v [] alike limited = tt
-  in_turn_fit v (p ∷ ps) alike limited =
-      step_fits v p (filter_map (fate_change before) (map (by_place r before) ps)) (instance_at before p) (instance_at v p) limited refl (alike p)
-      (in_turn_fit v ps alike limited)
-      (in_turn_fit (with_fate v (by_place r before p)) ps (stay_alike r before v p alike))
+  in_turn_fit : (v : World) (ps : List Place) → Alike r before v → IsLimited v → All (IsGiven v) ps → Fits v (filter_map (fate_change before) (map (by_place r before) ps))
+  in_turn_fit v [] alike limited given = tt
+  in_turn_fit v (p ∷ ps) alike limited given =
+      step_fits v p (filter_map (fate_change before) (map (by_place r before) ps)) (instance_at before p) (instance_at v p) limited (All-head (IsGiven v) p ps given) refl (alike p)
+      (in_turn_fit v ps alike limited (All-tail (IsGiven v) p ps given))
+      (λ after. in_turn_fit (with_fate v (by_place r before p)) ps (stay_alike r before v p alike) after
+      (λ k d within. given_after (fated (r p)) v p _ (fated_given (r p)) (All-tail (IsGiven v) p ps given k d within)))
 
 -- a deadline in a world whose instances are within limits
-deadline_was_low : (w : World) (p : Place) → IsLimited w → deadline_at w p ≤ 250100000000
+deadline_was_low : (w : World) (p : Place) → IsLimited w → deadline_at w p ≤ last_deadline
 deadline_was_low w p limited = cases (instance_at w p) refl
   where
-    cases : (o : Option Instance) → instance_at w p ≡ o → unwrap_or (option_map (λ (x : Instance). deadline_of x.owner) o) 0 ≤ 250100000000
+    cases : (o : Option Instance) → instance_at w p ≡ o → unwrap_or (option_map (λ (x : Instance). deadline_of x.owner) o) 0 ≤ last_deadline
     cases None is = omega arith
-    cases (Some x) is = (limited.each p x is).1.deadline
+    cases (Some x) is = (limited.each p x is).2.deadline
 
 -- a lost job is sent again with a deadline within limits
-resent_low : (w : World) (h : HostRow) (now : ℕ) → IsWell w → now ≤ 250000000000 → (p : Place) (d : ℕ) → resent_to w h now p ≡ Some d → d ≤ 250100000000
+resent_low : (w : World) (h : HostRow) (now : ℕ) → IsWell w → now ≤ last_moment → (p : Place) (d : ℕ) → resent_to w h now p ≡ Some d → d ≤ last_deadline
 resent_low w h now well early p d is = cases (is_resent w h p) is
   where
-    cases : (b : Bool) → cond b (Some (deadline_after now (estimate_at w h p) (delay_at w p) (deadline_at w p))) None ≡ Some d → d ≤ 250100000000
+    cases : (b : Bool) → cond b (Some (deadline_after now (estimate_at w h p) (delay_at w p) (deadline_at w p))) None ≡ Some d → d ≤ last_deadline
     cases true is =
         let value : deadline_after now (estimate_at w h p) (delay_at w p) (deadline_at w p) ≡ d = cc in
-        subst (λ n. n ≤ 250100000000) value
+        subst (λ n. n ≤ last_deadline) value
         (deadline_is_low now (estimate_at w h p) (delay_at w p) early (delay_is_low w p well) (deadline_at w p)
         (deadline_was_low w p (limited_from_well w well)))
     cases false is = absurd cc
 
 -- what the fates of a call's lost jobs change fits behind the changes of its reports
-pub lost_fit : (w : World) (k : Calling) (r : Request) (now : ℕ) (before after : List Change) (fates : List Fate) → now ≤ 250000000000
+pub lost_fit : (w : World) (k : Calling) (r : Request) (now : ℕ) (before after : List Change) (fates : List Fate) → now ≤ last_moment
     → IsCalling w r k → applied w before ≡ after_reports w k.caller r → fates ≡ fates_told w k.caller r now
     → after ≡ before ++ filter_map (fate_change (applied w before)) fates → Fits w before → Fits w after
 lost_fit w k r now before after fates early is made told pushed fits =
@@ -116,8 +133,8 @@ lost_fit w k r now before after fates early is made told pushed fits =
     let limited : IsLimited left =
     limited_from_well left (reported w k.caller r now is.sound is.admitted.caller is.room is.admitted.limits early) in
     let behind : Fits left (filter_map (fate_change left) (fates_told w k.caller r now)) =
-    in_turn_fit (resent_to w (host_told w k.caller r) now) left (resent_low w (host_told w k.caller r) now (sound_is_well w is.sound) early)
-    left (lost_of w k.caller r) (λ p. refl) limited in
+    in_turn_fit (resent_to w (host_at_entry w k.caller r) now) left (resent_low w (host_at_entry w k.caller r) now (sound_is_well w is.sound) early)
+    left (lost_of w k.caller r) (λ p. refl) limited (lost_given left (host_number w k.caller) r.other_results) in
     subst (Fits w) (sym pushed)
     (fits_then w before (filter_map (fate_change (applied w before)) fates) fits
     (subst (λ v. Fits v (filter_map (fate_change v) fates)) (sym made)

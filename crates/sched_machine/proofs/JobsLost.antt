@@ -5,7 +5,7 @@ use Rattle.std.proofs.lemmas.List.Sums.{fold-append}
 use Rattle.rpc_records.specs.declared.request.Request.{Request}
 use Rattle.sched_book.specs.Delta.{applied_one, applied}
 use Rattle.sched_book.specs.Lost.{lost}
-use Rattle.sched_book.specs.Step.{at_entry, after_reports, after_lost, host_number, host_told, lost_of, resent_of}
+use Rattle.sched_book.specs.Step.{at_entry, after_reports, after_lost, host_number, host_at_entry, lost_of, resent_of}
 use Rattle.sched_book.specs.declared.delta.Change.{Change}
 use Rattle.sched_book.specs.declared.machine.Caller.{Caller}
 use Rattle.sched_book.specs.declared.world.World.{World}
@@ -24,7 +24,7 @@ use Rattle.sched_machine.proofs.AskedSeconds.{resent_are}
 
 -- the fates of a call's lost jobs
 abbrev pub fates_told : World → Caller → Request → ℕ → List Fate
-fates_told w c r now = map (fate w (host_told w c r) now) (lost_of w c r)
+fates_told w c r now = map (fate w (host_at_entry w c r) now) (lost_of w c r)
 
 module _ (w : World) (c : Caller) (r : Request) where
   -- the caller's host holds no more after the reports than before
@@ -36,7 +36,7 @@ module _ (w : World) (c : Caller) (r : Request) where
     pub lost_left : (before after : List Change) (fates : List Fate) → applied w before ≡ after_reports w c r → fates ≡ fates_told w c r now
         → after ≡ before ++ filter_map (fate_change (applied w before)) fates → applied w after ≡ after_lost w c r now
     lost_left before after fates reported told pushed =
-        let law = fates_resend_or_drop (at_entry w c r) (after_reports w c r) (host_told w c r) now (host_number w c) r.other_results
+        let law = fates_resend_or_drop (at_entry w c r) (after_reports w c r) (host_at_entry w c r) now (host_number w c) r.other_results
         (reports_keep_deadlines (at_entry w c r) (host_number w c) r.results) in
         ap (applied w) pushed
         ∙ fold-append applied_one w before (filter_map (fate_change (applied w before)) fates)
@@ -47,7 +47,7 @@ module _ (w : World) (c : Caller) (r : Request) where
 
     -- those of them that are sent again
     pub lost_resent : (fates : List Fate) → fates ≡ fates_told w c r now → resent_places fates ≡ resent_of w c r
-    lost_resent fates told = ap resent_places told ∙ resent_are w (host_told w c r) now (lost_of w c r)
+    lost_resent fates told = ap resent_places told ∙ resent_are w (host_at_entry w c r) now (lost_of w c r)
 
 -- the fates of what the call's host is told to have lost
 pub fates_are : (w : World) (k : Calling) (r : Request) (now : ℕ) (changes : List Change) (places : List Place) (fates : List Fate)
@@ -59,5 +59,5 @@ fates_are w k r now changes places fates found told is reported =
     (subst (λ n. HoldsNoMore w (after_reports w k.caller r) n) (sym is.number) (host_holds_no_more w k.caller r)) in
     told
     ∙ ap (λ h. map (fate w h now) places) is.host
-    ∙ ap (map (fate w (host_told w k.caller r) now))
+    ∙ ap (map (fate w (host_at_entry w k.caller r) now))
     (found no_more ∙ ap (λ v. lost v k.number r.other_results) reported ∙ ap (λ n. lost (after_reports w k.caller r) n r.other_results) is.number)

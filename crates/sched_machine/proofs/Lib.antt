@@ -35,6 +35,7 @@ pub mod CallsDone
 pub mod JobsLost
 pub mod JobsFit
 pub mod RunKept
+pub mod RunBetween
 pub mod RunLasting
 pub mod RunOne
 pub mod RunUsers
@@ -54,3 +55,6 @@ pub mod HeldJobs
 pub mod HeldTold
 pub mod HeldNamed
 pub mod Replied
+pub mod CreditBounds
+pub mod ResentBounds
+pub mod RunStretches

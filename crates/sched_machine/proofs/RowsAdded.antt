@@ -5,6 +5,7 @@ use Rattle.std.proofs.lemmas.List.{append_assoc, append-nil}
 use Rattle.std.specs.Prelude.{All, map}
 use Rattle.sched_book.specs.Delta.{applied, Fits}
 use Rattle.sched_book.specs.Imports.{AreChecked, with_rows, new_unit}
+use Rattle.sched_book.specs.Limits.{most_accounts, most_apps, most_versions, most_workunits, IsAccountInLimits, IsAppInLimits}
 use Rattle.sched_book.specs.Sound.{IsSoundUnit, IsSoundVersion, Sound}
 use Rattle.sched_book.specs.declared.delta.Change.{Change}
 use Rattle.sched_book.specs.declared.delta.Change.TheVariants as change
@@ -54,47 +55,53 @@ behind P [] ys all = all
 behind P (x ∷ xs) ys all = behind P xs ys (All-tail P x (xs ++ ys) all)
 
 -- Rows fit a world where it is sound with them.
-accounts_fit : (w : World) (xs : List Account) → length (w.accounts ++ xs) ≤ 10000 → Fits w (map change.Account xs)
-accounts_fit w [] few = tt
-accounts_fit w (x ∷ xs) few =
-    let long : length (w.accounts ++ x ∷ xs) ≡ length w.accounts + suc (length xs) = length-append w.accounts (x ∷ xs) in
-    (omega arith, accounts_fit (record w { accounts = w.accounts ++ x ∷ [] }) xs (subst (λ (all : List Account). length all ≤ 10000) (sym (append_assoc w.accounts (x ∷ []) xs)) few))
+accounts_fit : (w : World) (xs : List Account) → length (w.accounts ++ xs) ≤ most_accounts → All IsAccountInLimits xs → Fits w (map change.Account xs)
+accounts_fit w [] few limits = tt
+accounts_fit w (x ∷ xs) few limits =
+    let long : length (w.accounts ++ x ∷ xs) ≡ length w.accounts + suc (length xs) = length-append w.accounts (x ∷ xs) in (
+      (omega arith, All-head IsAccountInLimits x xs limits),
+      accounts_fit (record w { accounts = w.accounts ++ x ∷ [] }) xs
+          (subst (λ (all : List Account). length all ≤ most_accounts) (sym (append_assoc w.accounts (x ∷ []) xs)) few) (All-tail IsAccountInLimits x xs limits),
+    )
 
-apps_fit : (w : World) (xs : List App) → length (w.apps ++ xs) ≤ 100 → Fits w (map change.App xs)
-apps_fit w [] few = tt
-apps_fit w (x ∷ xs) few =
-    let long : length (w.apps ++ x ∷ xs) ≡ length w.apps + suc (length xs) = length-append w.apps (x ∷ xs) in
-    (omega arith, apps_fit (record w { apps = w.apps ++ x ∷ [] }) xs (subst (λ (all : List App). length all ≤ 100) (sym (append_assoc w.apps (x ∷ []) xs)) few))
+apps_fit : (w : World) (xs : List App) → length (w.apps ++ xs) ≤ most_apps → All IsAppInLimits xs → Fits w (map change.App xs)
+apps_fit w [] few limits = tt
+apps_fit w (x ∷ xs) few limits =
+    let long : length (w.apps ++ x ∷ xs) ≡ length w.apps + suc (length xs) = length-append w.apps (x ∷ xs) in (
+      (omega arith, All-head IsAppInLimits x xs limits),
+      apps_fit (record w { apps = w.apps ++ x ∷ [] }) xs
+          (subst (λ (all : List App). length all ≤ most_apps) (sym (append_assoc w.apps (x ∷ []) xs)) few) (All-tail IsAppInLimits x xs limits),
+    )
 
-versions_fit : (w : World) (xs : List Version) → length (w.versions ++ xs) ≤ 1000 → All (IsSoundVersion w.apps) xs → Fits w (map change.Version xs)
+versions_fit : (w : World) (xs : List Version) → length (w.versions ++ xs) ≤ most_versions → All (IsSoundVersion w.apps) xs → Fits w (map change.Version xs)
 versions_fit w [] few sound = tt
 versions_fit w (x ∷ xs) few sound =
     let long : length (w.versions ++ x ∷ xs) ≡ length w.versions + suc (length xs) = length-append w.versions (x ∷ xs) in
     let first = All-head (IsSoundVersion w.apps) x xs sound in (
       (omega arith, first.app, first.limits),
       versions_fit (record w { versions = w.versions ++ x ∷ [] }) xs
-          (subst (λ (all : List Version). length all ≤ 1000) (sym (append_assoc w.versions (x ∷ []) xs)) few) (All-tail (IsSoundVersion w.apps) x xs sound),
+          (subst (λ (all : List Version). length all ≤ most_versions) (sym (append_assoc w.versions (x ∷ []) xs)) few) (All-tail (IsSoundVersion w.apps) x xs sound),
     )
 
-workunits_fit : (w : World) (xs : List Workunit) → length (w.units ++ map new_unit xs) ≤ 200000
+workunits_fit : (w : World) (xs : List Workunit) → length (w.units ++ map new_unit xs) ≤ most_workunits
     → All (IsSoundUnit w.hosts w.apps) (map new_unit xs) → Fits w (map change.Workunit xs)
 workunits_fit w [] few sound = tt
 workunits_fit w (x ∷ xs) few sound =
     let long : length (w.units ++ map new_unit (x ∷ xs)) ≡ length w.units + suc (length (map new_unit xs)) = length-append w.units (map new_unit (x ∷ xs)) in
     let first = All-head (IsSoundUnit w.hosts w.apps) (new_unit x) (map new_unit xs) sound in (
-      (omega arith, first.app, first.limits),
+      (omega arith, first.well.app, first.well.limits),
       workunits_fit (record w { units = w.units ++ new_unit x ∷ [] }) xs
-          (subst (λ (all : List UnitBook). length all ≤ 200000) (sym (append_assoc w.units (new_unit x ∷ []) (map new_unit xs))) few)
+          (subst (λ (all : List UnitBook). length all ≤ most_workunits) (sym (append_assoc w.units (new_unit x ∷ []) (map new_unit xs))) few)
           (All-tail (IsSoundUnit w.hosts w.apps) (new_unit x) (map new_unit xs) sound),
     )
 
 fit_beside : (w : World) (new : Rows) → Sound (with_rows w new) → Fits w (changes_of new)
-fit_beside w (rows.Accounts xs) sound = accounts_fit w xs sound.account_count
-fit_beside w (rows.Apps xs) sound = apps_fit w xs sound.app_count
+fit_beside w (rows.Accounts xs) sound = accounts_fit w xs sound.rows.account_count (behind IsAccountInLimits w.accounts xs sound.rows.accounts)
+fit_beside w (rows.Apps xs) sound = apps_fit w xs sound.rows.app_count (behind IsAppInLimits w.apps xs sound.rows.apps)
 fit_beside w (rows.Versions xs) sound =
-    versions_fit w xs sound.version_count (behind (IsSoundVersion w.apps) w.versions xs sound.versions)
+    versions_fit w xs sound.rows.version_count (behind (IsSoundVersion w.apps) w.versions xs sound.rows.versions)
 fit_beside w (rows.Workunits xs) sound =
-    workunits_fit w xs sound.unit_count (behind (IsSoundUnit w.hosts w.apps) w.units (map new_unit xs) sound.units)
+    workunits_fit w xs sound.rows.unit_count (behind (IsSoundUnit w.hosts w.apps) w.units (map new_unit xs) sound.units)
 
 -- Changes that are the rows of an import make the world with these, and fit where these were checked.
 pub changes_add : (new : Rows) (delta : List Change) → delta ≡ changes_of new → (w : World) → applied w delta ≡ with_rows w new

@@ -5,11 +5,12 @@ use Rattle.std.proofs.lemmas.List.Elements.{All-push}
 use Rattle.std.proofs.lemmas.List.Quantifiers.{all_pairs_push}
 use Rattle.std.proofs.lemmas.Option.{slice_get-get_or}
 use Rattle.std.proofs.lemmas.Slice.Eq.{bytes_eq-Decides}
+use Rattle.rpc_records.specs.Ranges.{IsInRange}
 use Rattle.rpc_records.specs.declared.request.Request.{Request}
 use Rattle.sched_book.specs.Places.{nth, account_in, owner_host, is_host_of}
-use Rattle.sched_book.specs.Reports.{changed_nth}
+use Rattle.sched_book.specs.Reports.{modify_nth}
 use Rattle.sched_book.specs.Sound.{AreOfOtherUsers, HasOwnerAmong, IsSoundUnit, IsSoundHost, HaveOtherKeys, Sound}
-use Rattle.sched_book.specs.Step.{IsCaller, told_host, hosts_told}
+use Rattle.sched_book.specs.Step.{IsCaller, row_of_call, hosts_at_entry}
 use Rattle.sched_book.specs.declared.instance.Owner.{Owner}
 use Rattle.sched_book.specs.declared.instance.UnitBook.{UnitBook}
 use Rattle.sched_book.specs.declared.machine.Caller.{Caller}
@@ -17,11 +18,10 @@ use Rattle.sched_book.specs.declared.rows.Account.{Account}
 use Rattle.sched_book.specs.declared.rows.App.{App}
 use Rattle.sched_book.specs.declared.rows.HostRow.{HostRow}
 use Rattle.sched_book.specs.declared.world.World.{World}
-use Rattle.sched_book.proofs.PlacesOf.{nth-changed_nth, nth-push, length-changed_nth}
+use Rattle.sched_book.proofs.PlacesOf.{nth-modify_nth, nth-push, length-modify_nth}
 use Rattle.quorum_credit.proofs.ByPlace.{all_get}
 use Rattle.quorum_credit.proofs.Numbered.{number_within}
 use Rattle.sched_machine.specs.Laws.{EntryKeepsSound}
-use Rattle.sched_machine.specs.Well.{IsRequestInLimits}
 use Rattle.sched_machine.proofs.RowsListed.{pairs_from, pairs_get, all_changed_nth, pairs_changed_nth, place_found, place_missing}
 
 -- each host that stands keeps its account
@@ -48,19 +48,21 @@ module _ (old new : List HostRow) (stay : AccountsStay old new) where
   pub unit_among : (apps : List App) (b : UnitBook) → IsSoundUnit old apps b → IsSoundUnit new apps b
   unit_among apps b sound = record {
     satisfied = sound.satisfied;
-    one_for_each_user = pairs_from (AreOfOtherUsers new) b.instances (λ i j x y less here there given also same.
-        pairs_get (AreOfOtherUsers old) b.instances i j x y sound.one_for_each_user less here there given also
-        (sym (same_account x.owner (all_get (HasOwnerAmong old) b.instances i x sound.owners here given)).0
-        ∙ same
-        ∙ (same_account y.owner (all_get (HasOwnerAmong old) b.instances j y sound.owners there also)).0));
-    places = sound.places;
-    in_range = sound.in_range;
-    bare = sound.bare;
-    owners = λ k d within given. (same_account (get_or b.instances k d).owner (sound.owners k d within given)).1;
-    app = sound.app;
-    few = sound.few;
-    limits = sound.limits;
-    instances = sound.instances;
+    well = record {
+      one_for_each_user = pairs_from (AreOfOtherUsers new) b.instances (λ i j x y less here there given also same.
+          pairs_get (AreOfOtherUsers old) b.instances i j x y sound.well.one_for_each_user less here there given also
+          (sym (same_account x.owner (all_get (HasOwnerAmong old) b.instances i x sound.well.owners here given)).0
+          ∙ same
+          ∙ (same_account y.owner (all_get (HasOwnerAmong old) b.instances j y sound.well.owners there also)).0));
+      places = sound.well.places;
+      in_range = sound.well.in_range;
+      bare = sound.well.bare;
+      owners = λ k d within given. (same_account (get_or b.instances k d).owner (sound.well.owners k d within given)).1;
+      app = sound.well.app;
+      few = sound.well.few;
+      limits = sound.well.limits;
+      instances = sound.well.instances;
+    };
   }
 
 -- other hosts in a sound world
@@ -68,20 +70,24 @@ pub with_hosts : (w : World) (hosts : List HostRow) → Sound w → AccountsStay
     → All (IsSoundHost (length w.accounts) w.settings.daily_result_quota) hosts → AllPairs HaveOtherKeys hosts → length hosts ≤ w.settings.max_hosts
     → Sound (record w { hosts = hosts })
 with_hosts w hosts sound stay each keys few = record {
-  settings = sound.settings;
+  rows = record {
+    settings = sound.rows.settings;
+    accounts = sound.rows.accounts;
+    apps = sound.rows.apps;
+    versions = sound.rows.versions;
+    hosts = each;
+    account_names = sound.rows.account_names;
+    app_names = sound.rows.app_names;
+    version_names = sound.rows.version_names;
+    unit_names = sound.rows.unit_names;
+    host_keys = keys;
+    account_count = sound.rows.account_count;
+    app_count = sound.rows.app_count;
+    version_count = sound.rows.version_count;
+    unit_count = sound.rows.unit_count;
+    host_count = few;
+  };
   units = λ k d within. unit_among w.hosts hosts stay w.apps (get_or w.units k d) (sound.units k d within);
-  hosts = each;
-  versions = sound.versions;
-  account_names = sound.account_names;
-  app_names = sound.app_names;
-  version_names = sound.version_names;
-  unit_names = sound.unit_names;
-  host_keys = keys;
-  account_count = sound.account_count;
-  app_count = sound.app_count;
-  version_count = sound.version_count;
-  unit_count = sound.unit_count;
-  host_count = few;
 }
 
 -- a row is of a host's key where it has its account and its name
@@ -102,39 +108,41 @@ not_of_key account cpid h fails same also =
     absurd cc
 
 -- the row of the caller's host
-module _ (w : World) (c : Caller) (r : Request) (sound : Sound w) (caller : IsCaller w c r) (limits : IsRequestInLimits r) where
+module _ (w : World) (c : Caller) (r : Request) (sound : Sound w) (caller : IsCaller w c r) (limits : IsInRange r) where
   account_stands : (1 ≤ c.account) × (c.account ≤ length w.accounts)
   account_stands =
       let found = place_found (λ (a : Account). bytes_eq a.authenticator r.authenticator) w.accounts c.account caller.account in
       number_within w.accounts c.account found.0 found.1
 
   told_is_sound : (quota : ℕ) → (1 ≤ quota) × (quota ≤ w.settings.daily_result_quota)
-      → IsSoundHost (length w.accounts) w.settings.daily_result_quota (told_host c r quota)
+      → IsSoundHost (length w.accounts) w.settings.daily_result_quota (row_of_call c r quota)
   told_is_sound quota within = record {
     account = account_stands;
     limits = record {
-      speed = limits.speed;
-      memory = limits.memory;
-      disk = limits.disk;
-      platforms = limits.platforms;
+      cpid = limits.host.host_cpid;
+      speed = (limits.host.some_fpops, limits.host.p_fpops);
+      memory = limits.host.m_nbytes;
+      disk = limits.host.d_free;
+      platforms = (limits.some_platform, limits.platform_count);
+      words = limits.platforms;
       quota = within;
     };
   }
 
   -- a known host's row is renewed
   abbrev renewed : HostRow → HostRow
-  renewed h = told_host c r h.quota
+  renewed h = row_of_call c r h.quota
 
-  renews : (host : ℕ) → c.host ≡ Some host → Sound (record w { hosts = changed_nth (λ (h : HostRow). told_host c r h.quota) w.hosts host })
+  renews : (host : ℕ) → c.host ≡ Some host → Sound (record w { hosts = modify_nth (λ (h : HostRow). row_of_call c r h.quota) w.hosts host })
   renews host is =
-      with_hosts w (changed_nth renewed w.hosts host) sound stay
-      (all_changed_nth (IsSoundHost (length w.accounts) w.settings.daily_result_quota) renewed w.hosts host sound.hosts (λ h at before. told_is_sound h.quota before.limits.quota))
-      (pairs_changed_nth HaveOtherKeys renewed w.hosts host sound.host_keys (λ h at k.
+      with_hosts w (modify_nth renewed w.hosts host) sound stay
+      (all_changed_nth (IsSoundHost (length w.accounts) w.settings.daily_result_quota) renewed w.hosts host sound.rows.hosts (λ h at before. told_is_sound h.quota before.limits.quota))
+      (pairs_changed_nth HaveOtherKeys renewed w.hosts host sound.rows.host_keys (λ h at k.
       let key = here h at in (
         λ before same also. before (same ∙ sym key.0) (also ∙ sym key.1),
         λ before same also. before (key.0 ∙ same) (key.1 ∙ also),
       )))
-      (subst (λ n. n ≤ w.settings.max_hosts) (sym (length-changed_nth renewed w.hosts host)) sound.host_count)
+      (subst (λ n. n ≤ w.settings.max_hosts) (sym (length-modify_nth renewed w.hosts host)) sound.rows.host_count)
     where
       here : (h : HostRow) → nth w.hosts host ≡ Some h → (h.account ≡ c.account) × (h.cpid ≡ r.host.host_cpid)
       here h at =
@@ -142,39 +150,39 @@ module _ (w : World) (c : Caller) (r : Request) (sound : Sound w) (caller : IsCa
           let same : found.0 ≡ h = (let both : Some found.0 ≡ Some h = sym found.1 ∙ at in cc) in
           of_key c.account r.host.host_cpid h (ap (is_host_of c.account r.host.host_cpid) (sym same) ∙ found.2)
 
-      stay : AccountsStay w.hosts (changed_nth renewed w.hosts host)
+      stay : AccountsStay w.hosts (modify_nth renewed w.hosts host)
       stay n h at = cases (eqb host n) refl
         where
-          cases : (b : Bool) → eqb host n ≡ b → (k : HostRow) × (nth (changed_nth renewed w.hosts host) n ≡ Some k) × (k.account ≡ h.account)
+          cases : (b : Bool) → eqb host n ≡ b → (k : HostRow) × (nth (modify_nth renewed w.hosts host) n ≡ Some k) × (k.account ≡ h.account)
           cases true equal = (
             renewed h,
-            nth-changed_nth renewed w.hosts host n
+            nth-modify_nth renewed w.hosts host n
                 ∙ ap (λ (b : Bool). cond b (option_map renewed (nth w.hosts n)) (nth w.hosts n)) equal
                 ∙ ap (option_map renewed) at,
             sym (here h (ap (nth w.hosts) (eqb-true host n equal) ∙ at)).0,
           )
           cases false other = (
             h,
-            nth-changed_nth renewed w.hosts host n
+            nth-modify_nth renewed w.hosts host n
                 ∙ ap (λ (b : Bool). cond b (option_map renewed (nth w.hosts n)) (nth w.hosts n)) other
                 ∙ at,
             refl,
           )
 
   -- a new host gets a row behind the others
-  makes : c.host ≡ None → length w.hosts < w.settings.max_hosts → Sound (record w { hosts = w.hosts ++ told_host c r w.settings.daily_result_quota ∷ [] })
+  makes : c.host ≡ None → length w.hosts < w.settings.max_hosts → Sound (record w { hosts = w.hosts ++ row_of_call c r w.settings.daily_result_quota ∷ [] })
   makes none room =
       with_hosts w (w.hosts ++ row ∷ []) sound stay
-      (All-push (IsSoundHost (length w.accounts) w.settings.daily_result_quota) w.hosts row sound.hosts
-      (told_is_sound w.settings.daily_result_quota (sound.settings.quota.0, let same : w.settings.daily_result_quota ≤ w.settings.daily_result_quota = omega arith in same)))
-      (all_pairs_push HaveOtherKeys w.hosts row sound.host_keys (λ k d within same also.
+      (All-push (IsSoundHost (length w.accounts) w.settings.daily_result_quota) w.hosts row sound.rows.hosts
+      (told_is_sound w.settings.daily_result_quota (sound.rows.settings.quota.0, let same : w.settings.daily_result_quota ≤ w.settings.daily_result_quota = omega arith in same)))
+      (all_pairs_push HaveOtherKeys w.hosts row sound.rows.host_keys (λ k d within same also.
       not_of_key c.account r.host.host_cpid (get_or w.hosts k d)
       (place_missing (is_host_of c.account r.host.host_cpid) w.hosts (caller.host ∙ none) k (get_or w.hosts k d) (slice_get-get_or w.hosts k d within))
       same also))
       (let long : length (w.hosts ++ row ∷ []) ≡ length w.hosts + 1 = length-append w.hosts (row ∷ []) in omega arith)
     where
       row : HostRow
-      row = told_host c r w.settings.daily_result_quota
+      row = row_of_call c r w.settings.daily_result_quota
 
       stay : AccountsStay w.hosts (w.hosts ++ row ∷ [])
       stay n h at =
@@ -189,6 +197,6 @@ module _ (w : World) (c : Caller) (r : Request) (sound : Sound w) (caller : IsCa
 pub entry_keeps_sound : EntryKeepsSound
 entry_keeps_sound w c r sound caller room limits = cases c.host refl
   where
-    cases : (o : Option ℕ) → c.host ≡ o → Sound (record w { hosts = hosts_told w c r o })
+    cases : (o : Option ℕ) → c.host ≡ o → Sound (record w { hosts = hosts_at_entry w c r o })
     cases None is = makes w c r sound caller limits is (room is)
     cases (Some host) is = renews w c r sound caller limits host is

@@ -14,6 +14,7 @@ use Rattle.sched_book.specs.declared.rows.App.{App}
 use Rattle.sched_book.specs.declared.rows.HostRow.{HostRow}
 use Rattle.sched_book.specs.declared.rows.Workunit.{Workunit}
 use Rattle.quorum_credit.proofs.ByPlace.{all_get}
+use Rattle.quorum_credit.proofs.GrownFits.{fresh_in_limits}
 use Rattle.sched_machine.proofs.RowsListed.{pairs_from}
 
 -- instances that nobody was given are all live, none is judged, and none is a success
@@ -54,18 +55,20 @@ pub new_unit_is_sound : (hosts : List HostRow) (apps : List App) (u : Workunit) 
     → IsSoundUnit hosts apps (new_unit u)
 new_unit_is_sound hosts apps u limits app = record {
   satisfied = λ is_it. nothing_needed u limits.quorum.0;
-  one_for_each_user = pairs_from (AreOfOtherUsers hosts) xs (λ i j x y less here there given also.
-      let free : x.owner ≡ None = all_get (λ z. z.owner ≡ None) xs i x (All-replicate (λ (z : Instance). z.owner ≡ None) u.target_nresults fresh refl) here in
-      let never : false ≡ true = sym (ap is_some free) ∙ given in
-      absurd cc);
-  places = λ n less. let none : count_by is_judged xs ≡ 0 = none_judged u.target_nresults in absurd (omega arith);
-  in_range = All-replicate (λ x. IsTrue (is_judged x) → told_place x.report ≤ count_by is_judged xs) u.target_nresults fresh (λ never. absurd cc);
-  bare = All-replicate IsBare u.target_nresults fresh (λ none. (refl, refl));
-  owners = All-replicate (HasOwnerAmong hosts) u.target_nresults fresh (λ given. absurd cc);
-  app = app;
-  few = let long : length xs ≡ u.target_nresults = length-replicate u.target_nresults fresh in omega (arith, limits.target.1);
-  limits = limits;
-  instances = All-replicate IsInstanceInLimits u.target_nresults fresh (record { sent = omega arith; deadline = omega arith; place = omega arith });
+  well = record {
+    one_for_each_user = pairs_from (AreOfOtherUsers hosts) xs (λ i j x y less here there given also.
+        let free : x.owner ≡ None = all_get (λ z. z.owner ≡ None) xs i x (All-replicate (λ (z : Instance). z.owner ≡ None) u.target_nresults fresh refl) here in
+        let never : false ≡ true = sym (ap is_some free) ∙ given in
+        absurd cc);
+    places = λ n less. let none : count_by is_judged xs ≡ 0 = none_judged u.target_nresults in absurd (omega arith);
+    in_range = All-replicate (λ x. IsTrue (is_judged x) → told_place x.report ≤ count_by is_judged xs) u.target_nresults fresh (λ never. absurd cc);
+    bare = All-replicate IsBare u.target_nresults fresh (λ none. (refl, refl));
+    owners = All-replicate (HasOwnerAmong hosts) u.target_nresults fresh (λ given. absurd cc);
+    app = app;
+    few = let long : length xs ≡ u.target_nresults = length-replicate u.target_nresults fresh in omega (arith, limits.target.1);
+    limits = limits;
+    instances = All-replicate IsInstanceInLimits u.target_nresults fresh fresh_in_limits;
+  };
 }
   where
     xs : List Instance

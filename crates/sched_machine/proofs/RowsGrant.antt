@@ -5,10 +5,10 @@ use Rattle.std.specs.List.{list_any}
 use Rattle.std.proofs.lemmas.List.Elements.{All-head, All-tail}
 use Rattle.sched_book.specs.Count.{is_judged, is_live, is_open, told_place}
 use Rattle.sched_book.specs.Fits.{is_eligible, is_for, unit_fits}
-use Rattle.sched_book.specs.Limits.{IsInstanceInLimits}
+use Rattle.sched_book.specs.Limits.{last_moment, last_deadline, most_delay, most_workunits, most_instances, IsInstanceInLimits}
 use Rattle.sched_book.specs.Lost.{delay_at}
 use Rattle.sched_book.specs.Places.{nth, unit_at, host_at, status_of, account_in, owner_host, agreement_by, is_of_user, user_had}
-use Rattle.sched_book.specs.Reports.{changed_at, with_number, with_changed}
+use Rattle.sched_book.specs.Reports.{modify_at, with_number, with_changed}
 use Rattle.sched_book.specs.Sound.{AreOfOtherUsers, IsBare, HasOwnerAmong, IsSoundUnit, Sound}
 use Rattle.sched_book.specs.Step.{with_owner, grant_one, granted}
 use Rattle.sched_book.specs.declared.instance.Instance.{Instance}
@@ -18,10 +18,10 @@ use Rattle.sched_book.specs.declared.instance.UnitBook.{UnitBook}
 use Rattle.sched_book.specs.declared.rows.App.{App}
 use Rattle.sched_book.specs.declared.rows.HostRow.{HostRow}
 use Rattle.sched_book.specs.declared.world.World.{World}
-use Rattle.sched_book.proofs.PlacesOf.{nth-changed_nth, length-changed_nth}
+use Rattle.sched_book.proofs.PlacesOf.{nth-modify_nth, length-modify_nth}
 use Rattle.quorum_credit.proofs.ByPlace.{all_get, all_nth}
 use Rattle.job_choice.proofs.Candidates.{Stood, stood}
-use Rattle.sched_machine.specs.Laws.{last_moment, GrantKeepsSound}
+use Rattle.sched_machine.specs.Laws.{GrantKeepsSound}
 use Rattle.sched_machine.proofs.RowsListed.{all_changed, pairs_changed, all_changed_nth, pairs_changed_nth, count_changed, any_changed, none_any, pairs_head, pairs_tail}
 use Rattle.sched_machine.proofs.RowsCounted.{length-changed, need_stays, status_stays}
 
@@ -34,12 +34,12 @@ other_user false m account is fails same = absurd cc
 module _ (hosts : List HostRow) (apps : List App) (account : ℕ) (o : Owner) (b : UnitBook) (n : ℕ) (x : Instance)
     (sound : IsSoundUnit hosts apps b) (stands : slice_get b.instances n ≡ Some x) (free : x.owner ≡ None)
     (had : list_any (is_of_user hosts account) b.instances ≡ false) (of_user : account_in hosts o.host ≡ account)
-    (among : IsTrue (is_some (nth hosts o.host))) (sent : o.sent ≤ 250000000000) (deadline : o.deadline ≤ 250100000000) where
+    (among : IsTrue (is_some (nth hosts o.host))) (sent : o.sent ≤ last_moment) (deadline : o.deadline ≤ last_deadline) where
   same_live : (y : Instance) → slice_get b.instances n ≡ Some y → is_live (with_owner o y) ≡ is_live y
   same_live y is =
       let same : x ≡ y = (let both : Some x ≡ Some y = sym stands ∙ is in cc) in
       let none : y.owner ≡ None = ap (λ (z : Instance). z.owner) (sym same) ∙ free in
-      let bare = all_get IsBare b.instances n y sound.bare is none in
+      let bare = all_get IsBare b.instances n y sound.well.bare is none in
       ap (λ r. is_live (record { owner = Some o; lapse = y.lapse; report = r })) bare.1
       ∙ ap (λ l. is_live (record { owner = Some o; lapse = l; report = None })) bare.0
       ∙ sym (ap (λ w. is_live (record { owner = w; lapse = y.lapse; report = y.report })) none)
@@ -50,7 +50,7 @@ module _ (hosts : List HostRow) (apps : List App) (account : ℕ) (o : Owner) (b
       other_user (is_some z.owner) (account_in hosts (owner_host z.owner)) account given
       (none_any (is_of_user hosts account) b.instances had k z there) (same ∙ of_user)
 
-  judged_stay : count_by is_judged (changed_at (with_owner o) b.instances n) ≡ count_by is_judged b.instances
+  judged_stay : count_by is_judged (modify_at (with_owner o) b.instances n) ≡ count_by is_judged b.instances
   judged_stay = count_changed is_judged (with_owner o) b.instances n (λ y is. refl)
 
   pub given_stays_sound : IsSoundUnit hosts apps (with_number (with_owner o) n b)
@@ -58,20 +58,28 @@ module _ (hosts : List HostRow) (apps : List App) (account : ℕ) (o : Owner) (b
     satisfied = λ is_it.
         need_stays (with_owner o) b.instances n (λ y is. refl) same_live b.unit
         ∙ sound.satisfied (subst (λ s. IsTrue (is_open s)) (status_stays (with_owner o) b.instances n (λ y is. refl) same_live (agreement_by apps b.unit.app) b.unit) is_it);
-    one_for_each_user = pairs_changed (AreOfOtherUsers hosts) (with_owner o) b.instances n sound.one_for_each_user
-        (λ y is k z there. (λ before given also. others z k there given, λ before also given same. others z k there given (sym same)));
-    places = λ m less.
-        subst IsTrue (sym (any_changed (λ y. is_judged y && eqb (told_place y.report) (m + 1)) (with_owner o) b.instances n (λ y is. refl)))
-        (sound.places m (subst (λ c. m < c) judged_stay less));
-    in_range = subst (λ c. All (λ (y : Instance). IsTrue (is_judged y) → told_place y.report ≤ c) (changed_at (with_owner o) b.instances n)) (sym judged_stay)
-        (all_changed (λ y. IsTrue (is_judged y) → told_place y.report ≤ count_by is_judged b.instances) (with_owner o) b.instances n sound.in_range (λ y is before. before));
-    bare = all_changed IsBare (with_owner o) b.instances n sound.bare (λ y is before none. absurd cc);
-    owners = all_changed (HasOwnerAmong hosts) (with_owner o) b.instances n sound.owners (λ y is before given. among);
-    app = sound.app;
-    few = subst (λ m. m ≤ 100) (sym (length-changed (with_owner o) b.instances n)) sound.few;
-    limits = sound.limits;
-    instances = all_changed IsInstanceInLimits (with_owner o) b.instances n sound.instances
-        (λ y is before. record { sent = sent; deadline = deadline; place = before.place });
+    well = record {
+      one_for_each_user = pairs_changed (AreOfOtherUsers hosts) (with_owner o) b.instances n sound.well.one_for_each_user
+          (λ y is k z there. (λ before given also. others z k there given, λ before also given same. others z k there given (sym same)));
+      places = λ m less.
+          subst IsTrue (sym (any_changed (λ y. is_judged y && eqb (told_place y.report) (m + 1)) (with_owner o) b.instances n (λ y is. refl)))
+          (sound.well.places m (subst (λ c. m < c) judged_stay less));
+      in_range = subst (λ c. All (λ (y : Instance). IsTrue (is_judged y) → told_place y.report ≤ c) (modify_at (with_owner o) b.instances n)) (sym judged_stay)
+          (all_changed (λ y. IsTrue (is_judged y) → told_place y.report ≤ count_by is_judged b.instances) (with_owner o) b.instances n sound.well.in_range (λ y is before. before));
+      bare = all_changed IsBare (with_owner o) b.instances n sound.well.bare (λ y is before none. absurd cc);
+      owners = all_changed (HasOwnerAmong hosts) (with_owner o) b.instances n sound.well.owners (λ y is before given. among);
+      app = sound.well.app;
+      few = subst (λ m. m ≤ most_instances) (sym (length-changed (with_owner o) b.instances n)) sound.well.few;
+      limits = sound.well.limits;
+      instances = all_changed IsInstanceInLimits (with_owner o) b.instances n sound.well.instances
+          (λ y is before. record {
+            sent = sent;
+            deadline = deadline;
+            output = before.output;
+            place = before.place;
+            judged = before.judged;
+          });
+    };
   }
 
 -- what it tells that an instance is eligible: nobody was given it, and its workunit went to no host of the user
@@ -90,22 +98,26 @@ not_had false b c d is = absurd cc
 module _ (host now : ℕ) (h : HostRow) (soon : now ≤ last_moment) where
   give_one : (w : World) (p : Place) → Sound w → host_at w host ≡ Some h → is_eligible w h p ≡ true → Sound (grant_one host now w p)
   give_one w p sound stands eligible = record {
-    settings = sound.settings;
+    rows = record {
+      settings = sound.rows.settings;
+      accounts = sound.rows.accounts;
+      apps = sound.rows.apps;
+      versions = sound.rows.versions;
+      hosts = sound.rows.hosts;
+      account_names = sound.rows.account_names;
+      app_names = sound.rows.app_names;
+      version_names = sound.rows.version_names;
+      unit_names = pairs_changed_nth (λ a b. a.unit.name ≢ b.unit.name) (with_number (with_owner o) p.number) w.units p.unit sound.rows.unit_names
+          (λ b is c. (λ before. before, λ before. before));
+      host_keys = sound.rows.host_keys;
+      account_count = sound.rows.account_count;
+      app_count = sound.rows.app_count;
+      version_count = sound.rows.version_count;
+      unit_count = subst (λ n. n ≤ most_workunits) (sym (length-modify_nth (with_number (with_owner o) p.number) w.units p.unit)) sound.rows.unit_count;
+      host_count = sound.rows.host_count;
+    };
     units = all_changed_nth (IsSoundUnit w.hosts w.apps) (with_number (with_owner o) p.number) w.units p.unit sound.units
         (λ b is before. let same : at.book ≡ b = (let both : Some at.book ≡ Some b = sym at.at ∙ is in cc) in subst (λ c. IsSoundUnit w.hosts w.apps (with_number (with_owner o) p.number c)) same here);
-    hosts = sound.hosts;
-    versions = sound.versions;
-    account_names = sound.account_names;
-    app_names = sound.app_names;
-    version_names = sound.version_names;
-    unit_names = pairs_changed_nth (λ a b. a.unit.name ≢ b.unit.name) (with_number (with_owner o) p.number) w.units p.unit sound.unit_names
-        (λ b is c. (λ before. before, λ before. before));
-    host_keys = sound.host_keys;
-    account_count = sound.account_count;
-    app_count = sound.app_count;
-    version_count = sound.version_count;
-    unit_count = subst (λ n. n ≤ 200000) (sym (length-changed_nth (with_number (with_owner o) p.number) w.units p.unit)) sound.unit_count;
-    host_count = sound.host_count;
   }
     where
       o : Owner
@@ -120,19 +132,19 @@ module _ (host now : ℕ) (h : HostRow) (soon : now ≤ last_moment) where
       here : IsSoundUnit w.hosts w.apps (with_number (with_owner o) p.number at.book)
       here =
           let delay : delay_at w p ≡ at.book.unit.delay_bound = ap (λ q. unwrap_or (option_map (λ (b : UnitBook). b.unit.delay_bound) q) 0) at.at in
-          let short : at.book.unit.delay_bound ≤ 100000000 = unit.limits.delay.1 in
+          let short : at.book.unit.delay_bound ≤ most_delay = unit.well.limits.delay.1 in
           given_stays_sound w.hosts w.apps h.account o at.book p.number at.x unit at.stands
           (none_free at.x.owner (is_for w h at.book) at.passed)
           (not_had (is_none at.x.owner) (is_open (status_of w at.book)) (unit_fits w h at.book) (user_had w h.account at.book) at.passed)
           (ap (λ q. unwrap_or (option_map (λ (k : HostRow). k.account) q) 0) stands)
           (ap is_some stands) soon
-          (let late : now + delay_at w p ≤ 250100000000 = omega arith in late)
+          (let late : now + delay_at w p ≤ last_deadline = omega arith in late)
 
   -- what is eligible of another workunit stays so
   elsewhere : (f : Instance → Instance) (w : World) (p r : Place) → p.unit < r.unit → is_eligible (with_changed f w p) h r ≡ is_eligible w h r
   elsewhere f w p r before =
       ap (λ o. unwrap_or (option_and_then (λ (b : UnitBook). option_map (λ (x : Instance). is_none x.owner && is_for w h b) (slice_get b.instances r.number)) o) false)
-      (nth-changed_nth (with_number f p.number) w.units p.unit r.unit
+      (nth-modify_nth (with_number f p.number) w.units p.unit r.unit
       ∙ ap (λ (b : Bool). cond b (option_map (with_number f p.number) (unit_at w r.unit)) (unit_at w r.unit)) (ne_eqb p.unit r.unit (λ same. omega arith)))
 
   all_given : (jobs : List Place) (w : World) → Sound w → host_at w host ≡ Some h → AllPairs (λ (p r : Place). p.unit < r.unit) jobs

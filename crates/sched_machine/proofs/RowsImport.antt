@@ -5,7 +5,7 @@ use Rattle.std.proofs.lemmas.List.{length-map}
 use Rattle.std.proofs.lemmas.List.Elements.{All-append, All-map}
 use Rattle.sched_book.specs.Count.{is_open, status}
 use Rattle.sched_book.specs.Imports.{shelf_of, shelved, same_account, same_app, same_version, same_unit, duplicate_at, unknown_at, has_room, AreChecked, new_unit, with_rows}
-use Rattle.sched_book.specs.Limits.{IsVersionInLimits, IsUnitInLimits}
+use Rattle.sched_book.specs.Limits.{most_workunits, IsAccountInLimits, IsAppInLimits, IsVersionInLimits, IsUnitInLimits}
 use Rattle.sched_book.specs.Sound.{IsSoundUnit, IsSoundHost, IsSoundVersion, Sound}
 use Rattle.sched_book.specs.declared.instance.UnitBook.{UnitBook}
 use Rattle.sched_book.specs.declared.rows.Account.{Account}
@@ -42,16 +42,18 @@ host_stays accounts more limit h sound = record {
 
 unit_stays : (hosts : List HostRow) (apps more : List App) (b : UnitBook) → IsSoundUnit hosts apps b → IsSoundUnit hosts (apps ++ more) b
 unit_stays hosts apps more b sound = record {
-  satisfied = λ is_it. sound.satisfied (subst (λ a. IsTrue (is_open (status a b.unit b.instances))) (agreement_stays apps more b.unit.app sound.app) is_it);
-  one_for_each_user = sound.one_for_each_user;
-  places = sound.places;
-  in_range = sound.in_range;
-  bare = sound.bare;
-  owners = sound.owners;
-  app = app_stays apps more b.unit.app sound.app;
-  few = sound.few;
-  limits = sound.limits;
-  instances = sound.instances;
+  satisfied = λ is_it. sound.satisfied (subst (λ a. IsTrue (is_open (status a b.unit b.instances))) (agreement_stays apps more b.unit.app sound.well.app) is_it);
+  well = record {
+    one_for_each_user = sound.well.one_for_each_user;
+    places = sound.well.places;
+    in_range = sound.well.in_range;
+    bare = sound.well.bare;
+    owners = sound.well.owners;
+    app = app_stays apps more b.unit.app sound.well.app;
+    few = sound.well.few;
+    limits = sound.well.limits;
+    instances = sound.well.instances;
+  };
 }
 
 version_stays : (apps more : List App) (v : Version) → IsSoundVersion apps v → IsSoundVersion (apps ++ more) v
@@ -69,93 +71,109 @@ module _ (w : World) (sound : Sound w) where
   accounts_added xs checked =
       let free = unrefused w (rows.Accounts xs) checked in
       record {
-        settings = sound.settings;
+        rows = record {
+          settings = sound.rows.settings;
+          accounts = All-append IsAccountInLimits w.accounts xs sound.rows.accounts checked.in_limits;
+          apps = sound.rows.apps;
+          versions = sound.rows.versions;
+          hosts = λ k d within. host_stays w.accounts xs w.settings.daily_result_quota (get_or w.hosts k d) (sound.rows.hosts k d within);
+          account_names = new_names same_account (λ a b. a.authenticator ≢ b.authenticator) (λ a b fails. other_text a.authenticator b.authenticator fails)
+              1 w.accounts xs free.new_ones sound.rows.account_names;
+          app_names = sound.rows.app_names;
+          version_names = sound.rows.version_names;
+          unit_names = sound.rows.unit_names;
+          host_keys = sound.rows.host_keys;
+          account_count = free.room.accounts;
+          app_count = sound.rows.app_count;
+          version_count = sound.rows.version_count;
+          unit_count = sound.rows.unit_count;
+          host_count = sound.rows.host_count;
+        };
         units = sound.units;
-        hosts = λ k d within. host_stays w.accounts xs w.settings.daily_result_quota (get_or w.hosts k d) (sound.hosts k d within);
-        versions = sound.versions;
-        account_names = new_names same_account (λ a b. a.authenticator ≢ b.authenticator) (λ a b fails. other_text a.authenticator b.authenticator fails)
-            1 w.accounts xs free.new_ones sound.account_names;
-        app_names = sound.app_names;
-        version_names = sound.version_names;
-        unit_names = sound.unit_names;
-        host_keys = sound.host_keys;
-        account_count = free.room.accounts;
-        app_count = sound.app_count;
-        version_count = sound.version_count;
-        unit_count = sound.unit_count;
-        host_count = sound.host_count;
       }
 
   apps_added : (xs : List App) → AreChecked w (rows.Apps xs) → Sound (with_rows w (rows.Apps xs))
   apps_added xs checked =
       let free = unrefused w (rows.Apps xs) checked in
       record {
-        settings = sound.settings;
+        rows = record {
+          settings = sound.rows.settings;
+          accounts = sound.rows.accounts;
+          apps = All-append IsAppInLimits w.apps xs sound.rows.apps checked.in_limits;
+          versions = λ k d within. version_stays w.apps xs (get_or w.versions k d) (sound.rows.versions k d within);
+          hosts = sound.rows.hosts;
+          account_names = sound.rows.account_names;
+          app_names = new_names same_app (λ a b. a.name ≢ b.name) (λ a b fails. other_text a.name b.name fails) 1 w.apps xs free.new_ones sound.rows.app_names;
+          version_names = sound.rows.version_names;
+          unit_names = sound.rows.unit_names;
+          host_keys = sound.rows.host_keys;
+          account_count = sound.rows.account_count;
+          app_count = free.room.apps;
+          version_count = sound.rows.version_count;
+          unit_count = sound.rows.unit_count;
+          host_count = sound.rows.host_count;
+        };
         units = λ k d within. unit_stays w.hosts w.apps xs (get_or w.units k d) (sound.units k d within);
-        hosts = sound.hosts;
-        versions = λ k d within. version_stays w.apps xs (get_or w.versions k d) (sound.versions k d within);
-        account_names = sound.account_names;
-        app_names = new_names same_app (λ a b. a.name ≢ b.name) (λ a b fails. other_text a.name b.name fails) 1 w.apps xs free.new_ones sound.app_names;
-        version_names = sound.version_names;
-        unit_names = sound.unit_names;
-        host_keys = sound.host_keys;
-        account_count = sound.account_count;
-        app_count = free.room.apps;
-        version_count = sound.version_count;
-        unit_count = sound.unit_count;
-        host_count = sound.host_count;
       }
 
   versions_added : (xs : List Version) → AreChecked w (rows.Versions xs) → Sound (with_rows w (rows.Versions xs))
   versions_added xs checked =
       let free = unrefused w (rows.Versions xs) checked in
       record {
-        settings = sound.settings;
+        rows = record {
+          settings = sound.rows.settings;
+          accounts = sound.rows.accounts;
+          apps = sound.rows.apps;
+          versions = All-append (IsSoundVersion w.apps) w.versions xs sound.rows.versions (all_from (IsSoundVersion w.apps) xs (λ i v there. record {
+            app = named_apps (λ (v : Version). v.app) w.apps xs free.known_apps i v there;
+            limits = all_get IsVersionInLimits xs i v checked.in_limits there;
+          }));
+          hosts = sound.rows.hosts;
+          account_names = sound.rows.account_names;
+          app_names = sound.rows.app_names;
+          version_names = new_names same_version (λ a b. IsTrue (same_version a b) → ⊥) other_version 1 w.versions xs free.new_ones sound.rows.version_names;
+          unit_names = sound.rows.unit_names;
+          host_keys = sound.rows.host_keys;
+          account_count = sound.rows.account_count;
+          app_count = sound.rows.app_count;
+          version_count = free.room.versions;
+          unit_count = sound.rows.unit_count;
+          host_count = sound.rows.host_count;
+        };
         units = sound.units;
-        hosts = sound.hosts;
-        versions = All-append (IsSoundVersion w.apps) w.versions xs sound.versions (all_from (IsSoundVersion w.apps) xs (λ i v there. record {
-          app = named_apps (λ (v : Version). v.app) w.apps xs free.known_apps i v there;
-          limits = all_get IsVersionInLimits xs i v checked.in_limits there;
-        }));
-        account_names = sound.account_names;
-        app_names = sound.app_names;
-        version_names = new_names same_version (λ a b. IsTrue (same_version a b) → ⊥) other_version 1 w.versions xs free.new_ones sound.version_names;
-        unit_names = sound.unit_names;
-        host_keys = sound.host_keys;
-        account_count = sound.account_count;
-        app_count = sound.app_count;
-        version_count = free.room.versions;
-        unit_count = sound.unit_count;
-        host_count = sound.host_count;
       }
 
   units_added : (us : List Workunit) → AreChecked w (rows.Workunits us) → Sound (with_rows w (rows.Workunits us))
   units_added us checked =
       let free = unrefused w (rows.Workunits us) checked in
       record {
-        settings = sound.settings;
+        rows = record {
+          settings = sound.rows.settings;
+          accounts = sound.rows.accounts;
+          apps = sound.rows.apps;
+          versions = sound.rows.versions;
+          hosts = sound.rows.hosts;
+          account_names = sound.rows.account_names;
+          app_names = sound.rows.app_names;
+          version_names = sound.rows.version_names;
+          unit_names = pairs_of_map (λ (b : UnitBook). b.unit) (λ a b. a.name ≢ b.name) (w.units ++ map new_unit us)
+              (subst (AllPairs (λ a b. a.name ≢ b.name)) (sym (unit_rows w.units us))
+              (new_names same_unit (λ a b. a.name ≢ b.name) (λ a b fails. other_text a.name b.name fails) 1 (map (λ (b : UnitBook). b.unit) w.units) us free.new_ones
+              (pairs_map (λ (b : UnitBook). b.unit) (λ a b. a.name ≢ b.name) w.units sound.rows.unit_names)));
+          host_keys = sound.rows.host_keys;
+          account_count = sound.rows.account_count;
+          app_count = sound.rows.app_count;
+          version_count = sound.rows.version_count;
+          unit_count = units_fit free.room.units;
+          host_count = sound.rows.host_count;
+        };
         units = All-append (IsSoundUnit w.hosts w.apps) w.units (map new_unit us) sound.units
             (All-map (IsSoundUnit w.hosts w.apps) new_unit us (all_from (λ u. IsSoundUnit w.hosts w.apps (new_unit u)) us (λ i u there.
             new_unit_is_sound w.hosts w.apps u (all_get IsUnitInLimits us i u checked.in_limits there)
             (named_apps (λ (u : Workunit). u.app) w.apps us free.known_apps i u there))));
-        hosts = sound.hosts;
-        versions = sound.versions;
-        account_names = sound.account_names;
-        app_names = sound.app_names;
-        version_names = sound.version_names;
-        unit_names = pairs_of_map (λ (b : UnitBook). b.unit) (λ a b. a.name ≢ b.name) (w.units ++ map new_unit us)
-            (subst (AllPairs (λ a b. a.name ≢ b.name)) (sym (unit_rows w.units us))
-            (new_names same_unit (λ a b. a.name ≢ b.name) (λ a b fails. other_text a.name b.name fails) 1 (map (λ (b : UnitBook). b.unit) w.units) us free.new_ones
-            (pairs_map (λ (b : UnitBook). b.unit) (λ a b. a.name ≢ b.name) w.units sound.unit_names)));
-        host_keys = sound.host_keys;
-        account_count = sound.account_count;
-        app_count = sound.app_count;
-        version_count = sound.version_count;
-        unit_count = units_fit free.room.units;
-        host_count = sound.host_count;
       }
     where
-      units_fit : length (map (λ (b : UnitBook). b.unit) w.units ++ us) ≤ 200000 → length (w.units ++ map new_unit us) ≤ 200000
+      units_fit : length (map (λ (b : UnitBook). b.unit) w.units ++ us) ≤ most_workunits → length (w.units ++ map new_unit us) ≤ most_workunits
       units_fit short =
           let same : length (map (λ (b : UnitBook). b.unit) (w.units ++ map new_unit us)) ≡ length (map (λ (b : UnitBook). b.unit) w.units ++ us) = ap length (unit_rows w.units us) in
           let long : length (map (λ (b : UnitBook). b.unit) (w.units ++ map new_unit us)) ≡ length (w.units ++ map new_unit us) =

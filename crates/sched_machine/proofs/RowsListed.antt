@@ -7,7 +7,7 @@ use Rattle.std.proofs.lemmas.List.Kept.{AllPairs-cons}
 use Rattle.std.proofs.lemmas.List.Sums.{sum_by-cons}
 use Rattle.std.proofs.lemmas.Option.{slice_get-get_or, slice_get_within, get_or_from_slice_get, slice_get-map}
 use Rattle.sched_book.specs.Places.{nth, place_where}
-use Rattle.sched_book.specs.Reports.{changed_at, changed_nth}
+use Rattle.sched_book.specs.Reports.{modify_at, modify_nth}
 use Rattle.sched_book.proofs.PlacesOf.{nth-suc, place_where-is}
 use Rattle.quorum_credit.proofs.ByPlace.{all_get}
 
@@ -55,57 +55,57 @@ pairs_of_map f R xs all =
 
 -- after one element is changed, where the change keeps the fact
 pub all_changed : {X : Type 0} (P : X → Type 0) (f : X → X) (xs : List X) (n : ℕ) → All P xs
-    → ((x : X) → slice_get xs n ≡ Some x → P x → P (f x)) → All P (changed_at f xs n)
+    → ((x : X) → slice_get xs n ≡ Some x → P x → P (f x)) → All P (modify_at f xs n)
 all_changed P f [] n all keeps = all
 all_changed P f (x ∷ xs) zero all keeps = All-cons P (f x) xs (keeps x refl (All-head P x xs all)) (All-tail P x xs all)
 all_changed P f (x ∷ xs) (suc n) all keeps =
-    All-cons P x (changed_at f xs n) (All-head P x xs all) (all_changed P f xs n (All-tail P x xs all) keeps)
+    All-cons P x (modify_at f xs n) (All-head P x xs all) (all_changed P f xs n (All-tail P x xs all) keeps)
 
 pub pairs_changed : {X : Type 0} (R : X → X → Type 0) (f : X → X) (xs : List X) (n : ℕ) → AllPairs R xs
     → ((x : X) → slice_get xs n ≡ Some x → (k : ℕ) (z : X) → slice_get xs k ≡ Some z → (R z x → R z (f x)) × (R x z → R (f x) z))
-    → AllPairs R (changed_at f xs n)
+    → AllPairs R (modify_at f xs n)
 pairs_changed R f [] n all keeps = all
 pairs_changed R f (x ∷ xs) zero all keeps =
     AllPairs-cons R (f x) xs
     (all_from (R (f x)) xs (λ i z there. (keeps x refl (suc i) z there).1 (all_get (R x) xs i z (pairs_head R x xs all) there)))
     (pairs_tail R x xs all)
 pairs_changed R f (x ∷ xs) (suc n) all keeps =
-    AllPairs-cons R x (changed_at f xs n)
+    AllPairs-cons R x (modify_at f xs n)
     (all_changed (R x) f xs n (pairs_head R x xs all) (λ y is before. (keeps y is zero x refl).0 before))
     (pairs_changed R f xs n (pairs_tail R x xs all) (λ y is k z there. keeps y is (suc k) z there))
 
 pub all_changed_nth : {X : Type 0} (P : X → Type 0) (f : X → X) (xs : List X) (n : ℕ) → All P xs
-    → ((x : X) → nth xs n ≡ Some x → P x → P (f x)) → All P (changed_nth f xs n)
+    → ((x : X) → nth xs n ≡ Some x → P x → P (f x)) → All P (modify_nth f xs n)
 all_changed_nth {X} P f xs n all keeps = cases (eqb n 0) keeps
   where
-    cases : (b : Bool) → ((x : X) → cond b None (slice_get xs (n - 1)) ≡ Some x → P x → P (f x)) → All P (cond b xs (changed_at f xs (n - 1)))
+    cases : (b : Bool) → ((x : X) → cond b None (slice_get xs (n - 1)) ≡ Some x → P x → P (f x)) → All P (cond b xs (modify_at f xs (n - 1)))
     cases true keeps = all
     cases false keeps = all_changed P f xs (n - 1) all keeps
 
 pub pairs_changed_nth : {X : Type 0} (R : X → X → Type 0) (f : X → X) (xs : List X) (n : ℕ) → AllPairs R xs
-    → ((x : X) → nth xs n ≡ Some x → (z : X) → (R z x → R z (f x)) × (R x z → R (f x) z)) → AllPairs R (changed_nth f xs n)
+    → ((x : X) → nth xs n ≡ Some x → (z : X) → (R z x → R z (f x)) × (R x z → R (f x) z)) → AllPairs R (modify_nth f xs n)
 pairs_changed_nth {X} R f xs n all keeps = cases (eqb n 0) keeps
   where
     cases : (b : Bool) → ((x : X) → cond b None (slice_get xs (n - 1)) ≡ Some x → (z : X) → (R z x → R z (f x)) × (R x z → R (f x) z))
-        → AllPairs R (cond b xs (changed_at f xs (n - 1)))
+        → AllPairs R (cond b xs (modify_at f xs (n - 1)))
     cases true keeps = all
     cases false keeps = pairs_changed R f xs (n - 1) all (λ x is k z there. keeps x is z)
 
 -- as many pass after a change that the test does not see, and some do where some did
 pub count_changed : {X : Type 0} (p : X → Bool) (f : X → X) (xs : List X) (n : ℕ) → ((x : X) → slice_get xs n ≡ Some x → p (f x) ≡ p x)
-    → count_by p (changed_at f xs n) ≡ count_by p xs
+    → count_by p (modify_at f xs n) ≡ count_by p xs
 count_changed p f [] n same = refl
 count_changed p f (x ∷ xs) zero same =
     sum_by-cons (λ y. cond {A = ℕ} (p y) 1 0) (f x) xs
     ∙ ap (λ (b : Bool). cond {A = ℕ} b 1 0 + count_by p xs) (same x refl)
     ∙ sym (sum_by-cons (λ y. cond {A = ℕ} (p y) 1 0) x xs)
 count_changed p f (x ∷ xs) (suc n) same =
-    sum_by-cons (λ y. cond {A = ℕ} (p y) 1 0) x (changed_at f xs n)
+    sum_by-cons (λ y. cond {A = ℕ} (p y) 1 0) x (modify_at f xs n)
     ∙ ap (λ m. cond {A = ℕ} (p x) 1 0 + m) (count_changed p f xs n same)
     ∙ sym (sum_by-cons (λ y. cond {A = ℕ} (p y) 1 0) x xs)
 
 pub any_changed : {X : Type 0} (p : X → Bool) (f : X → X) (xs : List X) (n : ℕ) → ((x : X) → slice_get xs n ≡ Some x → p (f x) ≡ p x)
-    → list_any p (changed_at f xs n) ≡ list_any p xs
+    → list_any p (modify_at f xs n) ≡ list_any p xs
 any_changed p f [] n same = refl
 any_changed p f (x ∷ xs) zero same = ap (λ b. b || list_any p xs) (same x refl)
 any_changed p f (x ∷ xs) (suc n) same = ap (λ b. p x || b) (any_changed p f xs n same)

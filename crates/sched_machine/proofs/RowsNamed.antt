@@ -7,6 +7,7 @@ use Rattle.std.proofs.lemmas.List.Quantifiers.{all_pairs_push}
 use Rattle.std.proofs.lemmas.Option.{slice_get-get_or}
 use Rattle.std.proofs.lemmas.Slice.Eq.{bytes_eq-Decides}
 use Rattle.sched_book.specs.Imports.{Shelf, first_known, first_fault, has_app, has_room, same_version}
+use Rattle.sched_book.specs.Limits.{most_accounts, most_apps, most_versions, most_workunits}
 use Rattle.sched_book.specs.Places.{place_where, agreement_by}
 use Rattle.sched_book.specs.declared.rows.Agreement.TheVariants.{Exact}
 use Rattle.sched_book.specs.declared.rows.App.{App}
@@ -67,10 +68,10 @@ named_apps name apps xs none i x there = is_so (has_app apps (name x)) (place_mi
 
 -- the tables have room
 pub record HasRoom (s : Shelf) : Type 0 where
-  pub accounts : length s.accounts ≤ 10000
-  pub apps : length s.apps ≤ 100
-  pub versions : length s.versions ≤ 1000
-  pub units : length s.units ≤ 200000
+  pub accounts : length s.accounts ≤ most_accounts
+  pub apps : length s.apps ≤ most_apps
+  pub versions : length s.versions ≤ most_versions
+  pub units : length s.units ≤ most_workunits
 
 four_hold : (a b c d : Bool) → (a && b && c && d) ≡ true → (a ≡ true) × (b ≡ true) × (c ≡ true) × (d ≡ true)
 four_hold true true true d is = (refl, refl, refl, is)
@@ -80,12 +81,12 @@ four_hold false b c d is = absurd cc
 
 pub room_from : (s : Shelf) → has_room s ≡ true → HasRoom s
 room_from s room =
-    let all = four_hold (nat_le (length s.accounts) 10000) (nat_le (length s.apps) 100) (nat_le (length s.versions) 1000) (nat_le (length s.units) 200000) room in
+    let all = four_hold (nat_le (length s.accounts) most_accounts) (nat_le (length s.apps) most_apps) (nat_le (length s.versions) most_versions) (nat_le (length s.units) most_workunits) room in
     record {
-      accounts = leb-true (length s.accounts) 10000 all.0;
-      apps = leb-true (length s.apps) 100 all.1;
-      versions = leb-true (length s.versions) 1000 all.2;
-      units = leb-true (length s.units) 200000 all.3;
+      accounts = leb-true (length s.accounts) most_accounts all.0;
+      apps = leb-true (length s.apps) most_apps all.1;
+      versions = leb-true (length s.versions) most_versions all.2;
+      units = leb-true (length s.units) most_workunits all.3;
     }
 
 -- more applications behind those that stand

@@ -6,7 +6,7 @@ use Rattle.std.proofs.lemmas.List.Elements.{All-contains}
 use Rattle.rpc_records.specs.declared.request.Request.{Request}
 use Rattle.sched_book.specs.Lost.{is_resent}
 use Rattle.sched_book.specs.Places.{instance_at, deadline_of, is_owned_by, is_same}
-use Rattle.sched_book.specs.Step.{Step, after_reports, at_entry, deadline_at, host_number, host_told, lost_of, resent_of}
+use Rattle.sched_book.specs.Step.{Step, after_reports, at_entry, deadline_at, host_number, host_at_entry, lost_of, resent_of}
 use Rattle.sched_book.specs.declared.instance.Instance.{Instance}
 use Rattle.sched_book.specs.declared.instance.Owner.{Owner}
 use Rattle.sched_book.specs.declared.instance.Place.{Place}
@@ -80,7 +80,7 @@ resent_is_own w c r p o there is = cases (instance_at (after_reports w c r) p) r
     own =
         All-contains (IsOwnedAt (host_number w c) (after_reports w c r)) (lost_of w c r) p
         (lost_owned (after_reports w c r) (host_number w c) r.other_results)
-        (in_filter (is_resent (at_entry w c r) (host_told w c r)) (lost_of w c r) p there)
+        (in_filter (is_resent (at_entry w c r) (host_at_entry w c r)) (lost_of w c r) p there)
 
     cases : (i : Option Instance) → instance_at (after_reports w c r) p ≡ i → option_and_then (λ (x : Instance). x.owner) i ≡ Some o
         → o.host ≡ host_number w c

@@ -5,14 +5,14 @@ use Rattle.std.proofs.lemmas.List.Elements.{All-nil, All-filter, All-head, All-t
 use Rattle.rpc_records.specs.declared.request.Report.{Report}
 use Rattle.rpc_records.specs.declared.request.Request.{Request}
 use Rattle.sched_book.specs.Count.{is_held, is_open, need}
-use Rattle.sched_book.specs.Fits.{is_eligible, is_for}
+use Rattle.sched_book.specs.Fits.{is_eligible, is_for, estimate_at}
 use Rattle.sched_book.specs.Grant.{Asking, IsGrant}
 use Rattle.sched_book.specs.Imports.{new_unit, with_rows}
-use Rattle.sched_book.specs.Lost.{is_listed, unlisted, lost, is_resent, estimate_at, delay_at, deadline_after, with_deadline, with_lapse, resend_or_drop}
+use Rattle.sched_book.specs.Lost.{is_listed, unlisted, lost, is_resent, delay_at, deadline_after, with_deadline, with_lapse, resend_or_drop}
 use Rattle.sched_book.specs.Places.{nth, unit_at, instance_at, passes, place_named, book_status, is_held_by, is_owned_by, is_overdue, overdue, held_by, deadline_of, is_same}
 use Rattle.sched_book.specs.Reports.{with_changed, first_reports, awaits_report, with_report, judged_place, record_at, record_one, recorded}
 use Rattle.sched_book.specs.Settle.{fresh, grown, settled}
-use Rattle.sched_book.specs.Step.{Step, at_entry, after_reports, lost_of, host_told, host_number, resent_of, after_lost, after_settlement, with_owner, grant_one, granted, lapsed, asking_of}
+use Rattle.sched_book.specs.Step.{Step, at_entry, after_reports, lost_of, host_at_entry, host_number, resent_of, after_lost, after_settlement, with_owner, grant_one, granted, lapsed, asking_of}
 use Rattle.sched_book.specs.declared.instance.Instance.{Instance}
 use Rattle.sched_book.specs.declared.instance.Lapse.{Lapse}
 use Rattle.sched_book.specs.declared.instance.Lapse.TheVariants.{Late, Dropped}
@@ -287,9 +287,9 @@ module _ (R : Instance → Instance → Type 0) (lasting : IsLasting R) (p : Pla
       kept_then w (after_reports w c r) (granted (after_settlement w c r now) (host_number w c) now jobs)
       (kept_reports (at_entry w c r) (host_number w c) r.results)
       (kept_then (after_reports w c r) (after_lost w c r now) (granted (after_settlement w c r now) (host_number w c) now jobs)
-      (kept_lost (at_entry w c r) (host_told w c r) now (lost_of w c r) (after_reports w c r)
+      (kept_lost (at_entry w c r) (host_at_entry w c r) now (lost_of w c r) (after_reports w c r)
       (λ q among resent same.
-      moves (subst (Contains (resent_of w c r)) same (passes_filter (is_resent (at_entry w c r) (host_told w c r)) (lost_of w c r) q among resent)))
+      moves (subst (Contains (resent_of w c r)) same (passes_filter (is_resent (at_entry w c r) (host_at_entry w c r)) (lost_of w c r) q among resent)))
       (lost_no_lapse (after_reports w c r) (host_number w c) r.other_results))
       (kept_then (after_lost w c r now) (after_settlement w c r now) (granted (after_settlement w c r now) (host_number w c) now jobs)
       (kept_settled (at_entry w c r) (after_lost w c r now))

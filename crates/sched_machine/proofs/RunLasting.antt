@@ -3,7 +3,7 @@ use Rattle.std.proofs.Common.{◌≡◌, ℕ, Bool, true, false, List, [], ◌�
 use Rattle.std.specs.Prelude.{◌&&◌, is_none, option_map, option_and_then}
 use Rattle.sched_book.specs.Lost.{with_deadline}
 use Rattle.sched_book.specs.Places.{instance_at, is_owned_by}
-use Rattle.sched_book.specs.Step.{Trace}
+use Rattle.sched_book.specs.Step.{Step, Trace}
 use Rattle.sched_book.specs.declared.instance.Instance.{Instance}
 use Rattle.sched_book.specs.declared.instance.Lapse.{Lapse}
 use Rattle.sched_book.specs.declared.instance.Outcome.{Outcome}
@@ -13,7 +13,8 @@ use Rattle.sched_book.specs.declared.machine.Answered.{Answered}
 use Rattle.sched_book.specs.declared.machine.Call.{Call}
 use Rattle.sched_book.specs.declared.machine.Call.TheVariants as call
 use Rattle.sched_book.specs.declared.world.World.{World}
-use Rattle.sched_machine.specs.Runs.{AllAfter, HoldsInRuns, OwnersStay, ReportsStay, LapsesStay}
+use Rattle.sched_machine.specs.Runs.{AllAfter, HoldsInRuns, OwnersStay, ReportsStay, LapsesStay, world_after}
+use Rattle.sched_machine.proofs.RunBetween.{between_any_two}
 use Rattle.sched_machine.proofs.RunKept.{IsLasting, KeptAt, MayMove, kept_self, kept_then, kept_step}
 
 -- Of an owner the host and the moment of sending stay, and a report and a lapse stay as they are.
@@ -80,12 +81,8 @@ from_before u w (e ∷ es) (t ∷ ts) before trace =
     (next, from_before u t.1 es ts next trace.1)
 
 all_last : HoldsInRuns LastsEverywhere
-all_last w calls turns sound limits trace = from_before w w calls turns (λ p. kept_self Lasts lasts p w) trace
-
--- what follows of each world of a run
-all_after : (P Q : World → Type 0) → ((w : World) → P w → Q w) → (turns : List (Answered × World)) → AllAfter P turns → AllAfter Q turns
-all_after P Q also [] all = tt
-all_after P Q also (t ∷ ts) all = (also t.1 all.0, all_after P Q also ts all.1)
+all_last =
+    between_any_two LastsEverywhere (λ w calls turns sound limits trace. from_before w w calls turns (λ p. kept_self Lasts lasts p w) trace)
 
 -- a part of an instance that is there comes of one that stands
 stood_with : {Y : Type 0} (f : Instance → Option Y) (o : Option Instance) (y : Y) → option_and_then f o ≡ Some y
@@ -100,8 +97,13 @@ owners old new all p o is =
     let n = y.2.owner o x.2 in
     (n.0, ap (option_and_then (λ (x : Instance). x.owner)) y.1 ∙ n.1, n.2, n.3)
 
+-- in one step, from any world
+pub owners_stay_in_step : (w after : World) (c : Call) (now : ℕ) (answer : Answered) → Step w c now after answer → OwnersStay w after
+owners_stay_in_step w after c now answer step = owners w after (λ p. kept_step Lasts lasts p w after c now answer (may_move p w c) step)
+
 pub owners_stay : HoldsInRuns OwnersStay
-owners_stay w calls turns sound limits trace = all_after (LastsEverywhere w) (OwnersStay w) (owners w) turns (all_last w calls turns sound limits trace)
+owners_stay w calls turns sound limits trace i j less within =
+    owners (world_after w turns i) (world_after w turns j) (all_last w calls turns sound limits trace i j less within)
 
 reports : (old new : World) → LastsEverywhere old new → ReportsStay old new
 reports old new all p t is =
@@ -110,7 +112,8 @@ reports old new all p t is =
     ap (option_and_then (λ (x : Instance). x.report)) y.1 ∙ y.2.report t x.2
 
 pub reports_stay : HoldsInRuns ReportsStay
-reports_stay w calls turns sound limits trace = all_after (LastsEverywhere w) (ReportsStay w) (reports w) turns (all_last w calls turns sound limits trace)
+reports_stay w calls turns sound limits trace i j less within =
+    reports (world_after w turns i) (world_after w turns j) (all_last w calls turns sound limits trace i j less within)
 
 lapses : (old new : World) → LastsEverywhere old new → LapsesStay old new
 lapses old new all p l is =
@@ -119,4 +122,5 @@ lapses old new all p l is =
     ap (option_and_then (λ (x : Instance). x.lapse)) y.1 ∙ y.2.lapse l x.2
 
 pub lapses_stay : HoldsInRuns LapsesStay
-lapses_stay w calls turns sound limits trace = all_after (LastsEverywhere w) (LapsesStay w) (lapses w) turns (all_last w calls turns sound limits trace)
+lapses_stay w calls turns sound limits trace i j less within =
+    lapses (world_after w turns i) (world_after w turns j) (all_last w calls turns sound limits trace i j less within)

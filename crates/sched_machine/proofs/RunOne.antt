@@ -8,7 +8,7 @@ use Rattle.sched_book.specs.Grant.{end_word}
 use Rattle.sched_book.specs.Lost.{aborts}
 use Rattle.sched_book.specs.Places.{host_credit, user_credit}
 use Rattle.sched_book.specs.Reports.{first_reports}
-use Rattle.sched_book.specs.Step.{RpcStep, TickStep, ImportStep, Trace, after_settlement, asking_of, granted, host_number, host_told, job_at, resent_of, user_name}
+use Rattle.sched_book.specs.Step.{RpcStep, TickStep, ImportStep, Trace, after_settlement, asking_of, granted, host_number, host_at_entry, job_at, resent_of, user_name}
 use Rattle.sched_book.specs.declared.instance.Place.{Place}
 use Rattle.sched_book.specs.declared.machine.Answered.TheVariants as answered
 use Rattle.sched_book.specs.declared.machine.Call.TheVariants as call
@@ -28,8 +28,8 @@ module _ (w : World) (c : Caller) (r : Request) (now : ℕ) where
     request_delay = w.settings.request_delay;
     result_abort = aborts (after_settlement w c r now) (host_number w c) r.other_results;
     result_ack = map (λ (x : Report). x.name) (first_reports r.results);
-    results = filter_map (job_at after (host_told w c r) true) (resent_of w c r)
-        ++ filter_map (job_at after (host_told w c r) false) jobs;
+    results = filter_map (job_at after (host_at_entry w c r) true) (resent_of w c r)
+        ++ filter_map (job_at after (host_at_entry w c r) false) jobs;
     rpc_seqno = r.rpc_seqno;
     user_name = user_name w c.account;
     user_total_credit = user_credit after c.account;

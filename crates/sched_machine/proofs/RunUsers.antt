@@ -13,7 +13,7 @@ all_of_sound P also [] sound = tt
 all_of_sound P also (t ∷ ts) sound = (also t.1 sound.0, all_of_sound P also ts sound.1)
 
 sound_users : (w : World) → Sound w → OneForEachUser w
-sound_users w sound k d within = (sound.units k d within).one_for_each_user
+sound_users w sound k d within = (sound.units k d within).well.one_for_each_user
 
 pub one_for_each_user : HoldsAlways OneForEachUser
 one_for_each_user w calls turns sound limits trace =

@@ -4,12 +4,11 @@ use Rattle.std.specs.Prelude.{sum_by, option_map, unwrap_or}
 use Rattle.std.proofs.lemmas.List.Sums.{sum_by-cons}
 use Rattle.rpc_records.specs.declared.request.Request.{Request}
 use Rattle.sched_book.specs.Delta.{applied}
-use Rattle.sched_book.specs.Fits.{estimate}
+use Rattle.sched_book.specs.Fits.{estimate, estimate_at}
 use Rattle.sched_book.specs.Grant.{Asking, IsGrant, end_word}
-use Rattle.sched_book.specs.Lost.{estimate_at}
 use Rattle.sched_book.specs.Places.{host_at, held_by}
 use Rattle.sched_book.specs.Settle.{grown}
-use Rattle.sched_book.specs.Step.{host_number, host_told, after_lost, after_settlement, asking_of, resent_of}
+use Rattle.sched_book.specs.Step.{host_number, host_at_entry, after_lost, after_settlement, asking_of, resent_of}
 use Rattle.sched_book.specs.declared.delta.Change.{Change}
 use Rattle.sched_book.specs.declared.instance.Place.{Place}
 use Rattle.sched_book.specs.declared.instance.UnitBook.{UnitBook}
@@ -82,7 +81,7 @@ module _ (w : World) (k : Calling) (r : Request) (now : ℕ) where
       → parts k.number after k.host resent ≡ asking
   parts_are after resent calling is sent =
       let number : ℕ = host_number w k.caller in
-      let told : HostRow = host_told w k.caller r in
+      let told : HostRow = host_at_entry w k.caller r in
       ap (λ n. parts n after k.host resent) calling.number
       ∙ ap (λ v. parts number v k.host resent) is
       ∙ ap (λ h. parts number settlement h resent) calling.host

@@ -3,11 +3,12 @@ use Rattle.std.proofs.Common.{◌≡◌, ℕ, zero, suc, Bool, true, false, cond
 use Rattle.std.specs.Prelude.{◌&&◌, fold, is_none, is_some, replicate, option_map, option_and_then, unwrap_or, slice_get}
 use Rattle.rpc_records.specs.declared.request.Request.{Request}
 use Rattle.sched_book.specs.Count.{is_open, need}
-use Rattle.sched_book.specs.Lost.{is_resent, estimate_at, delay_at, deadline_after, with_deadline, with_lapse, resend_or_drop}
+use Rattle.sched_book.specs.Fits.{estimate_at}
+use Rattle.sched_book.specs.Lost.{is_resent, delay_at, deadline_after, with_deadline, with_lapse, resend_or_drop}
 use Rattle.sched_book.specs.Places.{unit_at, instance_at, book_status, is_held_by, is_owned_by, is_same}
 use Rattle.sched_book.specs.Reports.{with_changed}
 use Rattle.sched_book.specs.Settle.{fresh, grown, settled}
-use Rattle.sched_book.specs.Step.{host_number, at_entry, after_reports, host_told, lost_of, after_lost, after_settlement}
+use Rattle.sched_book.specs.Step.{host_number, at_entry, after_reports, host_at_entry, lost_of, after_lost, after_settlement}
 use Rattle.sched_book.specs.declared.instance.Instance.{Instance}
 use Rattle.sched_book.specs.declared.instance.Lapse.TheVariants.{Dropped}
 use Rattle.sched_book.specs.declared.instance.Owner.{Owner}
@@ -125,5 +126,5 @@ after_settlement_holds w c r now p holds =
     let entry : World = at_entry w c r in
     let host : ℕ = host_number w c in
     reports_hold_no_more entry host r.results p
-    (lost_hold_no_more entry (host_told w c r) now host (lost_of w c r) (after_reports w c r) p
+    (lost_hold_no_more entry (host_at_entry w c r) now host (lost_of w c r) (after_reports w c r) p
     (settled_holds entry (after_lost w c r now) host p holds))

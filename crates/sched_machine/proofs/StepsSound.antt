@@ -2,16 +2,19 @@
 use Rattle.std.proofs.Common.{◌≡◌, ℕ, ◌≤◌, ◌<◌, Bool, true, false, cond, List, [], ◌∷◌, length, Option, Some, None, sym, refl, ap, ◌∙◌, subst, arith}
 use Rattle.std.specs.Prelude.{◌≢◌, ◌+◌, All, AllPairs, IsTrue, fold, get_or, is_some, option_map, unwrap_or}
 use Rattle.std.proofs.lemmas.Bool.{eq-eqb}
+use Rattle.rpc_records.specs.Ranges.{IsInRange}
 use Rattle.rpc_records.specs.declared.request.Request.{Request}
 use Rattle.rpc_records.specs.declared.reply.Reply.{Reply}
 use Rattle.rpc_records.specs.declared.request.Report.{Report}
 use Rattle.sched_book.specs.Imports.{same_version}
-use Rattle.sched_book.specs.Lost.{resend_or_drop, is_resent, with_deadline, deadline_after, estimate_at, delay_at, with_lapse}
+use Rattle.sched_book.specs.Fits.{estimate_at}
+use Rattle.sched_book.specs.Lost.{resend_or_drop, is_resent, with_deadline, deadline_after, delay_at, with_lapse}
+use Rattle.sched_book.specs.Limits.{last_moment, IsAccountInLimits, IsAppInLimits}
 use Rattle.sched_book.specs.Places.{host_at, nth, overdue, place_named, passes, is_host_of}
 use Rattle.sched_book.specs.Reports.{awaits_report, judged_place, with_changed, with_report, record_at, record_one, recorded, first_reports}
 use Rattle.sched_book.specs.Settle.{with_grown, with_quota}
-use Rattle.sched_book.specs.Sound.{IsSoundUnit, IsSoundHost, IsSoundVersion, HaveOtherKeys, Sound}
-use Rattle.sched_book.specs.Step.{IsCaller, RpcStep, TickStep, at_entry, after_reports, after_lost, after_settlement, host_number, host_told, lost_of, hosts_told, told_host, asking_of, lapsed}
+use Rattle.sched_book.specs.Sound.{IsSoundUnit, IsSoundHost, IsSoundVersion, HaveOtherKeys, Sound, IsWellUnit, IsWell}
+use Rattle.sched_book.specs.Step.{IsCaller, RpcStep, TickStep, at_entry, after_reports, after_lost, after_settlement, host_number, host_at_entry, lost_of, hosts_at_entry, row_of_call, asking_of, lapsed}
 use Rattle.sched_book.specs.declared.instance.Lapse.TheVariants.{Late, Dropped}
 use Rattle.sched_book.specs.declared.instance.Place.{Place}
 use Rattle.sched_book.specs.declared.instance.UnitBook.{UnitBook}
@@ -24,10 +27,9 @@ use Rattle.sched_book.specs.declared.rows.HostRow.{HostRow}
 use Rattle.sched_book.specs.declared.rows.Version.{Version}
 use Rattle.sched_book.specs.declared.settings.Settings.{Settings}
 use Rattle.sched_book.specs.declared.world.World.{World}
-use Rattle.sched_book.proofs.PlacesOf.{nth-push, nth-changed_nth}
+use Rattle.sched_book.proofs.PlacesOf.{nth-push, nth-modify_nth}
 use Rattle.sched_book.proofs.Settling.{settlement_is_pointwise}
-use Rattle.sched_machine.specs.Laws.{last_moment, StepKeepsSound, RunsKeepSound, EmptyIsSound}
-use Rattle.sched_machine.specs.Well.{IsWellUnit, IsWell, IsRequestInLimits}
+use Rattle.sched_machine.specs.Laws.{StepKeepsSound, RunsKeepSound, EmptyIsSound}
 use Rattle.sched_machine.proofs.RowsEntry.{entry_keeps_sound}
 use Rattle.sched_machine.proofs.RowsGrant.{grant_keeps_sound}
 use Rattle.sched_machine.proofs.RowsListed.{place_found}
@@ -80,51 +82,21 @@ lapses_stay w now = fold_stays (with_changed (with_lapse Late)) (λ v p. refl) (
 
 -- a sound world is sound but for what open workunits may lack
 pub sound_is_well : (w : World) → Sound w → IsWell w
-sound_is_well w sound = record {
-  rows = record {
-    settings = sound.settings;
-    hosts = sound.hosts;
-    versions = sound.versions;
-    account_names = sound.account_names;
-    app_names = sound.app_names;
-    version_names = sound.version_names;
-    unit_names = sound.unit_names;
-    host_keys = sound.host_keys;
-    account_count = sound.account_count;
-    app_count = sound.app_count;
-    version_count = sound.version_count;
-    unit_count = sound.unit_count;
-    host_count = sound.host_count;
-  };
-  units = λ k d within. well_unit (get_or w.units k d) (sound.units k d within);
-}
-  where
-    well_unit : (b : UnitBook) → IsSoundUnit w.hosts w.apps b → IsWellUnit w.hosts w.apps b
-    well_unit b unit = record {
-      one_for_each_user = unit.one_for_each_user;
-      places = unit.places;
-      in_range = unit.in_range;
-      bare = unit.bare;
-      owners = unit.owners;
-      app = unit.app;
-      few = unit.few;
-      limits = unit.limits;
-      instances = unit.instances;
-    }
+sound_is_well w sound = record { rows = sound.rows; units = λ k d within. (sound.units k d within).well }
 
 -- the caller's host stands from the entry on
 entry_stands : (w : World) (c : Caller) (r : Request) → IsCaller w c r → is_some (host_at (at_entry w c r) (host_number w c)) ≡ true
 entry_stands w c r caller = cases c.host refl
   where
-    cases : (o : Option ℕ) → c.host ≡ o → is_some (nth (hosts_told w c r o) (unwrap_or o (length w.hosts + 1))) ≡ true
+    cases : (o : Option ℕ) → c.host ≡ o → is_some (nth (hosts_at_entry w c r o) (unwrap_or o (length w.hosts + 1))) ≡ true
     cases None is =
-        ap is_some (nth-push w.hosts (told_host c r w.settings.daily_result_quota) (length w.hosts + 1))
-        ∙ ap (λ (b : Bool). is_some (cond b (Some (told_host c r w.settings.daily_result_quota)) (nth w.hosts (length w.hosts + 1)))) (eq-eqb (length w.hosts + 1) (length w.hosts + 1) refl)
+        ap is_some (nth-push w.hosts (row_of_call c r w.settings.daily_result_quota) (length w.hosts + 1))
+        ∙ ap (λ (b : Bool). is_some (cond b (Some (row_of_call c r w.settings.daily_result_quota)) (nth w.hosts (length w.hosts + 1)))) (eq-eqb (length w.hosts + 1) (length w.hosts + 1) refl)
     cases (Some host) is =
         let found = place_found (is_host_of c.account r.host.host_cpid) w.hosts host (caller.host ∙ is) in
-        ap is_some (nth-changed_nth (λ (h : HostRow). told_host c r h.quota) w.hosts host host)
-        ∙ ap (λ (b : Bool). is_some (cond b (option_map (λ (h : HostRow). told_host c r h.quota) (nth w.hosts host)) (nth w.hosts host))) (eq-eqb host host refl)
-        ∙ ap (λ o. is_some (option_map (λ (h : HostRow). told_host c r h.quota) o)) found.1
+        ap is_some (nth-modify_nth (λ (h : HostRow). row_of_call c r h.quota) w.hosts host host)
+        ∙ ap (λ (b : Bool). is_some (cond b (option_map (λ (h : HostRow). row_of_call c r h.quota) (nth w.hosts host)) (nth w.hosts host))) (eq-eqb host host refl)
+        ∙ ap (λ o. is_some (option_map (λ (h : HostRow). row_of_call c r h.quota) o)) found.1
 
 some_or : {X : Type 0} (o : Option X) (d : X) → is_some o ≡ true → o ≡ Some (unwrap_or o d)
 some_or None d never = absurd cc
@@ -135,21 +107,21 @@ mapped_some f None = refl
 mapped_some f (Some x) = refl
 
 module _ (w : World) (c : Caller) (r : Request) (now : ℕ) (sound : Sound w) (caller : IsCaller w c r)
-    (room : c.host ≡ None → length w.hosts < w.settings.max_hosts) (limits : IsRequestInLimits r) (early : now ≤ last_moment) where
+    (room : c.host ≡ None → length w.hosts < w.settings.max_hosts) (limits : IsInRange r) (early : now ≤ last_moment) where
   entered : Sound (at_entry w c r)
   entered = entry_keeps_sound w c r sound caller room limits
 
   pub reported : IsWell (after_reports w c r)
-  reported = reports_keep_well (at_entry w c r) (host_number w c) r.results (sound_is_well (at_entry w c r) entered)
+  reported = reports_keep_well (at_entry w c r) (host_number w c) r.results limits.results (sound_is_well (at_entry w c r) entered)
 
   left_well : IsWell (after_lost w c r now)
   left_well =
-      lost_jobs_keep_well (at_entry w c r) (after_reports w c r) (host_told w c r) now (host_number w c) r.other_results
+      lost_jobs_keep_well (at_entry w c r) (after_reports w c r) (host_at_entry w c r) now (host_number w c) r.other_results
       (sound_is_well (at_entry w c r) entered) early reported
 
   same_frame : frame (after_lost w c r now) ≡ frame (at_entry w c r)
   same_frame =
-      lost_jobs_stay (at_entry w c r) (host_told w c r) now (lost_of w c r) (after_reports w c r)
+      lost_jobs_stay (at_entry w c r) (host_at_entry w c r) now (lost_of w c r) (after_reports w c r)
       ∙ reports_stay (at_entry w c r) (host_number w c) r.results
 
   pub settled_sound : Sound (after_settlement w c r now)
@@ -157,7 +129,7 @@ module _ (w : World) (c : Caller) (r : Request) (now : ℕ) (sound : Sound w) (c
 
   pub host_stands : host_at (after_settlement w c r now) (host_number w c) ≡ Some (asking_of w c r now).host
   host_stands =
-      some_or (host_at (after_settlement w c r now) (host_number w c)) (host_told w c r)
+      some_or (host_at (after_settlement w c r now) (host_number w c)) (host_at_entry w c r)
       (ap is_some ((settlement_is_pointwise (at_entry w c r) (after_lost w c r now)).host (host_number w c))
       ∙ mapped_some (λ h. with_quota (at_entry w c r) (with_grown (after_lost w c r now)) (host_number w c, h)) (host_at (after_lost w c r now) (host_number w c))
       ∙ ap (λ f. is_some (nth f.1 (host_number w c))) same_frame
@@ -201,18 +173,22 @@ no_pairs R i j d less within = absurd (omega arith)
 
 pub the_empty_world_is_sound : EmptyIsSound
 the_empty_world_is_sound settings limits = record {
-  settings = limits;
+  rows = record {
+    settings = limits;
+    accounts = none_at_all IsAccountInLimits;
+    apps = none_at_all IsAppInLimits;
+    versions = none_at_all (IsSoundVersion []);
+    hosts = none_at_all (IsSoundHost 0 settings.daily_result_quota);
+    account_names = no_pairs (λ (a b : Account). a.authenticator ≢ b.authenticator);
+    app_names = no_pairs (λ (a b : App). a.name ≢ b.name);
+    version_names = no_pairs (λ (a b : Version). IsTrue (same_version a b) → ⊥);
+    unit_names = no_pairs (λ (a b : UnitBook). a.unit.name ≢ b.unit.name);
+    host_keys = no_pairs HaveOtherKeys;
+    account_count = omega arith;
+    app_count = omega arith;
+    version_count = omega arith;
+    unit_count = omega arith;
+    host_count = omega arith;
+  };
   units = none_at_all (IsSoundUnit [] []);
-  hosts = none_at_all (IsSoundHost 0 settings.daily_result_quota);
-  versions = none_at_all (IsSoundVersion []);
-  account_names = no_pairs (λ (a b : Account). a.authenticator ≢ b.authenticator);
-  app_names = no_pairs (λ (a b : App). a.name ≢ b.name);
-  version_names = no_pairs (λ (a b : Version). IsTrue (same_version a b) → ⊥);
-  unit_names = no_pairs (λ (a b : UnitBook). a.unit.name ≢ b.unit.name);
-  host_keys = no_pairs HaveOtherKeys;
-  account_count = omega arith;
-  app_count = omega arith;
-  version_count = omega arith;
-  unit_count = omega arith;
-  host_count = omega arith;
 }

@@ -6,8 +6,8 @@ use Rattle.std.proofs.lemmas.Bool.{eqb-true}
 use Rattle.std.proofs.lemmas.List.Sums.{sum_by-cons}
 use Rattle.std.proofs.lemmas.Option.{slice_get_within, slice_get-get_or, get_or_from_slice_get, slice_get-map}
 use Rattle.sched_book.specs.Places.{nth}
-use Rattle.sched_book.specs.Reports.{changed_at, changed_nth}
-use Rattle.sched_book.proofs.PlacesOf.{slice_get-changed_at}
+use Rattle.sched_book.specs.Reports.{modify_at, modify_nth}
+use Rattle.sched_book.proofs.PlacesOf.{slice_get-modify_at}
 use Rattle.sched_book.proofs.Settling.{slice_get-enumerate_from}
 use Rattle.quorum_credit.proofs.ByPlace.{all_get}
 
@@ -37,8 +37,8 @@ pub alike_same : {X : Type 0} (R : X → X → Type 0) → ((x : X) → R x x) �
 alike_same R same xs i x stands = (x, stands, same x)
 
 pub alike_changed_at : {X : Type 0} (R : X → X → Type 0) → ((x : X) → R x x) → (f : X → X) (xs : List X) (i : ℕ)
-    → ((x : X) → slice_get xs i ≡ Some x → R x (f x)) → Alike R xs (changed_at f xs i)
-alike_changed_at {X} R same f xs i here j y stands = cases (eqb i j) refl (slice_get xs j) refl (sym (slice_get-changed_at f xs i j) ∙ stands)
+    → ((x : X) → slice_get xs i ≡ Some x → R x (f x)) → Alike R xs (modify_at f xs i)
+alike_changed_at {X} R same f xs i here j y stands = cases (eqb i j) refl (slice_get xs j) refl (sym (slice_get-modify_at f xs i j) ∙ stands)
   where
     cases : (b : Bool) → eqb i j ≡ b → (o : Option X) → slice_get xs j ≡ o → cond b (option_map f o) o ≡ Some y
         → (x : X) × (slice_get xs j ≡ Some x) × R x y
@@ -52,19 +52,19 @@ alike_changed_at {X} R same f xs i here j y stands = cases (eqb i j) refl (slice
         (x, was, subst (R x) value (same x))
 
 pub alike_changed_nth : {X : Type 0} (R : X → X → Type 0) → ((x : X) → R x x) → (f : X → X) (xs : List X) (n : ℕ)
-    → ((x : X) → nth xs n ≡ Some x → R x (f x)) → Alike R xs (changed_nth f xs n)
+    → ((x : X) → nth xs n ≡ Some x → R x (f x)) → Alike R xs (modify_nth f xs n)
 alike_changed_nth {X} R same f xs n here = cases (eqb n 0) here
   where
-    cases : (b : Bool) → ((x : X) → cond b None (slice_get xs (n - 1)) ≡ Some x → R x (f x)) → Alike R xs (cond b xs (changed_at f xs (n - 1)))
+    cases : (b : Bool) → ((x : X) → cond b None (slice_get xs (n - 1)) ≡ Some x → R x (f x)) → Alike R xs (cond b xs (modify_at f xs (n - 1)))
     cases true at = alike_same R same xs
     cases false at = alike_changed_at R same f xs (n - 1) at
 
-pub changed_at-none : {X : Type 0} (f : X → X) (xs : List X) (i : ℕ) → slice_get xs i ≡ None → changed_at f xs i ≡ xs
-changed_at-none f [] i none = refl
-changed_at-none f (x ∷ xs) zero none = absurd cc
-changed_at-none f (x ∷ xs) (suc i) none = ap (λ ys. x ∷ ys) (changed_at-none f xs i none)
+pub modify_at-none : {X : Type 0} (f : X → X) (xs : List X) (i : ℕ) → slice_get xs i ≡ None → modify_at f xs i ≡ xs
+modify_at-none f [] i none = refl
+modify_at-none f (x ∷ xs) zero none = absurd cc
+modify_at-none f (x ∷ xs) (suc i) none = ap (λ ys. x ∷ ys) (modify_at-none f xs i none)
 
-pub length_changed : {X : Type 0} (f : X → X) (xs : List X) (i : ℕ) → length (changed_at f xs i) ≡ length xs
+pub length_changed : {X : Type 0} (f : X → X) (xs : List X) (i : ℕ) → length (modify_at f xs i) ≡ length xs
 length_changed f [] i = refl
 length_changed f (x ∷ xs) zero = refl
 length_changed f (x ∷ xs) (suc i) = ap suc (length_changed f xs i)
@@ -75,18 +75,18 @@ pub count_cons : {X : Type 0} (p : X → Bool) (x : X) (xs : List X) (b : Bool) 
 count_cons p x xs b is = sum_by-cons (λ y. cond {A = ℕ} (p y) 1 0) x xs ∙ ap (λ (c : Bool). cond {A = ℕ} c 1 0 + count_by p xs) is
 
 pub count_same : {X : Type 0} (p : X → Bool) (f : X → X) (xs : List X) (i : ℕ) (x : X) → slice_get xs i ≡ Some x → p (f x) ≡ p x
-    → count_by p (changed_at f xs i) ≡ count_by p xs
+    → count_by p (modify_at f xs i) ≡ count_by p xs
 count_same p f [] i x stands same = refl
 count_same p f (y ∷ ys) zero x stands same =
     let is : y ≡ x = cc in
     count_cons p (f y) ys (p y) (ap (λ z. p (f z)) is ∙ same ∙ ap p (sym is)) ∙ sym (count_cons p y ys (p y) refl)
 count_same p f (y ∷ ys) (suc i) x stands same =
-    count_cons p y (changed_at f ys i) (p y) refl
+    count_cons p y (modify_at f ys i) (p y) refl
     ∙ ap (λ n. cond {A = ℕ} (p y) 1 0 + n) (count_same p f ys i x stands same)
     ∙ sym (count_cons p y ys (p y) refl)
 
 pub count_more : {X : Type 0} (p : X → Bool) (f : X → X) (xs : List X) (i : ℕ) (x : X) → slice_get xs i ≡ Some x → p x ≡ false → p (f x) ≡ true
-    → count_by p (changed_at f xs i) ≡ count_by p xs + 1
+    → count_by p (modify_at f xs i) ≡ count_by p xs + 1
 count_more p f [] i x stands not_yet now = absurd cc
 count_more p f (y ∷ ys) zero x stands not_yet now =
     let is : y ≡ x = cc in
@@ -95,14 +95,14 @@ count_more p f (y ∷ ys) zero x stands not_yet now =
     omega arith
 count_more p f (y ∷ ys) (suc i) x stands not_yet now =
     let one : ℕ = cond {A = ℕ} (p y) 1 0 in
-    let after : count_by p (y ∷ changed_at f ys i) ≡ one + count_by p (changed_at f ys i) = count_cons p y (changed_at f ys i) (p y) refl in
+    let after : count_by p (y ∷ modify_at f ys i) ≡ one + count_by p (modify_at f ys i) = count_cons p y (modify_at f ys i) (p y) refl in
     let before : count_by p (y ∷ ys) ≡ one + count_by p ys = count_cons p y ys (p y) refl in
-    let rest : count_by p (changed_at f ys i) ≡ count_by p ys + 1 = count_more p f ys i x stands not_yet now in
+    let rest : count_by p (modify_at f ys i) ≡ count_by p ys + 1 = count_more p f ys i x stands not_yet now in
     omega arith
 
 -- whether any passes, where the changed one passes if it did, or does now
 pub any_kept : {X : Type 0} (q : X → Bool) (f : X → X) (xs : List X) (i : ℕ) → ((x : X) → slice_get xs i ≡ Some x → q x ≡ true → q (f x) ≡ true)
-    → list_any q xs ≡ true → list_any q (changed_at f xs i) ≡ true
+    → list_any q xs ≡ true → list_any q (modify_at f xs i) ≡ true
 any_kept q f [] i keeps any = any
 any_kept q f (y ∷ ys) zero keeps any = cases (q y) refl any
   where
@@ -115,19 +115,19 @@ any_kept q f (y ∷ ys) zero keeps any = cases (q y) refl any
         either false found = found
 any_kept q f (y ∷ ys) (suc i) keeps any = cases (q y) (any_kept q f ys i keeps) any
   where
-    cases : (b : Bool) → (list_any q ys ≡ true → list_any q (changed_at f ys i) ≡ true) → (b || list_any q ys) ≡ true → (b || list_any q (changed_at f ys i)) ≡ true
+    cases : (b : Bool) → (list_any q ys ≡ true → list_any q (modify_at f ys i) ≡ true) → (b || list_any q ys) ≡ true → (b || list_any q (modify_at f ys i)) ≡ true
     cases true rest found = refl
     cases false rest found = rest found
 
 pub any_here : {X : Type 0} (q : X → Bool) (f : X → X) (xs : List X) (i : ℕ) (x : X) → slice_get xs i ≡ Some x → q (f x) ≡ true
-    → list_any q (changed_at f xs i) ≡ true
+    → list_any q (modify_at f xs i) ≡ true
 any_here q f [] i x stands now = absurd cc
 any_here q f (y ∷ ys) zero x stands now =
     let is : y ≡ x = cc in
     ap (λ (c : Bool). c || list_any q ys) (ap (λ z. q (f z)) is ∙ now)
 any_here q f (y ∷ ys) (suc i) x stands now = cases (q y) (any_here q f ys i x stands now)
   where
-    cases : (b : Bool) → list_any q (changed_at f ys i) ≡ true → (b || list_any q (changed_at f ys i)) ≡ true
+    cases : (b : Bool) → list_any q (modify_at f ys i) ≡ true → (b || list_any q (modify_at f ys i)) ≡ true
     cases true rest = refl
     cases false rest = rest
 

@@ -4,11 +4,11 @@ use Rattle.std.specs.Prelude.{◌&&◌, All, fold, is_some, option_map}
 use Rattle.std.proofs.lemmas.List.Elements.{All-head, All-tail}
 use Rattle.sched_book.specs.Places.{instance_at, places_where, is_same}
 use Rattle.sched_book.specs.Reports.{with_changed}
+use Rattle.sched_book.specs.Sound.{IsWell}
 use Rattle.sched_book.specs.declared.instance.Instance.{Instance}
 use Rattle.sched_book.specs.declared.instance.Place.{Place}
 use Rattle.sched_book.specs.declared.world.World.{World}
 use Rattle.sched_book.proofs.Recording.{instance_at-with_changed}
-use Rattle.sched_machine.specs.Well.{IsWell}
 use Rattle.sched_machine.proofs.AlikePlaces.{places_hold}
 
 -- what stands at a place was given to a host

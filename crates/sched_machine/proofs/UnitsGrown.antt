@@ -9,18 +9,17 @@ use Rattle.std.proofs.lemmas.List.Folds.{list_any-append, sum_by-replicate}
 use Rattle.std.proofs.lemmas.List.Kept.{AllPairs-cons}
 use Rattle.std.proofs.lemmas.List.Sums.{sum_by-append, prefix_len-le-length}
 use Rattle.sched_book.specs.Count.{tells_success, is_judged, told_place, is_live, place_of, numbers_from, put_by, good, live, want, need, is_open}
-use Rattle.sched_book.specs.Limits.{IsInstanceInLimits}
+use Rattle.sched_book.specs.Limits.{most_instances, IsInstanceInLimits}
 use Rattle.sched_book.specs.Places.{nth, agreement_by, book_status, account_in, owner_host}
 use Rattle.sched_book.specs.Settle.{fresh, grown}
-use Rattle.sched_book.specs.Sound.{AreOfOtherUsers, IsBare, HasOwnerAmong, IsSoundUnit}
+use Rattle.sched_book.specs.Sound.{AreOfOtherUsers, IsBare, HasOwnerAmong, IsSoundUnit, IsWellUnit}
 use Rattle.sched_book.specs.declared.instance.Instance.{Instance}
 use Rattle.sched_book.specs.declared.instance.UnitBook.{UnitBook}
 use Rattle.sched_book.specs.declared.rows.App.{App}
 use Rattle.sched_book.specs.declared.rows.HostRow.{HostRow}
 use Rattle.sched_book.specs.declared.rows.Workunit.{Workunit}
-use Rattle.sched_machine.specs.Well.{IsWellUnit}
 use Rattle.sched_machine.proofs.UnitsAlike.{count_cons}
-use Rattle.quorum_credit.proofs.GrownFits.{open_total}
+use Rattle.quorum_credit.proofs.GrownFits.{fresh_in_limits, open_total}
 
 -- several of the same behind a list
 pub pairs_more : {X : Type 0} (R : X → X → Type 0) (xs : List X) (n : ℕ) (y : X) → ((x : X) → R x y) → AllPairs R xs → AllPairs R (xs ++ replicate n y)
@@ -108,15 +107,17 @@ module _ (hosts others : List HostRow) (apps : List App) (users : HaveSameUsers 
   closed_sound : (b : UnitBook) → IsWellUnit hosts apps b → is_open (book_status apps b) ≡ false → IsSoundUnit others apps b
   closed_sound b well closed = record {
     satisfied = λ now. (let never : true ≡ false = sym now ∙ closed in absurd cc);
-    one_for_each_user = all_apart b.instances well.one_for_each_user;
-    places = well.places;
-    in_range = well.in_range;
-    bare = well.bare;
-    owners = all_owners b.instances well.owners;
-    app = well.app;
-    few = well.few;
-    limits = well.limits;
-    instances = well.instances;
+    well = record {
+      one_for_each_user = all_apart b.instances well.one_for_each_user;
+      places = well.places;
+      in_range = well.in_range;
+      bare = well.bare;
+      owners = all_owners b.instances well.owners;
+      app = well.app;
+      few = well.few;
+      limits = well.limits;
+      instances = well.instances;
+    };
   }
 
   -- fresh instances behind its own
@@ -128,26 +129,28 @@ module _ (hosts others : List HostRow) (apps : List App) (users : HaveSameUsers 
       let more : List Instance = replicate n fresh in
       let many : count_by is_judged (xs ++ more) ≡ count_by is_judged xs = count_none is_judged xs n fresh refl in
       let total : length b.instances + need b.unit b.instances ≤ b.unit.max_total_results = open_total (agreement_by apps b.unit.app) b.unit b.instances is_it in
-      let most : b.unit.max_total_results ≤ 100 = well.limits.total.1 in
+      let most : b.unit.max_total_results ≤ most_instances = well.limits.total.1 in
       let long : length (xs ++ more) ≡ length xs + length more = length-append xs more in
       let added : length more ≡ n = length-replicate n fresh in
       record {
         satisfied = λ still. grown_needs_none b.unit b.instances;
-        one_for_each_user = pairs_more (AreOfOtherUsers others) xs n fresh (λ x given also. absurd cc) (all_apart xs well.one_for_each_user);
-        places = λ m within.
-            list_any-append (λ x. is_judged x && (told_place x.report == m + 1)) xs more
-            ∙ ap (λ (c : Bool). c || list_any (λ x. is_judged x && (told_place x.report == m + 1)) more) (well.places m (omega arith));
-        in_range =
-            subst (λ m. All (λ x. IsTrue (is_judged x) → told_place x.report ≤ m) (xs ++ more)) (sym many)
-            (All-append (λ x. IsTrue (is_judged x) → told_place x.report ≤ count_by is_judged xs) xs more well.in_range
-            (All-replicate (λ x. IsTrue (is_judged x) → told_place x.report ≤ count_by is_judged xs) n fresh (λ judged. absurd cc)));
-        bare = All-append IsBare xs more well.bare (All-replicate IsBare n fresh (λ none. (refl, refl)));
-        owners = All-append (HasOwnerAmong others) xs more (all_owners xs well.owners) (All-replicate (HasOwnerAmong others) n fresh (λ given. absurd cc));
-        app = well.app;
-        few = omega arith;
-        limits = well.limits;
-        instances = All-append IsInstanceInLimits xs more well.instances
-            (All-replicate IsInstanceInLimits n fresh (record { sent = omega arith; deadline = omega arith; place = omega arith }));
+        well = record {
+          one_for_each_user = pairs_more (AreOfOtherUsers others) xs n fresh (λ x given also. absurd cc) (all_apart xs well.one_for_each_user);
+          places = λ m within.
+              list_any-append (λ x. is_judged x && (told_place x.report == m + 1)) xs more
+              ∙ ap (λ (c : Bool). c || list_any (λ x. is_judged x && (told_place x.report == m + 1)) more) (well.places m (omega arith));
+          in_range =
+              subst (λ m. All (λ x. IsTrue (is_judged x) → told_place x.report ≤ m) (xs ++ more)) (sym many)
+              (All-append (λ x. IsTrue (is_judged x) → told_place x.report ≤ count_by is_judged xs) xs more well.in_range
+              (All-replicate (λ x. IsTrue (is_judged x) → told_place x.report ≤ count_by is_judged xs) n fresh (λ judged. absurd cc)));
+          bare = All-append IsBare xs more well.bare (All-replicate IsBare n fresh (λ none. (refl, refl)));
+          owners = All-append (HasOwnerAmong others) xs more (all_owners xs well.owners) (All-replicate (HasOwnerAmong others) n fresh (λ given. absurd cc));
+          app = well.app;
+          few = omega arith;
+          limits = well.limits;
+          instances = All-append IsInstanceInLimits xs more well.instances
+              (All-replicate IsInstanceInLimits n fresh fresh_in_limits);
+        };
       }
 
   pub grown_sound : (b : UnitBook) → IsWellUnit hosts apps b → IsSoundUnit others apps (grown apps b)

@@ -5,6 +5,7 @@ use Rattle.sched_book.specs.Count.{is_held}
 use Rattle.sched_book.specs.Lost.{with_lapse}
 use Rattle.sched_book.specs.Places.{is_overdue, overdue, deadline_of}
 use Rattle.sched_book.specs.Reports.{with_changed}
+use Rattle.sched_book.specs.Sound.{IsWell}
 use Rattle.sched_book.specs.declared.instance.Instance.{Instance}
 use Rattle.sched_book.specs.declared.instance.Lapse.{Lapse}
 use Rattle.sched_book.specs.declared.instance.Lapse.TheVariants.{Late}
@@ -12,17 +13,22 @@ use Rattle.sched_book.specs.declared.instance.Place.{Place}
 use Rattle.sched_book.specs.declared.instance.UnitBook.{UnitBook}
 use Rattle.sched_book.specs.declared.world.World.{World}
 use Rattle.sched_machine.specs.Laws.{LapsesKeepWell}
-use Rattle.sched_machine.specs.Well.{IsWell}
 use Rattle.sched_machine.proofs.UnitsGiven.{IsGiven, first_true, given_after, fold_well, places_given}
 use Rattle.sched_machine.proofs.UnitsWell.{Keeps, changed_well}
 
 -- what was given is not bare, whatever lapses
-lapse_keeps : (lapse : Lapse) (x : Instance) → is_some x.owner ≡ true → Keeps x (with_lapse lapse x)
+pub lapse_keeps : (lapse : Lapse) (x : Instance) → is_some x.owner ≡ true → Keeps x (with_lapse lapse x)
 lapse_keeps lapse x given = record {
   given = refl;
   host = refl;
   bare = λ bare none. (let never : is_some x.owner ≡ false = ap is_some none in absurd cc);
-  limits = λ limits. record { sent = limits.sent; deadline = limits.deadline; place = limits.place };
+  limits = λ limits. record {
+    sent = limits.sent;
+    deadline = limits.deadline;
+    output = limits.output;
+    place = limits.place;
+    judged = limits.judged;
+  };
 }
 
 -- what is held was given

@@ -3,9 +3,12 @@ use Rattle.std.proofs.Common.{◌≡◌, ℕ, ◌+◌, ◌≤◌, inl, Bool, tru
 use Rattle.std.specs.Prelude.{◌&&◌, All, nat_le, is_some, option_map, unwrap_or}
 use Rattle.std.proofs.lemmas.List.Elements.{All-nil, All-filter}
 use Rattle.sched_book.specs.Count.{is_held}
-use Rattle.sched_book.specs.Lost.{is_listed, unlisted, lost, is_resent, estimate_at, delay_at, deadline_after, with_deadline, with_lapse, resend_or_drop}
+use Rattle.sched_book.specs.Fits.{estimate_at}
+use Rattle.sched_book.specs.Lost.{is_listed, unlisted, lost, is_resent, delay_at, deadline_after, with_deadline, with_lapse, resend_or_drop}
+use Rattle.sched_book.specs.Limits.{last_moment, last_deadline, most_delay}
 use Rattle.sched_book.specs.Places.{unit_at, is_held_by, is_owned_by, owner_host, sent_at, deadline_of, held_by}
 use Rattle.sched_book.specs.Reports.{with_changed}
+use Rattle.sched_book.specs.Sound.{IsWellUnit, IsWell}
 use Rattle.sched_book.specs.declared.instance.Instance.{Instance}
 use Rattle.sched_book.specs.declared.instance.Lapse.TheVariants.{Dropped}
 use Rattle.sched_book.specs.declared.instance.Owner.{Owner}
@@ -14,8 +17,7 @@ use Rattle.sched_book.specs.declared.instance.UnitBook.{UnitBook}
 use Rattle.sched_book.specs.declared.rows.HostRow.{HostRow}
 use Rattle.sched_book.specs.declared.world.World.{World}
 use Rattle.quorum_credit.proofs.ByPlace.{all_nth}
-use Rattle.sched_machine.specs.Laws.{last_moment, LostJobsKeepWell}
-use Rattle.sched_machine.specs.Well.{IsWellUnit, IsWell}
+use Rattle.sched_machine.specs.Laws.{LostJobsKeepWell}
 use Rattle.sched_machine.proofs.UnitsGiven.{IsGiven, given_after, fold_well, places_given}
 use Rattle.sched_machine.proofs.UnitsLapsed.{held_given, lapse_well}
 use Rattle.sched_machine.proofs.UnitsWell.{Keeps, changed_well}
@@ -29,7 +31,7 @@ held_by_given host x held = held_given x (second (is_owned_by host x) (is_held x
     second false b is = absurd cc
 
 -- so was what is lost
-lost_given : (w : World) (host : ℕ) (names : Option (List (List ℕ))) → All (IsGiven w) (lost w host names)
+pub lost_given : (w : World) (host : ℕ) (names : Option (List (List ℕ))) → All (IsGiven w) (lost w host names)
 lost_given w host names = cases w.settings.resend_lost_results names
   where
     cases : (b : Bool) (list : Option (List (List ℕ))) → All (IsGiven w) (cond b (unlisted w host list) [])
@@ -43,7 +45,7 @@ module _ (f : ℕ → ℕ) where
   abbrev moved : Owner → Owner
   moved o = record o { deadline = f o.deadline }
 
-  still_some : (o : Option Owner) → is_some (option_map moved o) ≡ is_some o
+  pub still_some : (o : Option Owner) → is_some (option_map moved o) ≡ is_some o
   still_some None = refl
   still_some (Some o) = refl
 
@@ -59,36 +61,38 @@ module _ (f : ℕ → ℕ) where
   none_before None is = refl
   none_before (Some o) is = absurd cc
 
-  deadline_low : ((d : ℕ) → d ≤ 250100000000 → f d ≤ 250100000000) → (o : Option Owner) → deadline_of o ≤ 250100000000
-      → deadline_of (option_map moved o) ≤ 250100000000
+  deadline_low : ((d : ℕ) → d ≤ last_deadline → f d ≤ last_deadline) → (o : Option Owner) → deadline_of o ≤ last_deadline
+      → deadline_of (option_map moved o) ≤ last_deadline
   deadline_low low None was = was
   deadline_low low (Some o) was = low o.deadline was
 
-  pub deadline_keeps : ((d : ℕ) → d ≤ 250100000000 → f d ≤ 250100000000) → (x : Instance) → Keeps x (with_deadline f x)
+  pub deadline_keeps : ((d : ℕ) → d ≤ last_deadline → f d ≤ last_deadline) → (x : Instance) → Keeps x (with_deadline f x)
   deadline_keeps low x = record {
     given = still_some x.owner;
     host = same_host x.owner;
     bare = λ bare none. bare (none_before x.owner none);
     limits = λ limits. record {
-      sent = (let was : sent_at x.owner ≤ 250000000000 = limits.sent in let same : sent_at (option_map moved x.owner) ≡ sent_at x.owner = same_sent x.owner in omega arith);
+      sent = (let was : sent_at x.owner ≤ last_moment = limits.sent in let same : sent_at (option_map moved x.owner) ≡ sent_at x.owner = same_sent x.owner in omega arith);
       deadline = deadline_low low x.owner limits.deadline;
+      output = limits.output;
       place = limits.place;
+      judged = limits.judged;
     };
   }
 
 -- a workunit's delay keeps a deadline within limits
-pub delay_is_low : (w : World) (p : Place) → IsWell w → delay_at w p ≤ 100000000
+pub delay_is_low : (w : World) (p : Place) → IsWell w → delay_at w p ≤ most_delay
 delay_is_low w p well = cases (unit_at w p.unit) refl
   where
-    cases : (o : Option UnitBook) → unit_at w p.unit ≡ o → unwrap_or (option_map (λ (b : UnitBook). b.unit.delay_bound) o) 0 ≤ 100000000
+    cases : (o : Option UnitBook) → unit_at w p.unit ≡ o → unwrap_or (option_map (λ (b : UnitBook). b.unit.delay_bound) o) 0 ≤ most_delay
     cases None stands = omega arith
     cases (Some b) stands = (all_nth (IsWellUnit w.hosts w.apps) w.units p.unit b well.units stands).limits.delay.1
 
-pub deadline_is_low : (now seconds delay : ℕ) → now ≤ 250000000000 → delay ≤ 100000000 → (d : ℕ) → d ≤ 250100000000
-    → deadline_after now seconds delay d ≤ 250100000000
+pub deadline_is_low : (now seconds delay : ℕ) → now ≤ last_moment → delay ≤ most_delay → (d : ℕ) → d ≤ last_deadline
+    → deadline_after now seconds delay d ≤ last_deadline
 deadline_is_low now seconds delay early short d low = cases (nat_le (now + seconds) d)
   where
-    cases : (b : Bool) → cond b d (now + delay) ≤ 250100000000
+    cases : (b : Bool) → cond b d (now + delay) ≤ last_deadline
     cases true = low
     cases false = omega arith
 

@@ -4,16 +4,16 @@ use Rattle.std.specs.Prelude.{map, replicate, is_some, option_map, unwrap_or}
 use Rattle.std.specs.List.{enumerate_from}
 use Rattle.std.proofs.lemmas.List.{length-map}
 use Rattle.sched_book.specs.Count.{is_open, need}
+use Rattle.sched_book.specs.Limits.{most_workunits}
 use Rattle.sched_book.specs.Places.{nth, book_status}
 use Rattle.sched_book.specs.Settle.{fresh, grown, with_grown, charges, merits, with_quota, settled}
-use Rattle.sched_book.specs.Sound.{HaveOtherKeys, IsSoundHost, IsSoundUnit, Sound}
+use Rattle.sched_book.specs.Sound.{HaveOtherKeys, IsSoundHost, IsSoundUnit, Sound, IsWellUnit, IsWell}
 use Rattle.sched_book.specs.declared.instance.UnitBook.{UnitBook}
 use Rattle.sched_book.specs.declared.rows.HostRow.{HostRow}
 use Rattle.sched_book.specs.declared.world.World.{World}
 use Rattle.quorum_credit.proofs.ByPlace.{nth-map_places}
 use Rattle.quorum_credit.proofs.Numbered.{length-numbered}
 use Rattle.sched_machine.specs.Laws.{SettlementMakesSound}
-use Rattle.sched_machine.specs.Well.{IsWellUnit, IsWell}
 use Rattle.sched_machine.proofs.UnitsAlike.{all_alike, pairs_alike, alike_map, alike_numbered}
 use Rattle.quorum_credit.proofs.NewQuotas.{quota_within}
 use Rattle.sched_machine.proofs.UnitsGrown.{HaveSameUsers, grown_sound}
@@ -60,10 +60,12 @@ module _ (old changed : World) (same : old.settings ≡ changed.settings) (well 
       record {
         account = sound.account;
         limits = record {
+          cpid = sound.limits.cpid;
           speed = sound.limits.speed;
           memory = sound.limits.memory;
           disk = sound.limits.disk;
           platforms = sound.limits.platforms;
+          words = sound.limits.words;
           quota = (quota.0, subst (λ m. (quoted (n, h)).quota ≤ m) limit quota.1);
         };
       }
@@ -78,27 +80,31 @@ module _ (old changed : World) (same : old.settings ≡ changed.settings) (well 
       let many_units : length units_after ≡ length changed.units = length-map changed.units (grown changed.apps) in
       let many_hosts : length hosts_after ≡ length changed.hosts = length-numbered quoted changed.hosts in
       record {
-        settings = well.rows.settings;
+        rows = record {
+          settings = well.rows.settings;
+          accounts = well.rows.accounts;
+          apps = well.rows.apps;
+          versions = well.rows.versions;
+          hosts = all_alike IsSoundNow IsSoundNow carried changed.hosts hosts_after
+              (alike_numbered carried quoted changed.hosts host_sound) (λ h k carry sound. carry sound) well.rows.hosts;
+          account_names = well.rows.account_names;
+          app_names = well.rows.app_names;
+          version_names = well.rows.version_names;
+          unit_names = pairs_alike (λ a b. a.unit.name ≢ b.unit.name) (λ a b. a.unit.name ≢ b.unit.name) row changed.units units_after
+              (alike_map row (grown changed.apps) changed.units grown_row)
+              (λ x y a b first second apart equal. apart (sym (ap (λ u. u.name) first) ∙ equal ∙ ap (λ u. u.name) second))
+              well.rows.unit_names;
+          host_keys = pairs_alike HaveOtherKeys HaveOtherKeys HasSameKey changed.hosts hosts_after
+              (alike_numbered HasSameKey quoted changed.hosts (λ n h. (refl, refl))) other_keys well.rows.host_keys;
+          account_count = well.rows.account_count;
+          app_count = well.rows.app_count;
+          version_count = well.rows.version_count;
+          unit_count = (let few : length changed.units ≤ most_workunits = well.rows.unit_count in omega arith);
+          host_count = (let few : length changed.hosts ≤ changed.settings.max_hosts = well.rows.host_count in omega arith);
+        };
         units = all_alike (IsWellUnit changed.hosts changed.apps) (IsSoundUnit hosts_after changed.apps) whole changed.units units_after
             (alike_map whole (grown changed.apps) changed.units (grown_sound changed.hosts hosts_after changed.apps same_users))
             (λ b c carry unit. carry unit) well.units;
-        hosts = all_alike IsSoundNow IsSoundNow carried changed.hosts hosts_after
-            (alike_numbered carried quoted changed.hosts host_sound) (λ h k carry sound. carry sound) well.rows.hosts;
-        versions = well.rows.versions;
-        account_names = well.rows.account_names;
-        app_names = well.rows.app_names;
-        version_names = well.rows.version_names;
-        unit_names = pairs_alike (λ a b. a.unit.name ≢ b.unit.name) (λ a b. a.unit.name ≢ b.unit.name) row changed.units units_after
-            (alike_map row (grown changed.apps) changed.units grown_row)
-            (λ x y a b first second apart equal. apart (sym (ap (λ u. u.name) first) ∙ equal ∙ ap (λ u. u.name) second))
-            well.rows.unit_names;
-        host_keys = pairs_alike HaveOtherKeys HaveOtherKeys HasSameKey changed.hosts hosts_after
-            (alike_numbered HasSameKey quoted changed.hosts (λ n h. (refl, refl))) other_keys well.rows.host_keys;
-        account_count = well.rows.account_count;
-        app_count = well.rows.app_count;
-        version_count = well.rows.version_count;
-        unit_count = (let few : length changed.units ≤ 200000 = well.rows.unit_count in omega arith);
-        host_count = (let few : length changed.hosts ≤ changed.settings.max_hosts = well.rows.host_count in omega arith);
       }
     where
       grown_row : (b : UnitBook) → (grown changed.apps b).unit ≡ b.unit

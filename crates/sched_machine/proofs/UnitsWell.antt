@@ -3,20 +3,19 @@ use Rattle.std.proofs.Common.{◌≡◌, ◌≢◌, ℕ, ◌+◌, ◌<◌, ◌�
 use Rattle.std.specs.Prelude.{◌&&◌, ◌==◌, All, IsTrue, count_by, is_some, slice_get}
 use borrow.Author.Tests.{ltb-true, ltb-false, eq-eqb}
 use Rattle.sched_book.specs.Count.{is_judged, told_place}
-use Rattle.sched_book.specs.Limits.{IsInstanceInLimits}
+use Rattle.sched_book.specs.Limits.{most_instances, most_workunits, IsInstanceInLimits}
 use Rattle.sched_book.specs.Places.{nth, unit_at, owner_host, account_in}
-use Rattle.sched_book.specs.Reports.{changed_at, changed_nth, with_number, with_changed}
-use Rattle.sched_book.specs.Sound.{AreOfOtherUsers, IsBare, HasOwnerAmong, has_place}
+use Rattle.sched_book.specs.Reports.{modify_at, modify_nth, with_number, with_changed}
+use Rattle.sched_book.specs.Sound.{AreOfOtherUsers, IsBare, HasOwnerAmong, has_place, IsWellUnit, IsWell}
 use Rattle.sched_book.specs.declared.instance.Instance.{Instance}
 use Rattle.sched_book.specs.declared.instance.Place.{Place}
 use Rattle.sched_book.specs.declared.instance.UnitBook.{UnitBook}
 use Rattle.sched_book.specs.declared.rows.App.{App}
 use Rattle.sched_book.specs.declared.rows.HostRow.{HostRow}
 use Rattle.sched_book.specs.declared.world.World.{World}
-use Rattle.sched_book.proofs.PlacesOf.{length-changed_nth}
+use Rattle.sched_book.proofs.PlacesOf.{length-modify_nth}
 use Rattle.quorum_credit.proofs.ByPlace.{all_get}
-use Rattle.sched_machine.specs.Well.{IsWellUnit, IsWell}
-use Rattle.sched_machine.proofs.UnitsAlike.{Alike, all_alike, pairs_alike, alike_changed_at, alike_changed_nth, changed_at-none, length_changed, count_same, count_more, any_kept, any_here}
+use Rattle.sched_machine.proofs.UnitsAlike.{Alike, all_alike, pairs_alike, alike_changed_at, alike_changed_nth, modify_at-none, length_changed, count_same, count_more, any_kept, any_here}
 
 -- the changed instance is with the same host, and stays bare and within limits
 pub record Keeps (x y : Instance) : Type 0 where
@@ -45,18 +44,18 @@ IsInRange n x = IsTrue (is_judged x) → told_place x.report ≤ n
 
 -- one is changed, which stands there
 module _ (f : Instance → Instance) (xs : List Instance) (i : ℕ) (x : Instance) (stands : slice_get xs i ≡ Some x) (placed : ArePlaced xs) where
-  in_range_after : (m : ℕ) → count_by is_judged xs ≤ m → IsInRange m (f x) → All (IsInRange m) (changed_at f xs i)
+  in_range_after : (m : ℕ) → count_by is_judged xs ≤ m → IsInRange m (f x) → All (IsInRange m) (modify_at f xs i)
   in_range_after m more now =
       let n : ℕ = count_by is_judged xs in
       let carried : Instance → Instance → Type 0 = λ y z. IsInRange n y → IsInRange m z in
-      all_alike (IsInRange n) (IsInRange m) carried xs (changed_at f xs i)
+      all_alike (IsInRange n) (IsInRange m) carried xs (modify_at f xs i)
       (alike_changed_at carried (λ y low judged. (let below : told_place y.report ≤ n = low judged in omega arith)) f xs i
       (λ y is low. (let same : x ≡ y = cc in subst (λ z. IsInRange m (f z)) same now)))
       (λ y z carry low. carry low) placed.in_range
 
-  placed_alike : IsJudgedAlike x (f x) → ArePlaced (changed_at f xs i)
+  placed_alike : IsJudgedAlike x (f x) → ArePlaced (modify_at f xs i)
   placed_alike alike =
-      let many : count_by is_judged (changed_at f xs i) ≡ count_by is_judged xs = count_same is_judged f xs i x stands alike.0 in
+      let many : count_by is_judged (modify_at f xs i) ≡ count_by is_judged xs = count_same is_judged f xs i x stands alike.0 in
       record {
         places = λ n within.
             any_kept (λ y. is_judged y && (told_place y.report == n + 1)) f xs i
@@ -67,7 +66,7 @@ module _ (f : Instance → Instance) (xs : List Instance) (i : ℕ) (x : Instanc
             ∙ ap (λ m. is_judged x && (m == n + 1)) alike.1
             ∙ subst (λ z. (is_judged z && (told_place z.report == n + 1)) ≡ true) (sym same) passes)))
             (placed.places n (omega arith));
-        in_range = subst (λ m. All (IsInRange m) (changed_at f xs i)) (sym many)
+        in_range = subst (λ m. All (IsInRange m) (modify_at f xs i)) (sym many)
             (in_range_after (count_by is_judged xs) (omega arith) (at_most (count_by is_judged xs) (all_here placed.in_range)));
       }
     where
@@ -80,16 +79,16 @@ module _ (f : Instance → Instance) (xs : List Instance) (i : ℕ) (x : Instanc
           let same : told_place (f x).report ≡ told_place x.report = alike.1 in
           omega arith
 
-  placed_newly : IsNewlyJudged (count_by is_judged xs) x (f x) → ArePlaced (changed_at f xs i)
+  placed_newly : IsNewlyJudged (count_by is_judged xs) x (f x) → ArePlaced (modify_at f xs i)
   placed_newly new =
-      let many : count_by is_judged (changed_at f xs i) ≡ count_by is_judged xs + 1 = count_more is_judged f xs i x stands new.0 new.1 in
+      let many : count_by is_judged (modify_at f xs i) ≡ count_by is_judged xs + 1 = count_more is_judged f xs i x stands new.0 new.1 in
       record {
         places = λ n within. cases n (omega arith) (ltb n (count_by is_judged xs)) refl;
-        in_range = subst (λ m. All (IsInRange m) (changed_at f xs i)) (sym many)
+        in_range = subst (λ m. All (IsInRange m) (modify_at f xs i)) (sym many)
             (in_range_after (count_by is_judged xs + 1) (omega arith) (λ judged. (let last : told_place (f x).report ≡ count_by is_judged xs + 1 = new.2 in omega arith)));
       }
     where
-      cases : (n : ℕ) → n < count_by is_judged xs + 1 → (b : Bool) → ltb n (count_by is_judged xs) ≡ b → IsTrue (has_place (changed_at f xs i) (n + 1))
+      cases : (n : ℕ) → n < count_by is_judged xs + 1 → (b : Bool) → ltb n (count_by is_judged xs) ≡ b → IsTrue (has_place (modify_at f xs i) (n + 1))
       cases n within true below =
           any_kept (λ y. is_judged y && (told_place y.report == n + 1)) f xs i
           (λ y is passes.
@@ -109,11 +108,11 @@ module _ (f : Instance → Instance) (xs : List Instance) (i : ℕ) (x : Instanc
 -- a changed instance, where one stands or not
 placed_after : (f : Instance → Instance) (xs : List Instance) (i : ℕ) → ArePlaced xs
     → ((x : Instance) → slice_get xs i ≡ Some x → IsJudgedAlike x (f x) ⊎ IsNewlyJudged (count_by is_judged xs) x (f x))
-    → ArePlaced (changed_at f xs i)
+    → ArePlaced (modify_at f xs i)
 placed_after f xs i placed judged = cases (slice_get xs i) refl
   where
-    cases : (o : Option Instance) → slice_get xs i ≡ o → ArePlaced (changed_at f xs i)
-    cases None is = subst ArePlaced (sym (changed_at-none f xs i is)) placed
+    cases : (o : Option Instance) → slice_get xs i ≡ o → ArePlaced (modify_at f xs i)
+    cases None is = subst ArePlaced (sym (modify_at-none f xs i is)) placed
     cases (Some x) is = elim (judged x is) [
       | inl alike ↦ placed_alike f xs i x is placed alike
       | inr new ↦ placed_newly f xs i x is placed new
@@ -137,7 +136,7 @@ unit_well : (hosts : List HostRow) (apps : List App) (f : Instance → Instance)
     → ((x : Instance) → slice_get b.instances i ≡ Some x → IsGoodChange b x (f x)) → IsWellUnit hosts apps (with_number f i b)
 unit_well hosts apps f i b well good =
     let xs : List Instance = b.instances in
-    let ys : List Instance = changed_at f b.instances i in
+    let ys : List Instance = modify_at f b.instances i in
     let alike : Alike Keeps xs ys = alike_changed_at Keeps keeps_self f xs i (λ x is. (good x is).0) in
     let placed : ArePlaced ys =
     placed_after f xs i (record { places = well.places; in_range = well.in_range }) (λ x is. (good x is).1) in
@@ -148,7 +147,7 @@ unit_well hosts apps f i b well good =
       bare = all_alike IsBare IsBare Keeps xs ys alike (λ x y keeps bare. keeps.bare bare) well.bare;
       owners = all_alike (HasOwnerAmong hosts) (HasOwnerAmong hosts) Keeps xs ys alike (owner_among hosts) well.owners;
       app = well.app;
-      few = (let few : length xs ≤ 100 = well.few in let same : length ys ≡ length xs = length_changed f xs i in omega arith);
+      few = (let few : length xs ≤ most_instances = well.few in let same : length ys ≡ length xs = length_changed f xs i in omega arith);
       limits = well.limits;
       instances = all_alike IsInstanceInLimits IsInstanceInLimits Keeps xs ys alike (λ x y keeps limits. keeps.limits limits) well.instances;
     }
@@ -159,18 +158,20 @@ pub changed_well : (f : Instance → Instance) (w : World) (p : Place) → IsWel
     → IsWell (with_changed f w p)
 changed_well f w p well good =
     let g : UnitBook → UnitBook = with_number f p.number in
-    let many : length (changed_nth g w.units p.unit) ≡ length w.units = length-changed_nth g w.units p.unit in
+    let many : length (modify_nth g w.units p.unit) ≡ length w.units = length-modify_nth g w.units p.unit in
     let row : UnitBook → UnitBook → Type 0 = λ b c. c.unit ≡ b.unit in
     let carried : UnitBook → UnitBook → Type 0 = λ b c. IsWellUnit w.hosts w.apps b → IsWellUnit w.hosts w.apps c in
     record {
       rows = record {
         settings = well.rows.settings;
-        hosts = well.rows.hosts;
+        accounts = well.rows.accounts;
+        apps = well.rows.apps;
         versions = well.rows.versions;
+        hosts = well.rows.hosts;
         account_names = well.rows.account_names;
         app_names = well.rows.app_names;
         version_names = well.rows.version_names;
-        unit_names = pairs_alike (λ a b. a.unit.name ≢ b.unit.name) (λ a b. a.unit.name ≢ b.unit.name) row w.units (changed_nth g w.units p.unit)
+        unit_names = pairs_alike (λ a b. a.unit.name ≢ b.unit.name) (λ a b. a.unit.name ≢ b.unit.name) row w.units (modify_nth g w.units p.unit)
             (alike_changed_nth row (λ b. refl) g w.units p.unit (λ b stands. refl))
             (λ x y a b first second apart same. apart (sym (ap (λ u. u.name) first) ∙ same ∙ ap (λ u. u.name) second))
             well.rows.unit_names;
@@ -178,10 +179,10 @@ changed_well f w p well good =
         account_count = well.rows.account_count;
         app_count = well.rows.app_count;
         version_count = well.rows.version_count;
-        unit_count = (let few : length w.units ≤ 200000 = well.rows.unit_count in omega arith);
+        unit_count = (let few : length w.units ≤ most_workunits = well.rows.unit_count in omega arith);
         host_count = well.rows.host_count;
       };
-      units = all_alike (IsWellUnit w.hosts w.apps) (IsWellUnit w.hosts w.apps) carried w.units (changed_nth g w.units p.unit)
+      units = all_alike (IsWellUnit w.hosts w.apps) (IsWellUnit w.hosts w.apps) carried w.units (modify_nth g w.units p.unit)
           (alike_changed_nth carried (λ b is. is) g w.units p.unit
           (λ b stands unit. unit_well w.hosts w.apps f p.number b unit (λ x is. good b x unit stands is)))
           (λ b c carry unit. carry unit) well.units;

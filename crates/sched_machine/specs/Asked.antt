@@ -1,11 +1,11 @@
 -- What a call's host holds, and the seconds of the jobs that are sent again.
 use Rattle.std.specs.Prelude.{ℕ, ◌+◌, Bool, List, filter_map, Option, Some, None, if◌then◌else◌}
-use Rattle.sched_book.specs.Lost.{estimate_at}
 use Rattle.sched_book.specs.Places.{passes, is_held_by}
 use Rattle.sched_book.specs.declared.instance.Place.{Place}
 use Rattle.sched_book.specs.declared.rows.HostRow.{HostRow}
 use Rattle.sched_book.specs.declared.world.World.{World}
 use Rattle.lost_jobs.specs.declared.fates.Fate.{Fate}
+use Rattle.sched_book.specs.Fits.{estimate_at}
 
 -- the host holds the instance at a place
 abbrev pub holds : World → ℕ → Place → Bool

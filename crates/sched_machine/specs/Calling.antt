@@ -1,20 +1,20 @@
 -- A call that is acted on.
 use Rattle.std.specs.Prelude.{◌≡◌, ◌<◌, ◌≤◌, length, None}
+use Rattle.rpc_records.specs.Ranges.{IsInRange}
 use Rattle.rpc_records.specs.declared.request.Request.{Request}
 use Rattle.sched_book.specs.Imports.{AreChecked}
 use Rattle.sched_book.specs.Sound.{Sound}
-use Rattle.sched_book.specs.Step.{IsCaller, host_number, host_told}
+use Rattle.sched_book.specs.Step.{IsCaller, host_number, host_at_entry}
 use Rattle.sched_book.specs.declared.machine.Call.{Call}
 use Rattle.sched_book.specs.declared.machine.Call.TheVariants as call
 use Rattle.sched_book.specs.declared.machine.Caller.{Caller}
 use Rattle.sched_book.specs.declared.world.World.{World}
-use Rattle.sched_machine.specs.Well.{IsRequestInLimits}
 use Rattle.sched_machine.specs.declared.entry.Calling.{Calling}
 
 -- the caller is the one that the request names, and what it tells is within limits
 pub record IsAdmitted (w : World) (c : Caller) (r : Request) : Type 0 where
   pub caller : IsCaller w c r
-  pub limits : IsRequestInLimits r
+  pub limits : IsInRange r
 
 -- What the machine may be told: an admitted call, rows that were checked, or that time goes by.
 abbrev pub MayBeTold : World → Call → Type 0
@@ -32,7 +32,7 @@ pub record IsCalling (w : World) (r : Request) (k : Calling) : Type 0 where
   pub admitted : IsAdmitted w k.caller r
   pub room : HasRoom w k.caller
   pub number : k.number ≡ host_number w k.caller
-  pub host : k.host ≡ host_told w k.caller r
+  pub host : k.host ≡ host_at_entry w k.caller r
 
 -- the call is of a new host, and no more may stand
 abbrev pub IsFull : World → Call → Type 0

@@ -1,38 +1,34 @@
 -- How soundness is kept by the parts of a step.
-use Rattle.std.specs.Prelude.{◌≡◌, ℕ, ◌<◌, ◌≤◌, List, [], ◌∷◌, length, fold, Option, Some, None}
+use Rattle.std.specs.Prelude.{◌≡◌, All, ℕ, ◌<◌, ◌≤◌, List, [], ◌∷◌, length, fold, Option, Some, None}
+use Rattle.rpc_records.specs.Ranges.{IsInRange, IsReport}
 use Rattle.rpc_records.specs.declared.request.Report.{Report}
 use Rattle.rpc_records.specs.declared.request.Request.{Request}
+use Rattle.sched_book.specs.Calls.{IsCallInLimits}
 use Rattle.sched_book.specs.Grant.{Asking, IsGrant}
-use Rattle.sched_book.specs.Limits.{AreSettingsInLimits}
+use Rattle.sched_book.specs.Limits.{last_moment, AreSettingsInLimits}
 use Rattle.sched_book.specs.Lost.{lost, resend_or_drop}
 use Rattle.sched_book.specs.Places.{host_at}
 use Rattle.sched_book.specs.Reports.{recorded}
 use Rattle.sched_book.specs.Settle.{settled}
-use Rattle.sched_book.specs.Sound.{Sound}
+use Rattle.sched_book.specs.Sound.{Sound, IsWell}
 use Rattle.sched_book.specs.Step.{IsCaller, at_entry, granted, lapsed, empty_world, ImportStep, Step, Trace}
 use Rattle.sched_book.specs.declared.machine.Answered.{Answered}
 use Rattle.sched_book.specs.declared.machine.Call.{Call}
-use Rattle.sched_book.specs.declared.machine.Call.TheVariants as call
 use Rattle.sched_book.specs.declared.machine.Caller.{Caller}
 use Rattle.sched_book.specs.declared.instance.Place.{Place}
 use Rattle.sched_book.specs.declared.rows.HostRow.{HostRow}
 use Rattle.sched_book.specs.declared.rows.Rows.{Rows}
 use Rattle.sched_book.specs.declared.settings.Settings.{Settings}
 use Rattle.sched_book.specs.declared.world.World.{World}
-use Rattle.sched_machine.specs.Well.{IsWell, IsRequestInLimits}
-
--- the last moment, in seconds
-abbrev pub last_moment : ℕ
-last_moment = 250000000000
 
 -- the host of a call is renewed, or made where there is room
 abbrev pub EntryKeepsSound : Type 0
 EntryKeepsSound = (w : World) (c : Caller) (r : Request) → Sound w → IsCaller w c r → (c.host ≡ None → length w.hosts < w.settings.max_hosts)
-    → IsRequestInLimits r → Sound (at_entry w c r)
+    → IsInRange r → Sound (at_entry w c r)
 
 -- reports, lapses and lost jobs leave all but the need of open workunits
 abbrev pub ReportsKeepWell : Type 0
-ReportsKeepWell = (w : World) (host : ℕ) (reports : List Report) → IsWell w → IsWell (recorded w host reports)
+ReportsKeepWell = (w : World) (host : ℕ) (reports : List Report) → All IsReport reports → IsWell w → IsWell (recorded w host reports)
 
 abbrev pub LapsesKeepWell : Type 0
 LapsesKeepWell = (w : World) (now : ℕ) → IsWell w → IsWell (lapsed w now)
@@ -52,12 +48,6 @@ GrantKeepsSound = (w : World) (q : Asking) (jobs : List Place) → Sound w → h
 
 abbrev pub ImportKeepsSound : Type 0
 ImportKeepsSound = (w after : World) (new : Rows) (count : ℕ) → Sound w → ImportStep w new after count → Sound after
-
--- what a call tells is within limits
-abbrev pub IsCallInLimits : Call → Type 0
-IsCallInLimits (call.Rpc c r) = IsRequestInLimits r
-IsCallInLimits (call.Import new) = Unit {0}
-IsCallInLimits call.Tick = Unit {0}
 
 -- each step leaves a sound world sound
 abbrev pub StepKeepsSound : Type 0

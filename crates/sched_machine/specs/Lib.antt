@@ -1,5 +1,4 @@
 pub mod Laws
-pub mod Well
 pub mod Admission
 pub mod Alike
 pub mod Credits
@@ -11,3 +10,5 @@ pub mod Importing
 pub mod Runs
 pub mod Decisions
 pub mod Held
+pub mod Bounds
+pub mod Stretches

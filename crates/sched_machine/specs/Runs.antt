@@ -1,5 +1,5 @@
 -- What holds through each run of the machine from a sound world: of what stands at a place, and of what a step leaves.
-use Rattle.std.specs.Prelude.{◌≡◌, ◌⊎◌, ℕ, List, [], ◌∷◌, All, AllPairs, Contains, Option, Some, option_and_then}
+use Rattle.std.specs.Prelude.{◌≡◌, ◌⊎◌, ℕ, zero, suc, ◌<◌, ◌≤◌, List, [], ◌∷◌, length, All, AllPairs, Contains, Option, Some, option_and_then}
 use Rattle.sched_book.specs.Places.{instance_at}
 use Rattle.sched_book.specs.Sound.{AreOfOtherUsers, Sound}
 use Rattle.sched_book.specs.Step.{Step, Trace, deadline_at, host_number, resent_of}
@@ -20,10 +20,16 @@ abbrev pub AllAfter : (World → Type 0) → List (Answered × World) → Type 0
 AllAfter P [] = Unit {0}
 AllAfter P (t ∷ ts) = P t.1 × AllAfter P ts
 
--- R holds between the world before a run and each world of it, where the run begins with a sound world
+-- the world of a run after so many of its turns: the first after none, the last after all of them
+abbrev pub world_after : World → List (Answered × World) → ℕ → World
+world_after w turns zero = w
+world_after w [] (suc n) = w
+world_after w (t ∷ ts) (suc n) = world_after t.1 ts n
+
+-- R holds between any two worlds of each run from a sound world, the earlier first
 abbrev pub HoldsInRuns : (World → World → Type 0) → Type 0
 HoldsInRuns R = (w : World) (calls : List (Call × ℕ)) (turns : List (Answered × World)) → Sound w → AreCallsInLimits calls → Trace w calls turns
-    → AllAfter (R w) turns
+    → (i j : ℕ) → i < j → j ≤ length turns → R (world_after w turns i) (world_after w turns j)
 
 -- to whom the instance at a place was given, what was reported of it, and how it lapsed, where it stands
 abbrev pub owner_at : World → Place → Option Owner

@@ -3,6 +3,7 @@
 ghost use Rattle.std.specs.Prelude.{◌≡◌, true, false, Some, None, IfOk, IsErrOf};
 ghost use Rattle.sched_book.specs.Places.{account_place};
 ghost use Rattle.sched_book.specs.Step.{IsCaller};
+ghost use Rattle.sched_book.specs.Trusted.{Trusted};
 ghost use Rattle.sched_machine.specs.Admission.{is_number, names_host, TellsWrongNumber};
 ghost use Rattle.sched_machine.specs.declared.admission.Refused.TheVariants as refused;
 
@@ -56,8 +57,8 @@ fn account_of<D: Desk>(
     request: &Request,
 ) -> Result<Option<u32>, Unavailable>
     ensures reads { D.reads desk.old desk.new }
-    ensures answer { D.honest desk.new → D.well_kept desk.old →
-        IfOk result (λ account. account ≡ account_place (D.world desk.old) request.now.authenticator) }
+    ensures answer { Trusted D.Units desk.old desk.new (
+        IfOk result (λ account. account ≡ account_place (D.world desk.old) request.now.authenticator)) }
 {
     let found = desk.account_by_key(alloc, request.authenticator.as_str())?;
     Ok(found.map(|account| account.place))
@@ -66,12 +67,12 @@ fn account_of<D: Desk>(
 /// Who makes a call: the account that it names, and the number of its host, where the host is known.
 pub fn admit<D: Desk>(alloc: Global, desk: &mut D, request: &Request) -> Result<Caller, Refused>
     ensures reads { D.reads desk.old desk.new }
-    ensures caller { D.honest desk.new → D.well_kept desk.old → IfOk result (λ caller.
-        IsCaller (D.world desk.old) caller request.now × (names_host request.now.hostid caller.host ≡ true)) }
-    ensures bad_account { D.honest desk.new → D.well_kept desk.old → IsErrOf result refused.BadAccount →
-        account_place (D.world desk.old) request.now.authenticator ≡ None }
-    ensures bad_host { D.honest desk.new → D.well_kept desk.old → IsErrOf result refused.BadHost →
-        TellsWrongNumber (D.world desk.old) request.now }
+    ensures caller { Trusted D.Units desk.old desk.new (IfOk result (λ caller.
+        IsCaller (D.world desk.old) caller request.now × (names_host request.now.hostid caller.host ≡ true))) }
+    ensures bad_account { Trusted D.Units desk.old desk.new (IsErrOf result refused.BadAccount →
+        account_place (D.world desk.old) request.now.authenticator ≡ None) }
+    ensures bad_host { Trusted D.Units desk.old desk.new (IsErrOf result refused.BadHost →
+        TellsWrongNumber (D.world desk.old) request.now) }
     ensures never_full { IsErrOf result refused.HostsFull → ⊥ }
 {
     let Some(account) = account_of(alloc, desk, request)? else {

@@ -3,12 +3,14 @@
 ghost use Rattle.std.specs.Prelude.{◌≡◌, [], ◌++◌, filter, length, sum_by, IfOk, OnOk};
 ghost use Rattle.std.specs.List.{cons_option};
 ghost use Rattle.sched_book.specs.Places.{is_held_by, held_by};
-ghost use Rattle.sched_book.specs.Lost.{estimate_at};
 ghost use Rattle.sched_book.specs.Delta.{applied};
+ghost use Rattle.sched_book.specs.Trusted.{Trusted};
 ghost use Rattle.lost_jobs.specs.Holding.{HoldsNoMore};
+ghost use Rattle.sched_book.specs.Fits.{estimate_at};
 ghost use Rattle.sched_machine.specs.Asked.{holds, count_with, fate_seconds, place_resent, resent_places};
 
-use lost_jobs::{Fate, seconds_at};
+use job_choice::seconds_at;
+use lost_jobs::Fate;
 use sched_book::{Delta, Desk, HostRow, Instance, Patched, Place, Unavailable, Units, count};
 use std::alloc::Global;
 use texts::{Listed, Memory};
@@ -29,8 +31,8 @@ fn holds<U: Units>(
     place: Place,
 ) -> Result<bool, Unavailable>
     ensures reads { U.reads units.old units.new }
-    ensures answer { U.honest units.new → U.well_kept units.old →
-        IfOk result (λ held. held ≡ holds (U.world units.old) host place) }
+    ensures answer { Trusted U.Units units.old units.new (
+        IfOk result (λ held. held ≡ holds (U.world units.old) host place)) }
 {
     match units.instance(alloc, place.unit, place.number)? {
         None => Ok(false),
@@ -47,8 +49,8 @@ fn holds_under<D: Desk>(
     place: Place,
 ) -> Result<bool, Unavailable>
     ensures reads { D.reads desk.old desk.new }
-    ensures answer { D.honest desk.new → D.well_kept desk.old →
-        IfOk result (λ held. held ≡ holds (applied (D.world desk.old) delta.now) host place) }
+    ensures answer { Trusted D.Units desk.old desk.new (
+        IfOk result (λ held. held ≡ holds (applied (D.world desk.old) delta.now) host place)) }
 {
     let mut patched = Patched { desk, delta };
     holds(alloc, &mut patched, host, place)
@@ -62,6 +64,7 @@ fn count_with(count: u32, held: bool) -> Result<u32, Unavailable>
         return Ok(count);
     }
     match count.checked_add(1) {
+        // Not met in a sound world, where no host holds more than 20,000,000: `sched_book::laws::instances_are_few`.
         None => Err(Unavailable),
         Some(sum) => Ok(sum),
     }
@@ -76,8 +79,8 @@ fn held_among<D: Desk>(
     places: &[Place],
 ) -> Result<u32, Unavailable>
     ensures reads { D.reads desk.old desk.new }
-    ensures answer { D.honest desk.new → D.well_kept desk.old → IfOk result (λ count.
-        count ≡ length (filter (holds (applied (D.world desk.old) delta.now) host) places.now)) }
+    ensures answer { Trusted D.Units desk.old desk.new (IfOk result (λ count.
+        count ≡ length (filter (holds (applied (D.world desk.old) delta.now) host) places.now))) }
 {
     let mut count: u32 = 0;
     for place in places {
@@ -95,9 +98,9 @@ pub(crate) fn held_after<D: Desk>(
     host: u32,
 ) -> Result<u32, Unavailable>
     ensures reads { D.reads desk.old desk.new }
-    ensures answer { D.honest desk.new → D.well_kept desk.old → IfOk result (λ n.
+    ensures answer { Trusted D.Units desk.old desk.new (IfOk result (λ n.
         HoldsNoMore (D.world desk.old) (applied (D.world desk.old) delta.now) host →
-        n ≡ length (held_by (applied (D.world desk.old) delta.now) host)) }
+        n ≡ length (held_by (applied (D.world desk.old) delta.now) host))) }
 {
     let held = desk.held_by(alloc, host)?;
     held_among(alloc, desk, delta, host, held.as_slice())
@@ -112,8 +115,8 @@ fn estimate_at<D: Desk>(
     place: Place,
 ) -> Result<u64, Unavailable>
     ensures reads { D.reads desk.old desk.new }
-    ensures answer { D.honest desk.new → D.well_kept desk.old →
-        IfOk result (λ seconds. seconds ≡ estimate_at (D.world desk.old) host.now place) }
+    ensures answer { Trusted D.Units desk.old desk.new (
+        IfOk result (λ seconds. seconds ≡ estimate_at (D.world desk.old) host.now place)) }
 {
     match desk.unit(alloc, place.unit)? {
         None => Ok(0),
@@ -129,8 +132,8 @@ fn fate_seconds<D: Desk>(
     fate: Fate,
 ) -> Result<u64, Unavailable>
     ensures reads { D.reads desk.old desk.new }
-    ensures answer { D.honest desk.new → D.well_kept desk.old →
-        IfOk result (λ seconds. seconds ≡ fate_seconds (D.world desk.old) host.now fate) }
+    ensures answer { Trusted D.Units desk.old desk.new (
+        IfOk result (λ seconds. seconds ≡ fate_seconds (D.world desk.old) host.now fate)) }
 {
     match fate.resent {
         None => Ok(0),
@@ -146,13 +149,14 @@ pub(crate) fn resent_seconds<D: Desk>(
     fates: &[Fate],
 ) -> Result<u64, Unavailable>
     ensures reads { D.reads desk.old desk.new }
-    ensures answer { D.honest desk.new → D.well_kept desk.old → IfOk result (λ seconds.
-        seconds ≡ sum_by (estimate_at (D.world desk.old) host.now) (resent_places fates.now)) }
+    ensures answer { Trusted D.Units desk.old desk.new (IfOk result (λ seconds.
+        seconds ≡ sum_by (estimate_at (D.world desk.old) host.now) (resent_places fates.now))) }
 {
     let mut seconds: u64 = 0;
     for fate in fates {
         let more = fate_seconds(alloc, desk, host, *fate)?;
         let Some(sum) = seconds.checked_add(more) else {
+            // Not met in a sound world, where these are at most 2 * 10^15: `laws::resent_seconds_are_bounded`.
             return Err(Unavailable);
         };
         seconds = sum;

@@ -4,10 +4,11 @@ ghost use Rattle.std.specs.Prelude.{◌≡◌, length, sum_by, unwrap_or, IfOk};
 ghost use Rattle.job_choice.specs.Chosen.{IsChoice, places_of};
 ghost use Rattle.lost_jobs.specs.Holding.{HoldsNoMore};
 ghost use Rattle.sched_book.specs.Delta.{applied};
+ghost use Rattle.sched_book.specs.Fits.{estimate_at};
 ghost use Rattle.sched_book.specs.Grant.{IsGrant, end_word};
-ghost use Rattle.sched_book.specs.Lost.{estimate_at};
 ghost use Rattle.sched_book.specs.Places.{host_at, held_by};
 ghost use Rattle.sched_book.specs.Step.{after_settlement, asking_of, resent_of};
+ghost use Rattle.sched_book.specs.Trusted.{Trusted};
 ghost use Rattle.sched_machine.specs.Asked.{resent_places};
 ghost use Rattle.sched_machine.specs.Calling.{IsCalling};
 
@@ -29,8 +30,8 @@ fn host_row<D: Desk>(
     delta: &Delta,
 ) -> Result<HostRow, Unavailable>
     ensures reads { D.reads desk.old desk.new }
-    ensures answer { D.honest desk.new → D.well_kept desk.old → IfOk result (λ row.
-        row ≡ unwrap_or (host_at (applied (D.world desk.old) delta.now) call.now.number) call.now.host) }
+    ensures answer { Trusted D.Units desk.old desk.new (IfOk result (λ row.
+        row ≡ unwrap_or (host_at (applied (D.world desk.old) delta.now) call.now.number) call.now.host)) }
 {
     match host_under(alloc, desk, delta, call.number)? {
         Some(row) => Ok(row),
@@ -51,7 +52,7 @@ fn choose_by_row<D: Desk>(
     fates: &[Fate],
 ) -> Result<Grant, Unavailable>
     ensures reads { D.reads desk.old desk.new }
-    ensures answer { D.honest desk.new → D.well_kept desk.old → IfOk result (λ grant.
+    ensures answer { Trusted D.Units desk.old desk.new (IfOk result (λ grant.
         HoldsNoMore (D.world desk.old) (applied (D.world desk.old) delta.now) call.now.number →
         IsChoice (D.world desk.old) (record {
           number = call.now.number;
@@ -60,7 +61,7 @@ fn choose_by_row<D: Desk>(
           held = length (held_by (applied (D.world desk.old) delta.now) call.now.number);
           asked = request.now.asked;
           now = now;
-        }) grant) }
+        }) grant)) }
 {
     let held = held_after(alloc, desk, delta, call.number)?;
     let before = resent_seconds(alloc, desk, &call.host, fates)?;
@@ -88,16 +89,16 @@ pub(crate) fn choose_jobs<D: Desk>(
     fates: &[Fate],
 ) -> Result<Grant, Unavailable>
     ensures reads { D.reads desk.old desk.new }
-    ensures grant { D.honest desk.new → D.well_kept desk.old → IfOk result (λ grant. IsCalling (D.world desk.old) request.now call.now →
+    ensures grant { Trusted D.Units desk.old desk.new (IfOk result (λ grant. IsCalling (D.world desk.old) request.now call.now →
         applied (D.world desk.old) delta.now ≡ after_settlement (D.world desk.old) call.now.caller request.now now →
         resent_places fates.now ≡ resent_of (D.world desk.old) call.now.caller request.now →
         IsGrant (after_settlement (D.world desk.old) call.now.caller request.now now)
-        (asking_of (D.world desk.old) call.now.caller request.now now) (places_of grant.jobs)) }
-    ensures end_word { D.honest desk.new → D.well_kept desk.old → IfOk result (λ grant. IsCalling (D.world desk.old) request.now call.now →
+        (asking_of (D.world desk.old) call.now.caller request.now now) (places_of grant.jobs))) }
+    ensures end_word { Trusted D.Units desk.old desk.new (IfOk result (λ grant. IsCalling (D.world desk.old) request.now call.now →
         applied (D.world desk.old) delta.now ≡ after_settlement (D.world desk.old) call.now.caller request.now now →
         resent_places fates.now ≡ resent_of (D.world desk.old) call.now.caller request.now →
         grant.end_word ≡ end_word (after_settlement (D.world desk.old) call.now.caller request.now now)
-        (asking_of (D.world desk.old) call.now.caller request.now now) (places_of grant.jobs)) }
+        (asking_of (D.world desk.old) call.now.caller request.now now) (places_of grant.jobs))) }
 {
     let row = host_row(alloc, desk, call, delta)?;
     choose_by_row(alloc, desk, call, &row, request, now, delta, fates)

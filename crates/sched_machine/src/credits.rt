@@ -4,9 +4,11 @@ ghost use Rattle.std.specs.Prelude.{◌≡◌, ◌<◌, ◌≤◌, ◌+◌, ◌-
 ghost use Rattle.std.specs.BTreeSet.{insert_key};
 ghost use Rattle.std.specs.Ordering.{nat_cmp};
 ghost use Rattle.std.specs.List.{list_all, cons_option};
+ghost use Rattle.sched_book.specs.Limits.{most_instances};
 ghost use Rattle.sched_book.specs.Places.{owned_by, host_credit, user_credit};
 ghost use Rattle.sched_book.specs.Delta.{applied};
 ghost use Rattle.sched_book.specs.Desk.{units_of_user};
+ghost use Rattle.sched_book.specs.Trusted.{Trusted};
 ghost use Rattle.quorum_credit.specs.Tallies.{number_got, hosts_after};
 ghost use Rattle.quorum_credit.specs.Settling.{puts_row};
 ghost use Rattle.sched_machine.specs.Credits.{awarded, awarded_by, award_in, award_at, share, share_at, with_place, with_change, units_with, belongs, user_share, user_share_at, number_put, numbers_put, owned_by_all, owned_by_put};
@@ -67,7 +69,7 @@ fn award_in(
     unit: &Workunit,
     instances: &[Instance],
 ) -> Result<Award, Memory>
-    requires { length instances.now ≤ 100 }
+    requires { length instances.now ≤ most_instances }
     ensures { IfOk result (λ award. award ≡ award_in agreement.now unit.now instances.now) }
 {
     let canonical = count::canonical(agreement, unit, instances);
@@ -80,7 +82,7 @@ fn award_in(
 /// What the workunit at a place gives; nothing where it does not stand.
 fn award_at<D: Units>(alloc: Global, desk: &mut D, unit: u32) -> Result<Award, Unavailable>
     ensures reads { D.reads desk.old desk.new }
-    ensures answer { D.honest desk.new → D.well_kept desk.old → IfOk result (λ award. award ≡ award_at (D.world desk.old) unit) }
+    ensures answer { Trusted D.Units desk.old desk.new (IfOk result (λ award. award ≡ award_at (D.world desk.old) unit)) }
 {
     let Some(row) = desk.unit(alloc, unit)? else {
         return Ok(Award {
@@ -106,8 +108,8 @@ fn award_under<D: Desk>(
     unit: u32,
 ) -> Result<Award, Unavailable>
     ensures reads { D.reads desk.old desk.new }
-    ensures answer { D.honest desk.new → D.well_kept desk.old →
-        IfOk result (λ award. award ≡ award_at (applied (D.world desk.old) delta.now) unit) }
+    ensures answer { Trusted D.Units desk.old desk.new (
+        IfOk result (λ award. award ≡ award_at (applied (D.world desk.old) delta.now) unit)) }
 {
     let mut patched = Patched { desk, delta };
     award_at(alloc, &mut patched, unit)
@@ -126,6 +128,7 @@ fn share(host: u32, award: &Award) -> Result<u64, Unavailable>
 {
     let times = times_named(host, award.hosts.as_slice());
     match u64::from(award.credit).checked_mul(times as u64) {
+        // Not met in a sound world, where no host has more than 2 * 10^15: `laws::credit_is_bounded`.
         None => Err(Unavailable),
         Some(credit) => Ok(credit),
     }
@@ -140,8 +143,8 @@ fn share_under<D: Desk>(
     unit: u32,
 ) -> Result<u64, Unavailable>
     ensures reads { D.reads desk.old desk.new }
-    ensures answer { D.honest desk.new → D.well_kept desk.old →
-        IfOk result (λ credit. credit ≡ share_at (applied (D.world desk.old) delta.now) host unit) }
+    ensures answer { Trusted D.Units desk.old desk.new (
+        IfOk result (λ credit. credit ≡ share_at (applied (D.world desk.old) delta.now) host unit)) }
 {
     share(host, &award_under(alloc, desk, delta, unit)?)
 }
@@ -155,13 +158,14 @@ fn shares_under<D: Desk>(
     units: &[u32],
 ) -> Result<u64, Unavailable>
     ensures reads { D.reads desk.old desk.new }
-    ensures answer { D.honest desk.new → D.well_kept desk.old →
-        IfOk result (λ credit. credit ≡ sum_by (share_at (applied (D.world desk.old) delta.now) host) units.now) }
+    ensures answer { Trusted D.Units desk.old desk.new (
+        IfOk result (λ credit. credit ≡ sum_by (share_at (applied (D.world desk.old) delta.now) host) units.now)) }
 {
     let mut credit: u64 = 0;
     for unit in units {
         let share = share_under(alloc, desk, delta, host, *unit)?;
         let Some(sum) = credit.checked_add(share) else {
+            // Not met in a sound world, where no host has more than 2 * 10^15: `laws::credit_is_bounded`.
             return Err(Unavailable);
         };
         credit = sum;
@@ -249,8 +253,8 @@ pub(crate) fn host_credit_after<D: Desk>(
     host: u32,
 ) -> Result<u64, Unavailable>
     ensures reads { D.reads desk.old desk.new }
-    ensures answer { D.honest desk.new → D.well_kept desk.old → IfOk result (λ credit.
-        list_all puts_row delta.now ≡ true → credit ≡ host_credit (applied (D.world desk.old) delta.now) host) }
+    ensures answer { Trusted D.Units desk.old desk.new (IfOk result (λ credit.
+        list_all puts_row delta.now ≡ true → credit ≡ host_credit (applied (D.world desk.old) delta.now) host)) }
 {
     let places = desk.owned_by(alloc, host)?;
     let units = units_with(alloc, &[], places.as_slice(), delta.as_slice())?;
@@ -266,8 +270,8 @@ fn belongs_under<D: Desk>(
     host: u32,
 ) -> Result<bool, Unavailable>
     ensures reads { D.reads desk.old desk.new }
-    ensures answer { D.honest desk.new → D.well_kept desk.old →
-        IfOk result (λ own. own ≡ belongs (applied (D.world desk.old) delta.now).hosts account host) }
+    ensures answer { Trusted D.Units desk.old desk.new (
+        IfOk result (λ own. own ≡ belongs (applied (D.world desk.old) delta.now).hosts account host)) }
 {
     match host_under(alloc, desk, delta, host)? {
         None => Ok(false),
@@ -284,13 +288,14 @@ fn count_of_user<D: Desk>(
     hosts: &[u32],
 ) -> Result<u64, Unavailable>
     ensures reads { D.reads desk.old desk.new }
-    ensures answer { D.honest desk.new → D.well_kept desk.old →
-        IfOk result (λ count. count ≡ count_by (belongs (applied (D.world desk.old) delta.now).hosts account) hosts.now) }
+    ensures answer { Trusted D.Units desk.old desk.new (
+        IfOk result (λ count. count ≡ count_by (belongs (applied (D.world desk.old) delta.now).hosts account) hosts.now)) }
 {
     let mut count: u64 = 0;
     for host in hosts {
         let own = belongs_under(alloc, desk, delta, account, *host)?;
         let Some(sum) = count.checked_add(u64::from(own)) else {
+            // Not met: a workunit has at most 100 instances, and gives to no more hosts.
             return Err(Unavailable);
         };
         count = sum;
@@ -307,11 +312,12 @@ fn user_share_of<D: Desk>(
     award: &Award,
 ) -> Result<u64, Unavailable>
     ensures reads { D.reads desk.old desk.new }
-    ensures answer { D.honest desk.new → D.well_kept desk.old →
-        IfOk result (λ credit. credit ≡ user_share (applied (D.world desk.old) delta.now).hosts account award.now) }
+    ensures answer { Trusted D.Units desk.old desk.new (
+        IfOk result (λ credit. credit ≡ user_share (applied (D.world desk.old) delta.now).hosts account award.now)) }
 {
     let times = count_of_user(alloc, desk, delta, account, award.hosts.as_slice())?;
     match u64::from(award.credit).checked_mul(times) {
+        // Not met in a sound world, where no user has more than 2 * 10^15: `laws::credit_is_bounded`.
         None => Err(Unavailable),
         Some(credit) => Ok(credit),
     }
@@ -327,8 +333,8 @@ fn user_share_under<D: Desk>(
     unit: u32,
 ) -> Result<u64, Unavailable>
     ensures reads { D.reads desk.old desk.new }
-    ensures answer { D.honest desk.new → D.well_kept desk.old →
-        IfOk result (λ credit. credit ≡ user_share_at (applied (D.world desk.old) delta.now) account unit) }
+    ensures answer { Trusted D.Units desk.old desk.new (
+        IfOk result (λ credit. credit ≡ user_share_at (applied (D.world desk.old) delta.now) account unit)) }
 {
     let award = award_under(alloc, desk, delta, unit)?;
     user_share_of(alloc, desk, delta, account, &award)
@@ -343,13 +349,14 @@ fn user_shares_under<D: Desk>(
     units: &[u32],
 ) -> Result<u64, Unavailable>
     ensures reads { D.reads desk.old desk.new }
-    ensures answer { D.honest desk.new → D.well_kept desk.old →
-        IfOk result (λ credit. credit ≡ sum_by (user_share_at (applied (D.world desk.old) delta.now) account) units.now) }
+    ensures answer { Trusted D.Units desk.old desk.new (
+        IfOk result (λ credit. credit ≡ sum_by (user_share_at (applied (D.world desk.old) delta.now) account) units.now)) }
 {
     let mut credit: u64 = 0;
     for unit in units {
         let share = user_share_under(alloc, desk, delta, account, *unit)?;
         let Some(sum) = credit.checked_add(share) else {
+            // Not met in a sound world, where no user has more than 2 * 10^15: `laws::credit_is_bounded`.
             return Err(Unavailable);
         };
         credit = sum;
@@ -388,16 +395,6 @@ fn number_put(count: u64, change: &Change) -> Option<u32>
     }
 }
 
-/// Puts a number behind the others, where there is one.
-fn push_number(numbers: &mut Listed<u32>, number: Option<u32>) -> Result<(), Memory>
-    ensures { OnOk result (numbers.new ≡ numbers.old ++ cons_option number []) }
-{
-    match number {
-        None => Ok(()),
-        Some(number) => numbers.push(number),
-    }
-}
-
 /// The numbers of the hosts that changes put, where `count` hosts stand before them.
 fn numbers_put(alloc: Global, count: u32, changes: &[Change]) -> Result<Listed<u32>, Memory>
     ensures { IfOk result (λ numbers. numbers ≡ numbers_put count changes.now) }
@@ -405,7 +402,7 @@ fn numbers_put(alloc: Global, count: u32, changes: &[Change]) -> Result<Listed<u
     let mut count = u64::from(count);
     let mut numbers = Listed::new(alloc);
     for change in changes {
-        push_number(&mut numbers, number_put(count, change))?;
+        numbers.push_some(number_put(count, change))?;
         count = count_with(count, change);
     }
     Ok(numbers)
@@ -429,8 +426,8 @@ fn push_owned<D: Desk>(
     host: u32,
 ) -> Result<(), Unavailable>
     ensures reads { D.reads desk.old desk.new }
-    ensures answer { D.honest desk.new → D.well_kept desk.old →
-        OnOk result (places.new ≡ places.old ++ owned_by (D.world desk.old) host) }
+    ensures answer { Trusted D.Units desk.old desk.new (
+        OnOk result (places.new ≡ places.old ++ owned_by (D.world desk.old) host)) }
 {
     let more = desk.owned_by(alloc, host)?;
     push_places(places, more.as_slice())?;
@@ -444,8 +441,8 @@ fn owned_by_all<D: Desk>(
     hosts: &[u32],
 ) -> Result<Listed<Place>, Unavailable>
     ensures reads { D.reads desk.old desk.new }
-    ensures answer { D.honest desk.new → D.well_kept desk.old →
-        IfOk result (λ places. places ≡ owned_by_all (D.world desk.old) hosts.now) }
+    ensures answer { Trusted D.Units desk.old desk.new (
+        IfOk result (λ places. places ≡ owned_by_all (D.world desk.old) hosts.now)) }
 {
     let mut places = Listed::new(alloc);
     for host in hosts {
@@ -461,8 +458,8 @@ fn owned_by_put<D: Desk>(
     delta: &Delta,
 ) -> Result<Listed<Place>, Unavailable>
     ensures reads { D.reads desk.old desk.new }
-    ensures answer { D.honest desk.new → D.well_kept desk.old →
-        IfOk result (λ places. places ≡ owned_by_put (D.world desk.old) delta.now) }
+    ensures answer { Trusted D.Units desk.old desk.new (
+        IfOk result (λ places. places ≡ owned_by_put (D.world desk.old) delta.now)) }
 {
     let count = desk.counts()?.hosts;
     let hosts = numbers_put(alloc, count, delta.as_slice())?;
@@ -478,8 +475,8 @@ fn units_of_account<D: Desk>(
     account: u32,
 ) -> Result<Vec<u32>, Unavailable>
     ensures reads { D.reads desk.old desk.new }
-    ensures answer { D.honest desk.new → D.well_kept desk.old → IfOk result (λ all. all.items ≡
-        units_with (units_of_user (D.world desk.old) account) (owned_by_put (D.world desk.old) delta.now) delta.now) }
+    ensures answer { Trusted D.Units desk.old desk.new (IfOk result (λ all. all.items ≡
+        units_with (units_of_user (D.world desk.old) account) (owned_by_put (D.world desk.old) delta.now) delta.now)) }
 {
     let units = desk.units_of_user(alloc, account)?;
     let places = owned_by_put(alloc, desk, delta)?;
@@ -495,8 +492,8 @@ pub(crate) fn user_credit_after<D: Desk>(
     account: u32,
 ) -> Result<u64, Unavailable>
     ensures reads { D.reads desk.old desk.new }
-    ensures answer { D.honest desk.new → D.well_kept desk.old → IfOk result (λ credit.
-        list_all puts_row delta.now ≡ true → credit ≡ user_credit (applied (D.world desk.old) delta.now) account) }
+    ensures answer { Trusted D.Units desk.old desk.new (IfOk result (λ credit.
+        list_all puts_row delta.now ≡ true → credit ≡ user_credit (applied (D.world desk.old) delta.now) account)) }
 {
     let units = units_of_account(alloc, desk, delta, account)?;
     user_shares_under(alloc, desk, delta, account, units.as_slice())

@@ -5,6 +5,7 @@ ghost use Rattle.rpc_records.specs.declared.request.Report.{Report};
 ghost use Rattle.sched_book.specs.Delta.{applied, Fits};
 ghost use Rattle.sched_book.specs.Reports.{first_reports};
 ghost use Rattle.sched_book.specs.Step.{after_reports};
+ghost use Rattle.sched_book.specs.Trusted.{Trusted};
 ghost use Rattle.sched_book.specs.declared.delta.Change.TheVariants as change;
 ghost use Rattle.sched_machine.specs.Calling.{IsCalling};
 
@@ -41,10 +42,10 @@ pub(crate) fn enter<D: Desk>(
     request: &Request,
 ) -> Result<Entered, Unavailable>
     ensures reads { D.reads desk.old desk.new }
-    ensures left { D.honest desk.new → D.well_kept desk.old → IfOk result (λ entered. IsCalling (D.world desk.old) request.now call.now →
-        applied (D.world desk.old) entered.delta ≡ after_reports (D.world desk.old) call.now.caller request.now) }
-    ensures fits { D.honest desk.new → D.well_kept desk.old → IfOk result (λ entered. IsCalling (D.world desk.old) request.now call.now →
-        Fits (D.world desk.old) entered.delta) }
+    ensures left { Trusted D.Units desk.old desk.new (IfOk result (λ entered. IsCalling (D.world desk.old) request.now call.now →
+        applied (D.world desk.old) entered.delta ≡ after_reports (D.world desk.old) call.now.caller request.now)) }
+    ensures fits { Trusted D.Units desk.old desk.new (IfOk result (λ entered. IsCalling (D.world desk.old) request.now call.now →
+        Fits (D.world desk.old) entered.delta)) }
     ensures acked { IfOk result (λ entered. entered.acked ≡ map (λ (r : Report). r.name) (first_reports request.now.results)) }
 {
     let Taken {

@@ -3,7 +3,8 @@
 ghost use Rattle.std.specs.Prelude.{◌≡◌, ◌<◌, ◌≤◌, ◌+◌, None, length, option_and_then, IfOk, IsErrOf};
 ghost use Rattle.sched_book.specs.Sound.{Sound};
 ghost use Rattle.sched_book.specs.Places.{host_at};
-ghost use Rattle.sched_book.specs.Step.{host_number, told_host};
+ghost use Rattle.sched_book.specs.Step.{host_number, row_of_call};
+ghost use Rattle.sched_book.specs.Trusted.{Trusted};
 ghost use Rattle.sched_machine.specs.Calling.{IsAdmitted, IsCalling, HasRoom};
 ghost use Rattle.sched_machine.specs.Entry.{quota_of};
 ghost use Rattle.sched_machine.specs.declared.admission.Refused.TheVariants as refused;
@@ -27,11 +28,11 @@ pub(crate) struct Calling {
 /// The number of the next host; it is refused where no more may stand.
 fn next_number<D: Desk>(alloc: Global, desk: &mut D) -> Result<u32, Refused>
     ensures reads { D.reads desk.old desk.new }
-    ensures answer { D.honest desk.new → D.well_kept desk.old → IfOk result (λ n. n ≡ length (D.world desk.old).hosts + 1) }
-    ensures room { D.honest desk.new → D.well_kept desk.old →
-        IfOk result (λ n. length (D.world desk.old).hosts < (D.world desk.old).settings.max_hosts) }
-    ensures full { D.honest desk.new → D.well_kept desk.old → IsErrOf result refused.HostsFull →
-        (D.world desk.old).settings.max_hosts ≤ length (D.world desk.old).hosts }
+    ensures answer { Trusted D.Units desk.old desk.new (IfOk result (λ n. n ≡ length (D.world desk.old).hosts + 1)) }
+    ensures room { Trusted D.Units desk.old desk.new (
+        IfOk result (λ n. length (D.world desk.old).hosts < (D.world desk.old).settings.max_hosts)) }
+    ensures full { Trusted D.Units desk.old desk.new (IsErrOf result refused.HostsFull →
+        (D.world desk.old).settings.max_hosts ≤ length (D.world desk.old).hosts) }
     ensures known { (IsErrOf result refused.BadAccount → ⊥) × (IsErrOf result refused.BadHost → ⊥) }
 {
     let count = desk.counts()?.hosts;
@@ -49,12 +50,11 @@ pub(crate) fn host_number<D: Desk>(
     caller: &Caller,
 ) -> Result<u32, Refused>
     ensures reads { D.reads desk.old desk.new }
-    ensures answer { D.honest desk.new → D.well_kept desk.old →
-        IfOk result (λ n. n ≡ host_number (D.world desk.old) caller.now) }
-    ensures room { D.honest desk.new → D.well_kept desk.old → IfOk result (λ n.
-        caller.now.host ≡ None → length (D.world desk.old).hosts < (D.world desk.old).settings.max_hosts) }
-    ensures full { D.honest desk.new → D.well_kept desk.old → IsErrOf result refused.HostsFull →
-        (caller.now.host ≡ None) × ((D.world desk.old).settings.max_hosts ≤ length (D.world desk.old).hosts) }
+    ensures answer { Trusted D.Units desk.old desk.new (IfOk result (λ n. n ≡ host_number (D.world desk.old) caller.now)) }
+    ensures room { Trusted D.Units desk.old desk.new (IfOk result (λ n.
+        caller.now.host ≡ None → length (D.world desk.old).hosts < (D.world desk.old).settings.max_hosts)) }
+    ensures full { Trusted D.Units desk.old desk.new (IsErrOf result refused.HostsFull →
+        (caller.now.host ≡ None) × ((D.world desk.old).settings.max_hosts ≤ length (D.world desk.old).hosts)) }
     ensures known { (IsErrOf result refused.BadAccount → ⊥) × (IsErrOf result refused.BadHost → ⊥) }
 {
     match caller.host {
@@ -70,8 +70,8 @@ fn known_row<D: Desk>(
     host: Option<u32>,
 ) -> Result<Option<HostRow>, Unavailable>
     ensures reads { D.reads desk.old desk.new }
-    ensures answer { D.honest desk.new → D.well_kept desk.old →
-        IfOk result (λ row. row ≡ option_and_then (host_at (D.world desk.old)) host) }
+    ensures answer { Trusted D.Units desk.old desk.new (
+        IfOk result (λ row. row ≡ option_and_then (host_at (D.world desk.old)) host)) }
 {
     match host {
         None => Ok(None),
@@ -82,8 +82,7 @@ fn known_row<D: Desk>(
 /// The quota of a host: its own, or the setting for a new one.
 fn quota_of<D: Desk>(alloc: Global, desk: &mut D, host: Option<u32>) -> Result<u32, Unavailable>
     ensures reads { D.reads desk.old desk.new }
-    ensures answer { D.honest desk.new → D.well_kept desk.old →
-        IfOk result (λ quota. quota ≡ quota_of (D.world desk.old) host) }
+    ensures answer { Trusted D.Units desk.old desk.new (IfOk result (λ quota. quota ≡ quota_of (D.world desk.old) host)) }
 {
     match known_row(alloc, desk, host)? {
         Some(row) => Ok(row.quota),
@@ -92,8 +91,8 @@ fn quota_of<D: Desk>(alloc: Global, desk: &mut D, host: Option<u32>) -> Result<u
 }
 
 /// A host's row as its call tells it.
-fn told_host(caller: &Caller, request: &Request, quota: u32) -> Result<HostRow, Memory>
-    ensures { IfOk result (λ row. row ≡ told_host caller.now request.now quota) }
+fn row_of_call(caller: &Caller, request: &Request, quota: u32) -> Result<HostRow, Memory>
+    ensures { IfOk result (λ row. row ≡ row_of_call caller.now request.now quota) }
 {
     Ok(HostRow {
         account: caller.account,
@@ -114,11 +113,11 @@ pub(crate) fn told_row<D: Desk>(
     request: &Request,
 ) -> Result<HostRow, Unavailable>
     ensures reads { D.reads desk.old desk.new }
-    ensures answer { D.honest desk.new → D.well_kept desk.old → IfOk result (λ row.
-        row ≡ told_host caller.now request.now (quota_of (D.world desk.old) caller.now.host)) }
+    ensures answer { Trusted D.Units desk.old desk.new (IfOk result (λ row.
+        row ≡ row_of_call caller.now request.now (quota_of (D.world desk.old) caller.now.host))) }
 {
     let quota = quota_of(alloc, desk, caller.host)?;
-    Ok(told_host(caller, request, quota)?)
+    Ok(row_of_call(caller, request, quota)?)
 }
 
 /// The call of a caller, with its host. A new host where no more may stand is refused.
@@ -129,12 +128,12 @@ pub(crate) fn call_of<D: Desk>(
     request: &Request,
 ) -> Result<Calling, Refused>
     ensures reads { D.reads desk.old desk.new }
-    ensures call { D.honest desk.new → D.well_kept desk.old → IfOk result (λ call.
-        Sound (D.world desk.old) → IsAdmitted (D.world desk.old) caller.now request.now → IsCalling (D.world desk.old) request.now call) }
+    ensures call { Trusted D.Units desk.old desk.new (IfOk result (λ call.
+        Sound (D.world desk.old) → IsAdmitted (D.world desk.old) caller.now request.now → IsCalling (D.world desk.old) request.now call)) }
     ensures caller { IfOk result (λ call. call.caller ≡ caller.now) }
-    ensures room { D.honest desk.new → D.well_kept desk.old → IfOk result (λ call. HasRoom (D.world desk.old) caller.now) }
-    ensures full { D.honest desk.new → D.well_kept desk.old → IsErrOf result refused.HostsFull →
-        (caller.now.host ≡ None) × ((D.world desk.old).settings.max_hosts ≤ length (D.world desk.old).hosts) }
+    ensures room { Trusted D.Units desk.old desk.new (IfOk result (λ call. HasRoom (D.world desk.old) caller.now)) }
+    ensures full { Trusted D.Units desk.old desk.new (IsErrOf result refused.HostsFull →
+        (caller.now.host ≡ None) × ((D.world desk.old).settings.max_hosts ≤ length (D.world desk.old).hosts)) }
     ensures known { (IsErrOf result refused.BadAccount → ⊥) × (IsErrOf result refused.BadHost → ⊥) }
 {
     let number = host_number(alloc, desk, caller)?;

@@ -6,6 +6,7 @@ ghost use Rattle.quorum_credit.specs.Settling.{puts_row};
 ghost use Rattle.sched_book.specs.Delta.{applied, Fits};
 ghost use Rattle.sched_book.specs.Grant.{IsGrant, end_word};
 ghost use Rattle.sched_book.specs.Step.{after_settlement, asking_of, granted, resent_of};
+ghost use Rattle.sched_book.specs.Trusted.{Trusted};
 ghost use Rattle.sched_machine.specs.Asked.{resent_places};
 ghost use Rattle.sched_machine.specs.Calling.{IsCalling};
 
@@ -36,21 +37,21 @@ pub(crate) fn give_jobs<D: Desk>(
     delta: &mut Delta,
 ) -> Result<NewJobs, Unavailable>
     ensures reads { D.reads desk.old desk.new }
-    ensures grant { D.honest desk.new → D.well_kept desk.old → IfOk result (λ jobs. IsCalling (D.world desk.old) request.now call.now →
+    ensures grant { Trusted D.Units desk.old desk.new (IfOk result (λ jobs. IsCalling (D.world desk.old) request.now call.now →
         applied (D.world desk.old) delta.old ≡ after_settlement (D.world desk.old) call.now.caller request.now now →
         resent_places fates.now ≡ resent_of (D.world desk.old) call.now.caller request.now →
         IsGrant (after_settlement (D.world desk.old) call.now.caller request.now now)
-        (asking_of (D.world desk.old) call.now.caller request.now now) jobs.places) }
-    ensures end_word { D.honest desk.new → D.well_kept desk.old → IfOk result (λ jobs. IsCalling (D.world desk.old) request.now call.now →
+        (asking_of (D.world desk.old) call.now.caller request.now now) jobs.places)) }
+    ensures end_word { Trusted D.Units desk.old desk.new (IfOk result (λ jobs. IsCalling (D.world desk.old) request.now call.now →
         applied (D.world desk.old) delta.old ≡ after_settlement (D.world desk.old) call.now.caller request.now now →
         resent_places fates.now ≡ resent_of (D.world desk.old) call.now.caller request.now →
         jobs.end_word ≡ end_word (after_settlement (D.world desk.old) call.now.caller request.now now)
-        (asking_of (D.world desk.old) call.now.caller request.now now) jobs.places) }
-    ensures left { D.honest desk.new → D.well_kept desk.old → IfOk result (λ jobs.
-        applied (D.world desk.old) delta.new ≡ granted (applied (D.world desk.old) delta.old) call.now.number now jobs.places) }
-    ensures fits { D.honest desk.new → D.well_kept desk.old → OnOk result (IsCalling (D.world desk.old) request.now call.now →
+        (asking_of (D.world desk.old) call.now.caller request.now now) jobs.places)) }
+    ensures left { Trusted D.Units desk.old desk.new (IfOk result (λ jobs.
+        applied (D.world desk.old) delta.new ≡ granted (applied (D.world desk.old) delta.old) call.now.number now jobs.places)) }
+    ensures fits { Trusted D.Units desk.old desk.new (OnOk result (IsCalling (D.world desk.old) request.now call.now →
         applied (D.world desk.old) delta.old ≡ after_settlement (D.world desk.old) call.now.caller request.now now →
-        Fits (D.world desk.old) delta.old → Fits (D.world desk.old) delta.new) }
+        Fits (D.world desk.old) delta.old → Fits (D.world desk.old) delta.new)) }
     ensures puts { OnOk result (list_all puts_row delta.old ≡ true → list_all puts_row delta.new ≡ true) }
 {
     let grant = choose_jobs(alloc, desk, call, request, now, delta, fates)?;

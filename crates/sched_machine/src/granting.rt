@@ -6,11 +6,11 @@ ghost use Rattle.sched_book.specs.Places.{host_at};
 ghost use Rattle.sched_book.specs.Delta.{applied, Fits};
 ghost use Rattle.sched_book.specs.Sound.{Sound};
 ghost use Rattle.sched_book.specs.Step.{with_owner, granted};
+ghost use Rattle.sched_book.specs.Trusted.{Trusted};
 ghost use Rattle.quorum_credit.specs.Limited.{IsLimited, FitWithin};
 ghost use Rattle.quorum_credit.specs.Settling.{AreUnitsInLimits, puts_row};
 ghost use Rattle.sched_machine.specs.Granting.{owner_for, given_at, given_change};
 
-use crate::pushing::push_all;
 use sched_book::{
     Change, Delta, Desk, Instance, Moment, Owner, Patched, Place, Unavailable, Units,
 };
@@ -46,8 +46,8 @@ fn given_at<D: Units>(
     place: Place,
 ) -> Result<Option<Instance>, Unavailable>
     ensures reads { D.reads desk.old desk.new }
-    ensures answer { D.honest desk.new → D.well_kept desk.old →
-        IfOk result (λ row. row ≡ given_at (D.world desk.old) host now place) }
+    ensures answer { Trusted D.Units desk.old desk.new (
+        IfOk result (λ row. row ≡ given_at (D.world desk.old) host now place)) }
 {
     let Some(unit) = desk.unit(alloc, place.unit)? else {
         return Ok(None);
@@ -68,8 +68,8 @@ fn given_under<D: Desk>(
     place: Place,
 ) -> Result<Option<Instance>, Unavailable>
     ensures reads { D.reads desk.old desk.new }
-    ensures answer { D.honest desk.new → D.well_kept desk.old →
-        IfOk result (λ row. row ≡ given_at (applied (D.world desk.old) delta.now) host now place) }
+    ensures answer { Trusted D.Units desk.old desk.new (
+        IfOk result (λ row. row ≡ given_at (applied (D.world desk.old) delta.now) host now place)) }
 {
     let mut patched = Patched { desk, delta };
     given_at(alloc, &mut patched, host, now, place)
@@ -87,8 +87,8 @@ fn push_given<D: Desk>(
     more: &mut Delta,
 ) -> Result<(), Unavailable>
     ensures reads { D.reads desk.old desk.new }
-    ensures answer { D.honest desk.new → D.well_kept desk.old → OnOk result (map Some more.new ≡
-        map Some more.old ++ given_change (applied (D.world desk.old) delta.now) host now place ∷ []) }
+    ensures answer { Trusted D.Units desk.old desk.new (OnOk result (map Some more.new ≡
+        map Some more.old ++ given_change (applied (D.world desk.old) delta.now) host now place ∷ [])) }
     ensures puts { OnOk result (list_all puts_row more.old ≡ true → list_all puts_row more.new ≡ true) }
 {
     match given_under(alloc, desk, delta, host, now, place)? {
@@ -110,11 +110,11 @@ pub(crate) fn grant_changes<D: Desk>(
     jobs: &[Place],
 ) -> Result<Delta, Unavailable>
     ensures reads { D.reads desk.old desk.new }
-    ensures answer { D.honest desk.new → D.well_kept desk.old → IfOk result (λ more.
-        applied (applied (D.world desk.old) delta.now) more ≡ granted (applied (D.world desk.old) delta.now) host now jobs.now) }
-    ensures fits { D.honest desk.new → D.well_kept desk.old → IfOk result (λ more.
+    ensures answer { Trusted D.Units desk.old desk.new (IfOk result (λ more.
+        applied (applied (D.world desk.old) delta.now) more ≡ granted (applied (D.world desk.old) delta.now) host now jobs.now)) }
+    ensures fits { Trusted D.Units desk.old desk.new (IfOk result (λ more.
         IsLimited (applied (D.world desk.old) delta.now) → AreUnitsInLimits (applied (D.world desk.old) delta.now)
-        → IsTrue (is_some (host_at (applied (D.world desk.old) delta.now) host)) → FitWithin (applied (D.world desk.old) delta.now) more) }
+        → IsTrue (is_some (host_at (applied (D.world desk.old) delta.now) host)) → FitWithin (applied (D.world desk.old) delta.now) more)) }
     ensures puts { IfOk result (λ more. list_all puts_row more ≡ true) }
 {
     let mut more = Listed::new(alloc);
@@ -134,14 +134,14 @@ pub(crate) fn give<D: Desk>(
     delta: &mut Delta,
 ) -> Result<(), Unavailable>
     ensures reads { D.reads desk.old desk.new }
-    ensures left { D.honest desk.new → D.well_kept desk.old → OnOk result (
-        applied (D.world desk.old) delta.new ≡ granted (applied (D.world desk.old) delta.old) host now jobs.now) }
-    ensures fits { D.honest desk.new → D.well_kept desk.old → OnOk result (Sound (applied (D.world desk.old) delta.old) →
+    ensures left { Trusted D.Units desk.old desk.new (OnOk result (
+        applied (D.world desk.old) delta.new ≡ granted (applied (D.world desk.old) delta.old) host now jobs.now)) }
+    ensures fits { Trusted D.Units desk.old desk.new (OnOk result (Sound (applied (D.world desk.old) delta.old) →
         IsTrue (is_some (host_at (applied (D.world desk.old) delta.old) host)) →
-        Fits (D.world desk.old) delta.old → Fits (D.world desk.old) delta.new) }
+        Fits (D.world desk.old) delta.old → Fits (D.world desk.old) delta.new)) }
     ensures puts { OnOk result (list_all puts_row delta.old ≡ true → list_all puts_row delta.new ≡ true) }
 {
     let more = grant_changes(alloc, desk, delta, host, now, jobs)?;
-    push_all(delta, more)?;
+    delta.append(more)?;
     Ok(())
 }

@@ -106,6 +106,7 @@ pub(crate) fn row_count(rows: &Rows) -> Result<u32, Unavailable>
     };
     match u32::try_from(count) {
         Ok(count) => Ok(count),
+        // Not met by rows that were checked: no table has more than 200,000.
         Err(_) => Err(Unavailable),
     }
 }

@@ -7,11 +7,13 @@ ghost use Rattle.sched_book.specs.Desk.{workunit_at};
 ghost use Rattle.sched_book.specs.Fits.{estimate, version_for};
 ghost use Rattle.sched_book.specs.Places.{deadline_of};
 ghost use Rattle.sched_book.specs.Step.{deadline_at, job_at};
+ghost use Rattle.sched_book.specs.Trusted.{Trusted};
 ghost use Rattle.sched_book.specs.declared.instance.Instance.{Instance};
 ghost use Rattle.quorum_credit.specs.Settling.{puts_row};
 ghost use Rattle.sched_machine.specs.Granting.{job_of, job_told};
 
-use lost_jobs::{seconds_at, version_for};
+use job_choice::seconds_at;
+use lost_jobs::version_for;
 use rpc_records::Job;
 use sched_book::{
     Delta, Desk, HostRow, Instance, Patched, Place, Unavailable, Units, Version, Workunit,
@@ -41,8 +43,8 @@ fn deadline_under<D: Desk>(
     place: Place,
 ) -> Result<u64, Unavailable>
     ensures reads { D.reads desk.old desk.new }
-    ensures answer { D.honest desk.new → D.well_kept desk.old →
-        IfOk result (λ deadline. deadline ≡ deadline_at (applied (D.world desk.old) delta.now) place) }
+    ensures answer { Trusted D.Units desk.old desk.new (
+        IfOk result (λ deadline. deadline ≡ deadline_at (applied (D.world desk.old) delta.now) place)) }
 {
     let mut patched = Patched { desk, delta };
     let instance = patched.instance(alloc, place.unit, place.number)?;
@@ -57,8 +59,8 @@ fn unit_under<D: Desk>(
     unit: u32,
 ) -> Result<Option<Workunit>, Unavailable>
     ensures reads { D.reads desk.old desk.new }
-    ensures answer { D.honest desk.new → D.well_kept desk.old →
-        IfOk result (λ row. row ≡ workunit_at (applied (D.world desk.old) delta.now) unit) }
+    ensures answer { Trusted D.Units desk.old desk.new (
+        IfOk result (λ row. row ≡ workunit_at (applied (D.world desk.old) delta.now) unit)) }
 {
     let mut patched = Patched { desk, delta };
     patched.unit(alloc, unit)
@@ -97,8 +99,8 @@ fn job_told<D: Desk>(
     place: Place,
 ) -> Result<Option<Job>, Unavailable>
     ensures reads { D.reads desk.old desk.new }
-    ensures answer { D.honest desk.new → D.well_kept desk.old → IfOk result (λ job.
-        job ≡ job_told (D.world desk.old) (applied (D.world desk.old) delta.now) host.now resent place) }
+    ensures answer { Trusted D.Units desk.old desk.new (IfOk result (λ job.
+        job ≡ job_told (D.world desk.old) (applied (D.world desk.old) delta.now) host.now resent place)) }
 {
     let Some(unit) = unit_under(alloc, desk, delta, place.unit)? else {
         return Ok(None);
@@ -109,16 +111,6 @@ fn job_told<D: Desk>(
     let deadline = deadline_under(alloc, desk, delta, place)?;
     let name = instance_name(alloc, unit.name.as_str(), place.number)?;
     Ok(Some(job_of(name, deadline, host, resent, &unit, &version)?))
-}
-
-/// Puts what a reply says of a job behind the others, where there is anything to say.
-fn push_job(jobs: &mut Listed<Job>, job: Option<Job>) -> Result<(), Memory>
-    ensures { OnOk result (jobs.new ≡ jobs.old ++ cons_option job []) }
-{
-    match job {
-        None => Ok(()),
-        Some(job) => jobs.push(job),
-    }
 }
 
 /// Puts what a reply says of the instance at a place behind the others.
@@ -132,11 +124,11 @@ fn add_job<D: Desk>(
     jobs: &mut Listed<Job>,
 ) -> Result<(), Unavailable>
     ensures reads { D.reads desk.old desk.new }
-    ensures answer { D.honest desk.new → D.well_kept desk.old → OnOk result (jobs.new ≡
-        jobs.old ++ cons_option (job_told (D.world desk.old) (applied (D.world desk.old) delta.now) host.now resent place) []) }
+    ensures answer { Trusted D.Units desk.old desk.new (OnOk result (jobs.new ≡
+        jobs.old ++ cons_option (job_told (D.world desk.old) (applied (D.world desk.old) delta.now) host.now resent place) [])) }
 {
     let job = job_told(alloc, desk, delta, host, resent, place)?;
-    push_job(jobs, job)?;
+    jobs.push_some(job)?;
     Ok(())
 }
 
@@ -151,8 +143,8 @@ pub(crate) fn jobs_after<D: Desk>(
     places: &[Place],
 ) -> Result<Listed<Job>, Unavailable>
     ensures reads { D.reads desk.old desk.new }
-    ensures answer { D.honest desk.new → D.well_kept desk.old → IfOk result (λ jobs. list_all puts_row delta.now ≡ true
-        → jobs ≡ filter_map (job_at (applied (D.world desk.old) delta.now) host.now resent) places.now) }
+    ensures answer { Trusted D.Units desk.old desk.new (IfOk result (λ jobs. list_all puts_row delta.now ≡ true
+        → jobs ≡ filter_map (job_at (applied (D.world desk.old) delta.now) host.now resent) places.now)) }
 {
     let mut jobs = Listed::new(alloc);
     for place in places {

@@ -1,10 +1,12 @@
 //! Laws of the machine. Each function does nothing; its contract is the law.
 
 ghost use Rattle.sched_machine.specs.Alike.{SettledIsLike};
+ghost use Rattle.sched_machine.specs.Bounds.{CreditIsBounded, ResentSecondsAreBounded};
 ghost use Rattle.sched_machine.specs.Decisions.{CanonicalsStay, VerdictsStay, StatusesStay, CreditsStay, CreditsAddUp};
 ghost use Rattle.sched_machine.specs.Held.{ReportsEndHolding, HeldByPlaces, HoldsWhatIsListedOrNamed};
 ghost use Rattle.sched_machine.specs.Laws.{EntryKeepsSound, ReportsKeepWell, LapsesKeepWell, LostJobsKeepWell, SettlementMakesSound, GrantKeepsSound, ImportKeepsSound, StepKeepsSound, RunsKeepSound, EmptyIsSound};
 ghost use Rattle.sched_machine.specs.Runs.{HoldsInRuns, OwnersStay, ReportsStay, LapsesStay, StepIsDetermined, RunIsDetermined, HoldsAlways, OneForEachUser, DeadlinesMoveByResends};
+ghost use Rattle.sched_machine.specs.Stretches.{DeadlinesMoveByResendsInRuns, HoldsWhatIsListedOrNamedInRuns};
 
 /// A sound world stays sound where a call's host is renewed, or made where there is room.
 pub fn entry_keeps_sound()
@@ -62,8 +64,8 @@ pub fn the_settled_world_is_like_the_first()
     ensures { SettledIsLike }
 {}
 
-/// Through each run from a sound world an instance that was given to a host stays that host's, with its moment of
-/// sending.
+/// Between any two worlds of a run from a sound world an instance that was given to a host stays that host's, with its
+/// moment of sending.
 pub fn owners_stay()
     ensures { HoldsInRuns OwnersStay }
 {}
@@ -138,4 +140,27 @@ pub fn credits_never_fall()
 /// results.
 pub fn credits_add_up()
     ensures { HoldsAlways CreditsAddUp }
+{}
+
+/// In a sound world the credit of all valid results is at most 2 * 10^15 millicredits, and so is that of each host and of
+/// each user.
+pub fn credit_is_bounded()
+    ensures { CreditIsBounded }
+{}
+
+/// From a sound world the jobs that a call sends again take at most 2 * 10^15 seconds.
+pub fn resent_seconds_are_bounded()
+    ensures { ResentSecondsAreBounded }
+{}
+
+/// Between any two worlds of a run the deadline of an instance that was given to a host stays, or some call between them
+/// sends it again to that host, which calls.
+pub fn deadlines_move_by_resends_in_runs()
+    ensures { DeadlinesMoveByResendsInRuns }
+{}
+
+/// After each call of a run that lists what its client has, where lost jobs are sent again, its host holds just what it
+/// held, lists and did not report, and what the reply names.
+pub fn a_host_holds_what_is_listed_or_named_in_runs()
+    ensures { HoldsWhatIsListedOrNamedInRuns }
 {}

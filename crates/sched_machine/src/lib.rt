@@ -15,9 +15,9 @@ pub mod laws;
 mod losing;
 mod machine;
 mod preparing;
-mod pushing;
 mod replying;
 mod settling;
 
 pub use admission::{Refused, admit};
 pub use machine::step;
+pub use sched_book::{Answered, Call, Caller};

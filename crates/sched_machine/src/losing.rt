@@ -2,14 +2,14 @@
 
 ghost use Rattle.std.specs.Prelude.{◌≡◌, ◌++◌, map, filter_map, IfOk, OnOk};
 ghost use Rattle.sched_book.specs.Delta.{applied, Fits};
-ghost use Rattle.sched_book.specs.Step.{after_reports, after_lost, host_told, lost_of, resent_of};
+ghost use Rattle.sched_book.specs.Step.{after_reports, after_lost, host_at_entry, lost_of, resent_of};
+ghost use Rattle.sched_book.specs.Trusted.{Trusted};
 ghost use Rattle.lost_jobs.specs.Fated.{fate_change};
 ghost use Rattle.lost_jobs.specs.Fates.{fate};
 ghost use Rattle.sched_machine.specs.Asked.{resent_places};
 ghost use Rattle.sched_machine.specs.Calling.{IsCalling};
 
 use crate::entry::Calling;
-use crate::pushing::push_all;
 use lost_jobs::{Fate, lost, lost_changes, resend_or_drop};
 use rpc_records::Request;
 use sched_book::{Delta, Desk, Moment, Unavailable};
@@ -26,10 +26,10 @@ fn fates_of<D: Desk>(
     delta: &Delta,
 ) -> Result<Listed<Fate>, Unavailable>
     ensures reads { D.reads desk.old desk.new }
-    ensures answer { D.honest desk.new → D.well_kept desk.old → IfOk result (λ fates. IsCalling (D.world desk.old) request.now call.now →
+    ensures answer { Trusted D.Units desk.old desk.new (IfOk result (λ fates. IsCalling (D.world desk.old) request.now call.now →
         applied (D.world desk.old) delta.now ≡ after_reports (D.world desk.old) call.now.caller request.now →
-        fates ≡ map (fate (D.world desk.old) (host_told (D.world desk.old) call.now.caller request.now) now)
-        (lost_of (D.world desk.old) call.now.caller request.now)) }
+        fates ≡ map (fate (D.world desk.old) (host_at_entry (D.world desk.old) call.now.caller request.now) now)
+        (lost_of (D.world desk.old) call.now.caller request.now))) }
 {
     let places = lost(alloc, desk, delta, call.number, request)?;
     resend_or_drop(alloc, desk, &call.host, places.as_slice(), now)
@@ -43,11 +43,11 @@ fn push_fates<D: Desk>(
     delta: &mut Delta,
 ) -> Result<(), Unavailable>
     ensures reads { D.reads desk.old desk.new }
-    ensures changes { D.honest desk.new → D.well_kept desk.old → OnOk result (
-        delta.new ≡ delta.old ++ filter_map (fate_change (applied (D.world desk.old) delta.old)) fates.now) }
+    ensures changes { Trusted D.Units desk.old desk.new (OnOk result (
+        delta.new ≡ delta.old ++ filter_map (fate_change (applied (D.world desk.old) delta.old)) fates.now)) }
 {
     let more = lost_changes(alloc, desk, delta, fates)?;
-    push_all(delta, more)?;
+    delta.append(more)?;
     Ok(())
 }
 
@@ -61,15 +61,15 @@ pub(crate) fn lose<D: Desk>(
     delta: &mut Delta,
 ) -> Result<Listed<Fate>, Unavailable>
     ensures reads { D.reads desk.old desk.new }
-    ensures left { D.honest desk.new → D.well_kept desk.old → OnOk result (IsCalling (D.world desk.old) request.now call.now →
+    ensures left { Trusted D.Units desk.old desk.new (OnOk result (IsCalling (D.world desk.old) request.now call.now →
         applied (D.world desk.old) delta.old ≡ after_reports (D.world desk.old) call.now.caller request.now →
-        applied (D.world desk.old) delta.new ≡ after_lost (D.world desk.old) call.now.caller request.now now) }
-    ensures fits { D.honest desk.new → D.well_kept desk.old → OnOk result (IsCalling (D.world desk.old) request.now call.now →
+        applied (D.world desk.old) delta.new ≡ after_lost (D.world desk.old) call.now.caller request.now now)) }
+    ensures fits { Trusted D.Units desk.old desk.new (OnOk result (IsCalling (D.world desk.old) request.now call.now →
         applied (D.world desk.old) delta.old ≡ after_reports (D.world desk.old) call.now.caller request.now →
-        Fits (D.world desk.old) delta.old → Fits (D.world desk.old) delta.new) }
-    ensures resent { D.honest desk.new → D.well_kept desk.old → IfOk result (λ fates. IsCalling (D.world desk.old) request.now call.now →
+        Fits (D.world desk.old) delta.old → Fits (D.world desk.old) delta.new)) }
+    ensures resent { Trusted D.Units desk.old desk.new (IfOk result (λ fates. IsCalling (D.world desk.old) request.now call.now →
         applied (D.world desk.old) delta.old ≡ after_reports (D.world desk.old) call.now.caller request.now →
-        resent_places fates ≡ resent_of (D.world desk.old) call.now.caller request.now) }
+        resent_places fates ≡ resent_of (D.world desk.old) call.now.caller request.now)) }
 {
     let fates = fates_of(alloc, desk, call, request, now, delta)?;
     push_fates(alloc, desk, fates.as_slice(), delta)?;

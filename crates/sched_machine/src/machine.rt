@@ -6,6 +6,7 @@ ghost use Rattle.sched_book.specs.Imports.{AreChecked};
 ghost use Rattle.sched_book.specs.Sound.{Sound};
 ghost use Rattle.sched_book.specs.declared.world.World.{World};
 ghost use Rattle.sched_book.specs.Step.{RpcStep, TickStep, ImportStep, Step};
+ghost use Rattle.sched_book.specs.Trusted.{Trusted};
 ghost use Rattle.sched_machine.specs.Calling.{HasRoom, IsAdmitted, IsCalling, IsFull, MayBeTold};
 ghost use Rattle.sched_machine.specs.declared.admission.Refused.TheVariants as refused;
 
@@ -31,10 +32,10 @@ fn act<D: Desk>(
     now: Moment,
 ) -> Result<(Delta, Reply), Unavailable>
     ensures reads { D.reads desk.old desk.new }
-    ensures step { D.honest desk.new → D.well_kept desk.old → IfOk result (λ done. IsCalling (D.world desk.old) request.now call.now →
-        RpcStep (D.world desk.old) call.now.caller request.now now (applied (D.world desk.old) done.0) done.1) }
-    ensures fits { D.honest desk.new → D.well_kept desk.old → IfOk result (λ done. IsCalling (D.world desk.old) request.now call.now →
-        Fits (D.world desk.old) done.0) }
+    ensures step { Trusted D.Units desk.old desk.new (IfOk result (λ done. IsCalling (D.world desk.old) request.now call.now →
+        RpcStep (D.world desk.old) call.now.caller request.now now (applied (D.world desk.old) done.0) done.1)) }
+    ensures fits { Trusted D.Units desk.old desk.new (IfOk result (λ done. IsCalling (D.world desk.old) request.now call.now →
+        Fits (D.world desk.old) done.0)) }
 {
     let Prepared {
         mut delta,
@@ -79,14 +80,14 @@ fn hear<D: Desk>(
     now: Moment,
 ) -> Result<(Delta, Reply), Refused>
     ensures reads { D.reads desk.old desk.new }
-    ensures step { D.honest desk.new → D.well_kept desk.old → IfOk result (λ done.
+    ensures step { Trusted D.Units desk.old desk.new (IfOk result (λ done.
         Sound (D.world desk.old) → IsAdmitted (D.world desk.old) caller.now request.now →
-        RpcStep (D.world desk.old) caller.now request.now now (applied (D.world desk.old) done.0) done.1) }
-    ensures fits { D.honest desk.new → D.well_kept desk.old → IfOk result (λ done.
-        Sound (D.world desk.old) → IsAdmitted (D.world desk.old) caller.now request.now → Fits (D.world desk.old) done.0) }
-    ensures room { D.honest desk.new → D.well_kept desk.old → IfOk result (λ done. HasRoom (D.world desk.old) caller.now) }
-    ensures full { D.honest desk.new → D.well_kept desk.old → IsErrOf result refused.HostsFull →
-        (caller.now.host ≡ None) × ((D.world desk.old).settings.max_hosts ≤ length (D.world desk.old).hosts) }
+        RpcStep (D.world desk.old) caller.now request.now now (applied (D.world desk.old) done.0) done.1)) }
+    ensures fits { Trusted D.Units desk.old desk.new (IfOk result (λ done.
+        Sound (D.world desk.old) → IsAdmitted (D.world desk.old) caller.now request.now → Fits (D.world desk.old) done.0)) }
+    ensures room { Trusted D.Units desk.old desk.new (IfOk result (λ done. HasRoom (D.world desk.old) caller.now)) }
+    ensures full { Trusted D.Units desk.old desk.new (IsErrOf result refused.HostsFull →
+        (caller.now.host ≡ None) × ((D.world desk.old).settings.max_hosts ≤ length (D.world desk.old).hosts)) }
     ensures known { (IsErrOf result refused.BadAccount → ⊥) × (IsErrOf result refused.BadHost → ⊥) }
 {
     let call = call_of(alloc, desk, caller, request)?;
@@ -105,9 +106,9 @@ fn import(alloc: Global, rows: &Rows) -> Result<(Delta, u32), Unavailable>
 /// Lets time go by.
 fn tick<D: Desk>(alloc: Global, desk: &mut D, now: Moment) -> Result<(Delta, u32), Unavailable>
     ensures reads { D.reads desk.old desk.new }
-    ensures step { D.honest desk.new → D.well_kept desk.old → IfOk result (λ done. Sound (D.world desk.old) →
-        TickStep (D.world desk.old) now (applied (D.world desk.old) done.0) done.1) }
-    ensures fits { D.honest desk.new → D.well_kept desk.old → IfOk result (λ done. Sound (D.world desk.old) → Fits (D.world desk.old) done.0) }
+    ensures step { Trusted D.Units desk.old desk.new (IfOk result (λ done. Sound (D.world desk.old) →
+        TickStep (D.world desk.old) now (applied (D.world desk.old) done.0) done.1)) }
+    ensures fits { Trusted D.Units desk.old desk.new (IfOk result (λ done. Sound (D.world desk.old) → Fits (D.world desk.old) done.0)) }
 {
     let Lapsed {
         mut delta,
@@ -134,15 +135,15 @@ pub fn step<D: Desk>(
     now: Moment,
 ) -> Result<(Delta, Answered), Refused>
     ensures reads { D.reads desk.old desk.new }
-    ensures step { D.honest desk.new → D.well_kept desk.old → IfOk result (λ done.
+    ensures step { Trusted D.Units desk.old desk.new (IfOk result (λ done.
         Sound (D.world desk.old) → MayBeTold (D.world desk.old) call.now →
-        Step (D.world desk.old) call.now now (applied (D.world desk.old) done.0) done.1) }
-    ensures sound { D.honest desk.new → D.well_kept desk.old → IfOk result (λ done.
-        Sound (D.world desk.old) → MayBeTold (D.world desk.old) call.now → Sound (applied (D.world desk.old) done.0)) }
-    ensures fits { D.honest desk.new → D.well_kept desk.old → IfOk result (λ done.
-        Sound (D.world desk.old) → MayBeTold (D.world desk.old) call.now → Fits (D.world desk.old) done.0) }
-    ensures full { D.honest desk.new → D.well_kept desk.old → IsErrOf result refused.HostsFull → IsFull (D.world desk.old) call.now }
-    ensures room { D.honest desk.new → D.well_kept desk.old → IfOk result (λ done. IsFull (D.world desk.old) call.now → ⊥) }
+        Step (D.world desk.old) call.now now (applied (D.world desk.old) done.0) done.1)) }
+    ensures sound { Trusted D.Units desk.old desk.new (IfOk result (λ done.
+        Sound (D.world desk.old) → MayBeTold (D.world desk.old) call.now → Sound (applied (D.world desk.old) done.0))) }
+    ensures fits { Trusted D.Units desk.old desk.new (IfOk result (λ done.
+        Sound (D.world desk.old) → MayBeTold (D.world desk.old) call.now → Fits (D.world desk.old) done.0)) }
+    ensures full { Trusted D.Units desk.old desk.new (IsErrOf result refused.HostsFull → IsFull (D.world desk.old) call.now) }
+    ensures room { Trusted D.Units desk.old desk.new (IfOk result (λ done. IsFull (D.world desk.old) call.now → ⊥)) }
     ensures known { (IsErrOf result refused.BadAccount → ⊥) × (IsErrOf result refused.BadHost → ⊥) }
 {
     match call {

@@ -8,6 +8,7 @@ ghost use Rattle.sched_book.specs.Delta.{applied, Fits};
 ghost use Rattle.sched_book.specs.Lost.{aborts};
 ghost use Rattle.sched_book.specs.Reports.{first_reports};
 ghost use Rattle.sched_book.specs.Step.{after_settlement, resent_of};
+ghost use Rattle.sched_book.specs.Trusted.{Trusted};
 ghost use Rattle.sched_machine.specs.Asked.{resent_places};
 ghost use Rattle.sched_machine.specs.Calling.{IsCalling};
 
@@ -51,8 +52,8 @@ fn aborts_after<D: Desk>(
     request: &Request,
 ) -> Result<Listed<Text>, Unavailable>
     ensures reads { D.reads desk.old desk.new }
-    ensures answer { D.honest desk.new → D.well_kept desk.old → IfOk result (λ names.
-        names ≡ aborts (applied (D.world desk.old) delta.now) host request.now.other_results) }
+    ensures answer { Trusted D.Units desk.old desk.new (IfOk result (λ names.
+        names ≡ aborts (applied (D.world desk.old) delta.now) host request.now.other_results)) }
 {
     let mut patched = Patched { desk, delta };
     aborts(alloc, &mut patched, host, request)
@@ -67,14 +68,14 @@ fn settle_call<D: Desk>(
     now: Moment,
 ) -> Result<Settled, Unavailable>
     ensures reads { D.reads desk.old desk.new }
-    ensures left { D.honest desk.new → D.well_kept desk.old → IfOk result (λ settled. IsCalling (D.world desk.old) request.now call.now →
-        applied (D.world desk.old) settled.delta ≡ after_settlement (D.world desk.old) call.now.caller request.now now) }
-    ensures fits { D.honest desk.new → D.well_kept desk.old → IfOk result (λ settled. IsCalling (D.world desk.old) request.now call.now →
-        Fits (D.world desk.old) settled.delta) }
-    ensures puts { D.honest desk.new → D.well_kept desk.old → IfOk result (λ settled. list_all puts_row settled.delta ≡ true) }
+    ensures left { Trusted D.Units desk.old desk.new (IfOk result (λ settled. IsCalling (D.world desk.old) request.now call.now →
+        applied (D.world desk.old) settled.delta ≡ after_settlement (D.world desk.old) call.now.caller request.now now)) }
+    ensures fits { Trusted D.Units desk.old desk.new (IfOk result (λ settled. IsCalling (D.world desk.old) request.now call.now →
+        Fits (D.world desk.old) settled.delta)) }
+    ensures puts { Trusted D.Units desk.old desk.new (IfOk result (λ settled. list_all puts_row settled.delta ≡ true)) }
     ensures acked { IfOk result (λ settled. settled.acked ≡ map (λ (r : Report). r.name) (first_reports request.now.results)) }
-    ensures resent { D.honest desk.new → D.well_kept desk.old → IfOk result (λ settled. IsCalling (D.world desk.old) request.now call.now →
-        resent_places settled.fates ≡ resent_of (D.world desk.old) call.now.caller request.now) }
+    ensures resent { Trusted D.Units desk.old desk.new (IfOk result (λ settled. IsCalling (D.world desk.old) request.now call.now →
+        resent_places settled.fates ≡ resent_of (D.world desk.old) call.now.caller request.now)) }
 {
     let Entered { mut delta, acked } = enter(alloc, desk, call, request)?;
     let fates = lose(alloc, desk, call, request, now, &mut delta)?;
@@ -95,16 +96,16 @@ pub(crate) fn prepare<D: Desk>(
     now: Moment,
 ) -> Result<Prepared, Unavailable>
     ensures reads { D.reads desk.old desk.new }
-    ensures left { D.honest desk.new → D.well_kept desk.old → IfOk result (λ prepared. IsCalling (D.world desk.old) request.now call.now →
-        applied (D.world desk.old) prepared.delta ≡ after_settlement (D.world desk.old) call.now.caller request.now now) }
-    ensures fits { D.honest desk.new → D.well_kept desk.old → IfOk result (λ prepared. IsCalling (D.world desk.old) request.now call.now →
-        Fits (D.world desk.old) prepared.delta) }
-    ensures puts { D.honest desk.new → D.well_kept desk.old → IfOk result (λ prepared. list_all puts_row prepared.delta ≡ true) }
+    ensures left { Trusted D.Units desk.old desk.new (IfOk result (λ prepared. IsCalling (D.world desk.old) request.now call.now →
+        applied (D.world desk.old) prepared.delta ≡ after_settlement (D.world desk.old) call.now.caller request.now now)) }
+    ensures fits { Trusted D.Units desk.old desk.new (IfOk result (λ prepared. IsCalling (D.world desk.old) request.now call.now →
+        Fits (D.world desk.old) prepared.delta)) }
+    ensures puts { Trusted D.Units desk.old desk.new (IfOk result (λ prepared. list_all puts_row prepared.delta ≡ true)) }
     ensures acked { IfOk result (λ prepared. prepared.acked ≡ map (λ (r : Report). r.name) (first_reports request.now.results)) }
-    ensures aborted { D.honest desk.new → D.well_kept desk.old → IfOk result (λ prepared.
-        prepared.aborted ≡ aborts (applied (D.world desk.old) prepared.delta) call.now.number request.now.other_results) }
-    ensures resent { D.honest desk.new → D.well_kept desk.old → IfOk result (λ prepared. IsCalling (D.world desk.old) request.now call.now →
-        resent_places prepared.fates ≡ resent_of (D.world desk.old) call.now.caller request.now) }
+    ensures aborted { Trusted D.Units desk.old desk.new (IfOk result (λ prepared.
+        prepared.aborted ≡ aborts (applied (D.world desk.old) prepared.delta) call.now.number request.now.other_results)) }
+    ensures resent { Trusted D.Units desk.old desk.new (IfOk result (λ prepared. IsCalling (D.world desk.old) request.now call.now →
+        resent_places prepared.fates ≡ resent_of (D.world desk.old) call.now.caller request.now)) }
 {
     let Settled {
         delta,

@@ -6,6 +6,7 @@ ghost use Rattle.quorum_credit.specs.Settling.{puts_row};
 ghost use Rattle.sched_book.specs.Delta.{applied};
 ghost use Rattle.sched_book.specs.Places.{host_credit, user_credit};
 ghost use Rattle.sched_book.specs.Step.{IsCaller, job_at, user_name};
+ghost use Rattle.sched_book.specs.Trusted.{Trusted};
 ghost use Rattle.sched_book.specs.declared.desk.Placed.{Placed};
 ghost use Rattle.sched_book.specs.declared.rows.Account.{Account};
 
@@ -45,21 +46,11 @@ fn user_name<D: Desk>(
     request: &Request,
 ) -> Result<Text, Unavailable>
     ensures reads { D.reads desk.old desk.new }
-    ensures answer { D.honest desk.new → D.well_kept desk.old → IfOk result (λ name.
-        IsCaller (D.world desk.old) caller request.now → name ≡ user_name (D.world desk.old) caller.account) }
+    ensures answer { Trusted D.Units desk.old desk.new (IfOk result (λ name.
+        IsCaller (D.world desk.old) caller request.now → name ≡ user_name (D.world desk.old) caller.account)) }
 {
     let found = desk.account_by_key(alloc, request.authenticator.as_str())?;
     Ok(name_of(found, alloc)?)
-}
-
-/// Puts jobs behind the others.
-fn push_jobs(jobs: &mut Listed<Job>, more: Listed<Job>) -> Result<(), Memory>
-    ensures { OnOk result (jobs.new ≡ jobs.old ++ more) }
-{
-    for job in more.into_vec() {
-        jobs.push(job)?;
-    }
-    Ok(())
 }
 
 /// What a reply says of the jobs that are sent again, and then of the new ones, after all changes of their call.
@@ -72,13 +63,13 @@ fn all_jobs<D: Desk>(
     delta: &Delta,
 ) -> Result<Listed<Job>, Unavailable>
     ensures reads { D.reads desk.old desk.new }
-    ensures answer { D.honest desk.new → D.well_kept desk.old → IfOk result (λ all. list_all puts_row delta.now ≡ true → all ≡
+    ensures answer { Trusted D.Units desk.old desk.new (IfOk result (λ all. list_all puts_row delta.now ≡ true → all ≡
         filter_map (job_at (applied (D.world desk.old) delta.now) host.now true) resent.now
-        ++ filter_map (job_at (applied (D.world desk.old) delta.now) host.now false) jobs.now) }
+        ++ filter_map (job_at (applied (D.world desk.old) delta.now) host.now false) jobs.now)) }
 {
     let mut all = jobs_after(alloc, desk, delta, host, true, resent)?;
     let new = jobs_after(alloc, desk, delta, host, false, jobs)?;
-    push_jobs(&mut all, new)?;
+    all.append(new)?;
     Ok(all)
 }
 /// The reply to a call after all its changes: with its totals, and what it says of the jobs that are sent again and
@@ -94,7 +85,7 @@ pub(crate) fn reply_to<D: Desk>(
     delta: &Delta,
 ) -> Result<Reply, Unavailable>
     ensures reads { D.reads desk.old desk.new }
-    ensures reply { D.honest desk.new → D.well_kept desk.old → IfOk result (λ reply.
+    ensures reply { Trusted D.Units desk.old desk.new (IfOk result (λ reply.
         IsCaller (D.world desk.old) call.now.caller request.now → list_all puts_row delta.now ≡ true → reply ≡ record {
           end_word = said.end_word;
           host_total_credit = host_credit (applied (D.world desk.old) delta.now) call.now.number;
@@ -107,7 +98,7 @@ pub(crate) fn reply_to<D: Desk>(
           rpc_seqno = request.now.rpc_seqno;
           user_name = user_name (D.world desk.old) call.now.caller.account;
           user_total_credit = user_credit (applied (D.world desk.old) delta.now) call.now.caller.account;
-        }) }
+        })) }
 {
     let results = all_jobs(alloc, desk, &call.host, resent, jobs, delta)?;
     let host_total_credit = host_credit_after(alloc, desk, delta, call.number)?;

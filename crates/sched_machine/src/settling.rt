@@ -6,8 +6,8 @@ ghost use Rattle.quorum_credit.specs.Settling.{puts_row};
 ghost use Rattle.sched_book.specs.Delta.{applied, Fits};
 ghost use Rattle.sched_book.specs.Settle.{settled};
 ghost use Rattle.sched_book.specs.Sound.{Sound};
+ghost use Rattle.sched_book.specs.Trusted.{Trusted};
 
-use crate::pushing::push_all;
 use quorum_credit::{settle_all, touched_by};
 use sched_book::{Delta, Desk, Unavailable};
 use std::alloc::Global;
@@ -19,14 +19,14 @@ pub(crate) fn settle<D: Desk>(
     delta: &mut Delta,
 ) -> Result<(), Unavailable>
     ensures reads { D.reads desk.old desk.new }
-    ensures left { D.honest desk.new → D.well_kept desk.old → OnOk result (Sound (D.world desk.old) → Fits (D.world desk.old) delta.old →
-        applied (D.world desk.old) delta.new ≡ settled (D.world desk.old) (applied (D.world desk.old) delta.old)) }
-    ensures fits { D.honest desk.new → D.well_kept desk.old → OnOk result (Sound (D.world desk.old) → Fits (D.world desk.old) delta.old →
-        Fits (D.world desk.old) delta.new) }
-    ensures puts { D.honest desk.new → D.well_kept desk.old → OnOk result (list_all puts_row delta.new ≡ true) }
+    ensures left { Trusted D.Units desk.old desk.new (OnOk result (Sound (D.world desk.old) → Fits (D.world desk.old) delta.old →
+        applied (D.world desk.old) delta.new ≡ settled (D.world desk.old) (applied (D.world desk.old) delta.old))) }
+    ensures fits { Trusted D.Units desk.old desk.new (OnOk result (Sound (D.world desk.old) → Fits (D.world desk.old) delta.old →
+        Fits (D.world desk.old) delta.new)) }
+    ensures puts { Trusted D.Units desk.old desk.new (OnOk result (list_all puts_row delta.new ≡ true)) }
 {
     let touched = touched_by(alloc, delta.as_slice())?;
     let more = settle_all(alloc, desk, delta, touched.as_slice())?;
-    push_all(delta, more)?;
+    delta.append(more)?;
     Ok(())
 }

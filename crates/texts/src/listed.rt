@@ -1,4 +1,5 @@
 ghost use Rattle.std.specs.Prelude.{◌≡◌, ◌<◌, ◌-◌, ◌==◌, List, [], ◌∷◌, ◌++◌, length, take, slice_get, slice_set, Some, OnOk, OnErr};
+ghost use Rattle.std.specs.List.{cons_option};
 
 use crate::Memory;
 use crate::same::Same;
@@ -67,6 +68,25 @@ impl<T: Drop> Listed<T> {
         ensures err { OnErr result (self.new ≡ self.old) }
     {
         self.items.push(item)?;
+        Ok(())
+    }
+
+    /// Puts `item` behind the others, where there is one.
+    pub fn push_some(&mut self, item: Option<T>) -> Result<(), Memory>
+        ensures { OnOk result (self.new ≡ self.old ++ cons_option item []) }
+    {
+        match item {
+            None => Ok(()),
+            Some(item) => self.push(item),
+        }
+    }
+
+    /// Puts these items behind the others.
+    pub fn append(&mut self, more: Listed<T>) -> Result<(), Memory>
+        ensures { OnOk result (self.new ≡ self.old ++ more) }
+    {
+        let mut more = more.into_vec();
+        self.items.append(&mut more)?;
         Ok(())
     }
 

@@ -5,6 +5,7 @@ use Rattle.sched_book.specs.Delta.{applied}
 use Rattle.sched_book.specs.Lost.{unlisted, lost}
 use Rattle.lost_jobs.specs.Holding.{HoldsNoMore}
 use Rattle.lost_jobs.proofs.Holding.{lost_is}
+use Rattle.lost_jobs.proofs.Requested.{hold_no_more, lost_by_request}
 use Rattle.lost_jobs.proofs.missing.lost.Goals as goal
 
 pub returns-in-Some-clause-answer : goal.returns-in-Some-clause-answer
@@ -24,3 +25,13 @@ returns-in-Some-clause-answer g c = λ honest kept.
     ∙ lost_is before changes c.args.host names resends
     ∙ ap (lost (applied before changes) c.args.host) (ap Some c.as_slice.ensures ∙ sym c.in-Some.is))
     told
+
+pub returns-in-Some-clause-of_request : goal.returns-in-Some-clause-of_request
+returns-in-Some-clause-of_request g c = λ honest kept.
+    let before = g.D.Units.world c.args.desk.now in
+    let changes = c.args.delta.now in
+    let request = c.args.request.now in
+    IfOk-weaker c.unlisted.result _ _
+    (λ places are records.
+    lost_by_request before changes c.args.host request records places (are (hold_no_more before changes c.args.host request records)))
+    (returns-in-Some-clause-answer g c honest kept)

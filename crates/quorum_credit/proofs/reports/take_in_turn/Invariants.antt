@@ -1,5 +1,6 @@
 use Rattle.std.proofs.Common.{◌≡◌, drop, map}
-use Rattle.std.specs.Prelude.{fold}
+use Rattle.std.specs.Prelude.{fold, All}
+use Rattle.rpc_records.specs.Ranges.{IsReport}
 use Rattle.sched_book.specs.Delta.{applied}
 use Rattle.sched_book.specs.Reports.{record_one}
 use Rattle.quorum_credit.specs.Limited.{IsLimited, FitWithin}
@@ -12,5 +13,5 @@ invariant-loop-report g l = record {
   told : g.D.Units.honest l.desk → g.D.Units.well_kept l.fn.desk
       → fold (record_one (g.D.Units.world l.fn.desk) l.host) (applied (g.D.Units.world l.fn.desk) l.delta) (map (λ r. r.now) (drop l.report-index l.reports))
       ≡ fold (record_one (g.D.Units.world l.fn.desk) l.host) (g.D.Units.world l.fn.desk) (map (λ r. r.now) l.reports);
-  fits : g.D.Units.honest l.desk → g.D.Units.well_kept l.fn.desk → IsLimited (g.D.Units.world l.fn.desk) → FitWithin (g.D.Units.world l.fn.desk) l.delta;
+  fits : g.D.Units.honest l.desk → g.D.Units.well_kept l.fn.desk → All (λ r. IsReport r.now) l.reports → IsLimited (g.D.Units.world l.fn.desk) → FitWithin (g.D.Units.world l.fn.desk) l.delta;
 }

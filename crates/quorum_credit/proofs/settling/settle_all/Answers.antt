@@ -27,12 +27,12 @@ steps g c honest kept =
 
 pub returns-clause-settled : goal.returns-clause-settled
 returns-clause-settled g c = λ honest kept sound fits touched.
-    ap (λ more. applied (g.D.Units.world c.args.desk.now) (c.args.delta.now ++ more)) c.in_ok-push_all.ensures
+    ap (λ more. applied (g.D.Units.world c.args.desk.now) (c.args.delta.now ++ more)) c.in_ok-append.ensures
     ∙ settles _ _ _ _ _ _ (steps g c honest kept) sound fits touched
 
 pub returns-clause-fits : goal.returns-clause-fits
 returns-clause-fits g c = λ honest kept sound fits touched.
-    subst (λ more. Fits (g.D.Units.world c.args.desk.now) (c.args.delta.now ++ more)) (sym c.in_ok-push_all.ensures)
+    subst (λ more. Fits (g.D.Units.world c.args.desk.now) (c.args.delta.now ++ more)) (sym c.in_ok-append.ensures)
     (settling_fits _ _ _ _ _ _ (steps g c honest kept) sound fits touched)
 
 pub returns-clause-puts : goal.returns-clause-puts
@@ -41,6 +41,6 @@ returns-clause-puts g c = λ honest kept.
     let honest_first = g.met.D.Units.stays_honest _ _ c.marks_of_touched.ensures.reads honest_then in
     let kept_then = g.met.D.Units.stays_kept _ _ c.grow_touched.ensures.reads honest_first kept in
     let kept_last = g.met.D.Units.stays_kept _ _ c.marks_of_touched.ensures.reads honest_then kept_then in
-    ap (λ more. list_all puts_row (c.args.delta.now ++ more)) c.in_ok-push_all.ensures
+    ap (λ more. list_all puts_row (c.args.delta.now ++ more)) c.in_ok-append.ensures
     ∙ all_put c.args.delta.now c.in_ok-more.more c.in_ok-quotas.quotas c.in_ok-all.ensures.puts c.in_ok-all.ensures.puts_then
     (c.in_ok-quotas.ensures.puts honest kept_last)

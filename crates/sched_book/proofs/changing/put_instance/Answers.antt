@@ -1,7 +1,7 @@
 use Rattle.std.proofs.Common.{◌≡◌, ◌-◌, ◌<◌, length, get_or, sym, ap, ◌∙◌, arith}
 use Rattle.std.specs.Prelude.{slice_set}
 use Rattle.sched_book.specs.Delta.{with_instance}
-use Rattle.sched_book.proofs.Changes.{changed_nth-set}
+use Rattle.sched_book.proofs.Changes.{modify_nth-set}
 use Rattle.sched_book.proofs.Undoing.{set_back}
 use Rattle.sched_book.proofs.changing.put_instance.Goals as goal
 
@@ -13,7 +13,7 @@ returns-clause-ok c =
     let is : book ≡ get_or books i book = c.index-as_slice-index.is ∙ ap (λ xs. get_or xs i book) c.as_slice.ensures in
     let within : i < length books = omega arith in
     c.exchange-row.ensures.put
-    ∙ sym (changed_nth-set (with_instance c.args.place.number c.args.row) books c.args.place.unit book c.in_ok-book.book
+    ∙ sym (modify_nth-set (with_instance c.args.place.number c.args.row) books c.args.place.unit book c.in_ok-book.book
     c.if-place-eq0.false within is c.in_ok-book.ensures)
 
 pub returns-clause-back : goal.returns-clause-back

@@ -1,7 +1,7 @@
 use Rattle.std.proofs.Common.{◌≡◌, ◌∙◌, ◌/◌, ◌++◌, ◌∷◌, [], List, Option, ap, sym}
 use Rattle.sched_book.specs.Given.{given_as}
 use Rattle.sched_book.specs.Places.{sent_at}
-use Rattle.sched_book.specs.Reports.{changed_nth}
+use Rattle.sched_book.specs.Reports.{modify_nth}
 use Rattle.sched_book.specs.declared.given.Given.{Given}
 use Rattle.sched_book.specs.declared.instance.Owner.{Owner}
 use Rattle.sched_book.proofs.Givens.{none_more, one_more}
@@ -19,5 +19,5 @@ returns-in_ok-list_one-in-Some c =
     ap (λ d. record { place = c.args.place; day = d; is_held = c.is_held.result }) day
     ∙ ap (λ b. record { place = c.args.place; day = sent_at x.owner / 86400; is_held = b }) c.is_held.ensures in
     c.in_ok-list_one-in-Some.ensures
-    ∙ ap (changed_nth (λ (l : List Given). l ++ given ∷ []) c.args.lists.now) c.number_by.ensures
+    ∙ ap (modify_nth (λ (l : List Given). l ++ given ∷ []) c.args.lists.now) c.number_by.ensures
     ∙ one_more c.args.by c.args.hosts.now c.args.place x c.in-Some.owner given c.args.lists.now c.in-Some.is same

@@ -12,4 +12,4 @@ pub returns-clause-fits : goal.returns-clause-fits
 returns-clause-fits g c = λ honest kept calling.
     subst (Fits (g.D.Units.world c.args.desk.now)) (sym c.in_ok-push_host.ensures)
     (enters_fit (g.D.Units.world c.args.desk.now) c.args.request.now c.args.call.now calling c.in_ok-delta.field-0.delta
-    (c.in_ok-delta.ensures.delta honest kept) (c.in_ok-delta.ensures.fits honest kept calling.sound))
+    (c.in_ok-delta.ensures.delta honest kept) (c.in_ok-delta.ensures.fits honest kept calling.admitted.limits.results calling.sound))

@@ -1,5 +1,5 @@
 use Rattle.std.proofs.Common.{◌∙◌, ap}
-use Rattle.sched_book.specs.Step.{told_host}
+use Rattle.sched_book.specs.Step.{row_of_call}
 use Rattle.sched_machine.specs.Entry.{quota_of}
 use Rattle.sched_machine.proofs.EntryHosts.{row_told}
 use Rattle.sched_machine.proofs.entry.call_of.Goals as goal
@@ -17,6 +17,6 @@ returns-clause-call g c = λ honest kept sound admitted.
       number = c.in_ok-number.ensures.answer honest_first kept;
       host =
           c.in_ok-host.ensures.answer honest kept_then
-          ∙ ap (λ v. told_host c.args.caller.now c.args.request.now (quota_of v c.args.caller.now.host)) same
+          ∙ ap (λ v. row_of_call c.args.caller.now c.args.request.now (quota_of v c.args.caller.now.host)) same
           ∙ row_told w c.args.caller.now c.args.request.now admitted.caller;
     }

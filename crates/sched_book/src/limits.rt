@@ -1,0 +1,34 @@
+//! The most that the values of a world may be. The ranges that cite these are in `specs/Limits.antt`.
+
+/// The most accounts of a project.
+pub const MOST_ACCOUNTS: usize = 10_000;
+
+/// The most applications.
+pub const MOST_APPS: usize = 100;
+
+/// The most versions of all applications together.
+pub const MOST_VERSIONS: usize = 1_000;
+
+/// The most workunits.
+pub const MOST_WORKUNITS: usize = 200_000;
+
+/// The most hosts that settings may allow.
+pub const MOST_HOSTS: usize = 100_000;
+
+/// The most instances of a workunit, and the most that any of its counts may ask for.
+pub const MOST_INSTANCES: usize = 100;
+
+/// 10^18: the most operations and the most bytes that a workunit may ask for.
+pub const MOST_AMOUNT: u64 = 1_000_000_000_000_000_000;
+
+/// The longest delay bound, in seconds.
+pub const MOST_DELAY: u32 = 100_000_000;
+
+/// The most millicredits for one result.
+pub const MOST_CREDIT: u32 = 100_000_000;
+
+/// The greatest number of a version.
+pub const MOST_VERSION_NUM: u32 = 1_000_000;
+
+/// How far apart two outputs may be that still agree.
+pub const MOST_DISTANCE: u64 = 1_000_000_000;

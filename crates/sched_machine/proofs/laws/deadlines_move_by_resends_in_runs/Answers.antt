@@ -1,0 +1,5 @@
+use Rattle.sched_machine.proofs.RunStretches.{deadlines_move_by_resends_in_runs}
+use Rattle.sched_machine.proofs.laws.deadlines_move_by_resends_in_runs.Goals as goal
+
+pub returns : goal.returns
+returns c = deadlines_move_by_resends_in_runs
