@@ -1,0 +1,131 @@
+-- Keys that SQL finds equal are one, so rows put are told by their keys.
+use Rattle.std.proofs.Common.{◌≡◌, ℕ, pos, Bool, true, false, ◌&&◌, List, [], ◌∷◌, length, Some, refl, sym, ap, ap₂, ◌∙◌, true≢false}
+use Rattle.std.specs.Prelude.{◌==◌}
+use Rattle.std.specs.List.{AllByRecursion, list_any, range_with_len}
+use Rattle.std.proofs.lemmas.Bool.{and_parts, or_from, eqb-true}
+use Rattle.sqlite_value.specs.declared.value.Value.{Value}
+use Rattle.sqlite_value.specs.declared.value.Value.TheVariants.{Null, Int, Real, Text, Blob}
+use Rattle.sqlite_value.specs.declared.keys.Collation.TheVariants.{Binary}
+use Rattle.sqlite_value.specs.Order.{Row, column, value_cmp}
+use Rattle.sqlite_value.specs.Keys.{plain, first_key}
+use Rattle.sqlite_sql.specs.declared.ops.CompareOp.TheVariants.{Eq}
+use Rattle.sqlite_sql.specs.Ops.{binary}
+use Rattle.sqlite_schema.specs.Rules.{agree, equal}
+use Rattle.sqlite_keyed.proofs.KeyedLemmas.{same_int}
+use Rattle.sqlite_typed.specs.Columns.{bytes_of}
+use Rattle.sqlite_typed.proofs.TestLemmas.{at_ints, at_texts, same_bytes}
+use Rattle.table_meaning.specs.declared.tables.TableName.{TableName}
+use Rattle.table_meaning.specs.declared.tables.TableName.TheVariants.{Setting, Account, App, Version, Unit, Host, Instance, Kept, Batch}
+use Rattle.table_meaning.specs.declared.rows.StoredRow.{StoredRow}
+use Rattle.table_meaning.specs.Rows.{tree_of, RowKey, setting_key, account_key, app_key, version_key, unit_key, host_key, instance_key, kept_key, batch_key, table_at, key_columns, key_of, same_key}
+use Rattle.table_meaning.specs.Holding.{Contents, with_row, with_rows}
+use Rattle.table_meaning.proofs.LookUps.{same_table}
+
+-- ---- columns of keys: numbers and texts
+
+abbrev is_cell : Value → Bool
+is_cell (Int n) = true
+is_cell (Text t) = true
+is_cell _ = false
+
+same_cell : (v u : Value) → is_cell v ≡ true → is_cell u ≡ true → equal Binary v u ≡ true → v ≡ u
+unfolding value_cmp binary
+same_cell (Int n) (Int m) p q h = ap Int (same_int n m (sym (at_ints false Eq n m) ∙ h))
+same_cell (Int n) (Text t) p q h = absurd (true≢false (sym h))
+same_cell (Text t) (Int m) p q h = absurd (true≢false (sym h))
+same_cell (Text s) (Text t) p q h = ap Text (same_bytes s t (sym (at_texts false Eq s t) ∙ h))
+same_cell Null u p q h = absurd (true≢false (sym p))
+same_cell (Real x) u p q h = absurd (true≢false (sym p))
+same_cell (Blob b) u p q h = absurd (true≢false (sym p))
+same_cell (Int n) Null p q h = absurd (true≢false (sym q))
+same_cell (Int n) (Real x) p q h = absurd (true≢false (sym q))
+same_cell (Int n) (Blob b) p q h = absurd (true≢false (sym q))
+same_cell (Text t) Null p q h = absurd (true≢false (sym q))
+same_cell (Text t) (Real x) p q h = absurd (true≢false (sym q))
+same_cell (Text t) (Blob b) p q h = absurd (true≢false (sym q))
+
+-- one column or two
+abbrev is_key_row : Row → Bool
+is_key_row [] = false
+is_key_row (v ∷ []) = is_cell v
+is_key_row (v ∷ u ∷ []) = is_cell v && is_cell u
+is_key_row (v ∷ u ∷ w ∷ more) = false
+
+same_columns : (xs ys : Row) → is_key_row xs ≡ true → is_key_row ys ≡ true → agree plain (range_with_len 0 (length xs)) xs (range_with_len 0 (length ys)) ys ≡ true → xs ≡ ys
+unfolding first_key
+same_columns (v ∷ []) (u ∷ []) p q h = ap (λ x. x ∷ []) (same_cell v u p q (and_parts _ _ h).0)
+same_columns (v ∷ v' ∷ []) (u ∷ u' ∷ []) p q h =
+    let ps = and_parts (is_cell v) (is_cell v') p in
+    let qs = and_parts (is_cell u) (is_cell u') q in
+    let hs = and_parts _ _ h in
+    ap₂ (λ x y. x ∷ y ∷ []) (same_cell v u ps.0 qs.0 hs.0) (same_cell v' u' ps.1 qs.1 (and_parts _ _ hs.1).0)
+same_columns (v ∷ []) (u ∷ u' ∷ []) p q h = absurd (true≢false (sym (and_parts _ _ h).1))
+same_columns (v ∷ v' ∷ []) (u ∷ []) p q h = absurd (true≢false (sym (and_parts _ _ h).1))
+same_columns [] ys p q h = absurd (true≢false (sym p))
+same_columns (v ∷ v' ∷ v'' ∷ more) ys p q h = absurd (true≢false (sym p))
+same_columns (v ∷ []) [] p q h = absurd (true≢false (sym q))
+same_columns (v ∷ v' ∷ []) [] p q h = absurd (true≢false (sym q))
+same_columns (v ∷ []) (u ∷ u' ∷ u'' ∷ more) p q h = absurd (true≢false (sym q))
+same_columns (v ∷ v' ∷ []) (u ∷ u' ∷ u'' ∷ more) p q h = absurd (true≢false (sym q))
+
+columns_of_keys : (key : RowKey) → is_key_row (key_columns key) ≡ true
+columns_of_keys (setting_key name) = refl
+columns_of_keys (account_key id) = refl
+columns_of_keys (app_key id) = refl
+columns_of_keys (version_key id) = refl
+columns_of_keys (unit_key id) = refl
+columns_of_keys (host_key id) = refl
+columns_of_keys (instance_key unit num) = refl
+columns_of_keys (kept_key id) = refl
+columns_of_keys (batch_key kind name) = refl
+
+-- ---- a key from its table and columns
+
+abbrev number_in : Value → ℕ
+number_in (Int (pos n)) = n
+number_in _ = 0
+
+abbrev key_from : TableName → Row → RowKey
+key_from Setting cols = setting_key (bytes_of (column cols 0))
+key_from Account cols = account_key (number_in (column cols 0))
+key_from App cols = app_key (number_in (column cols 0))
+key_from Version cols = version_key (number_in (column cols 0))
+key_from Unit cols = unit_key (number_in (column cols 0))
+key_from Host cols = host_key (number_in (column cols 0))
+key_from Instance cols = instance_key (number_in (column cols 0)) (number_in (column cols 1))
+key_from Kept cols = kept_key (number_in (column cols 0))
+key_from Batch cols = batch_key (bytes_of (column cols 0)) (bytes_of (column cols 1))
+
+key_back : (key : RowKey) → key_from (table_at key) (key_columns key) ≡ key
+key_back (setting_key name) = refl
+key_back (account_key id) = refl
+key_back (app_key id) = refl
+key_back (version_key id) = refl
+key_back (unit_key id) = refl
+key_back (host_key id) = refl
+key_back (instance_key unit num) = refl
+key_back (kept_key id) = refl
+key_back (batch_key kind name) = refl
+
+pub one_key : (a b : RowKey) → same_key a b ≡ true → a ≡ b
+one_key a b h =
+    let parts = and_parts (tree_of (table_at a) == tree_of (table_at b)) _ h in
+    let table = same_table (table_at a) (table_at b) (eqb-true _ _ parts.0) in
+    let columns = same_columns (key_columns b) (key_columns a) (columns_of_keys b) (columns_of_keys a) parts.1 in
+    sym (key_back a) ∙ ap₂ key_from table (sym columns) ∙ key_back b
+
+-- ---- what is held after rows are put
+
+abbrev pub is_put : List StoredRow → RowKey → Bool
+is_put rows key = list_any (λ row. same_key key (key_of row)) rows
+
+-- Contents with rows put are other contents, which have each of the rows and are the same where no row is put.
+pub settled : (old new : Contents) (rows : List StoredRow) → AllByRecursion (λ row. new (key_of row) ≡ Some row) rows → ((key : RowKey) → is_put rows key ≡ false → old key ≡ new key)
+    → (key : RowKey) → with_rows old rows key ≡ new key
+settled old new [] each others key = others key refl
+settled old new (row ∷ rows) each others key =
+    settled (with_row old row) new rows each.1 (λ k none. step k none (same_key k (key_of row)) refl) key
+  where
+    step : (k : RowKey) → is_put rows k ≡ false → (b : Bool) → same_key k (key_of row) ≡ b → with_row old row k ≡ new k
+    step k none true here = rw here (sym (ap new (one_key k (key_of row) here) ∙ each.0))
+    step k none false here = rw here (others k (or_from _ _ here none))

@@ -1,0 +1,13 @@
+pub mod Binding
+pub mod Definitions
+pub mod Keys
+pub mod Knowing
+pub mod LookUps
+pub mod PutFacts
+pub mod PutRows
+pub mod PutTexts
+pub mod Putting
+pub mod ReadTexts
+pub mod Reading
+pub mod Statements
+pub mod StepLemmas

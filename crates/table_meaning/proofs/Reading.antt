@@ -1,0 +1,78 @@
+-- A read of a whole table shows its rows in the order of its tree.
+use Rattle.std.proofs.Common.{◌≡◌, ℕ, ℤ, true, List, [], ◌∷◌, map, map-id, drop, refl, sym, ap, ap₂, subst, ◌∙◌, Less}
+use Rattle.std.specs.List.{AllByRecursion}
+use Rattle.sqlite_value.specs.declared.value.Value.TheVariants.{Null, Int}
+use Rattle.sqlite_value.specs.Order.{Row, column, value_cmp}
+use Rattle.sqlite_value.proofs.OrderLemmas.{value_cmp-Int}
+use Rattle.sqlite_trees.specs.declared.store.Shape.TheVariants.{Table as TableTree}
+use Rattle.sqlite_trees.specs.Tree.{Trees, rowid, IsTable}
+use Rattle.sqlite_trees.specs.View.{IsShaped, is_int}
+use Rattle.sqlite_sql.specs.Term.{col}
+use Rattle.sqlite_sql.specs.Program.{overlay}
+use Rattle.sqlite_sql.specs.Query.{IsAnswer}
+use Rattle.sqlite_schema.specs.declared.command.Command.TheVariants.{Select}
+use Rattle.sqlite_rules.specs.Edit.{id_in}
+use Rattle.sqlite_rules.proofs.TableLemmas.{int_is}
+use Rattle.sqlite_keyed.specs.Keyed.{IsKeyedBy}
+use Rattle.sqlite_keyed.proofs.ListLemmas.{map-map, ascending_from_map, ascending_weaker}
+use Rattle.sqlite_keyed.proofs.KeyedLemmas.{lt_from_Less}
+use Rattle.sqlite_typed.proofs.AnswerLemmas.{at_end, last_table, answer_by_keys, unfiltered}
+use Rattle.sqlite_typed.proofs.TestLemmas.{last_key}
+use Rattle.sqlite.specs.State.{State, Shown}
+use Rattle.sqlite.proofs.Callers.{reads_as}
+use Rattle.table_meaning.specs.declared.tables.TableName.{TableName}
+use Rattle.table_meaning.specs.declared.tables.TableName.TheVariants.{Setting, Account, App, Version, Unit, Host, Instance, Kept, Batch}
+use Rattle.table_meaning.specs.Schema.{stored_schema}
+use Rattle.table_meaning.specs.Texts.{read_text}
+use Rattle.table_meaning.specs.Rows.{tree_of, places_of, rows_in}
+use Rattle.table_meaning.specs.Reads.{read_query}
+use Rattle.table_meaning.specs.Holding.{AreKnown}
+use Rattle.table_meaning.proofs.ReadTexts.{names_of, each_is_read}
+
+-- a row of a tree as its number and its columns
+abbrev Numbered : Type 0
+Numbered = ℤ × Row
+
+abbrev as_row : Numbered → Row
+as_row n = Int n.0 ∷ n.1
+
+abbrev parted : Row → Numbered
+parted r = (id_in (rowid r), drop 1 r)
+
+whole_row : (r : Row) → is_int (rowid r) ≡ true → r ≡ as_row (parted r)
+whole_row [] h = absurd (let e : is_int Null ≡ true = h in cc)
+whole_row (v ∷ r) h = ap (λ u. u ∷ r) (int_is v h)
+
+as_rows : (rows : List Row) → AllByRecursion (λ r. is_int (rowid r) ≡ true) rows → rows ≡ map as_row (map parted rows)
+as_rows [] h = refl
+as_rows (r ∷ rows) h = ap₂ ◌∷◌ (whole_row r h.0) (as_rows rows h.1)
+
+numbers_rise : (xs : List Numbered) → IsTable (map as_row xs) → IsKeyedBy (λ n. n.0) xs
+numbers_rise xs up = ascending_weaker _ _ (λ a b h. lt_from_Less _ _ (sym (value_cmp-Int a.0 b.0) ∙ h)) xs (ascending_from_map (λ a b. value_cmp (rowid a) (rowid b) ≡ Less) as_row xs up)
+
+read_rows : (db : Trees) (tree : ℕ) (places : List ℕ) → overlay db [] tree ≡ db tree → IsShaped TableTree (db tree) → (rows : List Row) → IsAnswer (read_query tree places) (overlay db []) [] rows
+    → rows ≡ map (λ r. map (column r) places) (db tree)
+read_rows db tree places own shaped rows answer =
+    let xs = map parted (db tree) in
+    let is : db tree ≡ map as_row xs = as_rows (db tree) shaped.1 in
+    let source = last_table (overlay db []) tree as_row (λ n. n.0) xs (own ∙ is) (numbers_rise xs (subst IsTable is shaped.0)) (at_end (overlay db [])) in
+    let show = λ (n : Numbered). map (column (as_row n)) places in
+    let all = answer_by_keys (read_query tree places) (overlay db []) [] source (λ _. true) (λ _. refl) (λ r. r) show (λ n. map-map _ (col 1) places) refl refl (λ a b. last_key (value_cmp-Int a.0 b.0)) rows answer in
+    sym (map-id rows) ∙ all ∙ ap (map show) (unfiltered xs refl) ∙ sym (map-map (λ r. map (column r) places) as_row xs) ∙ ap (map (λ r. map (column r) places)) (sym is)
+
+own_rows : (t : TableName) (db : Trees) → overlay db [] (tree_of t) ≡ db (tree_of t)
+own_rows Setting db = refl
+own_rows Account db = refl
+own_rows App db = refl
+own_rows Version db = refl
+own_rows Unit db = refl
+own_rows Host db = refl
+own_rows Instance db = refl
+own_rows Kept db = refl
+own_rows Batch db = refl
+
+pub shown_rows : (t : TableName) (old new : State) → AreKnown old.now → (rows : List Row) → Shown (read_text t) [] old new rows → rows ≡ rows_in old.now.trees t
+shown_rows t old new known rows h =
+    let meaning = each_is_read t in
+    let read = reads_as (read_text t) [] old new stored_schema known.schema (Select (record { lets = []; body = read_query (tree_of t) (places_of t) }) (names_of t)) meaning.0 meaning.1 meaning.2 rows h in
+    read_rows old.now.trees (tree_of t) (places_of t) (own_rows t old.now.trees) (known.ordered t) rows (read.answer Null)

@@ -1,0 +1,229 @@
+-- The steps of a transaction, one after another, and what its end leaves.
+use Rattle.std.proofs.Common.{◌≡◌, ◌⊎◌, cond, ℕ, zero, suc, ◌+◌, true, false, List, [], ◌∷◌, ◌++◌, map, drop, fold, length, ◌<◌, slice_index_or, Option, Some, None, Result, Ok, Err, IsTrue, refl, sym, ap, subst, ◌∙◌, inl, inr, arith}
+use Rattle.std.specs.List.{AllByRecursion}
+use Rattle.std.proofs.lemmas.Bool.{cases_Bool}
+use Rattle.sqlite_value.specs.Order.{Row}
+use Rattle.sqlite_trees.specs.declared.store.Store.{Ghosts}
+use Rattle.sqlite_trees.specs.Tree.{Trees}
+use Rattle.sqlite_schema.specs.declared.command.Command.TheVariants.{CreateTable, CreateIndex}
+use Rattle.sqlite_schema.specs.declared.command.Returning.{Returning}
+use Rattle.sqlite_schema.specs.declared.schema.Table.{Table}
+use Rattle.sqlite_schema.specs.declared.schema.Index.{Index}
+use Rattle.sqlite_catalog.specs.Change.{created, indexed, KeepsRows}
+use Rattle.sqlite_catalog.specs.Calls.{CreatesTable, CreatesIndex}
+use Rattle.sqlite_keyed.proofs.ListLemmas.{all-append, all_both}
+use Rattle.sqlite.specs.declared.error.Error.{Error}
+use Rattle.sqlite.specs.Effect.{Database}
+use Rattle.sqlite.specs.Does.{Tally, lacks_sequence, AtPlace, Defines, MakesIndex, MakesSequence}
+use Rattle.sqlite.specs.Held.{Held, state}
+use Rattle.sqlite.specs.State.{State, HasCleanDisk, IsUnchanged, IsRolledBack, KeepsCommit, Survives, Writes, Executes, ExecutesInside, Fails, IsNotRun, FailsToQuery, FailsToShow, Shown, ShowsRows, IsTooLate, mode_of}
+use Rattle.sqlite.proofs.Callers.{runs_as, survives_begin}
+use Rattle.sqlite.proofs.StateLemmas.{survives_then}
+use Rattle.table_meaning.specs.declared.tables.TableName.{TableName}
+use Rattle.table_meaning.specs.declared.tables.TableName.TheVariants.{Setting, Account, App, Version, Unit, Host, Instance, Kept, Batch}
+use Rattle.table_meaning.specs.declared.rows.StoredRow.{StoredRow}
+use Rattle.table_meaning.specs.Schema.{no_schema, stored_schema, instance_table}
+use Rattle.table_meaning.specs.Texts.{Made, made_table, made_index, definitions, definition_texts, put_text}
+use Rattle.table_meaning.specs.Making.{with_made, MakeInTurn, IsLeft}
+use Rattle.table_meaning.specs.Rows.{tree_of, columns_of}
+use Rattle.table_meaning.specs.Holding.{Contents, Hold, with_row, with_rows}
+use Rattle.table_meaning.specs.Reads.{Reads}
+use Rattle.table_meaning.specs.Steps.{Moves, AreNew}
+use Rattle.table_meaning.proofs.Definitions.{definitions_make, definitions_whole}
+use Rattle.table_meaning.proofs.Putting.{table_of}
+use Rattle.table_meaning.proofs.PutFacts.{facts}
+use Rattle.table_meaning.proofs.LookUps.{hold_put}
+
+-- ---- rows put
+
+rows_and_one : (contents : Contents) (rows : List StoredRow) (row : StoredRow) → with_rows contents (rows ++ row ∷ []) ≡ with_row (with_rows contents rows) row
+rows_and_one contents [] row = refl
+rows_and_one contents (r ∷ rows) row = rows_and_one (with_row contents r) rows row
+
+pub moved_none : (s : State) → IsTrue s.in_transaction → Moves s s []
+moved_none s inside = record { inside = inside; puts = λ contents holds. holds }
+
+pub moved_more : (a b c : State) (rows : List StoredRow) (row : StoredRow) → Moves a b rows → Moves b c (row ∷ []) → Moves a c (rows ++ row ∷ [])
+moved_more a b c rows row first one =
+    record { inside = one.inside; puts = λ contents holds. subst (Hold c.now) (sym (rows_and_one contents rows row)) (one.puts (with_rows contents rows) (first.puts contents holds)) }
+
+pub row_moved : (row : StoredRow) (old new : State) (count : ℕ) → ExecutesInside 0 (put_text (table_of row)) (columns_of row) old new (Ok count) → Moves old new (row ∷ [])
+row_moved row old new count h = record { inside = h.1.mode; puts = λ contents holds. hold_put row (facts row) old new holds.known count h.0 contents holds }
+
+-- ---- nothing is committed on the way
+
+pub keeps_itself : (s : State) → KeepsCommit s s
+keeps_itself s = record { was_open = λ h. h; committed = λ h. refl }
+
+pub keeps_then : (a b c : State) → KeepsCommit a b → KeepsCommit b c → KeepsCommit a c
+keeps_then a b c p q = record { was_open = λ h. p.was_open (q.was_open h); committed = λ h. q.committed h ∙ p.committed (q.was_open h) }
+
+kept_unchanged : (old new : State) → IsUnchanged old new → KeepsCommit old new
+kept_unchanged old new same = record { was_open = λ _. same.0.was_open; committed = λ _. same.0.committed_is }
+
+kept_back : (old new : State) → IsRolledBack old new → KeepsCommit old new
+kept_back old new back = record { was_open = back.was_open; committed = λ h. (back.undone h).1 }
+
+kept_inside : (sql : List ℕ) (params : Row) (old new : State) (r : Result ℕ Error) → ExecutesInside 0 sql params old new r → KeepsCommit old new
+kept_inside sql params old new (Ok count) h = record { was_open = λ _. h.1.was_open; committed = λ _. h.1.committed_is }
+kept_inside sql params old new (Err e) (inl (ran, inl same)) = kept_unchanged old new same
+kept_inside sql params old new (Err e) (inl (ran, inr back)) = kept_back old new back
+kept_inside sql params old new (Err e) (inr ended) = kept_unchanged old new ended.2
+
+pub kept_by : {S : Type 0} (g : Ghosts S) (old new : Held S) (sql : List ℕ) (params : Row) (r : Result ℕ Error) → (old.in_transaction ≡ false → new ≡ old)
+    → (HasCleanDisk (state g new) → IsTrue old.in_transaction → ExecutesInside 0 sql params (state g old) (state g new) r) → HasCleanDisk (state g new) → KeepsCommit (state g old) (state g new)
+kept_by g old new sql params r ended runs clean = elim (cases_Bool old.in_transaction) [
+  | inl inside ↦ kept_inside sql params (state g old) (state g new) r (runs clean inside)
+  | inr outside ↦ subst (λ h. KeepsCommit (state g old) (state g h)) (sym (ended outside)) (keeps_itself (state g old))
+]
+
+kept_fails : (old new : State) (too_big : Type 0) (e : Error) → Fails old new too_big e → KeepsCommit old new
+kept_fails old new too_big e fails = kept_back old new fails.3
+
+pub kept_shown : (sql : List ℕ) (params : Row) (old new : State) (rows : List Row) → IsTrue old.in_transaction → Shown sql params old new rows → KeepsCommit old new
+unfolding Shown
+kept_shown sql params old new rows inside (c, it, shows) = go c.returning _ shows
+  where
+    go : (o : Option Returning) (full : Row) → ShowsRows old new sql c full rows o → KeepsCommit old new
+    go None full h = kept_unchanged old new h.3
+    go (Some what) full h = let shown = h.1.shown in record { was_open = λ _. shown.was_open; committed = λ _. subst (λ b. new.committed ≡ cond b old.committed new.now) inside shown.committed_is }
+
+pub kept_failed : (sql : List ℕ) (params : Row) (old new : State) (e : Error) → (FailsToQuery sql params old new e ⊎ IsTooLate sql params old new e) → KeepsCommit old new
+unfolding FailsToQuery IsNotRun
+kept_failed sql params old new e (inl (inl (inl none))) = kept_unchanged old new none.1
+kept_failed sql params old new e (inl (inl (inr fails))) = kept_fails old new _ e fails
+kept_failed sql params old new e (inl (inr (c, it, shows))) = go c.returning _ shows
+  where
+    go : (o : Option Returning) (full : Row) → FailsToShow old new sql c full e o → KeepsCommit old new
+    go None full h = kept_unchanged old new h.3
+    go (Some what) full (inl h) = kept_unchanged old new h.1
+    go (Some what) full (inr fails) = kept_fails old new _ e fails
+kept_failed sql params old new e (inr late) = kept_unchanged old new late.5
+
+-- ---- reads
+
+pub survives_itself : (s : State) → Survives s s (λ _. ⊥)
+survives_itself s = record { clean = omega arith; shield = λ h. h; counts = omega arith; limit = refl; closes = λ clean h. inl h; crash = λ clean db h. inl h }
+
+pub survives_on : (a b c : State) → Survives a b (λ _. ⊥) → Survives b c (λ _. ⊥) → Survives a c (λ _. ⊥)
+survives_on a b c = survives_then a b c _ _ _ (λ _ db none. none) (λ _ db none. none)
+
+pub reads_none : (s : State) → Reads s s
+reads_none s = record {
+  survives = survives_itself s;
+  was_open = λ clean h. h;
+  same = λ clean h rest. (refl, refl);
+}
+
+pub reads_on : (a b c : State) → Reads a b → Reads b c → Reads a c
+reads_on a b c p q =
+    let early = λ (clean : HasCleanDisk c). let h : HasCleanDisk b = omega (arith, q.survives.clean) in h in
+    record {
+      survives = survives_then a b c _ _ _ (λ _ db none. none) (λ _ db none. none) p.survives q.survives;
+      was_open = λ clean h. p.was_open (early clean) (q.was_open clean h);
+      same = λ clean h rest.
+          let first = p.same (early clean) (q.was_open clean h) rest in
+          let second = q.same clean h (first.0 ∙ rest ∙ sym first.1) in
+          (second.0 ∙ first.0, second.1 ∙ first.1);
+    }
+
+-- a statement in a transaction that is then rolled back
+module _ {S : Type 0} (g : Ghosts S) (old mid end : Held S) (kept : HasCleanDisk (state g mid) → KeepsCommit (state g (record old { in_transaction = true })) (state g mid))
+    (one : Survives (state g (record old { in_transaction = true })) (state g mid) (λ _. ⊥)) (back : HasCleanDisk (state g end) → IsRolledBack (state g mid) (state g end))
+    (two : Survives (state g mid) (state g end) (λ _. ⊥)) where
+  pub reads_back : Reads (state g old) (state g end)
+  reads_back =
+      let early = λ (clean : HasCleanDisk (state g end)). let h : HasCleanDisk (state g mid) = omega (arith, two.clean) in h in
+      record {
+        survives = survives_begin g old (state g end) _ (survives_then (state g (record old { in_transaction = true })) (state g mid) (state g end) _ _ _ (λ _ db none. none) (λ _ db none. none) one two);
+        was_open = λ clean h. (kept (early clean)).was_open ((back clean).was_open h);
+        same = λ clean h rest.
+            let undone = (back clean).undone h in
+            let same = (kept (early clean)).committed ((back clean).was_open h) in
+            (undone.0 ∙ same ∙ sym rest, undone.1 ∙ same);
+      }
+
+-- ---- tables made
+
+went : {B E R : Type 0} {b : B} {Stops : E → Type 0} → ((stop : E) × Stops stop × (Ok b ≡ Err stop)) ⊎ R → R
+went (inl stopped) = absurd (let e = stopped.2 in cc)
+went (inr on) = on
+
+same_value : {B E : Type 0} {a b : B} → ◌≡◌ {A = Result B E} (Ok a) (Ok b) → a ≡ b
+same_value e = cc
+
+still_empty : (tables : List Table) (old new : Trees) → AllByRecursion (λ t. old t.tree ≡ []) tables → KeepsRows tables old new → AllByRecursion (λ t. new t.tree ≡ []) tables
+still_empty tables old new was kept = all_both _ _ (λ t. new t.tree ≡ []) (λ t before same. same ∙ before) tables was kept
+
+left_with : (old new : Database) (text : List ℕ) (made : Made) (more : List (List ℕ × Made)) → IsLeft ((text, made) ∷ more) old → new.schema ≡ with_made old.schema made
+    → AllByRecursion (λ t. new.trees t.tree ≡ []) (with_made old.schema made).tables → IsLeft more new
+left_with old new text made more left schema empty = record {
+  makes = subst (λ s. MakeInTurn s more) (sym schema) left.makes.3;
+  whole = subst (λ s. fold (λ s' d. with_made s' d.1) s more ≡ stored_schema) (sym schema) left.whole;
+  empty = subst (λ s. AllByRecursion (λ t. new.trees t.tree ≡ []) s.tables) (sym schema) empty;
+}
+
+table_more : (text : List ℕ) (table : Table) (more : List (List ℕ × Made)) (old after new : Database) → IsLeft ((text, made_table table) ∷ more) old
+    → CreatesTable old.schema text old.trees after.schema after.trees → MakesSequence after (Ok new) → IsLeft more new
+table_more text table more old after new left it counts =
+    let table_is = same_value (sym it.defined ∙ left.makes.0.1) in
+    let schema : after.schema ≡ created old.schema table = it.is ∙ ap (created old.schema) table_is in
+    let plain : lacks_sequence after.schema ≡ false = ap lacks_sequence schema ∙ left.makes.0.2 in
+    let now : new ≡ after = same_value (rw plain at counts) in
+    let empty = all-append (λ t. after.trees t.tree ≡ []) old.schema.tables _ (still_empty old.schema.tables old.trees after.trees left.empty it.others) (it.empty, tt) in
+    subst (IsLeft more) (sym now) (left_with old after text (made_table table) more left schema empty)
+
+index_more : (text : List ℕ) (index : Index) (more : List (List ℕ × Made)) (old new : Database) → IsLeft ((text, made_index index) ∷ more) old
+    → CreatesIndex old.schema instance_table text old.trees new.schema new.trees → IsLeft more new
+index_more text index more old new left it =
+    let index_is = same_value (sym it.defined ∙ left.makes.0.2) in
+    left_with old new text (made_index index) more left (it.is ∙ ap (indexed old.schema instance_table) index_is) (still_empty old.schema.tables old.trees new.trees left.empty it.rows)
+
+pub made_more : (text : List ℕ) (made : Made) (more : List (List ℕ × Made)) (old new : State) (count : ℕ) → IsLeft ((text, made) ∷ more) old.now → Executes text [] old new (Ok count) → IsLeft more new.now
+made_more text (made_table table) more old new count left h =
+    let w = subst (λ t. Writes old new None CreateTable t [] count) left.makes.1 (runs_as text [] old new old.now.schema refl CreateTable left.makes.0.0 left.makes.2 count h) in
+    let all = went w.changed in
+    let first = went all.1 in
+    let now : new.now ≡ all.0 = ap (λ (p : Tally × Database). p.1) (same_value all.2) in
+    table_more text table more old.now first.0 new.now left first.1 (subst (λ d. MakesSequence first.0 (Ok d)) (sym now) first.2)
+made_more text (made_index index) more old new count left h =
+    let w = subst (λ t. Writes old new None (CreateIndex 6) t [] count) left.makes.1 (runs_as text [] old new old.now.schema refl (CreateIndex 6) left.makes.0.0 left.makes.2 count h) in
+    let all = went (subst (λ o. AtPlace (λ table. Defines (mode_of old) (MakesIndex text old.now table)) o (Ok (w.tally, new.now))) left.makes.0.1 w.changed) in
+    let now : new.now ≡ all.0 = ap (λ (p : Tally × Database). p.1) (same_value all.2) in
+    index_more text index more old.now new.now left (subst (λ d. CreatesIndex old.now.schema instance_table text old.now.trees d.schema d.trees) (sym now) all.1)
+
+pub none_made : (db : Database) → db.schema ≡ no_schema → IsLeft definitions db
+none_made db none = record {
+  makes = subst (λ s. MakeInTurn s definitions) (sym none) definitions_make;
+  whole = subst (λ s. fold (λ s' d. with_made s' d.1) s definitions ≡ stored_schema) (sym none) definitions_whole;
+  empty = subst (λ s. AllByRecursion (λ t. db.trees t.tree ≡ []) s.tables) (sym none) tt;
+}
+
+next_made : (all : List (List ℕ × Made)) (at : ℕ) → at < length all → (made : Made) × (drop at all ≡ (slice_index_or (map (λ d. d.0) all) at [], made) ∷ drop (suc at) all)
+next_made [] at within = absurd (omega arith)
+next_made (d ∷ all) zero within = (d.1, refl)
+next_made (d ∷ all) (suc at) within = next_made all at (omega arith)
+
+pub defined_more : (at : ℕ) (text : List ℕ) (old new : State) (count : ℕ) → at < length definitions → text ≡ slice_index_or definition_texts at [] → IsLeft (drop at definitions) old.now
+    → ExecutesInside 0 text [] old new (Ok count) → IsTrue new.in_transaction × IsLeft (drop (at + 1) definitions) new.now
+defined_more at text old new count within is left h =
+    let next = next_made definitions at within in
+    let one : suc at ≡ at + 1 = omega arith in
+    let here : IsLeft ((text, next.0) ∷ drop (suc at) definitions) old.now = subst (λ t. IsLeft ((t, next.0) ∷ drop (suc at) definitions) old.now) (sym is) (subst (λ ds. IsLeft ds old.now) next.1 left) in
+    (h.1.mode, subst (λ n. IsLeft (drop n definitions) new.now) one (made_more text next.0 (drop (suc at) definitions) old new count here h.0))
+
+pub all_made : (db : Database) → IsLeft [] db → AreNew db
+all_made db left =
+    let empty = subst (λ s. AllByRecursion (λ t. db.trees t.tree ≡ []) s.tables) left.whole left.empty in
+    record { schema = left.whole; empty = λ t. none_in t empty }
+  where
+    none_in : (t : TableName) → AllByRecursion (λ t'. db.trees t'.tree ≡ []) stored_schema.tables → db.trees (tree_of t) ≡ []
+    none_in Setting all = all.0
+    none_in Account all = all.1.0
+    none_in App all = all.1.1.0
+    none_in Version all = all.1.1.1.0
+    none_in Unit all = all.1.1.1.1.0
+    none_in Host all = all.1.1.1.1.1.0
+    none_in Instance all = all.1.1.1.1.1.1.0
+    none_in Kept all = all.1.1.1.1.1.1.1.0
+    none_in Batch all = all.1.1.1.1.1.1.1.1.0

@@ -1,0 +1,39 @@
+-- What the tables hold, as look-ups.
+use Rattle.std.specs.Prelude.{◌≡◌, ℕ, true, List, fold, if◌then◌else◌, Option, Some, option_map}
+use Rattle.sqlite_value.specs.Order.{Row}
+use Rattle.sqlite_value.specs.Keys.{plain}
+use Rattle.sqlite_trees.specs.declared.store.Shape.TheVariants.{Table as TableTree}
+use Rattle.sqlite_trees.specs.View.{IsShaped}
+use Rattle.sqlite_schema.specs.Rules.{agree}
+use Rattle.sqlite_rules.specs.Lists.{Has}
+use Rattle.sqlite.specs.Effect.{Database}
+use Rattle.table_meaning.specs.declared.tables.TableName.{TableName}
+use Rattle.table_meaning.specs.declared.rows.StoredRow.{StoredRow}
+use Rattle.table_meaning.specs.Schema.{stored_schema}
+use Rattle.table_meaning.specs.Rows.{tree_of, key_places, columns_of, RowKey, key_of, same_key, look_up}
+
+-- no two rows agree at these places
+abbrev pub AreApart : List ℕ → List Row → Type 0
+AreApart places rows = (a b : Row) → Has rows a → Has rows b → agree plain places a places b ≡ true → a ≡ b
+
+-- The schema is the known one, the numbers of each table's rows rise, and no key comes twice.
+pub record AreKnown (db : Database) : Type 0 where
+  pub schema : db.schema ≡ stored_schema
+  pub ordered : (t : TableName) → IsShaped TableTree (db.trees (tree_of t))
+  pub apart : (t : TableName) → AreApart (key_places t) (db.trees (tree_of t))
+
+-- what stands at each key, where something stands
+abbrev pub Contents : Type 0
+Contents = RowKey → Option StoredRow
+
+-- The tables are known ones, and at each key stands just this.
+pub record Hold (db : Database) (contents : Contents) : Type 0 where
+  pub known : AreKnown db
+  pub rows : (key : RowKey) → look_up db.trees key ≡ option_map columns_of (contents key)
+
+-- the contents with a row put at its key, and with each of some rows
+abbrev pub with_row : Contents → StoredRow → Contents
+with_row contents row key = if same_key key (key_of row) then Some row else contents key
+
+abbrev pub with_rows : Contents → List StoredRow → Contents
+with_rows = fold with_row

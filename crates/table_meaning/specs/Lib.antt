@@ -1,0 +1,9 @@
+pub mod Holding
+pub mod Making
+pub mod Reads
+pub mod Rows
+pub mod Schema
+pub mod Steps
+pub mod Texts
+pub mod Upserts
+pub mod Worlds

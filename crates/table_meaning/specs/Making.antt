@@ -1,0 +1,36 @@
+-- How the CREATE texts make the schema, one after another.
+use Rattle.std.specs.Prelude.{◌≡◌, ℕ, ⊤, false, List, [], ◌∷◌, fold, slice_get, Some, Ok}
+use Rattle.std.specs.List.{AllByRecursion}
+use Rattle.sqlite_schema.specs.declared.schema.Schema.{Schema}
+use Rattle.sqlite_schema.specs.declared.command.Command.TheVariants.{CreateTable, CreateIndex}
+use Rattle.sqlite_resolve.specs.Compile.{table_defined_by, index_defined_by}
+use Rattle.sqlite_catalog.specs.Change.{created, indexed}
+use Rattle.sqlite.specs.Effect.{Database}
+use Rattle.sqlite.specs.Does.{lacks_sequence}
+use Rattle.sqlite.specs.Given.{IsPlain}
+use Rattle.sqlite.specs.Listing.{understood}
+use Rattle.sqlite.proofs.Callers.{command_of, statement_of}
+use Rattle.table_meaning.specs.Schema.{instance_table, stored_schema}
+use Rattle.table_meaning.specs.Texts.{Made, made_table, made_index}
+
+abbrev pub with_made : Schema → Made → Schema
+with_made schema (made_table table) = created schema table
+with_made schema (made_index index) = indexed schema instance_table index
+
+-- at this schema the text makes just that
+abbrev pub Makes : Schema → List ℕ → Made → Type 0
+Makes schema text (made_table table) =
+    (command_of (understood schema text) ≡ CreateTable) × (table_defined_by text ≡ Ok (record table { tree = 0 })) × (lacks_sequence (created schema table) ≡ false)
+Makes schema text (made_index index) = (command_of (understood schema text) ≡ CreateIndex 6) × (slice_get schema.tables 6 ≡ Some instance_table) × (index_defined_by instance_table text ≡ Ok (record index { tree = 0 }))
+
+-- each in turn, at the schema that those before it made
+abbrev pub MakeInTurn : Schema → List (List ℕ × Made) → Type 0
+MakeInTurn schema [] = ⊤
+MakeInTurn schema (d ∷ more) =
+    Makes schema d.0 d.1 × (statement_of d.0 (understood schema d.0) ≡ d.0) × IsPlain (understood schema d.0) × MakeInTurn (with_made schema d.1) more
+
+-- the tables so far are empty, and what is left to make makes them all
+pub record IsLeft (left : List (List ℕ × Made)) (db : Database) : Type 0 where
+  pub makes : MakeInTurn db.schema left
+  pub whole : fold (λ schema d. with_made schema d.1) db.schema left ≡ stored_schema
+  pub empty : AllByRecursion (λ t. db.trees t.tree ≡ []) db.schema.tables

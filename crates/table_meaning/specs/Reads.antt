@@ -1,0 +1,28 @@
+-- The form of the statements that read a table whole, and what a read leaves of a connection.
+use Rattle.std.specs.Prelude.{◌≡◌, ℕ, pos, negsuc, false, List, [], ◌∷◌, map, None, IsTrue}
+use Rattle.sqlite_value.specs.declared.value.Value.TheVariants.{Int}
+use Rattle.sqlite_value.specs.declared.keys.Collation.TheVariants.{Binary}
+use Rattle.sqlite_value.specs.Keys.{ascending}
+use Rattle.sqlite_sql.specs.Term.{lit, col}
+use Rattle.sqlite_sql.specs.Query.{Query, inner, end}
+use Rattle.sqlite.specs.State.{State, HasCleanDisk, Survives}
+
+-- the rows of a tree at these places, by their number
+abbrev pub read_query : ℕ → List ℕ → Query
+read_query tree places = record {
+  from = inner tree end;
+  filter = [];
+  group = None;
+  project = map (col 1) places;
+  distinct = false;
+  collations = [];
+  order = (col 1 0, ascending Binary) ∷ [];
+  limit = lit (Int (negsuc 0));
+  offset = lit (Int (pos 0));
+}
+
+-- Nothing was committed, a stop leaves nothing new, and at rest the connection shows what it showed.
+pub record Reads (old new : State) : Type 0 where
+  pub survives : Survives old new (λ _. ⊥)
+  pub was_open : HasCleanDisk new → IsTrue new.is_open → IsTrue old.is_open
+  pub same : HasCleanDisk new → IsTrue new.is_open → old.now ≡ old.committed → (new.now ≡ old.now) × (new.committed ≡ old.committed)

@@ -1,0 +1,181 @@
+-- The rows of the tables as SQL has them: which columns each shows, and what its key is.
+use Rattle.std.specs.Prelude.{ℕ, pos, Bool, ◌&&◌, ◌==◌, if◌then◌else◌, List, [], ◌∷◌, map, length, find, Option, option_map}
+use Rattle.std.specs.List.{range_with_len}
+use Rattle.sqlite_value.specs.declared.value.Value.{Value}
+use Rattle.sqlite_value.specs.declared.value.Value.TheVariants.{Int, Text, Blob}
+use Rattle.sqlite_value.specs.Order.{Row, column}
+use Rattle.sqlite_value.specs.Keys.{plain}
+use Rattle.sqlite_trees.specs.Tree.{Trees}
+use Rattle.sqlite_schema.specs.Rules.{agree}
+use Rattle.sqlite.specs.Values.{or_null}
+use Rattle.table_meaning.specs.declared.tables.TableName.{TableName}
+use Rattle.table_meaning.specs.declared.tables.TableName.TheVariants as table
+use Rattle.table_meaning.specs.declared.rows.SettingValue.{SettingValue}
+use Rattle.table_meaning.specs.declared.rows.SettingValue.TheVariants.{Number, Word}
+use Rattle.table_meaning.specs.declared.rows.StoredRow.{StoredRow}
+use Rattle.table_meaning.specs.declared.rows.StoredRow.TheVariants.{Setting, Account, App, Version, Unit, Host, Instance, Kept, Batch}
+
+-- the tree of a table's rows
+abbrev pub tree_of : TableName → ℕ
+tree_of table.Setting = 0
+tree_of table.Account = 2
+tree_of table.App = 4
+tree_of table.Version = 6
+tree_of table.Unit = 8
+tree_of table.Host = 10
+tree_of table.Instance = 12
+tree_of table.Kept = 14
+tree_of table.Batch = 15
+
+-- Where a row of the tree has the columns, in order. At place 0 it has its number, which is the first column of most tables.
+abbrev pub places_of : TableName → List ℕ
+places_of table.Setting = 1 ∷ 2 ∷ []
+places_of table.Account = 0 ∷ 2 ∷ 3 ∷ []
+places_of table.App = 0 ∷ 2 ∷ 3 ∷ []
+places_of table.Version = 0 ∷ 2 ∷ 3 ∷ 4 ∷ []
+places_of table.Unit = 0 ∷ 2 ∷ 3 ∷ 4 ∷ 5 ∷ 6 ∷ 7 ∷ 8 ∷ 9 ∷ 10 ∷ 11 ∷ 12 ∷ 13 ∷ 14 ∷ []
+places_of table.Host = 0 ∷ 2 ∷ 3 ∷ 4 ∷ 5 ∷ 6 ∷ 7 ∷ 8 ∷ 9 ∷ 10 ∷ []
+places_of table.Instance = 1 ∷ 2 ∷ 3 ∷ 4 ∷ 5 ∷ 6 ∷ 7 ∷ 8 ∷ 9 ∷ 10 ∷ []
+places_of table.Kept = 0 ∷ 2 ∷ 3 ∷ 4 ∷ []
+places_of table.Batch = 1 ∷ 2 ∷ 3 ∷ 4 ∷ []
+
+-- where it has its key
+abbrev pub key_places : TableName → List ℕ
+key_places table.Setting = 1 ∷ []
+key_places table.Account = 0 ∷ []
+key_places table.App = 0 ∷ []
+key_places table.Version = 0 ∷ []
+key_places table.Unit = 0 ∷ []
+key_places table.Host = 0 ∷ []
+key_places table.Instance = 1 ∷ 2 ∷ []
+key_places table.Kept = 0 ∷ []
+key_places table.Batch = 1 ∷ 2 ∷ []
+
+-- the columns that a row of the tree shows
+abbrev pub shown : TableName → Row → Row
+shown t row = map (column row) (places_of t)
+
+-- the rows of a table in the order of its tree, as a read of the whole table shows them
+abbrev pub rows_in : Trees → TableName → List Row
+rows_in trees t = map (shown t) (trees (tree_of t))
+
+-- ---- rows with names and types
+
+abbrev pub whole : ℕ → Value
+whole n = Int (pos n)
+
+abbrev pub setting_value : SettingValue → Value
+setting_value (Number n) = whole n
+setting_value (Word w) = Text w
+
+abbrev pub table_of : StoredRow → TableName
+table_of (Setting s) = table.Setting
+table_of (Account a) = table.Account
+table_of (App a) = table.App
+table_of (Version v) = table.Version
+table_of (Unit u) = table.Unit
+table_of (Host h) = table.Host
+table_of (Instance i) = table.Instance
+table_of (Kept k) = table.Kept
+table_of (Batch b) = table.Batch
+
+abbrev pub columns_of : StoredRow → Row
+columns_of (Setting s) = Text s.name ∷ setting_value s.value ∷ []
+columns_of (Account a) = whole a.id ∷ Text a.auth ∷ Text a.name ∷ []
+columns_of (App a) = whole a.id ∷ Text a.name ∷ or_null whole a.agreement ∷ []
+columns_of (Version v) = whole v.id ∷ whole v.app_id ∷ Text v.platform ∷ whole v.num ∷ []
+columns_of (Unit u) =
+    whole u.id
+    ∷ Text u.name
+    ∷ whole u.app_id
+    ∷ whole u.min_quorum
+    ∷ whole u.target_nresults
+    ∷ whole u.max_error_results
+    ∷ whole u.max_total_results
+    ∷ whole u.max_success_results
+    ∷ whole u.delay_bound
+    ∷ Int u.rsc_fpops_est
+    ∷ Int u.rsc_memory_bound
+    ∷ Int u.rsc_disk_bound
+    ∷ whole u.credit
+    ∷ whole u.status
+    ∷ []
+columns_of (Host h) = whole h.id ∷ whole h.account_id ∷ Text h.cpid ∷ Text h.platforms ∷ Int h.fpops ∷ Int h.memory ∷ Int h.disk ∷ whole h.quota ∷ whole h.held ∷ Int h.credit ∷ []
+columns_of (Instance i) =
+    whole i.unit_id
+    ∷ whole i.num
+    ∷ or_null whole i.host_id
+    ∷ or_null Int i.sent
+    ∷ or_null Int i.deadline
+    ∷ whole i.lapse
+    ∷ or_null whole i.outcome
+    ∷ or_null Text i.output
+    ∷ or_null whole i.place
+    ∷ whole (if i.queued then 1 else 0)
+    ∷ []
+columns_of (Kept k) = whole k.host_id ∷ whole k.seqno ∷ Text k.text ∷ Text k.reply ∷ []
+columns_of (Batch b) = Text b.kind ∷ Text b.name ∷ Blob b.text ∷ Text b.answer ∷ []
+
+-- ---- keys
+
+-- what names one row at most
+pub data RowKey : Type 0 where
+  setting_key : List ℕ → RowKey
+  account_key : ℕ → RowKey
+  app_key : ℕ → RowKey
+  version_key : ℕ → RowKey
+  unit_key : ℕ → RowKey
+  host_key : ℕ → RowKey
+  -- the unit, and the number in it
+  instance_key : ℕ → ℕ → RowKey
+  kept_key : ℕ → RowKey
+  -- the kind and the name
+  batch_key : List ℕ → List ℕ → RowKey
+
+abbrev pub table_at : RowKey → TableName
+table_at (setting_key name) = table.Setting
+table_at (account_key id) = table.Account
+table_at (app_key id) = table.App
+table_at (version_key id) = table.Version
+table_at (unit_key id) = table.Unit
+table_at (host_key id) = table.Host
+table_at (instance_key unit num) = table.Instance
+table_at (kept_key id) = table.Kept
+table_at (batch_key kind name) = table.Batch
+
+abbrev pub key_columns : RowKey → Row
+key_columns (setting_key name) = Text name ∷ []
+key_columns (account_key id) = whole id ∷ []
+key_columns (app_key id) = whole id ∷ []
+key_columns (version_key id) = whole id ∷ []
+key_columns (unit_key id) = whole id ∷ []
+key_columns (host_key id) = whole id ∷ []
+key_columns (instance_key unit num) = whole unit ∷ whole num ∷ []
+key_columns (kept_key id) = whole id ∷ []
+key_columns (batch_key kind name) = Text kind ∷ Text name ∷ []
+
+abbrev pub key_of : StoredRow → RowKey
+key_of (Setting s) = setting_key s.name
+key_of (Account a) = account_key a.id
+key_of (App a) = app_key a.id
+key_of (Version v) = version_key v.id
+key_of (Unit u) = unit_key u.id
+key_of (Host h) = host_key h.id
+key_of (Instance i) = instance_key i.unit_id i.num
+key_of (Kept k) = kept_key k.host_id
+key_of (Batch b) = batch_key b.kind b.name
+
+abbrev pub slots_of : RowKey → List ℕ
+slots_of key = range_with_len 0 (length (key_columns key))
+
+-- the row of the tree has this key, as SQL compares its columns
+abbrev pub has_key : RowKey → Row → Bool
+has_key key row = agree plain (key_places (table_at key)) row (slots_of key) (key_columns key)
+
+-- Two keys are one where they are of one table and SQL finds their columns equal.
+abbrev pub same_key : RowKey → RowKey → Bool
+same_key a b = (tree_of (table_at a) == tree_of (table_at b)) && agree plain (slots_of b) (key_columns b) (slots_of a) (key_columns a)
+
+-- the columns of the row that stands at a key, where one stands
+abbrev pub look_up : Trees → RowKey → Option Row
+look_up trees key = option_map (shown (table_at key)) (find (has_key key) (trees (tree_of (table_at key))))

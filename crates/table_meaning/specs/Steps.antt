@@ -1,0 +1,23 @@
+-- What the steps of a transaction make of the tables.
+use Rattle.std.specs.Prelude.{◌≡◌, List, [], IsTrue}
+use Rattle.sqlite.specs.Effect.{Database}
+use Rattle.sqlite.specs.State.{State}
+use Rattle.table_meaning.specs.declared.tables.TableName.{TableName}
+use Rattle.table_meaning.specs.declared.rows.StoredRow.{StoredRow}
+use Rattle.table_meaning.specs.Schema.{stored_schema}
+use Rattle.table_meaning.specs.Rows.{tree_of}
+use Rattle.table_meaning.specs.Holding.{Contents, Hold, with_rows}
+
+-- whatever the tables held, they hold it with these rows put, one after another
+abbrev pub PutsRows : Database → Database → List StoredRow → Type 0
+PutsRows old new rows = (contents : Contents) → Hold old contents → Hold new (with_rows contents rows)
+
+-- the same within a transaction
+pub record Moves (old new : State) (rows : List StoredRow) : Type 0 where
+  pub inside : IsTrue new.in_transaction
+  pub puts : PutsRows old.now new.now rows
+
+-- the nine tables, each with no row
+pub record AreNew (db : Database) : Type 0 where
+  pub schema : db.schema ≡ stored_schema
+  pub empty : (t : TableName) → db.trees (tree_of t) ≡ []

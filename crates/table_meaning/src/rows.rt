@@ -1,0 +1,124 @@
+//! The rows of the tables, each with its columns in order.
+
+use texts::{Listed, Text};
+
+/// The value of a setting.
+#[derive(Drop)]
+pub enum SettingValue {
+    Number(u32),
+    Word(Text),
+}
+
+#[derive(Drop)]
+pub struct StoredSetting {
+    pub name: Text,
+    pub value: SettingValue,
+}
+
+#[derive(Drop)]
+pub struct StoredAccount {
+    pub id: u32,
+    pub auth: Text,
+    pub name: Text,
+}
+
+#[derive(Drop)]
+pub struct StoredApp {
+    pub id: u32,
+    pub name: Text,
+    /// How far two outputs may be apart, or none where they have to be equal.
+    pub agreement: Option<u32>,
+}
+
+#[derive(Drop)]
+pub struct StoredVersion {
+    pub id: u32,
+    pub app_id: u32,
+    pub platform: Text,
+    pub num: u32,
+}
+
+#[derive(Drop)]
+pub struct StoredUnit {
+    pub id: u32,
+    pub name: Text,
+    pub app_id: u32,
+    pub min_quorum: u32,
+    pub target_nresults: u32,
+    pub max_error_results: u32,
+    pub max_total_results: u32,
+    pub max_success_results: u32,
+    pub delay_bound: u32,
+    pub rsc_fpops_est: i64,
+    pub rsc_memory_bound: i64,
+    pub rsc_disk_bound: i64,
+    pub credit: u32,
+    /// 0 open, 1 done, 2, 3 and 4 failed: errors, successes, total.
+    pub status: u32,
+}
+
+#[derive(Drop)]
+pub struct StoredHost {
+    pub id: u32,
+    pub account_id: u32,
+    pub cpid: Text,
+    /// The platforms, joined by commas.
+    pub platforms: Text,
+    pub fpops: i64,
+    pub memory: i64,
+    pub disk: i64,
+    pub quota: u32,
+    /// How many instances it holds.
+    pub held: u32,
+    /// In millicredits.
+    pub credit: i64,
+}
+
+#[derive(Drop)]
+pub struct StoredInstance {
+    pub unit_id: u32,
+    pub num: u32,
+    pub host_id: Option<u32>,
+    pub sent: Option<i64>,
+    pub deadline: Option<i64>,
+    /// 0 none, 1 late, 2 dropped.
+    pub lapse: u32,
+    /// 1 a success, 3 a client error.
+    pub outcome: Option<u32>,
+    pub output: Option<Text>,
+    /// Its place among the judged reports of its unit.
+    pub place: Option<u32>,
+    /// Whether it waits to be given out: it has no owner, and its unit is open.
+    pub queued: bool,
+}
+
+/// The last kept call of a host.
+#[derive(Drop)]
+pub struct StoredCall {
+    pub host_id: u32,
+    pub seqno: u32,
+    pub text: Text,
+    pub reply: Text,
+}
+
+#[derive(Drop)]
+pub struct StoredBatch {
+    pub kind: Text,
+    pub name: Text,
+    pub text: Listed<u8>,
+    pub answer: Text,
+}
+
+/// A row of some table.
+#[derive(Drop)]
+pub enum StoredRow {
+    Setting(StoredSetting),
+    Account(StoredAccount),
+    App(StoredApp),
+    Version(StoredVersion),
+    Unit(StoredUnit),
+    Host(StoredHost),
+    Instance(StoredInstance),
+    Kept(StoredCall),
+    Batch(StoredBatch),
+}

@@ -1,0 +1,25 @@
+use Rattle.std.proofs.Common.{◌≡◌, false, IsTrue, ◌∙◌, rules, arith}
+use Rattle.std.proofs.lemmas.Bool.{both_ways, true_from_ne_false}
+use Rattle.sqlite_trees.specs.View.{IsClean}
+use Rattle.sqlite.specs.Held.{state}
+use Rattle.table_meaning.proofs.Knowing.{tables_rise}
+use Rattle.table_rows.proofs.opening.reopened.Goals as goal
+
+pub returns-clause-ordered : goal.returns-clause-ordered
+returns-clause-ordered g c clean =
+    let store = c.into_store-store.result in
+    let now = state g.S.Store c.in-Ok.conn in
+    let opened = c.in-Ok.ensures.opens clean in
+    let early : IsClean (g.S.Store.view store) = omega (arith, c.in-Ok.ensures.clean) in
+    let whole = c.is_broken.ensures early in
+    let unbroken : (g.S.Store.view store).is_broken ≡ false = search rules in
+    tables_rise (g.S.Store.view store) now.now.schema now.now.trees (c.in-Ok.ensures.trees clean) (g.met.S.Store.ordered store unbroken) (g.met.S.Alter.listed store unbroken) (opened.1 opened.0.is_open).0
+
+pub returns-clause-same : goal.returns-clause-same
+returns-clause-same g c clean =
+    let store = c.into_store-store.result in
+    let early : IsClean (g.S.Store.view store) = omega (arith, c.in-Ok.ensures.clean) in
+    let whole = c.is_broken.ensures early in
+    let unbroken : (g.S.Store.view store).is_broken ≡ false = search rules in
+    let is_open : IsTrue (g.S.Store.view store).is_open = true_from_ne_false _ (λ shut. both_ways _ unbroken (g.met.S.Store.broken_if_shut store shut)) in
+    c.in-Ok.ensures.trees clean ∙ (c.into_store-store.ensures.undone.undone is_open).0

@@ -1,0 +1,25 @@
+use Rattle.std.proofs.Common.{◌≡◌, ◌+◌, [], ◌∷◌, ◌++◌, take, sym, ap, subst, ◌∙◌, rules, arith}
+use Rattle.std.proofs.lemmas.List.{take_more}
+use Rattle.sqlite.specs.Held.{state}
+use Rattle.sqlite.specs.State.{HasCleanDisk}
+use Rattle.table_meaning.specs.Steps.{Moves}
+use Rattle.table_meaning.proofs.StepLemmas.{survives_on, keeps_then, moved_more}
+use Rattle.table_rows.proofs.put.put_each.Goals as goal
+
+pub loop-row-preserved : goal.loop-row-preserved
+loop-row-preserved g c =
+    let first = state g.S.Store c.args.tx.now.conn.now in
+    let before = state g.S.Store c.loop-row.tx.conn.now in
+    let after = state g.S.Store c.put_row.new.tx.conn.now in
+    let kept = c.loop-row.invariant in
+    let early = λ (clean : HasCleanDisk after). let h : HasCleanDisk before = omega (arith, c.put_row.ensures.survives.clean) in h in
+    let rows = c.args.rows.now in
+    let next : take (c.loop-row.row-index + 1) rows ≡ take c.loop-row.row-index rows ++ c.row-item.result ∷ [] =
+    take_more rows c.loop-row.row-index c.row-item.result (search rules) ∙ ap (λ x. take c.loop-row.row-index rows ++ x ∷ []) (sym c.row-item.is) in (
+      c.put_row.ensures.same_reference ∙ kept.0,
+      survives_on first before after kept.1 c.put_row.ensures.survives,
+      λ clean. keeps_then first before after (kept.2 (early clean)) (c.put_row.ensures.kept clean),
+      λ clean inside.
+          let moved = kept.3 (early clean) inside in
+          subst (Moves first after) (sym next) (moved_more first before after (take c.loop-row.row-index c.args.rows.now) c.row-item.result moved (c.in_ok-put_row.ensures.moves clean moved.inside)),
+    )

@@ -1,0 +1,124 @@
+//! Whether two schemas are one, by what they say.
+//!
+//! The stored tables have no default, no CHECK and no view. So these are not compared: a schema that has one is like no other.
+
+ghost use Rattle.std.specs.Prelude.{◌≡◌, [], IsTrue};
+
+use sqlite_items::Items;
+use sqlite_schema::schema::{Column, Index, Reference, Schema, Table};
+use sqlite_value::keys::Order;
+use sqlite_value::value::{Bytes, Value};
+
+pub trait Alike {
+    /// Whether it says what the other says.
+    fn is_alike(&self, other: &Self) -> bool
+        ensures { IsTrue result → self.now ≡ other.now };
+}
+
+fn are_alike<T: Alike>(first: &[T], second: &[T]) -> bool
+    ensures { IsTrue result → first.now ≡ second.now }
+{
+    if first.len() != second.len() {
+        return false;
+    }
+    for at in 0..first.len() {
+        if !first[at].is_alike(&second[at]) {
+            return false;
+        }
+    }
+    true
+}
+
+impl Alike for usize {
+    fn is_alike(&self, other: &usize) -> bool {
+        *self == *other
+    }
+}
+
+impl Alike for Order {
+    fn is_alike(&self, other: &Order) -> bool {
+        self.digits == other.digits
+    }
+}
+
+impl Alike for Bytes {
+    fn is_alike(&self, other: &Bytes) -> bool {
+        self.as_slice() == other.as_slice()
+    }
+}
+
+impl<T: Alike> Alike for Items<T> {
+    fn is_alike(&self, other: &Items<T>) -> bool {
+        are_alike(self.as_slice(), other.as_slice())
+    }
+}
+
+impl Alike for Column {
+    fn is_alike(&self, other: &Column) -> bool {
+        self.name.is_alike(&other.name)
+            && self.kind == other.kind
+            && self.is_strict == other.is_strict
+            && self.not_null == other.not_null
+            && matches!(&self.default, Value::Null)
+            && matches!(&other.default, Value::Null)
+            && self.collation == other.collation
+    }
+}
+
+impl Alike for Reference {
+    fn is_alike(&self, other: &Reference) -> bool {
+        self.columns.is_alike(&other.columns)
+            && self.parent.is_alike(&other.parent)
+            && self.parent_columns.is_alike(&other.parent_columns)
+            && self.on_delete == other.on_delete
+            && self.on_update == other.on_update
+            && self.is_deferred == other.is_deferred
+    }
+}
+
+impl Alike for Index {
+    fn is_alike(&self, other: &Index) -> bool {
+        self.name.is_alike(&other.name)
+            && self.tree == other.tree
+            && self.table == other.table
+            && self.columns.is_alike(&other.columns)
+            && self.order.is_alike(&other.order)
+            && self.is_unique == other.is_unique
+    }
+}
+
+/// Whether the table has no CHECK, and no default that is computed.
+fn is_bare(table: &Table) -> bool
+    ensures { IsTrue result → (table.now.checks ≡ []) × (table.now.computed ≡ []) × (table.now.stamps.places ≡ []) × (table.now.stamps.terms ≡ []) × (table.now.stamps.formats ≡ []) }
+{
+    table.checks.roots.as_slice().is_empty()
+        && table.computed.as_slice().is_empty()
+        && table.stamps.places.as_slice().is_empty()
+        && table.stamps.terms.roots.as_slice().is_empty()
+        && table.stamps.formats.as_slice().is_empty()
+}
+
+impl Alike for Table {
+    fn is_alike(&self, other: &Table) -> bool {
+        is_bare(self)
+            && is_bare(other)
+            && self.name.is_alike(&other.name)
+            && self.tree == other.tree
+            && self.columns.is_alike(&other.columns)
+            && self.key == other.key
+            && self.primary.is_alike(&other.primary)
+            && self.uniques.is_alike(&other.uniques)
+            && self.orders.is_alike(&other.orders)
+            && self.references.is_alike(&other.references)
+            && self.is_counted == other.is_counted
+    }
+}
+
+impl Alike for Schema {
+    fn is_alike(&self, other: &Schema) -> bool {
+        self.views.as_slice().is_empty()
+            && other.views.as_slice().is_empty()
+            && self.tables.is_alike(&other.tables)
+            && self.indexes.is_alike(&other.indexes)
+    }
+}

@@ -1,0 +1,90 @@
+//! The tables, made in an empty database.
+
+ghost use Rattle.std.specs.Prelude.{◌≡◌, ◌≢◌, false, [], IsTrue, IfErr, OnOk, OnErr, slice_index_or};
+ghost use Rattle.sqlite.specs.Held.{state};
+ghost use Rattle.sqlite.specs.State.{HasCleanDisk, KeepsCommit, Survives};
+ghost use Rattle.table_meaning.specs.Schema.{no_schema};
+ghost use Rattle.table_meaning.specs.Texts.{definition_texts};
+ghost use Rattle.table_meaning.specs.Steps.{AreNew};
+
+use crate::opening::OpenFault;
+use sqlite::{Alter, Connection, Error, Transaction};
+
+/// How many texts make the tables and the indexes.
+const DEFINITIONS: usize = 13;
+
+/// The CREATE text at this place in their order.
+fn definition(at: usize) -> &'static str
+    ensures { result.now ≡ slice_index_or definition_texts at [] }
+{
+    match at {
+        0 => "CREATE TABLE setting (name TEXT NOT NULL PRIMARY KEY, value ANY NOT NULL) STRICT",
+        1 =>
+            "CREATE TABLE account (id INTEGER PRIMARY KEY, auth TEXT NOT NULL UNIQUE, name TEXT NOT NULL) STRICT",
+        2 =>
+            "CREATE TABLE app (id INTEGER PRIMARY KEY, name TEXT NOT NULL UNIQUE, agreement INTEGER) STRICT",
+        3 =>
+            "CREATE TABLE version (id INTEGER PRIMARY KEY, app_id INTEGER NOT NULL REFERENCES app, platform TEXT NOT NULL, num INTEGER NOT NULL, UNIQUE (app_id, platform, num)) STRICT",
+        4 =>
+            "CREATE TABLE unit (id INTEGER PRIMARY KEY, name TEXT NOT NULL UNIQUE, app_id INTEGER NOT NULL REFERENCES app, min_quorum INTEGER NOT NULL, target_nresults INTEGER NOT NULL, max_error_results INTEGER NOT NULL, max_total_results INTEGER NOT NULL, max_success_results INTEGER NOT NULL, delay_bound INTEGER NOT NULL, rsc_fpops_est INTEGER NOT NULL, rsc_memory_bound INTEGER NOT NULL, rsc_disk_bound INTEGER NOT NULL, credit INTEGER NOT NULL, status INTEGER NOT NULL) STRICT",
+        5 =>
+            "CREATE TABLE host (id INTEGER PRIMARY KEY, account_id INTEGER NOT NULL REFERENCES account, cpid TEXT NOT NULL, platforms TEXT NOT NULL, fpops INTEGER NOT NULL, memory INTEGER NOT NULL, disk INTEGER NOT NULL, quota INTEGER NOT NULL, held INTEGER NOT NULL, credit INTEGER NOT NULL, UNIQUE (account_id, cpid)) STRICT",
+        6 =>
+            "CREATE TABLE instance (unit_id INTEGER NOT NULL REFERENCES unit, num INTEGER NOT NULL, host_id INTEGER REFERENCES host, sent INTEGER, deadline INTEGER, lapse INTEGER NOT NULL, outcome INTEGER, output TEXT, place INTEGER, queued INTEGER NOT NULL, PRIMARY KEY (unit_id, num)) STRICT",
+        7 =>
+            "CREATE TABLE kept (host_id INTEGER PRIMARY KEY REFERENCES host, seqno INTEGER NOT NULL, text TEXT NOT NULL, reply TEXT NOT NULL) STRICT",
+        8 =>
+            "CREATE TABLE batch (kind TEXT NOT NULL, name TEXT NOT NULL, text BLOB NOT NULL, answer TEXT NOT NULL, PRIMARY KEY (kind, name)) STRICT",
+        9 => "CREATE INDEX instance_queue ON instance (queued, unit_id, num)",
+        10 => "CREATE INDEX instance_owner ON instance (host_id, unit_id, num)",
+        11 => "CREATE INDEX instance_sent ON instance (host_id, sent)",
+        12 => "CREATE INDEX instance_deadline ON instance (deadline)",
+        _ => "",
+    }
+}
+
+/// Whether the database has nothing in it.
+fn is_empty<S: Alter>(conn: &Connection<S>) -> bool
+    ensures empty { IsTrue result → (state S.Store conn.now).now.schema ≡ no_schema }
+    ensures other { result ≡ false → (state S.Store conn.now).now.schema ≢ no_schema }
+{
+    let schema = conn.schema();
+    schema.tables.as_slice().is_empty()
+        && schema.indexes.as_slice().is_empty()
+        && schema.views.as_slice().is_empty()
+}
+
+/// Makes the tables and the indexes, one after another.
+fn define_all<S: Alter>(tx: &mut Transaction<'_, S>) -> Result<(), Error>
+    ensures same_reference { tx.new.conn.ghost_name ≡ tx.old.conn.ghost_name }
+    ensures survives { Survives (state S.Store tx.old.conn.now) (state S.Store tx.new.conn.now) (λ _. ⊥) }
+    ensures kept { HasCleanDisk (state S.Store tx.new.conn.now) → KeepsCommit (state S.Store tx.old.conn.now) (state S.Store tx.new.conn.now) }
+    ensures made { HasCleanDisk (state S.Store tx.new.conn.now) → IsTrue (state S.Store tx.old.conn.now).in_transaction → (state S.Store tx.old.conn.now).now.schema ≡ no_schema
+        → OnOk result (IsTrue (state S.Store tx.new.conn.now).in_transaction × AreNew (state S.Store tx.new.conn.now).now) }
+{
+    for at in 0..DEFINITIONS {
+        tx.execute(definition(at), &[])?;
+    }
+    Ok(())
+}
+
+/// Makes the nine tables, each with no row, in a database that has none: all of them or nothing.
+pub fn create<S: Alter>(conn: &mut Connection<S>) -> Result<(), OpenFault>
+    ensures made { HasCleanDisk (state S.Store conn.new) → OnOk result (AreNew (state S.Store conn.new).committed) }
+    ensures rest { HasCleanDisk (state S.Store conn.new) → OnOk result ((state S.Store conn.new).now ≡ (state S.Store conn.new).committed) }
+    ensures taken { IfErr result (λ e. e ≡ OpenFault.NotTables → (state S.Store conn.old).now.schema ≢ no_schema) }
+    ensures neither { HasCleanDisk (state S.Store conn.new) → IsTrue (state S.Store conn.new).is_open
+        → OnErr result (((state S.Store conn.new).now ≡ (state S.Store conn.old).now) × ((state S.Store conn.new).committed ≡ (state S.Store conn.old).committed)) }
+    ensures crash { Survives (state S.Store conn.old) (state S.Store conn.new) (λ trees. (db : _) × AreNew db × (trees ≡ db.trees)) }
+{
+    if !conn.is_autocommit() {
+        return Err(OpenFault::Unavailable);
+    }
+    if !is_empty(conn) {
+        return Err(OpenFault::NotTables);
+    }
+    let mut tx = conn.transaction();
+    define_all(&mut tx)?;
+    tx.commit()?;
+    Ok(())
+}

@@ -1,0 +1,14 @@
+//! The stored tables as rows: made, adopted, read whole, and put at their keys. It knows no world.
+#![tactic(auto)]
+
+pub mod alike;
+pub mod definitions;
+pub mod opening;
+pub mod put;
+pub mod read;
+pub mod values;
+
+pub use definitions::create;
+pub use opening::{OpenFault, in_memory, known};
+pub use put::put_rows;
+pub use read::{all_rows, rows_of};

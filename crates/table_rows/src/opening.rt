@@ -1,0 +1,103 @@
+//! Connections whose tables are the known ones.
+
+ghost use Rattle.std.specs.Prelude.{◌≡◌, IfOk, IfSome};
+ghost use Rattle.std.specs.List.{AllByRecursion};
+ghost use Rattle.sqlite_trees.specs.declared.store.Shape.TheVariants.{Table as TableTree};
+ghost use Rattle.sqlite_trees.specs.View.{IsShaped};
+ghost use Rattle.sqlite.specs.Held.{state};
+ghost use Rattle.sqlite.specs.Steps.{over_memory};
+ghost use Rattle.sqlite.specs.State.{HasCleanDisk, IsLive, Opens};
+ghost use Rattle.table_meaning.specs.Schema.{stored_schema};
+ghost use Rattle.table_meaning.specs.Steps.{AreNew};
+ghost use Rattle.table_meaning.specs.Holding.{AreKnown};
+
+use crate::alike::Alike;
+use crate::definitions::create;
+use sqlite::{Alter, Connection, Error, MemStore};
+use sqlite_schema::schema::Schema;
+use std::alloc::{AllocError, Global};
+
+/// Why a connection is not taken.
+#[derive(Clone, Copy, Debug)]
+pub enum OpenFault {
+    /// Its tables are not the stored ones.
+    NotTables,
+    /// Memory or the disk failed.
+    Unavailable,
+}
+
+impl From<Error> for OpenFault {
+    ghost use Rattle.std.specs.Prelude.{◌≡◌};
+    ghost use Rattle.table_rows.specs.declared.opening.OpenFault.TheVariants.{Unavailable};
+
+    ghost from_gives = { λ _ e. e ≡ Unavailable };
+
+    fn from(_: Error) -> OpenFault {
+        OpenFault::Unavailable
+    }
+}
+
+impl From<AllocError> for OpenFault {
+    ghost use Rattle.std.specs.Prelude.{◌≡◌};
+    ghost use Rattle.table_rows.specs.declared.opening.OpenFault.TheVariants.{Unavailable};
+
+    ghost from_gives = { λ _ e. e ≡ Unavailable };
+
+    fn from(_: AllocError) -> OpenFault {
+        OpenFault::Unavailable
+    }
+}
+
+/// New tables in memory.
+pub fn in_memory(alloc: Global) -> Result<Connection<MemStore>, OpenFault>
+    ensures { IfOk result (λ c. AreNew (state over_memory c).now) }
+{
+    let mut conn = Connection::open_in_memory(alloc)?;
+    create(&mut conn)?;
+    Ok(conn)
+}
+
+/// The schema of the stored tables.
+pub fn wanted_schema(alloc: Global) -> Result<Schema, OpenFault>
+    ensures { IfOk result (λ schema. schema ≡ stored_schema) }
+{
+    let conn = in_memory(alloc)?;
+    let schema = conn.schema().copy(alloc)?;
+    Ok(schema)
+}
+
+/// The connection opened anew over its store, if that is open: what was not committed is gone, and the numbers of each table's rows rise.
+fn reopened<S: Alter + Drop>(alloc: Global, conn: Connection<S>) -> Option<Connection<S>>
+    ensures opens { IfSome result (λ c. HasCleanDisk (state S.Store c) → Opens (state S.Store c) × IsLive (state S.Store c)) }
+    ensures ordered { IfSome result (λ c. HasCleanDisk (state S.Store c)
+        → AllByRecursion (λ t. IsShaped TableTree ((state S.Store c).now.trees t.tree)) (state S.Store c).now.schema.tables) }
+    ensures same { IfSome result (λ c. HasCleanDisk (state S.Store c) → (state S.Store c).now.trees ≡ (state S.Store conn).committed.trees) }
+{
+    let store = conn.into_store();
+    if store.is_broken() {
+        return None;
+    }
+    let Ok(conn) = Connection::over(alloc, store) else {
+        return None;
+    };
+    Some(conn)
+}
+
+/// The connection, if its tables are the stored ones: then it is at rest, with what was last committed.
+pub fn known<S: Alter + Drop>(
+    alloc: Global,
+    conn: Connection<S>,
+) -> Result<Connection<S>, OpenFault>
+    ensures known { IfOk result (λ c. HasCleanDisk (state S.Store c) → AreKnown (state S.Store c).now) }
+    ensures opens { IfOk result (λ c. HasCleanDisk (state S.Store c) → Opens (state S.Store c)) }
+    ensures same { IfOk result (λ c. HasCleanDisk (state S.Store c) → (state S.Store c).now.trees ≡ (state S.Store conn).committed.trees) }
+{
+    let wanted = wanted_schema(alloc)?;
+    let Some(conn) = reopened(alloc, conn) else {
+        return Err(OpenFault::Unavailable);
+    };
+    if !conn.schema().is_alike(&wanted) {
+        return Err(OpenFault::NotTables);
+    }
+    Ok(conn)
+}

@@ -1,0 +1,94 @@
+//! Rows put at their keys, in one transaction.
+
+ghost use Rattle.std.specs.Prelude.{◌≡◌, [], ◌∷◌, IsTrue, OnOk, OnErr};
+ghost use Rattle.sqlite.specs.Held.{state};
+ghost use Rattle.sqlite.specs.State.{HasCleanDisk, KeepsCommit, Survives};
+ghost use Rattle.table_meaning.specs.Texts.{put_text as sql_put};
+ghost use Rattle.table_meaning.specs.Rows.{table_at, key_of};
+ghost use Rattle.table_meaning.specs.Steps.{PutsRows, Moves};
+
+use crate::values::values_of;
+use sqlite::{Alter, Connection, Error, ErrorCode, Transaction};
+use std::alloc::Global;
+use table_meaning::rows::StoredRow;
+
+/// The statement that puts the row.
+fn put_text(row: &StoredRow) -> &'static str
+    ensures { result.now ≡ sql_put (table_at (key_of row.now)) }
+{
+    match row {
+        StoredRow::Setting(_) =>
+            "INSERT INTO setting (name, value) VALUES (?1, ?2) ON CONFLICT (name) DO UPDATE SET name = excluded.name, value = excluded.value",
+        StoredRow::Account(_) =>
+            "INSERT INTO account (id, auth, name) VALUES (?1, ?2, ?3) ON CONFLICT (id) DO UPDATE SET auth = excluded.auth, name = excluded.name",
+        StoredRow::App(_) =>
+            "INSERT INTO app (id, name, agreement) VALUES (?1, ?2, ?3) ON CONFLICT (id) DO UPDATE SET name = excluded.name, agreement = excluded.agreement",
+        StoredRow::Version(_) =>
+            "INSERT INTO version (id, app_id, platform, num) VALUES (?1, ?2, ?3, ?4) ON CONFLICT (id) DO UPDATE SET app_id = excluded.app_id, platform = excluded.platform, num = excluded.num",
+        StoredRow::Unit(_) =>
+            "INSERT INTO unit (id, name, app_id, min_quorum, target_nresults, max_error_results, max_total_results, max_success_results, delay_bound, rsc_fpops_est, rsc_memory_bound, rsc_disk_bound, credit, status) VALUES (?1, ?2, ?3, ?4, ?5, ?6, ?7, ?8, ?9, ?10, ?11, ?12, ?13, ?14) ON CONFLICT (id) DO UPDATE SET name = excluded.name, app_id = excluded.app_id, min_quorum = excluded.min_quorum, target_nresults = excluded.target_nresults, max_error_results = excluded.max_error_results, max_total_results = excluded.max_total_results, max_success_results = excluded.max_success_results, delay_bound = excluded.delay_bound, rsc_fpops_est = excluded.rsc_fpops_est, rsc_memory_bound = excluded.rsc_memory_bound, rsc_disk_bound = excluded.rsc_disk_bound, credit = excluded.credit, status = excluded.status",
+        StoredRow::Host(_) =>
+            "INSERT INTO host (id, account_id, cpid, platforms, fpops, memory, disk, quota, held, credit) VALUES (?1, ?2, ?3, ?4, ?5, ?6, ?7, ?8, ?9, ?10) ON CONFLICT (id) DO UPDATE SET account_id = excluded.account_id, cpid = excluded.cpid, platforms = excluded.platforms, fpops = excluded.fpops, memory = excluded.memory, disk = excluded.disk, quota = excluded.quota, held = excluded.held, credit = excluded.credit",
+        StoredRow::Instance(_) =>
+            "INSERT INTO instance (unit_id, num, host_id, sent, deadline, lapse, outcome, output, place, queued) VALUES (?1, ?2, ?3, ?4, ?5, ?6, ?7, ?8, ?9, ?10) ON CONFLICT (unit_id, num) DO UPDATE SET unit_id = excluded.unit_id, num = excluded.num, host_id = excluded.host_id, sent = excluded.sent, deadline = excluded.deadline, lapse = excluded.lapse, outcome = excluded.outcome, output = excluded.output, place = excluded.place, queued = excluded.queued",
+        StoredRow::Kept(_) =>
+            "INSERT INTO kept (host_id, seqno, text, reply) VALUES (?1, ?2, ?3, ?4) ON CONFLICT (host_id) DO UPDATE SET seqno = excluded.seqno, text = excluded.text, reply = excluded.reply",
+        StoredRow::Batch(_) =>
+            "INSERT INTO batch (kind, name, text, answer) VALUES (?1, ?2, ?3, ?4) ON CONFLICT (kind, name) DO UPDATE SET kind = excluded.kind, name = excluded.name, text = excluded.text, answer = excluded.answer",
+    }
+}
+
+/// Puts one row at its key, over the one that stands there.
+fn put_row<S: Alter>(
+    alloc: Global,
+    tx: &mut Transaction<'_, S>,
+    row: &StoredRow,
+) -> Result<(), Error>
+    ensures same_reference { tx.new.conn.ghost_name ≡ tx.old.conn.ghost_name }
+    ensures survives { Survives (state S.Store tx.old.conn.now) (state S.Store tx.new.conn.now) (λ _. ⊥) }
+    ensures kept { HasCleanDisk (state S.Store tx.new.conn.now) → KeepsCommit (state S.Store tx.old.conn.now) (state S.Store tx.new.conn.now) }
+    ensures moves { HasCleanDisk (state S.Store tx.new.conn.now) → IsTrue (state S.Store tx.old.conn.now).in_transaction
+        → OnOk result (Moves (state S.Store tx.old.conn.now) (state S.Store tx.new.conn.now) (row.now ∷ [])) }
+{
+    let values = values_of(alloc, row)?;
+    tx.execute(put_text(row), values.as_slice())?;
+    Ok(())
+}
+
+/// Puts each row in turn.
+fn put_each<S: Alter>(
+    alloc: Global,
+    tx: &mut Transaction<'_, S>,
+    rows: &[StoredRow],
+) -> Result<(), Error>
+    ensures same_reference { tx.new.conn.ghost_name ≡ tx.old.conn.ghost_name }
+    ensures survives { Survives (state S.Store tx.old.conn.now) (state S.Store tx.new.conn.now) (λ _. ⊥) }
+    ensures kept { HasCleanDisk (state S.Store tx.new.conn.now) → KeepsCommit (state S.Store tx.old.conn.now) (state S.Store tx.new.conn.now) }
+    ensures moves { HasCleanDisk (state S.Store tx.new.conn.now) → IsTrue (state S.Store tx.old.conn.now).in_transaction
+        → OnOk result (Moves (state S.Store tx.old.conn.now) (state S.Store tx.new.conn.now) rows.now) }
+{
+    for row in rows {
+        put_row(alloc, tx, row)?;
+    }
+    Ok(())
+}
+
+/// Puts each of the rows at its key, in order: all of them or none.
+pub fn put_rows<S: Alter>(
+    alloc: Global,
+    conn: &mut Connection<S>,
+    rows: &[StoredRow],
+) -> Result<(), Error>
+    ensures both { HasCleanDisk (state S.Store conn.new) → OnOk result (PutsRows (state S.Store conn.old).now (state S.Store conn.new).committed rows.now) }
+    ensures rest { HasCleanDisk (state S.Store conn.new) → OnOk result ((state S.Store conn.new).now ≡ (state S.Store conn.new).committed) }
+    ensures neither { HasCleanDisk (state S.Store conn.new) → IsTrue (state S.Store conn.new).is_open
+        → OnErr result (((state S.Store conn.new).now ≡ (state S.Store conn.old).now) × ((state S.Store conn.new).committed ≡ (state S.Store conn.old).committed)) }
+    ensures crash { Survives (state S.Store conn.old) (state S.Store conn.new) (λ trees. (db : _) × PutsRows (state S.Store conn.old).now db rows.now × (trees ≡ db.trees)) }
+{
+    if !conn.is_autocommit() {
+        return Err(Error::SqliteFailure(ErrorCode::TransactionState));
+    }
+    let mut tx = conn.transaction();
+    put_each(alloc, &mut tx, rows)?;
+    tx.commit()
+}

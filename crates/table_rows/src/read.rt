@@ -1,0 +1,65 @@
+//! Whole tables as rows.
+
+ghost use Rattle.std.specs.Prelude.{◌≡◌, IfOk, IsTrue, map};
+ghost use Rattle.sqlite.specs.Held.{state};
+ghost use Rattle.sqlite.specs.State.{HasCleanDisk};
+ghost use Rattle.table_meaning.specs.Texts.{read_text as sql_read};
+ghost use Rattle.table_meaning.specs.Rows.{rows_in};
+ghost use Rattle.table_meaning.specs.Reads.{Reads};
+ghost use Rattle.table_meaning.specs.Holding.{AreKnown};
+
+use sqlite::{Alter, Connection, Error, ErrorCode, Row};
+use std::alloc::Global;
+use table_meaning::tables::TableName;
+
+/// The statement that reads the table whole.
+fn read_text(table: TableName) -> &'static str
+    ensures { result.now ≡ sql_read table }
+{
+    match table {
+        TableName::Setting => "SELECT name, value FROM setting ORDER BY rowid",
+        TableName::Account => "SELECT id, auth, name FROM account ORDER BY id",
+        TableName::App => "SELECT id, name, agreement FROM app ORDER BY id",
+        TableName::Version => "SELECT id, app_id, platform, num FROM version ORDER BY id",
+        TableName::Unit =>
+            "SELECT id, name, app_id, min_quorum, target_nresults, max_error_results, max_total_results, max_success_results, delay_bound, rsc_fpops_est, rsc_memory_bound, rsc_disk_bound, credit, status FROM unit ORDER BY id",
+        TableName::Host =>
+            "SELECT id, account_id, cpid, platforms, fpops, memory, disk, quota, held, credit FROM host ORDER BY id",
+        TableName::Instance =>
+            "SELECT unit_id, num, host_id, sent, deadline, lapse, outcome, output, place, queued FROM instance ORDER BY rowid",
+        TableName::Kept => "SELECT host_id, seqno, text, reply FROM kept ORDER BY host_id",
+        TableName::Batch => "SELECT kind, name, text, answer FROM batch ORDER BY rowid",
+    }
+}
+
+/// The rows of a table, each with its columns in order. The connection shows what it showed.
+pub fn rows_of<S: Alter>(conn: &mut Connection<S>, table: TableName) -> Result<Vec<Row>, Error>
+    ensures reads { Reads (state S.Store conn.old) (state S.Store conn.new) }
+    ensures rows { HasCleanDisk (state S.Store conn.new) → AreKnown (state S.Store conn.old).now → IfOk result (λ rows. rows.items ≡ rows_in (state S.Store conn.old).now.trees table) }
+{
+    if !conn.is_autocommit() {
+        return Err(Error::SqliteFailure(ErrorCode::TransactionState));
+    }
+    let mut tx = conn.transaction();
+    let rows = tx.query_all(read_text(table), &[])?;
+    tx.rollback();
+    Ok(rows)
+}
+
+/// The rows of each of the tables, in turn.
+pub fn all_rows<S: Alter>(
+    alloc: Global,
+    conn: &mut Connection<S>,
+    tables: &[TableName],
+) -> Result<Vec<Vec<Row>>, Error>
+    ensures reads { Reads (state S.Store conn.old) (state S.Store conn.new) }
+    ensures rows { HasCleanDisk (state S.Store conn.new) → IsTrue (state S.Store conn.new).is_open → (state S.Store conn.old).now ≡ (state S.Store conn.old).committed
+        → AreKnown (state S.Store conn.old).now → IfOk result (λ all. map (λ rows. rows.items) all.items ≡ map (rows_in (state S.Store conn.old).now.trees) tables.now) }
+{
+    let mut all = Vec::new(alloc);
+    for table in tables {
+        let rows = rows_of(conn, *table)?;
+        all.push(rows)?;
+    }
+    Ok(all)
+}
