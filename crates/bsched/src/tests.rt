@@ -1,12 +1,15 @@
 //! The worked rows, and lines that are none, too long or broken.
 
 mod jobs;
+mod judging;
+mod lapses;
 mod mixed;
-mod quorums;
+mod quotas;
 mod refusals;
 mod repeats;
 mod rows;
 mod spellings;
+mod worked;
 
 use crate::default_settings;
 use repeats::first_answered_otherwise;
@@ -131,7 +134,7 @@ fn grants_and_lost_jobs_seventh(rt: HostRuntime) -> Result<(), Fail> {
 #[test]
 fn reports_and_quorums_first(rt: HostRuntime) -> Result<(), Fail> {
     assert_eq!(rt;
-        first_wrong_twice(rt.alloc(), 5, quorums::FIRST_ROWS)?,
+        first_wrong_twice(rt.alloc(), 5, judging::FIRST_ROWS)?,
         None
     );
     Ok(())
@@ -140,7 +143,7 @@ fn reports_and_quorums_first(rt: HostRuntime) -> Result<(), Fail> {
 #[test]
 fn reports_and_quorums_second(rt: HostRuntime) -> Result<(), Fail> {
     assert_eq!(rt;
-        first_wrong_twice(rt.alloc(), 5, quorums::SECOND_ROWS)?,
+        first_wrong_twice(rt.alloc(), 5, judging::SECOND_ROWS)?,
         None
     );
     Ok(())
@@ -149,63 +152,51 @@ fn reports_and_quorums_second(rt: HostRuntime) -> Result<(), Fail> {
 #[test]
 fn reports_and_quorums_third(rt: HostRuntime) -> Result<(), Fail> {
     assert_eq!(rt;
-        first_wrong_twice(rt.alloc(), 5, quorums::THIRD_ROWS)?,
+        first_wrong_twice(rt.alloc(), 5, judging::THIRD_ROWS)?,
         None
     );
     Ok(())
 }
 
 #[test]
-fn reports_and_quorums_fourth(rt: HostRuntime) -> Result<(), Fail> {
+fn credit_and_quotas_first(rt: HostRuntime) -> Result<(), Fail> {
+    assert_eq!(rt; first_wrong_twice(rt.alloc(), 5, quotas::FIRST_ROWS)?, None);
+    Ok(())
+}
+
+#[test]
+fn credit_and_quotas_second(rt: HostRuntime) -> Result<(), Fail> {
     assert_eq!(rt;
-        first_wrong_twice(rt.alloc(), 5, quorums::FOURTH_ROWS)?,
+        first_wrong_twice(rt.alloc(), 5, quotas::SECOND_ROWS)?,
         None
     );
     Ok(())
 }
 
 #[test]
-fn reports_and_quorums_fifth(rt: HostRuntime) -> Result<(), Fail> {
+fn credit_and_quotas_third(rt: HostRuntime) -> Result<(), Fail> {
+    assert_eq!(rt; first_wrong_twice(rt.alloc(), 5, quotas::THIRD_ROWS)?, None);
+    Ok(())
+}
+
+#[test]
+fn lapses_and_failures_first(rt: HostRuntime) -> Result<(), Fail> {
+    assert_eq!(rt; first_wrong_twice(rt.alloc(), 5, lapses::FIRST_ROWS)?, None);
+    Ok(())
+}
+
+#[test]
+fn lapses_and_failures_second(rt: HostRuntime) -> Result<(), Fail> {
     assert_eq!(rt;
-        first_wrong_twice(rt.alloc(), 5, quorums::FIFTH_ROWS)?,
+        first_wrong_twice(rt.alloc(), 5, lapses::SECOND_ROWS)?,
         None
     );
     Ok(())
 }
 
 #[test]
-fn reports_and_quorums_sixth(rt: HostRuntime) -> Result<(), Fail> {
-    assert_eq!(rt;
-        first_wrong_twice(rt.alloc(), 5, quorums::SIXTH_ROWS)?,
-        None
-    );
-    Ok(())
-}
-
-#[test]
-fn reports_and_quorums_seventh(rt: HostRuntime) -> Result<(), Fail> {
-    assert_eq!(rt;
-        first_wrong_twice(rt.alloc(), 5, quorums::SEVENTH_ROWS)?,
-        None
-    );
-    Ok(())
-}
-
-#[test]
-fn reports_and_quorums_eighth(rt: HostRuntime) -> Result<(), Fail> {
-    assert_eq!(rt;
-        first_wrong_twice(rt.alloc(), 5, quorums::EIGHTH_ROWS)?,
-        None
-    );
-    Ok(())
-}
-
-#[test]
-fn reports_and_quorums_ninth(rt: HostRuntime) -> Result<(), Fail> {
-    assert_eq!(rt;
-        first_wrong_twice(rt.alloc(), 5, quorums::NINTH_ROWS)?,
-        None
-    );
+fn lapses_and_failures_third(rt: HostRuntime) -> Result<(), Fail> {
+    assert_eq!(rt; first_wrong_twice(rt.alloc(), 5, lapses::THIRD_ROWS)?, None);
     Ok(())
 }
 

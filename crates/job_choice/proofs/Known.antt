@@ -33,7 +33,7 @@ version_app : (vs : List Version) (app : List ℕ) (platforms : List (List ℕ))
 version_app vs app platforms v is =
     let law : IsVersionFor vs app platforms v =
     subst (λ o. MatchOption o (HasNoVersion vs app platforms) (IsVersionFor vs app platforms)) is (version_is_newest_of_first vs app platforms) in
-    same_text v.app app (and_parts (bytes_eq v.app app) (bytes_eq v.platform law.platform) law.is_for).0
+    same_text v.app app (and_parts (bytes_eq v.app app) (bytes_eq v.platform law.platform) law.matches).0
 
 -- the version known of an application of this name, where there is such an application
 pub version_found : (vs : List Version) (platforms : List (List ℕ)) (apps : List App) (name : List ℕ)

@@ -4,5 +4,4 @@ pub mod Greedy
 pub mod Known
 pub mod Only
 pub mod Passing
-pub mod Sets
 pub mod Taking

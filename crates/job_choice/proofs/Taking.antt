@@ -1,6 +1,6 @@
 -- One who takes the candidates in turn, as long as it may, ends with a grant.
 use Rattle.std.proofs.Common.{◌≡◌, ◌⊎◌, inl, inr, ℕ, ◌+◌, ◌-◌, ◌/◌, Bool, true, false, cond, not, eqb, List, [], ◌∷◌, ◌++◌, length, Option, Some, None, All, sym, refl, ap, ◌∙◌, subst, arith}
-use Rattle.std.specs.Prelude.{◌&&◌, ◌||◌, nat_le, is_none, filter, option_map, option_and_then, unwrap_or, sum_by, Contains}
+use Rattle.std.specs.Prelude.{◌&&◌, ◌||◌, nat_eq, nat_le, is_none, filter, option_map, option_and_then, unwrap_or, sum_by, Contains}
 use Rattle.std.specs.List.{list_all}
 use Rattle.std.proofs.lemmas.Bool.{and_parts, and_from, and_cases, or_parts, or_left, both_ways, not-true, not-false, leb-false}
 use Rattle.std.proofs.lemmas.List.{length-map, map-append}
@@ -23,7 +23,6 @@ use Rattle.sched_book.proofs.Newest.{behind, front_of}
 use Rattle.job_choice.specs.Chosen.{places_of, IsJob, IsChoice}
 use Rattle.job_choice.specs.Choosing.{is_full, end_word_at, has_job_of, is_new_unit, version_in, with_job, after_with, after, Takes, versions_known}
 use Rattle.job_choice.specs.Offered.{HasJust, limits_on, IsBegun, IsOffered, first_place}
-use Rattle.job_choice.specs.UnitsHad.{has_had}
 use Rattle.job_choice.specs.declared.choosing.Choosing.{Choosing}
 use Rattle.job_choice.specs.declared.choosing.Limits.{Limits}
 use Rattle.job_choice.specs.declared.granted.Grant.{Grant}
@@ -32,6 +31,7 @@ use Rattle.job_choice.proofs.Candidates.{InWorld, in_world, found_nth, passes_at
 use Rattle.job_choice.proofs.Greedy.{AreTaken, none_taken, passed_over, taken_on, all_seen, is_grant}
 use Rattle.job_choice.proofs.Known.{version_is, had_at}
 use Rattle.job_choice.proofs.Passing.{nothing_left, left_reached}
+use Rattle.texts.specs.SeenSet.{has_seen}
 
 -- tests that agree one by one
 same_or : (a b c d e f g h : Bool) → a ≡ e → b ≡ f → c ≡ g → d ≡ h → (a || b || c || d) ≡ (e || f || g || h)
@@ -129,7 +129,7 @@ module _ (w : World) (q : Asking) where
           ∙ version_is w q.host c.unit.app
           ∙ ap (λ u. version_for w q.host u.app) here.row
 
-      had_here : has_had t.had c.place.unit ≡ user_had w q.host.account here.book
+      had_here : has_seen nat_eq t.had c.place.unit ≡ user_had w q.host.account here.book
       had_here = on.had c.place.unit ∙ had_at 1 (user_had w q.host.account) w.units here.index here.book c.place.unit here.found here.place
 
       fits_here : (o : Option Version) → version_in t.versions c.unit.app ≡ o → fits t.host.now c.unit o ≡ unit_fits w q.host here.book
@@ -160,7 +160,7 @@ module _ (w : World) (q : Asking) where
       not_new : is_new_unit t.had t.jobs c.place.unit ≡ false → IsOn t left
       not_new old = left_out (λ eligible.
           let new = (and_parts (unit_fits w q.host here.book) (not (user_had w q.host.account here.book)) (sym eligible_is ∙ eligible)).1 in
-          elim (and_cases (not (has_had t.had c.place.unit)) (not (has_job_of t.jobs c.place.unit)) old) [
+          elim (and_cases (not (has_seen nat_eq t.had c.place.unit)) (not (has_job_of t.jobs c.place.unit)) old) [
             | inl had ↦ absurd (both_ways (not (user_had w q.host.account here.book)) (ap not (sym had_here) ∙ had) new)
             | inr has ↦ sym (has_job-is t.jobs c.place.unit) ∙ not-false (has_job_of t.jobs c.place.unit) has
           ])
@@ -172,7 +172,7 @@ module _ (w : World) (q : Asking) where
           let jobs = places_of t.jobs in
           let job : Granted = record { place = c.place; estimate = estimate c.unit.rsc_fpops_est t.host.now.p_fpops; version = v } in
           let pushed : places_of (t.jobs ++ job ∷ []) ≡ jobs ++ c.place ∷ [] = map-append (λ (j : Granted). j.place) t.jobs (job ∷ []) in
-          let news = and_parts (not (has_had t.had c.place.unit)) (not (has_job_of t.jobs c.place.unit)) new in
+          let news = and_parts (not (has_seen nat_eq t.had c.place.unit)) (not (has_job_of t.jobs c.place.unit)) new in
           let parts = or_parts (is_enough w q jobs || fills_reply w (length jobs) || fills_progress w q (length jobs)) (fills_day w q (length jobs)) (sym (full_is t (c ∷ left) on) ∙ room) in
           let more = or_parts (is_enough w q jobs || fills_reply w (length jobs)) (fills_progress w q (length jobs)) parts.0 in
           let most = or_parts (is_enough w q jobs) (fills_reply w (length jobs)) more.0 in

@@ -1,5 +1,5 @@
 -- What one who chooses jobs does with each candidate, and when it stops.
-use Rattle.std.specs.Prelude.{◌≡◌, ◌⊎◌, ℕ, ◌-◌, Bool, not, ◌&&◌, ◌||◌, ◌==◌, nat_le, if◌then◌else◌, IsTrue, List, [], ◌∷◌, ◌++◌, length, find, filter_map, Option, Some, None}
+use Rattle.std.specs.Prelude.{◌≡◌, ◌⊎◌, ℕ, ◌-◌, Bool, not, ◌&&◌, ◌||◌, ◌==◌, nat_eq, nat_le, if◌then◌else◌, IsTrue, List, [], ◌∷◌, ◌++◌, length, find, filter_map, Option, Some, None}
 use Rattle.std.specs.List.{list_any}
 use Rattle.std.specs.Str.{bytes_eq}
 use Rattle.rpc_records.specs.declared.reply.EndWord.{EndWord}
@@ -11,10 +11,10 @@ use Rattle.sched_book.specs.declared.desk.Flow.TheVariants.{GoOn, Stop}
 use Rattle.sched_book.specs.declared.rows.HostRow.{HostRow}
 use Rattle.sched_book.specs.declared.rows.Version.{Version}
 use Rattle.sched_book.specs.declared.world.World.{World}
-use Rattle.job_choice.specs.UnitsHad.{has_had}
 use Rattle.job_choice.specs.declared.choosing.Choosing.{Choosing}
 use Rattle.job_choice.specs.declared.granted.Granted.{Granted}
-use Rattle.job_choice.specs.declared.units_had.UnitsHad.{UnitsHad}
+use Rattle.texts.specs.SeenSet.{has_seen}
+use Rattle.texts.specs.declared.seen_set.SeenSet.{SeenSet}
 
 -- the seconds are granted, or a limit is reached
 abbrev pub is_full : Choosing → Bool
@@ -31,8 +31,8 @@ end_word_at t =
 abbrev pub has_job_of : List Granted → ℕ → Bool
 has_job_of jobs unit = list_any (λ j. j.place.unit == unit) jobs
 
-abbrev pub is_new_unit : UnitsHad → List Granted → ℕ → Bool
-is_new_unit had jobs unit = not (has_had had unit) && not (has_job_of jobs unit)
+abbrev pub is_new_unit : SeenSet ℕ → List Granted → ℕ → Bool
+is_new_unit had jobs unit = not (has_seen nat_eq had unit) && not (has_job_of jobs unit)
 
 abbrev pub version_in : List Version → List ℕ → Option Version
 version_in versions app = find (λ v. bytes_eq v.app app) versions

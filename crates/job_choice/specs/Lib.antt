@@ -2,4 +2,3 @@ pub mod Alike
 pub mod Chosen
 pub mod Choosing
 pub mod Offered
-pub mod UnitsHad

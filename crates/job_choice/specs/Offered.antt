@@ -1,5 +1,5 @@
 -- What is read of a desk before the choice, and what is offered then.
-use Rattle.std.specs.Prelude.{◌≡◌, ◌⊎◌, ℕ, ◌-◌, ◌==◌, true, false, List, []}
+use Rattle.std.specs.Prelude.{◌≡◌, ◌⊎◌, ℕ, ◌-◌, ◌==◌, nat_eq, true, false, List, []}
 use Rattle.std.specs.List.{list_any}
 use Rattle.sched_book.specs.Desk.{units_of_user}
 use Rattle.sched_book.specs.Offers.{unsent, OffersAll}
@@ -8,14 +8,14 @@ use Rattle.sched_book.specs.declared.instance.Place.{Place}
 use Rattle.sched_book.specs.declared.rows.HostRow.{HostRow}
 use Rattle.sched_book.specs.declared.world.World.{World}
 use Rattle.job_choice.specs.Choosing.{is_full, versions_known, Takes}
-use Rattle.job_choice.specs.UnitsHad.{has_had}
 use Rattle.job_choice.specs.declared.choosing.Choosing.{Choosing}
 use Rattle.job_choice.specs.declared.choosing.Limits.{Limits}
-use Rattle.job_choice.specs.declared.units_had.UnitsHad.{UnitsHad}
+use Rattle.texts.specs.SeenSet.{has_seen}
+use Rattle.texts.specs.declared.seen_set.SeenSet.{SeenSet}
 
 -- the units that the user had are just these
-abbrev pub HasJust : UnitsHad → List ℕ → Type 0
-HasJust had units = (unit : ℕ) → has_had had unit ≡ list_any (λ u. unit == u) units
+abbrev pub HasJust : SeenSet ℕ → List ℕ → Type 0
+HasJust had units = (unit : ℕ) → has_seen nat_eq had unit ≡ list_any (λ u. unit == u) units
 
 -- the most jobs by each limit, on a day
 abbrev pub limits_on : World → ℕ → HostRow → ℕ → ℕ → Limits

@@ -9,10 +9,9 @@ ghost use Rattle.job_choice.specs.Offered.{HasJust, limits_on, IsBegun, IsOffere
 
 use crate::choosing::{Choosing, Limits, finish, is_done};
 use crate::granted::Grant;
-use crate::units_had::UnitsHad;
 use sched_book::{Desk, HostRow, Moment, Place, Unavailable, Version};
 use std::alloc::Global;
-use texts::Listed;
+use texts::{Listed, SeenSet};
 
 /// Asks for the version that the host runs of each application.
 fn read_versions<D: Desk>(
@@ -33,13 +32,13 @@ fn read_versions<D: Desk>(
 }
 
 /// Asks which workunits the user had.
-fn read_had<D: Desk>(alloc: Global, desk: &mut D, account: u32) -> Result<UnitsHad, Unavailable>
+fn read_had<D: Desk>(alloc: Global, desk: &mut D, account: u32) -> Result<SeenSet<u32>, Unavailable>
     ensures reads { D.reads desk.old desk.new }
     ensures answer { Trusted D.Units desk.old desk.new (
         IfOk result (λ had. HasJust had (units_of_user (D.world desk.old) account))) }
 {
     let units = desk.units_of_user(alloc, account)?;
-    Ok(UnitsHad::of(alloc, units.as_slice())?)
+    Ok(SeenSet::of(alloc, units.as_slice())?)
 }
 
 /// Asks what limits the jobs of a host on this day.

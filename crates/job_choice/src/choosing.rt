@@ -7,10 +7,9 @@ ghost use Rattle.job_choice.specs.Choosing.{is_full, has_job_of, is_new_unit, en
 
 use crate::fitting::{fits, seconds_at};
 use crate::granted::{Grant, Granted};
-use crate::units_had::UnitsHad;
 use rpc_records::EndWord;
 use sched_book::{Candidate, Flow, HostRow, Taker, Version};
-use texts::{Listed, Memory};
+use texts::{Listed, Memory, SeenSet};
 
 /// The most jobs that one reply can grant.
 #[derive(Clone, Copy)]
@@ -28,7 +27,7 @@ pub(crate) struct Limits {
 pub(crate) struct Choosing<'a> {
     pub(crate) host: &'a HostRow,
     /// The workunits of which the user had an instance.
-    pub(crate) had: UnitsHad,
+    pub(crate) had: SeenSet<u32>,
     /// For each application the version that the host runs, where it runs any.
     pub(crate) versions: Listed<Version>,
     pub(crate) limits: Limits,
@@ -97,10 +96,10 @@ fn has_job(jobs: &[Granted], unit: u32) -> bool
 }
 
 /// Whether the user had no instance of the workunit at this place, and gets none yet.
-fn is_new(had: &UnitsHad, jobs: &[Granted], unit: u32) -> bool
+fn is_new(had: &SeenSet<u32>, jobs: &[Granted], unit: u32) -> bool
     ensures { result ≡ is_new_unit had.now jobs.now unit }
 {
-    !had.has(unit) && !has_job(jobs, unit)
+    !had.has(&unit) && !has_job(jobs, unit)
 }
 
 /// The version of the application of this name.

@@ -10,7 +10,6 @@ mod choosing;
 pub mod fitting;
 pub mod granted;
 pub mod laws;
-mod units_had;
 
 pub use choice::choose;
 pub use fitting::{estimate, fits, seconds_at};

@@ -16,9 +16,9 @@ use Rattle.sched_book.specs.declared.world.World.{World}
 use Rattle.sched_book.proofs.PlacesOf.{nth-suc}
 use Rattle.sched_book.proofs.Recording.{passes-is}
 use Rattle.sched_book.proofs.Fitting as fitting
-use Rattle.lost_jobs.specs.NameSets.{has_name}
+use Rattle.texts.specs.SeenSet.{has_seen}
 use Rattle.lost_jobs.specs.Holding.{HoldsNoMore, is_missing}
-use Rattle.lost_jobs.specs.declared.name_set.NameSet.{NameSet}
+use Rattle.texts.specs.declared.seen_set.SeenSet.{SeenSet}
 
 -- what an instance passes, where one stands
 abbrev test : (Instance → Bool) → Option Instance → Bool
@@ -120,12 +120,12 @@ filter_same p q same [] = refl
 filter_same p q same (x ∷ xs) = ap (λ (b : Bool). cond b (x ∷ filter p xs) (filter p xs)) (same x) ∙ ap (λ ys. cond (q x) (x ∷ ys) ys) (filter_same p q same xs)
 
 -- the missing ones among what the host held are those that it holds and does not list
-pub unlisted_is : (before after : World) (host : ℕ) (set : NameSet) (names : List (List ℕ))
-    → ((name : List ℕ) → has_name set name ≡ list_any (bytes_eq name) names) → HoldsNoMore before after host
+pub unlisted_is : (before after : World) (host : ℕ) (set : SeenSet (List ℕ)) (names : List (List ℕ))
+    → ((name : List ℕ) → has_seen bytes_eq set name ≡ list_any (bytes_eq name) names) → HoldsNoMore before after host
     → filter (is_missing after host set) (held_by before host) ≡ unlisted after host (Some names)
 unlisted_is before after host set names has no_more =
-    sym (filter_twice (passes after (λ b x. is_held_by host x)) (λ p. not (has_name set (name_at after p))) (held_by before host))
-    ∙ filter_same (λ p. not (has_name set (name_at after p))) (λ p. not (is_listed after names p)) (λ p. ap not (has (name_at after p)))
+    sym (filter_twice (passes after (λ b x. is_held_by host x)) (λ p. not (has_seen bytes_eq set (name_at after p))) (held_by before host))
+    ∙ filter_same (λ p. not (has_seen bytes_eq set (name_at after p))) (λ p. not (is_listed after names p)) (λ p. ap not (has (name_at after p)))
     (filter (passes after (λ b x. is_held_by host x)) (held_by before host))
     ∙ ap (filter (λ p. not (is_listed after names p))) (sym (held_after before after host no_more))
 

@@ -1,8 +1,6 @@
 pub mod Standing
-pub mod FirstNames
 pub mod Versions
 pub mod Resent
-pub mod NameSets
 pub mod Holding
 pub mod Reported
 pub mod Fated

@@ -1,6 +1,6 @@
 -- What stands at a place.
-use Rattle.std.proofs.Common.{◌≡◌, Bool, false, [], Option, Some, None, refl, ap, ◌∙◌}
-use Rattle.std.specs.Prelude.{option_map, unwrap_or}
+use Rattle.std.proofs.Common.{◌≡◌, Bool, false, [], Option, Some, None, refl, sym, ap, ◌∙◌}
+use Rattle.std.specs.Prelude.{option_map, unwrap_or, MatchOption}
 use Rattle.sched_book.specs.Names.{instance_name}
 use Rattle.sched_book.specs.Places.{unit_at, instance_at, passes, deadline_of, name_at}
 use Rattle.sched_book.specs.Desk.{workunit_at}
@@ -19,6 +19,15 @@ passes_none w g p none = passes-is w g p ∙ ap (λ o. unwrap_or (option_map g o
 -- where an instance stands it is tested
 pub passes_some : (w : World) (g : Instance → Bool) (p : Place) (x : Instance) → instance_at w p ≡ Some x → passes w (λ b x. g x) p ≡ g x
 passes_some w g p x stands = passes-is w g p ∙ ap (λ o. unwrap_or (option_map g o) false) stands
+
+-- so what a look-up told of it is the test
+told : (g : Instance → Bool) (o : Option Instance) (b : Bool) → MatchOption o (b ≡ false) (λ x. b ≡ g x) → b ≡ unwrap_or (option_map g o) false
+told g None b is = is
+told g (Some x) b is = is
+
+pub passes_told : (w : World) (g : Instance → Bool) (p : Place) (b : Bool) → MatchOption (instance_at w p) (b ≡ false) (λ x. b ≡ g x)
+    → b ≡ passes w (λ b x. g x) p
+passes_told w g p b is = told g (instance_at w p) b is ∙ sym (passes-is w g p)
 
 -- its deadline
 pub deadline_none : (w : World) (p : Place) → instance_at w p ≡ None → deadline_at w p ≡ 0

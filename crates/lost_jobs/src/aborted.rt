@@ -1,45 +1,20 @@
 //! The names that a client may forget.
 
-ghost use Rattle.std.specs.Prelude.{◌≡◌, ℕ, List, [], ◌∷◌, ◌++◌, not, ◌||◌, map, filter, IfOk, OnOk};
+ghost use Rattle.std.specs.Prelude.{◌≡◌, ℕ, List, ◌∷◌, ◌++◌, not, ◌||◌, map, filter, IfOk, OnOk};
 ghost use Rattle.sched_book.specs.Count.{has_failed};
 ghost use Rattle.sched_book.specs.Places.{status_at, passes};
-ghost use Rattle.sched_book.specs.Reports.{first_of_each, awaits_report};
+ghost use Rattle.sched_book.specs.Reports.{awaits_report};
 ghost use Rattle.sched_book.specs.Lost.{is_aborted, aborts};
 ghost use Rattle.sched_book.specs.Trusted.{Trusted};
-ghost use Rattle.texts.specs.Seen.{has_seen};
-ghost use Rattle.lost_jobs.specs.FirstNames.{names_beyond};
 
+use crate::places::passes;
 use rpc_records::Request;
-use sched_book::{Instance, Place, Unavailable, Units, count, place_named, status_at};
+use sched_book::{Place, Unavailable, Units, first_of_each, place_named, status_at};
 use std::alloc::Global;
-use texts::{Listed, Memory, Seen, Text};
-
-/// Whether the host was given the instance and did not report it yet.
-fn awaits_report(host: u32, instance: &Instance) -> bool
-    ensures { result ≡ awaits_report host instance.now }
-{
-    count::is_owned_by(host, instance) && instance.report.is_none()
-}
-
-/// The same of the instance at a place; where none stands it is false.
-#[tactic(auto, using(crate::proofs::Standing::passes_none, crate::proofs::Standing::passes_some))]
-fn awaits_at<U: Units>(
-    alloc: Global,
-    units: &mut U,
-    host: u32,
-    place: Place,
-) -> Result<bool, Unavailable>
-    ensures reads { U.reads units.old units.new }
-    ensures answer { Trusted U.Units units.old units.new (
-        IfOk result (λ awaits. awaits ≡ passes (U.world units.old) (λ b x. awaits_report host x) place)) }
-{
-    match units.instance(alloc, place.unit, place.number)? {
-        None => Ok(false),
-        Some(instance) => Ok(awaits_report(host, &instance)),
-    }
-}
+use texts::{Listed, Text};
 
 /// Whether the client of the host may forget the job at a place.
+#[tactic(auto, using(crate::proofs::Standing::passes_told))]
 fn is_over<U: Units>(
     alloc: Global,
     units: &mut U,
@@ -50,10 +25,16 @@ fn is_over<U: Units>(
     ensures answer { Trusted U.Units units.old units.new (IfOk result (λ over. over ≡
         (not (passes (U.world units.old) (λ b x. awaits_report host x) place) || has_failed (status_at (U.world units.old) place.unit)))) }
 {
-    if !awaits_at(alloc, units, host, place)? {
+    let awaits = passes(
+        alloc,
+        units,
+        place,
+        |instance| instance.awaits_report_of(host),
+    )?;
+    if !awaits {
         return Ok(true);
     }
-    Ok(count::has_failed(status_at(alloc, units, place.unit)?))
+    Ok(status_at(alloc, units, place.unit)?.has_failed())
 }
 
 /// Whether the client of the host may forget this name.
@@ -71,36 +52,6 @@ fn is_aborted<U: Units>(
         None => Ok(true),
         Some(place) => is_over(alloc, units, host, place),
     }
-}
-
-/// Puts a name behind the first ones, unless it came by; `seen` knows which did.
-fn add_first<'a>(
-    firsts: &mut Vec<&'a Text>,
-    seen: &mut Seen<'a>,
-    name: &'a Text,
-) -> Result<(), Memory>
-    ensures { OnOk result ((later : List (List ℕ)) →
-        map (λ n. n.now) firsts.new.items ++ names_beyond (has_seen seen.new) later
-        ≡ map (λ n. n.now) firsts.old.items ++ names_beyond (has_seen seen.old) (name.now ∷ later)) }
-{
-    let first = seen.is_first(name.as_str())?;
-    if !first {
-        return Ok(());
-    }
-    firsts.push(name)?;
-    Ok(())
-}
-
-/// These names, each once.
-fn first_names<'a>(alloc: Global, names: &'a [Text]) -> Result<Vec<&'a Text>, Memory>
-    ensures { IfOk result (λ firsts. map (λ n. n.now) firsts.items ≡ first_of_each (λ name. name) [] names.now) }
-{
-    let mut seen = Seen::new(alloc);
-    let mut firsts = Vec::new(alloc);
-    for name in names {
-        add_first(&mut firsts, &mut seen, name)?;
-    }
-    Ok(firsts)
 }
 
 /// Puts a name behind the others where the client of the host may forget it.
@@ -156,7 +107,7 @@ pub fn aborts<U: Units>(
     match &request.other_results {
         None => Ok(Listed::new(alloc)),
         Some(names) => {
-            let firsts = first_names(alloc, names.as_slice())?;
+            let firsts = first_of_each(alloc, names.as_slice())?;
             aborted_among(alloc, units, host, firsts.as_slice())
         }
     }

@@ -11,7 +11,7 @@ ghost use Rattle.lost_jobs.specs.Fates.{fate, resent_to};
 
 use job_choice::{fits, seconds_at};
 use sched_book::{
-    Desk, HostRow, Instance, Moment, Place, Unavailable, Version, Workunit, count, status_at,
+    Desk, HostRow, Instance, Moment, Place, Unavailable, Version, Workunit, status_at,
 };
 use std::alloc::Global;
 use texts::Listed;
@@ -91,7 +91,7 @@ pub fn version_for<D: Desk>(
 }
 
 /// Whether the workunit, which stands at this place, is open and fits the host.
-fn is_for<D: Desk>(
+fn is_open_and_fits<D: Desk>(
     alloc: Global,
     desk: &mut D,
     host: &HostRow,
@@ -99,10 +99,10 @@ fn is_for<D: Desk>(
     place: u32,
 ) -> Result<bool, Unavailable>
     ensures reads { D.reads desk.old desk.new }
-    ensures answer { Trusted D.Units desk.old desk.new (IfOk result (λ is. is ≡
+    ensures answer { Trusted D.Units desk.old desk.new (IfOk result (λ can. can ≡
         (is_open (status_at (D.world desk.old) place) && fits host.now unit.now (version_for (D.world desk.old) host.now unit.now.app)))) }
 {
-    if !count::is_open(status_at(alloc, desk, place)?) {
+    if !status_at(alloc, desk, place)?.is_open() {
         return Ok(false);
     }
     let version = version_for(alloc, desk, host, unit.app.as_str())?;
@@ -125,7 +125,7 @@ fn resent_to<D: Desk>(
     let Some(unit) = desk.unit(alloc, place.unit)? else {
         return Ok(None);
     };
-    if !is_for(alloc, desk, host, &unit, place.unit)? {
+    if !is_open_and_fits(alloc, desk, host, &unit, place.unit)? {
         return Ok(None);
     }
     let deadline = deadline_at(alloc, desk, place)?;

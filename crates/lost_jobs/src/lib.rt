@@ -6,7 +6,7 @@ mod changes;
 mod fates;
 pub mod laws;
 mod missing;
-mod name_set;
+mod places;
 
 pub use aborted::aborts;
 pub use changes::lost_changes;

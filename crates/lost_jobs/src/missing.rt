@@ -1,7 +1,7 @@
 //! The jobs that a client lost.
 
 ghost use Rattle.std.specs.Prelude.{◌≡◌, List, Some, ◌∷◌, ◌++◌, filter, IfOk, OnOk};
-ghost use Rattle.sched_book.specs.Places.{passes, is_held_by, name_at};
+ghost use Rattle.sched_book.specs.Places.{name_at};
 ghost use Rattle.sched_book.specs.Lost.{unlisted, lost};
 ghost use Rattle.sched_book.specs.Delta.{applied};
 ghost use Rattle.sched_book.specs.Trusted.{Trusted};
@@ -9,36 +9,11 @@ ghost use Rattle.sched_book.specs.declared.instance.Place.{Place};
 ghost use Rattle.lost_jobs.specs.Holding.{HoldsNoMore, is_missing};
 ghost use Rattle.lost_jobs.specs.Requested.{RecordsReports, AreLostBy};
 
-use crate::name_set::NameSet;
+use crate::places::passes;
 use rpc_records::Request;
-use sched_book::{Delta, Desk, Instance, Patched, Place, Unavailable, Units, count, instance_name};
+use sched_book::{Delta, Desk, Patched, Place, Unavailable, Units, instance_name};
 use std::alloc::Global;
-use texts::{Listed, Text};
-
-/// Whether the host holds the instance.
-fn is_held_by(host: u32, instance: &Instance) -> bool
-    ensures { result ≡ is_held_by host instance.now }
-{
-    count::is_owned_by(host, instance) && count::is_held(instance)
-}
-
-/// The same of the instance at a place; where none stands it is false.
-#[tactic(auto, using(crate::proofs::Standing::passes_none, crate::proofs::Standing::passes_some))]
-fn is_held_at<U: Units>(
-    alloc: Global,
-    units: &mut U,
-    host: u32,
-    place: Place,
-) -> Result<bool, Unavailable>
-    ensures reads { U.reads units.old units.new }
-    ensures answer { Trusted U.Units units.old units.new (
-        IfOk result (λ held. held ≡ passes (U.world units.old) (λ b x. is_held_by host x) place)) }
-{
-    match units.instance(alloc, place.unit, place.number)? {
-        None => Ok(false),
-        Some(instance) => Ok(is_held_by(host, &instance)),
-    }
-}
+use texts::{Listed, SeenSet, Text};
 
 /// The name of the instance at a place, empty where no workunit stands.
 #[tactic(auto, using(crate::proofs::Standing::name_none, crate::proofs::Standing::name_some))]
@@ -53,18 +28,20 @@ fn name_at<U: Units>(alloc: Global, units: &mut U, place: Place) -> Result<Text,
 }
 
 /// Whether the host holds the instance at a place, and its name is not listed.
+#[tactic(auto, using(crate::proofs::Standing::passes_told))]
 fn is_missing<U: Units>(
     alloc: Global,
     units: &mut U,
     host: u32,
-    listed: &NameSet,
+    listed: &SeenSet<Text>,
     place: Place,
 ) -> Result<bool, Unavailable>
     ensures reads { U.reads units.old units.new }
     ensures answer { Trusted U.Units units.old units.new (
         IfOk result (λ missing. missing ≡ is_missing (U.world units.old) host listed.now place)) }
 {
-    if !is_held_at(alloc, units, host, place)? {
+    let held = passes(alloc, units, place, |instance| instance.is_held_by(host))?;
+    if !held {
         return Ok(false);
     }
     let name = name_at(alloc, units, place)?;
@@ -77,7 +54,7 @@ fn is_missing_under<D: Desk>(
     desk: &mut D,
     delta: &Delta,
     host: u32,
-    listed: &NameSet,
+    listed: &SeenSet<Text>,
     place: Place,
 ) -> Result<bool, Unavailable>
     ensures reads { D.reads desk.old desk.new }
@@ -94,7 +71,7 @@ fn add_missing<D: Desk>(
     desk: &mut D,
     delta: &Delta,
     host: u32,
-    listed: &NameSet,
+    listed: &SeenSet<Text>,
     place: Place,
     missing: &mut Listed<Place>,
 ) -> Result<(), Unavailable>
@@ -115,7 +92,7 @@ fn missing_among<D: Desk>(
     desk: &mut D,
     delta: &Delta,
     host: u32,
-    listed: &NameSet,
+    listed: &SeenSet<Text>,
     places: &[Place],
 ) -> Result<Listed<Place>, Unavailable>
     ensures reads { D.reads desk.old desk.new }
@@ -142,7 +119,7 @@ fn unlisted<D: Desk>(
         HoldsNoMore (D.world desk.old) (applied (D.world desk.old) delta.now) host →
         places ≡ unlisted (applied (D.world desk.old) delta.now) host (Some names.now))) }
 {
-    let listed = NameSet::of(alloc, names)?;
+    let listed = SeenSet::of(alloc, names)?;
     let held = desk.held_by(alloc, host)?;
     missing_among(alloc, desk, delta, host, &listed, held.as_slice())
 }

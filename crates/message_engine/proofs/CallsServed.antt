@@ -28,18 +28,19 @@ use Rattle.sched_machine.specs.Admission as admission
 use Rattle.sched_machine.specs.Calling.{IsAdmitted, IsFull}
 use Rattle.pasts.specs.Answers.{kept_after, kept_call}
 use Rattle.pasts.specs.ByNumber.{kept_at, calls_by_number}
-use Rattle.pasts.specs.FirstHeard.{names_host, has_host_room}
+use Rattle.pasts.specs.FirstHeard.{has_host_room}
 use Rattle.pasts.specs.Leaves.{host_of_key}
-use Rattle.pasts.specs.Messages.{Rpc, Message, key_of}
+use Rattle.pasts.specs.Messages.{Rpc, key_of}
 use Rattle.sched_book.specs.Limits.{last_moment}
-use Rattle.pasts.specs.Stands.{Same, ServesAs, told_by}
+use Rattle.pasts.specs.Stands.{ServesAs}
 use Rattle.pasts.specs.Told.{told_fresh, told_heard, told_beside, told_call, told_account, told_number}
 use Rattle.pasts.specs.declared.answer.Answer.{Answer}
 use Rattle.pasts.specs.declared.answer.Answer.TheVariants.{Good, Refusal}
 use Rattle.pasts.specs.declared.kind.Kind.{Kind}
 use Rattle.pasts.proofs.ByNumber.{kept_by_number}
+use Rattle.message_engine.proofs.EntriesKept.{told_serves}
 use Rattle.message_engine.specs.Calls.{IsNamed, told_caller, MayAct, ServesCall}
-use Rattle.message_engine.specs.Stores.{Calls, Batches, tables_by, calls_with, IsCommitted, IsLeft, ServesSoundly, ServesIn}
+use Rattle.message_engine.specs.Stores.{Calls, Batches, tables_by, calls_with, IsCommitted, IsLeft, ServesSoundly}
 use Rattle.message_engine.specs.declared.entry.Entry.TheVariants as entry
 
 -- ---- what is left
@@ -49,31 +50,7 @@ same_calls : (w after : World) (calls later : Calls) → after ≡ w → ((host 
     → (key : Key) → calls_by_number after later key ≡ calls_by_number w calls key
 same_calls w after calls later world_is calls_are key = λ i. kept_at (λ host. calls_are host i) (host_of_key (world_is i) key)
 
-left_same : (w after : World) (calls later : Calls) (batches newer : Batches) → IsLeft w calls batches after later newer
-    → Same (tables_by after later newer) (tables_by w calls batches)
-left_same w after calls later batches newer left = record {
-  world = left.world_is;
-  calls = same_calls w after calls later left.world_is left.calls_are;
-  batches = left.batches_are;
-}
-
--- a message that is told something leaves all as it was
-pub told_serves : (m : Message) (answer : Answer) (w after : World) (calls later : Calls) (batches newer : Batches)
-    → told_by (tables_by w calls batches) m.said ≡ Some answer → IsLeft w calls batches after later newer
-    → ServesIn m answer w calls batches after later newer
-told_serves m answer w after calls later batches newer is left = λ sound. record {
-  serves =
-      subst (λ told. ServesAs told (tables_by w calls batches) m answer (tables_by after later newer)) (sym is)
-      (refl, left_same w after calls later batches newer left);
-  sound = subst Sound (sym left.world_is) sound;
-}
-
 -- ---- who calls
-
--- the two words for a call's number are one
-names_are : (hostid : ℕ) (number : Option ℕ) → names_host hostid number ≡ admission.names_host hostid number
-names_are hostid None = refl
-names_are hostid (Some number) = refl
 
 -- the number of a named caller's key is that of its host
 number_named : (w : World) (c : Caller) (r : Request) → IsNamed w c r → host_of_key w (key_of r) ≡ c.host
@@ -90,9 +67,9 @@ told_named w c r kept named =
     ap (told_account w kept r) named.0.account
     ∙ ap (told_number w kept r) named.0.host
     ∙ ap (λ (b : Bool). cond b (told_beside (room_for w c) kept r.rpc_seqno (canonical_text r)) (Some (Refusal fault.BadHost)))
-    (names_are r.hostid c.host ∙ named.1)
+    named.1
 
--- ---- beside the kept calls, with the room told apart
+-- ---- beside the kept calls, with the room taken apart
 
 heard_some : (room : Bool) (reply : List ℕ) (h : Heard) (answer : Answer) → told_heard true reply h ≡ Some answer → told_heard room reply h ≡ Some answer
 heard_some room reply heard.Fresh answer is = absurd (none-some answer is)
@@ -142,7 +119,7 @@ number_serves w after calls later batches newer r now tells left =
     told_serves (record { now = now; said = Rpc r }) (Refusal fault.BadHost) w after calls later batches newer
     (ap (told_account w kept r) tells.stands
     ∙ ap (λ (b : Bool). cond b (told_beside (has_host_room w.settings.max_hosts number (length w.hosts)) kept r.rpc_seqno (canonical_text r)) (Some (Refusal fault.BadHost)))
-    (names_are r.hostid number ∙ tells.wrong))
+    tells.wrong)
     left
 
 pub again_serves : (w after : World) (calls later : Calls) (batches newer : Batches) (c : Caller) (r : Request) (now : ℕ) (text : List ℕ)

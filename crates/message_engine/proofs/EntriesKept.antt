@@ -12,7 +12,7 @@ use Rattle.sched_book.specs.declared.world.World.{World}
 use Rattle.pasts.specs.Answers.{body_of, kept_after, batch_after}
 use Rattle.pasts.specs.ByNumber.{calls_by_number}
 use Rattle.pasts.specs.Messages.{Message}
-use Rattle.pasts.specs.Runs.{IsToldBy, IsInLimits}
+use Rattle.pasts.specs.Runs.{SaysCall, IsInLimits}
 use Rattle.pasts.specs.Stands.{Same, ServesAs, told_by}
 use Rattle.pasts.specs.declared.answer.Answer.{Answer}
 use Rattle.pasts.specs.declared.answer.Answer.TheVariants.{Good}
@@ -56,7 +56,7 @@ told_serves m answer w w' calls calls' batches batches' told left sound =
 -- a first-heard message is one step, and its entry is kept
 pub step_serves : (m : Message) (c : Call) (answered : Answered) (delta : List Change) (e : Entry)
     (w w' : World) (calls calls' : Calls) (batches batches' : Batches)
-    → told_by (tables_by w calls batches) m.said ≡ None → IsToldBy m.said c → IsInLimits c m.now
+    → told_by (tables_by w calls batches) m.said ≡ None → SaysCall m.said c → IsInLimits c m.now
     → Step w c m.now (applied w delta) answered → Sound (applied w delta)
     → ((key : Key) → calls_by_number (applied w delta) (calls_with e calls) key ≡ kept_after key m.said (body_of answered m.said) (calls_by_number w calls key))
     → ((kind : Kind) (batch : List ℕ) → batches_with e batches kind batch ≡ batch_after kind batch m.said (body_of answered m.said) (batches kind batch))

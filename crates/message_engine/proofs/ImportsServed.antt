@@ -46,22 +46,22 @@ ServesRead now kind batch text answer w calls batches w' calls' batches' =
 
 -- ---- a batch that is kept
 
--- what a look-up told is what is kept
-looked_up : (batches : Batches) (kind : Kind) (batch name : List ℕ) (told kept : Option KeptBatch)
-    → told ≡ kept → name ≡ batch → told ≡ batches kind name → batches kind batch ≡ kept
-looked_up batches kind batch name told kept is same there = ap (batches kind) (sym same) ∙ sym there ∙ is
+-- what a look-up found is what is kept
+looked_up : (batches : Batches) (kind : Kind) (batch name : List ℕ) (looked kept : Option KeptBatch)
+    → looked ≡ kept → name ≡ batch → looked ≡ batches kind name → batches kind batch ≡ kept
+looked_up batches kind batch name looked kept is same there = ap (batches kind) (sym same) ∙ sym there ∙ is
 
-pub again_serves : (now : ℕ) (kind : Kind) (batch text : List ℕ) (name : List ℕ) (told : Option KeptBatch) (kept : KeptBatch) (answer : Answer)
+pub again_serves : (now : ℕ) (kind : Kind) (batch text : List ℕ) (name : List ℕ) (looked : Option KeptBatch) (kept : KeptBatch) (answer : Answer)
     (w w' : World) (calls calls' : Calls) (batches batches' : Batches)
-    → told ≡ Some kept → name ≡ batch → told ≡ batches kind name → answer ≡ (if bytes_eq kept.text text then Good kept.answer else Refusal fault.BatchReused)
+    → looked ≡ Some kept → name ≡ batch → looked ≡ batches kind name → answer ≡ (if bytes_eq kept.text text then Good kept.answer else Refusal fault.BatchReused)
     → IsLeft w calls batches w' calls' batches' → ServesRead now kind batch text answer w calls batches w' calls' batches'
-again_serves now kind batch text name told kept answer w w' calls calls' batches batches' found same there is left =
+again_serves now kind batch text name looked kept answer w w' calls calls' batches batches' found same there is left =
     let one = text_has_one_list text in
     let read : Result Rows Fault = as_refusal (reading_of kind one.0) in (
       read,
       (reading_of kind one.0, (one.0, one.1, refl), refl),
       told_serves (message_of now kind batch text read) answer w w' calls calls' batches batches'
-          (ap (λ o. told_import w o text read) (looked_up batches kind batch name told (Some kept) found same there) ∙ ap Some (sym is)) left,
+          (ap (λ o. told_import w o text read) (looked_up batches kind batch name looked (Some kept) found same there) ∙ ap Some (sym is)) left,
     )
 
 -- ---- a refusal
@@ -139,13 +139,13 @@ module _ (now : ℕ) (kind : Kind) (batch text : List ℕ) (u v w : World) (call
   added_on new (Err e) unrefused serves = tt
 
   -- a batch that was looked for, and then imported
-  pub new_on : (name : List ℕ) (told : Option KeptBatch) (result : Result Answer Unavailable) → told ≡ None → name ≡ batch → told ≡ batches kind name
+  pub new_on : (name : List ℕ) (looked : Option KeptBatch) (result : Result Answer Unavailable) → looked ≡ None → name ≡ batch → looked ≡ batches kind name
       → IfOk result (λ answer. batches' kind batch ≡ None → ServesRead now kind batch text answer v calls' batches' w calls'' batches'')
       → IfOk result (λ answer. ServesRead now kind batch text answer u calls batches w calls'' batches'')
-  new_on name told (Ok answer) none same there serves =
-      let read = serves (still (looked_up batches kind batch name told None none same there)) in
+  new_on name looked (Ok answer) none same there serves =
+      let read = serves (still (looked_up batches kind batch name looked None none same there)) in
       (read.0, read.1, serves_on (message_of now kind batch text read.0) answer u v w calls calls' calls'' batches batches' batches'' left read.2)
-  new_on name told (Err e) none same there serves = tt
+  new_on name looked (Err e) none same there serves = tt
 
 -- rows that were read, and then imported
 pub read_on : (now : ℕ) (kind : Kind) (batch text : List ℕ) (new : Rows) (u w : World) (calls calls'' : Calls) (batches batches'' : Batches)

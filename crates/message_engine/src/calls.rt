@@ -132,8 +132,8 @@ fn keep<S: Store>(
     Ok(Answer::Good(body))
 }
 
-/// Acts on a fresh call, where there is room for its host.
-fn act<S: Store>(
+/// Answers a fresh call: it is a step of the machine and is kept with its reply, where there is room for its host.
+fn call_fresh<S: Store>(
     alloc: Global,
     store: &mut S,
     caller: Caller,
@@ -160,7 +160,7 @@ fn act<S: Store>(
 }
 
 /// Answers a call of a caller who is admitted.
-fn call_of<S: Store>(
+fn call_admitted<S: Store>(
     alloc: Global,
     store: &mut S,
     caller: Caller,
@@ -179,7 +179,7 @@ fn call_of<S: Store>(
     let text = request_text(alloc, &request)?;
     match told_kept(alloc, store, &caller, request.rpc_seqno, text.as_str())? {
         Some(answer) => Ok(answer),
-        None => act(alloc, store, caller, request, text, now),
+        None => call_fresh(alloc, store, caller, request, text, now),
     }
 }
 
@@ -205,7 +205,7 @@ pub fn call<S: Store>(
         IsLeft (S.world store.old) (S.calls store.old) (S.batches store.old) (S.world store.new) (S.calls store.new) (S.batches store.new))) }
 {
     match admit(alloc, store, &request) {
-        Ok(caller) => call_of(alloc, store, caller, request, now),
+        Ok(caller) => call_admitted(alloc, store, caller, request, now),
         Err(Refused::BadAccount) => Ok(Answer::Refusal(Fault::BadAccount)),
         Err(Refused::BadHost) => Ok(Answer::Refusal(Fault::BadHost)),
         Err(_) => Err(Unavailable),

@@ -21,8 +21,8 @@ use sched_book::{Moment, Unavailable};
 use std::alloc::Global;
 use texts::{Memory, Text};
 
-/// Hears the body of a scheduler_request.
-fn hear<S: Store>(
+/// Answers the call that the body of a scheduler_request says; one that is too long or says none is refused.
+fn call_decoded<S: Store>(
     alloc: Global,
     store: &mut S,
     body: &[u8],
@@ -116,7 +116,7 @@ pub fn answer<S: Store>(
         IsLeft (S.world store.old) (S.calls store.old) (S.batches store.old) (S.world store.new) (S.calls store.new) (S.batches store.new))) }
 {
     match post {
-        Post::Scheduler(body) => hear(alloc, store, body.as_slice(), now),
+        Post::Scheduler(body) => call_decoded(alloc, store, body.as_slice(), now),
         Post::Import { kind, batch, text } => {
             import_named(alloc, store, kind, batch, text.as_slice(), now)
         }

@@ -7,7 +7,7 @@ ghost use Rattle.sched_book.specs.Sound.{Sound};
 ghost use Rattle.sched_book.specs.Step.{ImportStep, TickStep, Step};
 ghost use Rattle.sched_book.specs.Trusted.{Trusted};
 ghost use Rattle.sched_book.specs.declared.machine.Answered.TheVariants as answered;
-ghost use Rattle.sched_machine.specs.Calling.{MayBeTold};
+ghost use Rattle.sched_machine.specs.Calling.{MayBeHeard};
 
 use sched_book::{Answered, Call, Delta, Desk, Moment, Rows, Unavailable};
 use sched_machine::step;
@@ -45,12 +45,12 @@ fn counted_step<D: Desk>(
 ) -> Result<(Delta, u32), Unavailable>
     ensures reads { D.reads desk.old desk.new }
     ensures step { Trusted D.Units desk.old desk.new (IfOk result (λ done.
-        Sound (D.world desk.old) → MayBeTold (D.world desk.old) call.now →
+        Sound (D.world desk.old) → MayBeHeard (D.world desk.old) call.now →
         Step (D.world desk.old) call.now now (applied (D.world desk.old) done.0) (answered.Imported done.1))) }
     ensures sound { Trusted D.Units desk.old desk.new (IfOk result (λ done.
-        Sound (D.world desk.old) → MayBeTold (D.world desk.old) call.now → Sound (applied (D.world desk.old) done.0))) }
+        Sound (D.world desk.old) → MayBeHeard (D.world desk.old) call.now → Sound (applied (D.world desk.old) done.0))) }
     ensures fits { Trusted D.Units desk.old desk.new (IfOk result (λ done.
-        Sound (D.world desk.old) → MayBeTold (D.world desk.old) call.now → Fits (D.world desk.old) done.0)) }
+        Sound (D.world desk.old) → MayBeHeard (D.world desk.old) call.now → Fits (D.world desk.old) done.0)) }
 {
     let Ok((delta, answered)) = step(alloc, desk, call, now) else {
         return Err(Unavailable);

@@ -3,12 +3,14 @@ use Rattle.std.proofs.Common.{◌≡◌, ℕ, ◌+◌, Bool, true, false, cond, 
 use Rattle.std.specs.Prelude.{IfErr, ok_or, option_and_then, ◌-◌, ◌==◌}
 use Rattle.csv.specs.Records.{field_at}
 use Rattle.sched_book.specs.Limits.{most_instances, most_delay, most_amount, most_credit, most_version_num}
-use Rattle.office_files.specs.Columns.{word_in, name_in, number_in, agreement_in}
+use Rattle.office_files.specs.Columns.{name_in, number_in, agreement_in}
 use Rattle.office_files.specs.Records.{Record}
-use Rattle.office_files.specs.Importing.{and_then, column_of, account_header, account_of, app_header, app_of, version_header, version_of, workunit_header, workunit_of, row_of, rows_from, rows_under}
+use Rattle.office_files.specs.Importing.{column_of, account_header, account_of, app_header, app_of, version_header, version_of, workunit_header, workunit_of, row_of, rows_from, rows_under}
 use Rattle.office_files.specs.Laws.{AllRead, IsFirstFault, ReadsInOrder, ImportsReadInOrder}
 use Rattle.office_files.specs.declared.fault.RowsFault.{RowsFault}
 use Rattle.office_files.specs.declared.fault.RowsFault.TheVariants.{BadCsv}
+use Rattle.texts.specs.Reading.{and_then}
+use Rattle.texts.specs.Words.{word_of}
 
 -- a fault tells the row that was read
 abbrev TellsRow : {A : Type 0} → ℕ → Result A RowsFault → Type 0
@@ -29,24 +31,24 @@ next row (Err e) f h k = h
 
 account_tells : (row : ℕ) (fields : Record) → TellsRow row (account_of row fields)
 unfolding account_of
-account_tells row fields = next row _ _ (at_column row 1 word_in fields) (λ a. next row _ _ (at_column row 2 name_in fields) (λ b. tt))
+account_tells row fields = next row _ _ (at_column row 1 word_of fields) (λ a. next row _ _ (at_column row 2 name_in fields) (λ b. tt))
 
 app_tells : (row : ℕ) (fields : Record) → TellsRow row (app_of row fields)
 unfolding app_of
-app_tells row fields = next row _ _ (at_column row 1 word_in fields) (λ a. next row _ _ (at_column row 2 agreement_in fields) (λ b. tt))
+app_tells row fields = next row _ _ (at_column row 1 word_of fields) (λ a. next row _ _ (at_column row 2 agreement_in fields) (λ b. tt))
 
 version_tells : (row : ℕ) (fields : Record) → TellsRow row (version_of row fields)
 unfolding version_of
 version_tells row fields =
-    next row _ _ (at_column row 1 word_in fields) (λ a.
-    next row _ _ (at_column row 2 word_in fields) (λ b.
+    next row _ _ (at_column row 1 word_of fields) (λ a.
+    next row _ _ (at_column row 2 word_of fields) (λ b.
     next row _ _ (at_column row 3 (number_in 1 most_version_num) fields) (λ c. tt)))
 
 workunit_tells : (row : ℕ) (fields : Record) → TellsRow row (workunit_of row fields)
 unfolding workunit_of
 workunit_tells row fields =
-    next row _ _ (at_column row 1 word_in fields) (λ name.
-    next row _ _ (at_column row 2 word_in fields) (λ app.
+    next row _ _ (at_column row 1 word_of fields) (λ name.
+    next row _ _ (at_column row 2 word_of fields) (λ app.
     next row _ _ (at_column row 3 (number_in 1 most_instances) fields) (λ quorum.
     next row _ _ (at_column row 4 (number_in quorum most_instances) fields) (λ target.
     next row _ _ (at_column row 5 (number_in 0 most_instances) fields) (λ errors.

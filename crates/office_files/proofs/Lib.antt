@@ -1,6 +1,5 @@
 pub mod CountTexts
 pub mod LookUps
-pub mod SeenKeysLaws
 pub mod FromTheFront
 pub mod TakenNames
 pub mod TextRecords

@@ -1,16 +1,12 @@
 -- What one field of an import says, where it is of the wanted form. The forms are this profile's.
-use Rattle.std.specs.Prelude.{ℕ, Bool, false, ◌&&◌, ◌||◌, nat_eq, nat_le, if◌then◌else◌, List, [], ◌∷◌, length, drop, codes, Option, Some, None, option_and_then, option_map}
+use Rattle.std.specs.Prelude.{ℕ, Bool, false, ◌&&◌, ◌||◌, nat_eq, nat_le, if◌then◌else◌, List, [], ◌∷◌, drop, codes, Option, Some, None, option_and_then, option_map}
 use Rattle.std.specs.Char.{is_ascii_digit}
 use Rattle.std.specs.List.{list_all, starts_with}
 use Rattle.std.specs.Str.{bytes_eq, is_utf8}
 use Rattle.std.specs.Str.Parse.{digits_value}
-use Rattle.texts.specs.Words.{is_word}
 use Rattle.sched_book.specs.Limits.{most_distance, is_user_name}
 use Rattle.sched_book.specs.declared.rows.Agreement.{Agreement}
 use Rattle.sched_book.specs.declared.rows.Agreement.TheVariants.{Exact, Within}
-
-abbrev pub word_in : List ℕ → Option (List ℕ)
-word_in field = if is_word field then Some field else None
 
 -- a volunteer's name, in UTF-8
 abbrev pub name_in : List ℕ → Option (List ℕ)

@@ -1,9 +1,10 @@
 -- What the faults of an import mean.
-use Rattle.std.specs.Prelude.{◌≡◌, ◌≢◌, ⊤, Result, Ok, Err}
+use Rattle.std.specs.Prelude.{⊤, Result, IfErr}
 use Rattle.rpc_records.specs.declared.fault.Fault.{Fault}
 use Rattle.rpc_records.specs.declared.fault.Fault.TheVariants as refusal
 use Rattle.office_files.specs.declared.fault.RowsFault.{RowsFault}
 use Rattle.office_files.specs.declared.fault.RowsFault.TheVariants.{BadCsv, DuplicateName, UnknownReference, TableFull, Unavailable}
+use Rattle.texts.specs.Reading.{GivesUnless}
 
 -- the refusal that tells a fault
 abbrev pub refusal_of : RowsFault → Fault
@@ -23,5 +24,4 @@ IsOfReading Unavailable = ⊤
 
 -- What a call answered is what a reading says, unless memory was wanting.
 abbrev pub Gives : {A : Type 0} → Result A RowsFault → Result A RowsFault → Type 0
-Gives (Ok x) reading = reading ≡ Ok x
-Gives (Err e) reading = IsOfReading e × (e ≢ Unavailable → reading ≡ Err e)
+Gives result reading = IfErr result IsOfReading × GivesUnless Unavailable result reading

@@ -11,19 +11,12 @@ use Rattle.sched_book.specs.declared.rows.Rows.{Rows}
 use Rattle.sched_book.specs.declared.rows.Rows.TheVariants as rows
 use Rattle.sched_book.specs.declared.rows.Version.{Version}
 use Rattle.sched_book.specs.declared.rows.Workunit.{Workunit}
-use Rattle.office_files.specs.Columns.{word_in, name_in, number_in, agreement_in}
+use Rattle.office_files.specs.Columns.{name_in, number_in, agreement_in}
 use Rattle.office_files.specs.Records.{Record, AreRecordsOf}
 use Rattle.office_files.specs.declared.fault.RowsFault.{RowsFault}
 use Rattle.office_files.specs.declared.fault.RowsFault.TheVariants.{BadCsv, DuplicateName, UnknownReference, TableFull, Unavailable}
-
--- A reading goes on with what was read, and is over at the first fault.
-unfoldable pub and_then : {A B : Type 0} → Result A RowsFault → (A → Result B RowsFault) → Result B RowsFault
-and_then (Ok x) f = f x
-and_then (Err e) f = Err e
-
-infixl 10 ◌>>=◌
-abbrev ◌>>=◌ : {A B : Type 0} → Result A RowsFault → (A → Result B RowsFault) → Result B RowsFault
-◌>>=◌ = and_then
+use Rattle.texts.specs.Reading.{◌>>=◌}
+use Rattle.texts.specs.Words.{word_of}
 
 -- what a column of a row says
 unfoldable pub column_of : {A : Type 0} → ℕ → ℕ → (List ℕ → Option A) → Record → Result A RowsFault
@@ -34,7 +27,7 @@ account_header = codes "authenticator" ∷ codes "name" ∷ []
 
 unfoldable pub account_of : ℕ → Record → Result Account RowsFault
 account_of row fields = do
-  authenticator ← column_of row 1 word_in fields
+  authenticator ← column_of row 1 word_of fields
   name ← column_of row 2 name_in fields
   Ok (record { authenticator = authenticator; name = name })
 
@@ -43,7 +36,7 @@ app_header = codes "name" ∷ codes "agreement" ∷ []
 
 unfoldable pub app_of : ℕ → Record → Result App RowsFault
 app_of row fields = do
-  name ← column_of row 1 word_in fields
+  name ← column_of row 1 word_of fields
   agreement ← column_of row 2 agreement_in fields
   Ok (record { name = name; agreement = agreement })
 
@@ -52,8 +45,8 @@ version_header = codes "app" ∷ codes "platform" ∷ codes "version_num" ∷ []
 
 unfoldable pub version_of : ℕ → Record → Result Version RowsFault
 version_of row fields = do
-  app ← column_of row 1 word_in fields
-  platform ← column_of row 2 word_in fields
+  app ← column_of row 1 word_of fields
+  platform ← column_of row 2 word_of fields
   version_num ← column_of row 3 (number_in 1 most_version_num) fields
   Ok (record { app = app; platform = platform; version_num = version_num })
 
@@ -66,8 +59,8 @@ workunit_header =
 -- the target is read against a good quorum, and the most instances against a good target
 unfoldable pub workunit_of : ℕ → Record → Result Workunit RowsFault
 workunit_of row fields = do
-  name ← column_of row 1 word_in fields
-  app ← column_of row 2 word_in fields
+  name ← column_of row 1 word_of fields
+  app ← column_of row 2 word_of fields
   min_quorum ← column_of row 3 (number_in 1 most_instances) fields
   target_nresults ← column_of row 4 (number_in min_quorum most_instances) fields
   max_error_results ← column_of row 5 (number_in 0 most_instances) fields

@@ -5,7 +5,7 @@ use Rattle.sched_book.specs.Imports.{same_version}
 use Rattle.sched_book.specs.declared.rows.Version.{Version}
 use Rattle.office_files.specs.Keys.{same_key, version_key}
 
-turned : (app platform number : Bool) → (app && platform && number) ≡ (number && platform && app)
+turned : (app platform number : Bool) → (app && platform && number) ≡ ((number && platform) && app)
 turned true true true = refl
 turned true true false = refl
 turned true false true = refl

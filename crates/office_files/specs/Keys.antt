@@ -1,22 +1,33 @@
 -- What tells rows of one kind apart, and which keys came by.
 use Rattle.std.specs.Prelude.{ℕ, Bool, ◌&&◌, ◌==◌, List, []}
-use Rattle.std.specs.List.{list_any}
+use Rattle.std.specs.Borrow.{Bor}
 use Rattle.std.specs.Str.{bytes_eq}
 use Rattle.sched_book.specs.declared.rows.Account.{Account}
 use Rattle.sched_book.specs.declared.rows.App.{App}
 use Rattle.sched_book.specs.declared.rows.Version.{Version}
 use Rattle.sched_book.specs.declared.rows.Workunit.{Workunit}
-use Rattle.office_files.specs.declared.seen_keys.SeenKeys.{SeenKeys}
+use Rattle.texts.specs.SeenSet.{has_seen, lent}
+use Rattle.texts.specs.declared.seen_set.SeenSet.{SeenSet}
 
 -- the number and the platform of a version, 0 and the empty text for other rows, and the name
 abbrev pub Key : Type 0
 Key = ℕ × List ℕ × List ℕ
 
 abbrev pub same_key : Key → Key → Bool
-same_key a b = (a.0 == b.0) && bytes_eq a.1 b.1 && bytes_eq a.2 b.2
+same_key a b = ((a.0 == b.0) && bytes_eq a.1 b.1) && bytes_eq a.2 b.2
 
-abbrev pub has_key : SeenKeys → Key → Bool
-has_key seen key = list_any (λ k. same_key key (k.0, k.1.now, k.2.now)) seen.keys.keys
+-- a key as a set has it
+abbrev pub LentKey : Type 0
+LentKey = ℕ × Bor (List ℕ) × Bor (List ℕ)
+
+abbrev pub lent_key : Key → LentKey
+lent_key key = (key.0, lent key.1, lent key.2)
+
+abbrev pub key_lent : LentKey → Key
+key_lent key = (key.0, key.1.now, key.2.now)
+
+abbrev pub has_key : SeenSet LentKey → Key → Bool
+has_key seen key = has_seen (λ a b. same_key (key_lent a) (key_lent b)) seen (lent_key key)
 
 abbrev pub account_key : Account → Key
 account_key a = (0, [], a.authenticator)

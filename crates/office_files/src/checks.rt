@@ -12,16 +12,16 @@ ghost use Rattle.office_files.specs.declared.fault.RowsFault.TheVariants as faul
 
 use crate::fault::RowsFault;
 use crate::named::{AppRow, NamedRow};
-use crate::seen_keys::SeenKeys;
 use sched_book::limits::{MOST_ACCOUNTS, MOST_APPS, MOST_VERSIONS, MOST_WORKUNITS};
 use sched_book::{Counts, Desk, Rows, Unavailable};
 use std::alloc::Global;
+use texts::SeenSet;
 
 /// Whether the name of a row stands or came by; it has come by then.
 fn is_taken<'a, D: Desk, R: NamedRow>(
     alloc: Global,
     desk: &mut D,
-    seen: &mut SeenKeys<'a>,
+    seen: &mut SeenSet<(u32, &'a str, &'a str)>,
     row: &'a R,
 ) -> Result<bool, Unavailable>
     ensures reads { D.reads desk.old desk.new }
@@ -29,9 +29,9 @@ fn is_taken<'a, D: Desk, R: NamedRow>(
         IfOk result (λ taken. taken ≡ (list_any (R.same row.now) (R.shelf (D.world desk.old)) || has_key seen.old (R.key_of row.now)))) }
     ensures seen { OnOk result ((other : Key) → has_key seen.new other ≡ (same_key other (R.key_of row.now) || has_key seen.old other)) }
 {
-    let (version_num, platform, name) = row.key();
-    let is_first = seen.is_first(version_num, platform, name)?;
-    Ok(row.is_known(alloc, desk)? || !is_first)
+    let is_first = seen.is_first(row.key())?;
+    let is_known = row.is_known(alloc, desk)?;
+    Ok(is_known || !is_first)
 }
 
 /// The first row whose name stands, or has come by in a row before it.
@@ -44,7 +44,7 @@ fn first_taken<D: Desk, R: NamedRow>(
     ensures answer { Trusted D.Units desk.old desk.new (
         IfOk result (λ row. row ≡ first_known R.same 1 (R.shelf (D.world desk.old)) rows.now)) }
 {
-    let mut seen = SeenKeys::new(alloc);
+    let mut seen = SeenSet::new(alloc);
     for (index, row) in rows.iter().enumerate() {
         if is_taken(alloc, desk, &mut seen, row)? {
             return Ok(Some(index as u64 + 1));

@@ -2,9 +2,10 @@ ghost use Rattle.std.specs.Prelude.{◌≡◌, ◌≤◌, ◌<◌, IfOk, IsTrue}
 ghost use Rattle.csv.specs.Records.{fields_of};
 ghost use Rattle.rpc_records.specs.Ranges.{IsWord};
 ghost use Rattle.sched_book.specs.Limits.{most_distance, is_user_name, distance_of};
-ghost use Rattle.office_files.specs.Columns.{word_in, name_in, number_in, agreement_in};
+ghost use Rattle.office_files.specs.Columns.{name_in, number_in, agreement_in};
 ghost use Rattle.office_files.specs.Faults.{Gives};
 ghost use Rattle.office_files.specs.Importing.{column_of};
+ghost use Rattle.texts.specs.Words as words;
 
 use crate::columns;
 use crate::fault::RowsFault;
@@ -35,7 +36,7 @@ impl<'a> DataRow<'a> {
     #[tactic(auto, unfolding(crate::specs::Importing::column_of))]
     pub(crate) fn word(&self, alloc: Global, column: usize) -> Result<Text, RowsFault>
         requires { 1 ≤ column }
-        ensures said { Gives result (column_of self.now.number column word_in (fields_of self.now.record.now)) }
+        ensures said { Gives result (column_of self.now.number column words.word_of (fields_of self.now.record.now)) }
         ensures range { IfOk result IsWord }
     {
         let word = self

@@ -81,7 +81,7 @@ impl ImportRow for Account {
         header_fault(&["authenticator", "name"], fields)
     }
 
-    #[tactic(auto, unfolding(crate::specs::Importing::account_of, crate::specs::Importing::and_then))]
+    #[tactic(auto, unfolding(crate::specs::Importing::account_of, texts::specs::Reading::and_then))]
     fn read(alloc: Global, row: &DataRow) -> Result<Account, RowsFault> {
         Ok(Account {
             authenticator: row.word(alloc, 1)?,
@@ -101,7 +101,7 @@ impl ImportRow for App {
         header_fault(&["name", "agreement"], fields)
     }
 
-    #[tactic(auto, unfolding(crate::specs::Importing::app_of, crate::specs::Importing::and_then))]
+    #[tactic(auto, unfolding(crate::specs::Importing::app_of, texts::specs::Reading::and_then))]
     fn read(alloc: Global, row: &DataRow) -> Result<App, RowsFault> {
         Ok(App {
             name: row.word(alloc, 1)?,
@@ -121,7 +121,7 @@ impl ImportRow for Version {
         header_fault(&["app", "platform", "version_num"], fields)
     }
 
-    #[tactic(auto, unfolding(crate::specs::Importing::version_of, crate::specs::Importing::and_then))]
+    #[tactic(auto, unfolding(crate::specs::Importing::version_of, texts::specs::Reading::and_then))]
     fn read(alloc: Global, row: &DataRow) -> Result<Version, RowsFault> {
         Ok(Version {
             app: row.word(alloc, 1)?,
@@ -158,7 +158,7 @@ impl ImportRow for Workunit {
         )
     }
 
-    #[tactic(auto, unfolding(crate::specs::Importing::workunit_of, crate::specs::Importing::and_then))]
+    #[tactic(auto, unfolding(crate::specs::Importing::workunit_of, texts::specs::Reading::and_then))]
     fn read(alloc: Global, row: &DataRow) -> Result<Workunit, RowsFault> {
         let name = row.word(alloc, 1)?;
         let app = row.word(alloc, 2)?;

@@ -33,7 +33,6 @@ mod kinds;
 pub mod laws;
 mod named;
 pub mod readers;
-mod seen_keys;
 mod texts_of_csv;
 
 pub use checks::check_rows;

@@ -31,7 +31,7 @@ fn read_row<R: ImportRow>(alloc: Global, field_count: usize, row: &DataRow) -> R
 }
 
 /// Reads the data rows under a header of so many fields.
-#[tactic(auto, unfolding(crate::specs::Importing::rows_from, crate::specs::Importing::and_then))]
+#[tactic(auto, unfolding(crate::specs::Importing::rows_from, texts::specs::Reading::and_then))]
 fn read_data<R: ImportRow>(
     alloc: Global,
     field_count: usize,
@@ -76,7 +76,7 @@ fn read_text<R: ImportRow>(alloc: Global, text: &[u8]) -> Result<Listed<R>, Rows
 ///
 /// [`RowsFault::BadCsv`] tells the first faulty row, and in it the first faulty column;
 /// [`RowsFault::Unavailable`] is want of memory.
-#[tactic(auto, unfolding(crate::specs::Importing::accounts_in, crate::specs::Importing::and_then))]
+#[tactic(auto, unfolding(crate::specs::Importing::accounts_in, texts::specs::Reading::and_then))]
 pub fn read_accounts(alloc: Global, text: &[u8]) -> Result<Rows, RowsFault>
     ensures ok { IfOk result (λ rows. Says accounts_in text.now (Ok rows)) }
     ensures err { IfErr result (Refuses accounts_in text.now) }
@@ -86,7 +86,7 @@ pub fn read_accounts(alloc: Global, text: &[u8]) -> Result<Rows, RowsFault>
 }
 
 /// Reads an import of applications, under the header `name,agreement`. The faults are those of [`read_accounts`].
-#[tactic(auto, unfolding(crate::specs::Importing::apps_in, crate::specs::Importing::and_then))]
+#[tactic(auto, unfolding(crate::specs::Importing::apps_in, texts::specs::Reading::and_then))]
 pub fn read_apps(alloc: Global, text: &[u8]) -> Result<Rows, RowsFault>
     ensures ok { IfOk result (λ rows. Says apps_in text.now (Ok rows)) }
     ensures err { IfErr result (Refuses apps_in text.now) }
@@ -97,7 +97,7 @@ pub fn read_apps(alloc: Global, text: &[u8]) -> Result<Rows, RowsFault>
 
 /// Reads an import of versions, under the header `app,platform,version_num`. The faults are those of
 /// [`read_accounts`].
-#[tactic(auto, unfolding(crate::specs::Importing::versions_in, crate::specs::Importing::and_then))]
+#[tactic(auto, unfolding(crate::specs::Importing::versions_in, texts::specs::Reading::and_then))]
 pub fn read_versions(alloc: Global, text: &[u8]) -> Result<Rows, RowsFault>
     ensures ok { IfOk result (λ rows. Says versions_in text.now (Ok rows)) }
     ensures err { IfErr result (Refuses versions_in text.now) }
@@ -108,7 +108,7 @@ pub fn read_versions(alloc: Global, text: &[u8]) -> Result<Rows, RowsFault>
 
 /// Reads an import of workunits, under a header of twelve columns, which have BOINC's names. The faults are those of
 /// [`read_accounts`].
-#[tactic(auto, unfolding(crate::specs::Importing::workunits_in, crate::specs::Importing::and_then))]
+#[tactic(auto, unfolding(crate::specs::Importing::workunits_in, texts::specs::Reading::and_then))]
 pub fn read_workunits(alloc: Global, text: &[u8]) -> Result<Rows, RowsFault>
     ensures ok { IfOk result (λ rows. Says workunits_in text.now (Ok rows)) }
     ensures err { IfErr result (Refuses workunits_in text.now) }

@@ -15,7 +15,7 @@ use Rattle.sched_book.specs.declared.machine.Caller.{Caller}
 use Rattle.sched_book.specs.declared.world.World.{World}
 use Rattle.pasts.specs.Answers.{body_of}
 use Rattle.pasts.specs.Messages.{Said, Rpc, Import, Tick, Read, Refused, Message}
-use Rattle.pasts.specs.Runs.{IsToldBy}
+use Rattle.pasts.specs.Runs.{SaysCall}
 use Rattle.pasts.specs.Many.{ServesAll}
 use Rattle.pasts.specs.Stands.{Heard, Tables, Commits, Serves, ServesAs, told_by}
 use Rattle.pasts.specs.declared.answer.Answer.{Answer}
@@ -29,7 +29,7 @@ use Rattle.past_laws.proofs.Sounds.{what_stands_is_sound}
 
 -- ---- deadlines
 
-sent_again : (old new : World) (m : Message) (c : Call) (answer : Answered) → IsToldBy m.said c → Step old c m.now new answer → (p : Place) (o : Owner)
+sent_again : (old new : World) (m : Message) (c : Call) (answer : Answered) → SaysCall m.said c → Step old c m.now new answer → (p : Place) (o : Owner)
     → IsSentAgain old c p o → IsSentAgainBy old m p o
 sent_again old new m (call.Rpc caller r) (answered.Rpc reply) is step p o again = record {
   caller = caller;
@@ -39,7 +39,7 @@ sent_again old new m (call.Rpc caller r) (answered.Rpc reply) is step p o again 
   again = again;
 }
   where
-    said_by : (said : Said) → IsToldBy said (call.Rpc caller r) → said ≡ Rpc r
+    said_by : (said : Said) → SaysCall said (call.Rpc caller r) → said ≡ Rpc r
     said_by (Rpc request) is = ap Rpc (sym is)
     said_by (Import kind batch text read) is = absurd is
     said_by Tick is = absurd is
@@ -101,10 +101,10 @@ deadlines_move_by_resends_over_messages old new (h ∷ more) all p o owned =
 -- ---- held jobs
 
 in_sight : (old new : World) (said : Said) (r : Request) (now : ℕ) (names : List (List ℕ)) (answer : Answer) (c : Call) (a : Answered) → Sound old
-    → old.settings.resend_lost_results ≡ true → r.other_results ≡ Some names → said ≡ Rpc r → IsToldBy said c → Step old c now new a
+    → old.settings.resend_lost_results ≡ true → r.other_results ≡ Some names → said ≡ Rpc r → SaysCall said c → Step old c now new a
     → answer ≡ Good (body_of a said) → IsInSight old new r names answer
 in_sight old new said r now names answer c a sound resends lists says is step answer_is =
-    let P : Said → Type 0 = λ said. IsToldBy said c in told c a (subst P says is) step (answer_is ∙ ap (λ said. Good (body_of a said)) says)
+    let P : Said → Type 0 = λ said. SaysCall said c in at_step c a (subst P says is) step (answer_is ∙ ap (λ said. Good (body_of a said)) says)
   where
     of_reply : (caller : Caller) (q : Request) (reply : Reply) → q ≡ r → Step old (call.Rpc caller q) now new (answered.Rpc reply)
         → answer ≡ Good (body_of (answered.Rpc reply) (Rpc r)) → IsInSight old new r names answer
@@ -118,12 +118,12 @@ in_sight old new said r now names answer c a sound resends lists says is step an
           held = named.a_host_holds_what_is_listed_or_named old new caller r now reply names mine sound resends lists;
         }
 
-    told : (c : Call) (a : Answered) → IsToldBy (Rpc r) c → Step old c now new a → answer ≡ Good (body_of a (Rpc r)) → IsInSight old new r names answer
-    told (call.Rpc caller q) (answered.Rpc reply) same step answer_is = of_reply caller q reply same step answer_is
-    told (call.Rpc caller q) (answered.Imported n) same step answer_is = absurd step
-    told (call.Rpc caller q) (answered.Lapsed n) same step answer_is = absurd step
-    told (call.Import rows) a same step answer_is = absurd same
-    told call.Tick a same step answer_is = absurd same
+    at_step : (c : Call) (a : Answered) → SaysCall (Rpc r) c → Step old c now new a → answer ≡ Good (body_of a (Rpc r)) → IsInSight old new r names answer
+    at_step (call.Rpc caller q) (answered.Rpc reply) same step answer_is = of_reply caller q reply same step answer_is
+    at_step (call.Rpc caller q) (answered.Imported n) same step answer_is = absurd step
+    at_step (call.Rpc caller q) (answered.Lapsed n) same step answer_is = absurd step
+    at_step (call.Import rows) a same step answer_is = absurd same
+    at_step call.Tick a same step answer_is = absurd same
 
 pub no_held_job_drops_from_sight : NoHeldJobDropsFromSight
 no_held_job_drops_from_sight old new m answer r names stood says first serves resends lists =

@@ -178,11 +178,11 @@ keys_entered w c r keys caller are =
     let number : position_from (same_key (key_of r)) 1 keys ≡ c.host =
     same_position (shelf_of w) (key_of r) c.account 1 (map host_name w.hosts) keys caller.account are
     ∙ sym (known-place w.hosts c.account r.host.host_cpid) ∙ caller.host in
-    let told : with_key (key_of r) keys ≡ keys_after (key_of r) c.host keys =
+    let entered : with_key (key_of r) keys ≡ keys_after (key_of r) c.host keys =
     with_key-is (key_of r) 1 keys ∙ ap (λ o. keys_after (key_of r) o keys) number in
     let both : ◌≡◌ {A = List (ℕ × List ℕ) × List Key} (names_after (c.account, r.host.host_cpid) c.host (map host_name w.hosts), keys_after (key_of r) c.host keys)
     (map host_name (hosts_at_entry w c r c.host), with_key (key_of r) keys) =
-    λ i. (sym (names_entered w c r caller) i, sym told i) in
+    λ i. (sym (names_entered w c r caller) i, sym entered i) in
     subst P both (cases c.host)
   where
     cases : (o : Option ℕ) → AreKeys (shelf_of w) (names_after (c.account, r.host.host_cpid) o (map host_name w.hosts)) (keys_after (key_of r) o keys)

@@ -43,9 +43,9 @@ above_each : (key : Key) (seqno : ℕ) (between oldest : List Message) (early : 
     → is_above key seqno (between ++ early ∷ oldest) ≡ true → early.said ≡ Rpc earlier → same_key key (key_of earlier) ≡ true
     → nat_lt earlier.rpc_seqno seqno ≡ true
 above_each key seqno [] oldest early earlier above is same =
-    let told : above_said key seqno (Rpc earlier) ≡ true =
+    let below : above_said key seqno (Rpc earlier) ≡ true =
     ap (above_said key seqno) (sym is) ∙ (and_parts (above_said key seqno early.said) (is_above key seqno oldest) above).0 in
-    rw same at told
+    rw same at below
 above_each key seqno (m ∷ between) oldest early earlier above is same =
     above_each key seqno between oldest early earlier
     (and_parts (above_said key seqno m.said) (is_above key seqno (between ++ early ∷ oldest)) above).1 is same

@@ -23,7 +23,7 @@ use Rattle.sched_book.specs.declared.world.World.{World}
 use Rattle.pasts.specs.FirstHeard.{account_on, shelf_said, rows_of, with_key, keys_said, keys_of, is_first_heard}
 use Rattle.pasts.specs.Leaves.{host_name, Frame, frame}
 use Rattle.pasts.specs.Messages.{Said, Rpc, Import, Tick, Read, Refused, Message, key_of}
-use Rattle.pasts.specs.Runs.{Turn, IsToldBy, IsTurn, world_of, messages_of}
+use Rattle.pasts.specs.Runs.{Turn, SaysCall, IsTurn, world_of, messages_of}
 use Rattle.pasts.proofs.HostKeys.{AreKeys, keys_entered}
 use Rattle.pasts.proofs.Places.{place-more}
 use Rattle.pasts.proofs.StepLeaves.{step_leaves}
@@ -112,7 +112,7 @@ call_leaves s w after c r now (answered.Imported n) older leaves step = absurd s
 call_leaves s w after c r now (answered.Lapsed n) older leaves step = absurd step
 
 pub said_leaves : (s : Settings) (w after : World) (said : Said) (c : Call) (now : ℕ) (answer : Answered) (older : List Message) → LeavesMessages s w older
-    → IsToldBy said c → Step w c now after answer → LeavesSaid s after said older
+    → SaysCall said c → Step w c now after answer → LeavesSaid s after said older
 said_leaves s w after (Rpc request) (call.Rpc c r) now answer older leaves is step =
     let P : Request → Type 0 = λ q. LeavesSaid s after (Rpc q) older in subst P is (call_leaves s w after c r now answer older leaves step)
 said_leaves s w after (Rpc request) (call.Import new) now answer older leaves is step = absurd is

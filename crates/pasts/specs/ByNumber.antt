@@ -11,7 +11,7 @@ use Rattle.sched_book.specs.declared.world.World.{World}
 use Rattle.pasts.specs.Answers.{body_of, kept_beside_last, kept_call, kept_after}
 use Rattle.pasts.specs.Leaves.{host_of_key}
 use Rattle.pasts.specs.Messages.{Said}
-use Rattle.pasts.specs.Runs.{IsToldBy}
+use Rattle.pasts.specs.Runs.{SaysCall}
 
 -- what is kept at a number, and nothing where there is none
 abbrev pub kept_at : (ℕ → List Kept) → Option ℕ → List Kept
@@ -35,7 +35,7 @@ numbered_after w call.Tick body kept = kept
 -- after a step what is kept by number is what is kept by key
 abbrev pub KeptByNumber : Type 0
 KeptByNumber =
-    (w after : World) (said : Said) (c : Call) (now : ℕ) (answered : Answered) → Sound w → IsToldBy said c → Step w c now after answered
+    (w after : World) (said : Said) (c : Call) (now : ℕ) (answered : Answered) → Sound w → SaysCall said c → Step w c now after answered
     → (kept : ℕ → List Kept) (key : Key)
     → calls_by_number after (numbered_after w c (body_of answered said) kept) key
     ≡ kept_after key said (body_of answered said) (calls_by_number w kept key)

@@ -1,10 +1,11 @@
 -- Which messages are first heard: from the messages and the settings alone, with no look at what stands. Lists of messages have the
 -- newest first. (The names rpc_seqno and hostid are BOINC's; what a repeated, an older or a wrong number means is this profile's, and
 -- so is that a batch counts once.)
-use Rattle.std.specs.Prelude.{ℕ, Bool, true, false, not, ◌&&◌, ◌||◌, ◌==◌, nat_lt, if◌then◌else◌, List, [], ◌∷◌, length, Option, Some, None, is_none, is_some, Ok, Err}
+use Rattle.std.specs.Prelude.{ℕ, Bool, true, false, not, ◌&&◌, ◌||◌, nat_lt, if◌then◌else◌, List, [], ◌∷◌, length, Option, Some, None, is_none, is_some, Ok, Err}
 use Rattle.std.specs.Str.{bytes_eq}
 use Rattle.reply_register.specs.Keys.{same_key}
 use Rattle.reply_register.specs.declared.key.Key.{Key}
+pub use Rattle.rpc_records.specs.HostNumbers.{names_host}
 use Rattle.rpc_records.specs.declared.request.Request.{Request}
 use Rattle.sched_book.specs.Imports.{Shelf, empty_shelf, shelved, fault_of_rows}
 use Rattle.sched_book.specs.Places.{place_where}
@@ -37,16 +38,7 @@ abbrev pub keys_of : List Message → List Key
 keys_of [] = []
 keys_of (m ∷ older) = keys_said m.said (keys_of older)
 
--- the number is known, and is this one
-abbrev pub is_number : ℕ → Option ℕ → Bool
-is_number hostid None = false
-is_number hostid (Some number) = hostid == number
-
--- a call tells no number, or that of its key
-abbrev pub names_host : ℕ → Option ℕ → Bool
-names_host hostid number = (hostid == 0) || is_number hostid number
-
--- room for the host of a call: it has a number, or fewer hosts stand than may
+-- room for the host of a call: it has a number, or fewer hosts stand than may. It decides the HasRoom of a step.
 abbrev pub has_host_room : ℕ → Option ℕ → ℕ → Bool
 has_host_room max_hosts number count = is_some number || nat_lt count max_hosts
 

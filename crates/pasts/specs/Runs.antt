@@ -16,14 +16,14 @@ use Rattle.pasts.specs.Messages.{Said, Rpc, Import, Tick, Message}
 use Rattle.pasts.specs.declared.batch.KeptBatch.{KeptBatch}
 use Rattle.pasts.specs.declared.kind.Kind.{Kind}
 
--- the machine is told a message by this call; who calls is for the step to say
-abbrev pub IsToldBy : Said → Call → Type 0
-IsToldBy (Rpc request) (call.Rpc caller r) = r ≡ request
-IsToldBy (Import kind batch text read) (call.Import new) = read ≡ Ok new
-IsToldBy Tick call.Tick = Unit {0}
-IsToldBy said c = ⊥
+-- a message says this call of the machine; who calls is for the step to say
+abbrev pub SaysCall : Said → Call → Type 0
+SaysCall (Rpc request) (call.Rpc caller r) = r ≡ request
+SaysCall (Import kind batch text read) (call.Import new) = read ≡ Ok new
+SaysCall Tick call.Tick = Unit {0}
+SaysCall said c = ⊥
 
--- what the machine is told is within limits
+-- what the machine hears is within limits
 pub record IsInLimits (c : Call) (now : ℕ) : Type 0 where
   pub request : IsCallInLimits c
   pub moment : now ≤ last_moment
@@ -49,7 +49,7 @@ messages_of turns = map (λ (turn : Turn). turn.message) turns
 
 -- A turn is a step of the machine from the world before it, within limits.
 pub record IsTurn (s : Settings) (turn : Turn) (older : List Turn) : Type 0 where
-  pub is_call : IsToldBy turn.message.said turn.call
+  pub is_call : SaysCall turn.message.said turn.call
   pub limits : IsInLimits turn.call turn.message.now
   pub step : Step (world_of s older) turn.call turn.message.now turn.after turn.answered
 

@@ -11,7 +11,7 @@ use Rattle.sched_book.specs.declared.world.World.{World}
 use Rattle.pasts.specs.Answers.{body_of, kept_after, batch_after}
 use Rattle.pasts.specs.FirstHeard.{is_first_heard, first_heard}
 use Rattle.pasts.specs.Messages.{Said, Message}
-use Rattle.pasts.specs.Runs.{Turn, IsToldBy, IsInLimits, IsTurn, turn_body, world_of, kept_of, batch_of}
+use Rattle.pasts.specs.Runs.{Turn, SaysCall, IsInLimits, IsTurn, turn_body, world_of, kept_of, batch_of}
 use Rattle.pasts.specs.Told.{told}
 use Rattle.pasts.specs.declared.answer.Answer.{Answer}
 use Rattle.pasts.specs.declared.answer.Answer.TheVariants.{Good}
@@ -44,7 +44,7 @@ pub record Same (a b : Tables) : Type 0 where
   pub calls : (key : Key) → a.calls key ≡ b.calls key
   pub batches : (kind : Kind) (batch : List ℕ) → a.batches kind batch ≡ b.batches kind batch
 
--- tables with these settings, of which nothing was told
+-- tables with these settings, in which nothing stands
 abbrev pub new_tables : Settings → Tables
 new_tables s = record { world = empty_world s; calls = λ key. []; batches = λ kind batch. None }
 
@@ -86,7 +86,7 @@ told_by t said = told t.world t.calls t.batches said
 pub record Commits (old : Tables) (m : Message) (answer : Answer) (new : Tables) : Type 0 where
   pub call : Call
   pub answered : Answered
-  pub is_call : IsToldBy m.said call
+  pub is_call : SaysCall m.said call
   pub limits : IsInLimits call m.now
   pub step : Step old.world call m.now new.world answered
   pub answer_is : answer ≡ Good (body_of answered m.said)

@@ -1,18 +1,18 @@
 -- What reports change fits, in a world whose instances keep within limits.
 use Rattle.std.proofs.Common.{◌≡◌, ℕ, zero, suc, ◌+◌, ◌<◌, ◌≤◌, Bool, true, false, cond, eqb, List, [], ◌∷◌, ◌++◌, length, Option, Some, None, get_or, sym, refl, ap, ◌∙◌, subst, arith, Bor, IfSome}
-use Rattle.std.specs.Prelude.{◌&&◌, ◌||◌, ◌==◌, not, All, IsTrue, count_by, is_none, is_some, option_map, option_and_then, unwrap_or, slice_get}
+use Rattle.std.specs.Prelude.{◌&&◌, ◌==◌, not, All, IsTrue, count_by, is_none, is_some, option_map, option_and_then, unwrap_or, slice_get}
 use Rattle.std.proofs.lemmas.List.Sums.{count_by-le-length, fold-append, sum_by-cons}
 use Rattle.std.proofs.lemmas.Option.{slice_get_within}
 use Rattle.rpc_records.specs.Members.{is_output}
 use Rattle.rpc_records.specs.Ranges.{IsReport}
 use Rattle.rpc_records.specs.declared.request.Report.{Report}
-use Rattle.sched_book.specs.Count.{tells_success, tells_error, is_judged, has_failed}
-use Rattle.sched_book.specs.Places.{unit_at, instance_at, place_named, status_at, is_same, is_owned_by, owner_host}
+use Rattle.sched_book.specs.Count.{is_judged, has_failed}
+use Rattle.sched_book.specs.Places.{unit_at, instance_at, place_named, status_at, is_same, option_any, is_owned_by}
 use Rattle.sched_book.specs.Limits.{most_instances, IsInstanceInLimits}
 use Rattle.sched_book.specs.Sound.{IsBare, HasOwnerAmong, IsSoundUnit, Sound}
 use Rattle.sched_book.specs.Desk.{instances_at}
 use Rattle.sched_book.specs.Delta.{applied_one, applied, FitsOne, Fits}
-use Rattle.sched_book.specs.Reports.{modify_at, with_number, with_changed, awaits_report, outcome_of, with_report}
+use Rattle.sched_book.specs.Reports.{modify_at, with_number, with_changed, awaits_report, with_report}
 use Rattle.sched_book.specs.declared.delta.Change.{Change}
 use Rattle.sched_book.specs.declared.delta.Change.TheVariants as change
 use Rattle.sched_book.specs.declared.instance.Instance.{Instance}
@@ -82,7 +82,7 @@ module _ (f : Instance → Instance) (w : World) (p : Place) (limited : IsLimite
   limited_after x stood good = record { few = few_after; each = each_after x stood good }
 
 -- an instance that awaits a report is not judged, so that not all are
-not_judged : (o : Option Outcome) (b : Bool) → (b && is_none o) ≡ true → (tells_success o || tells_error o) ≡ false
+not_judged : (o : Option Outcome) (b : Bool) → (b && is_none o) ≡ true → is_some (option_and_then (λ (t : Outcome). t.place) o) ≡ false
 not_judged None b awaits = refl
 not_judged (Some r) true awaits = absurd cc
 not_judged (Some r) false awaits = absurd cc
@@ -106,9 +106,10 @@ fewer p (y ∷ xs) (suc i) x stands fails = count_step p y xs (suc (length xs)) 
     cases true less = omega arith
     cases false less = omega arith
 
-small_place : (failed : Bool) (n : ℕ) → n < most_instances → unwrap_or (cond failed None (Some (1 + n))) 0 ≤ most_instances
-small_place true n less = omega arith
-small_place false n less = omega arith
+-- the place of a report is in range
+place_in_range : (failed : Bool) (n : ℕ) → n < most_instances → IfSome (cond failed None (Some (1 + n))) (λ place. (1 ≤ place) × (place ≤ most_instances))
+place_in_range true n less = tt
+place_in_range false n less = (omega arith, omega arith)
 
 -- what is done to an instance at a place fits, where what comes of it is within limits
 pub done_fits : (f : Instance → Instance) (w : World) (p : Place) (b : UnitBook) (x : Instance) → IsLimited w → unit_at w p.unit ≡ Some b
@@ -130,18 +131,9 @@ done_fits f w p b x limited stands is good =
     )
 
 -- an instance that the host was given stays with it, so that it is bare in no case
-owned : (host : ℕ) (o : Option Owner) (b : Bool) → ((is_some o && (owner_host o == host)) && b) ≡ true → o ≡ None → ⊥
+owned : (host : ℕ) (o : Option Owner) (b : Bool) → (option_any (λ n. n == host) (option_map (λ (o : Owner). o.host) o) && b) ≡ true → o ≡ None → ⊥
 owned host None b awaits none = absurd cc
 owned host (Some o) b awaits none = absurd cc
-
--- a judged report has a place from 1 on
-some_place : (success failed : Bool) (n : ℕ)
-    → IsTrue ((success && is_some (cond failed None (Some (1 + n)))) || (not success && is_some (cond failed None (Some (1 + n)))))
-    → 1 ≤ unwrap_or (cond failed None (Some (1 + n))) 0
-some_place true true n judged = absurd cc
-some_place false true n judged = absurd cc
-some_place true false n judged = omega arith
-some_place false false n judged = omega arith
 
 -- one report more, whose output is in range
 module _ (host : ℕ) (r : Report) (short : IsTrue (is_output r.output)) (failed : Bool) (w : World) (p : Place) (limited : IsLimited w) where
@@ -164,8 +156,7 @@ module _ (host : ℕ) (r : Report) (short : IsTrue (is_output r.output)) (failed
           sent = before.2.sent;
           deadline = before.2.deadline;
           output = short;
-          place = small_place failed (count_by is_judged b.instances) (omega arith);
-          judged = some_place (outcome_of r None).success failed (count_by is_judged b.instances);
+          place = place_in_range failed (count_by is_judged b.instances) (omega arith);
         },
       )
 

@@ -30,7 +30,7 @@ fits_then v (c ∷ cs) ds front behind = (front.0, fits_then (applied_one v c) c
 
 -- an instance that nobody was given is within limits
 pub fresh_in_limits : IsInstanceInLimits fresh
-fresh_in_limits = record { sent = omega arith; deadline = omega arith; output = refl; place = omega arith; judged = λ judged. absurd cc }
+fresh_in_limits = record { sent = tt; deadline = tt; output = tt; place = tt }
 
 -- so many fit behind a workunit's own, where they stay within a hundred
 fresh_fits : (v : World) (unit number many : ℕ) (b : UnitBook) → unit_at v unit ≡ Some b → number ≡ length b.instances → number + many ≤ most_instances
@@ -43,7 +43,7 @@ fresh_fits v unit number (suc many) b stands last few =
         (let low : number < most_instances = omega arith in low),
         subst (λ (o : Option UnitBook). IfSome o (λ (u : UnitBook). number ≤ length u.instances)) (sym stands)
             (let low : number ≤ length b.instances = omega arith in low),
-        (λ given. absurd cc),
+        tt,
         (λ none. (refl, refl)),
         fresh_in_limits,
       ),

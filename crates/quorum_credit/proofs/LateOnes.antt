@@ -76,7 +76,6 @@ late_fits_one w p y puts limited =
         deadline = before.2.deadline;
         output = before.2.output;
         place = before.2.place;
-        judged = before.2.judged;
       },
     ))
 

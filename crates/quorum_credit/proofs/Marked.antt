@@ -1,9 +1,9 @@
 -- How the instances of a workunit stand, and what their marks come to.
 use Rattle.std.proofs.Common.{◌≡◌, ℕ, suc, ◌+◌, Bool, true, false, List, [], ◌∷◌, map, Option, Some, None, sym, refl, ap, ◌∙◌, arith}
-use Rattle.std.specs.Prelude.{◌==◌, ◌&&◌, is_some, if◌then◌else◌, sum_by, option_map, option_and_then, unwrap_or, slice_get}
+use Rattle.std.specs.Prelude.{◌==◌, if◌then◌else◌, sum_by, option_map, option_and_then, unwrap_or, slice_get}
 use Rattle.std.proofs.lemmas.List.Sums.{sum_by-cons, sum_by-append}
 use Rattle.std.proofs.lemmas.Option.{slice_get-map}
-use Rattle.sched_book.specs.Places.{unit_at, agreement_of, book_verdict, passes, places_in, is_owned_by, owner_host}
+use Rattle.sched_book.specs.Places.{unit_at, agreement_of, book_verdict, passes, places_in, option_any, is_owned_by}
 use Rattle.sched_book.specs.Desk.{workunit_at, agreement_at, instances_at}
 use Rattle.sched_book.specs.declared.instance.Instance.{Instance}
 use Rattle.sched_book.specs.declared.instance.Owner.{Owner}
@@ -76,7 +76,7 @@ said-mark count between counts host a v x marks = at x.owner
   where
     at : (o : Option Owner)
         → said count host (with_mark (mark_of a (record { owner = o; standing = standing_with v x })) marks)
-        ≡ (if is_some o && (owner_host o == host) then between a (standing_with v x) else 0) + said count host marks
+        ≡ (if option_any (λ n. n == host) (option_map (λ (o : Owner). o.host) o) then between a (standing_with v x) else 0) + said count host marks
     at None = omega arith
     at (Some o) =
         sum_by-cons _ _ marks

@@ -1,7 +1,6 @@
 pub mod Settled
 pub mod Taken
 pub mod Touched
-pub mod Firsts
 pub mod Limited
 pub mod Late
 pub mod Marks

@@ -1,9 +1,9 @@
 -- What a call's reports change, and which workunits they touch.
-use Rattle.std.specs.Prelude.{◌≡◌, ℕ, ◌+◌, ◌<◌, Bool, false, ◌==◌, if◌then◌else◌, List, [], ◌∷◌, count_by, Option, Some, None, option_map, option_and_then, unwrap_or, slice_get}
+use Rattle.std.specs.Prelude.{◌≡◌, ℕ, ◌+◌, ◌<◌, Bool, false, ◌==◌, if◌then◌else◌, List, [], ◌∷◌, count_by, Option, Some, None, option_map, option_and_then, slice_get}
 use Rattle.std.specs.List.{list_any}
 use Rattle.rpc_records.specs.declared.request.Report.{Report}
 use Rattle.sched_book.specs.Count.{is_judged, has_failed}
-use Rattle.sched_book.specs.Places.{status_at, place_named}
+use Rattle.sched_book.specs.Places.{option_any, status_at, place_named}
 use Rattle.sched_book.specs.Desk.{instances_at}
 use Rattle.sched_book.specs.Reports.{awaits_report, with_report}
 use Rattle.sched_book.specs.declared.delta.Change.{Change}
@@ -18,7 +18,7 @@ place_among failed xs = if failed then None else Some (1 + count_by is_judged xs
 -- the instance of a number with one report more, where it awaits it
 abbrev pub reported_in : ℕ → Report → Bool → List Instance → ℕ → Option Instance
 reported_in host r failed xs number =
-    if unwrap_or (option_map (awaits_report host) (slice_get xs number)) false
+    if option_any (awaits_report host) (slice_get xs number)
     then option_map (with_report r (place_among failed xs)) (slice_get xs number)
     else None
 

@@ -16,7 +16,6 @@ ghost use Rattle.quorum_credit.specs.Taken.{AreTouched};
 
 use crate::changed::instances_under;
 use crate::touched::touched_by;
-use sched_book::count::is_held;
 use sched_book::{Change, Delta, Desk, Instance, Lapse, Moment, Place, Unavailable, copy_of};
 use std::alloc::Global;
 use texts::{Listed, Memory};
@@ -46,7 +45,7 @@ fn late_in(instances: &[Instance], number: u32) -> Result<Option<Instance>, Memo
     ensures { IfOk result (λ row. row ≡ late_in instances.now number) }
 {
     match instances.get(number as usize) {
-        Some(instance) if is_held(instance) => Ok(Some(made_late(instance)?)),
+        Some(instance) if instance.is_held() => Ok(Some(made_late(instance)?)),
         _ => Ok(None),
     }
 }

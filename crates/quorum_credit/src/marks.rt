@@ -59,7 +59,7 @@ fn standing_with(verdict: Option<Verdict>, instance: &Instance) -> Standing
     ensures { result ≡ standing_with verdict instance.now }
 {
     Standing {
-        has_error: count::is_judged_error(instance),
+        has_error: instance.is_judged_error(),
         is_late: is_late(instance.lapse),
         verdict,
     }

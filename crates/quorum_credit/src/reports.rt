@@ -1,18 +1,16 @@
 //! The reports of a call.
 
-ghost use Rattle.std.specs.Prelude.{◌≡◌, All, List, ◌∷◌, ◌++◌, ◌==◌, ◌+◌, ◌≤◌, length, map, count_by, fold, IfOk, OnOk};
+ghost use Rattle.std.specs.Prelude.{◌≡◌, All, ◌==◌, ◌+◌, ◌≤◌, length, map, count_by, fold, IfOk, OnOk};
 ghost use Rattle.rpc_records.specs.Ranges.{IsReport};
 ghost use Rattle.rpc_records.specs.declared.request.Report.{Report};
 ghost use Rattle.sched_book.specs.Count.{is_judged, has_failed};
 ghost use Rattle.sched_book.specs.Limits.{most_instances};
 ghost use Rattle.sched_book.specs.Places.{status_at};
 ghost use Rattle.sched_book.specs.Desk.{instances_at};
-ghost use Rattle.sched_book.specs.Reports.{first_reports, awaits_report, outcome_of, with_report, record_one, recorded};
+ghost use Rattle.sched_book.specs.Reports.{first_reports, outcome_of, with_report, record_one, recorded};
 ghost use Rattle.sched_book.specs.Delta.{applied, Fits};
 ghost use Rattle.sched_book.specs.Sound.{Sound};
 ghost use Rattle.sched_book.specs.Trusted.{Trusted};
-ghost use Rattle.texts.specs.Seen.{has_seen};
-ghost use Rattle.quorum_credit.specs.Firsts.{first_beyond};
 ghost use Rattle.quorum_credit.specs.Limited.{IsLimited, FitWithin};
 ghost use Rattle.quorum_credit.specs.Taken.{place_among, reported_in, change_by, AreTouched};
 
@@ -20,10 +18,11 @@ use crate::changed::instances_under;
 use crate::touched::touched_by;
 use rpc_records::{Report, Request};
 use sched_book::{
-    Change, Delta, Desk, Instance, Outcome, Place, Unavailable, count, place_named, status_at,
+    Change, Delta, Desk, Instance, Outcome, Place, Unavailable, first_of_each, place_named,
+    status_at,
 };
 use std::alloc::Global;
-use texts::{Listed, Memory, Seen, Text};
+use texts::{Listed, Memory, Text};
 
 /// What the reports of a call come to.
 #[derive(Drop)]
@@ -34,34 +33,6 @@ pub struct Taken {
     pub acked: Listed<Text>,
     /// The places of the workunits that they touch, in order and each once.
     pub touched: Listed<u32>,
-}
-
-/// Puts a report behind the first ones, unless its name came by; `seen` knows which did.
-fn add_first<'a>(
-    firsts: &mut Vec<&'a Report>,
-    seen: &mut Seen<'a>,
-    report: &'a Report,
-) -> Result<(), Memory>
-    ensures { OnOk result ((later : List Report) →
-        map (λ r. r.now) firsts.new.items ++ first_beyond (has_seen seen.new) later
-        ≡ map (λ r. r.now) firsts.old.items ++ first_beyond (has_seen seen.old) (report.now ∷ later)) }
-{
-    if seen.is_first(report.name.as_str())? {
-        firsts.push(report)?;
-    }
-    Ok(())
-}
-
-/// The first report of each name.
-fn first_reports<'a>(alloc: Global, reports: &'a [Report]) -> Result<Vec<&'a Report>, Memory>
-    ensures { IfOk result (λ firsts. map (λ r. r.now) firsts.items ≡ first_reports reports.now) }
-{
-    let mut seen = Seen::new(alloc);
-    let mut firsts = Vec::new(alloc);
-    for report in reports {
-        add_first(&mut firsts, &mut seen, report)?;
-    }
-    Ok(firsts)
 }
 
 /// Copies of the names of these reports.
@@ -75,20 +46,6 @@ fn names_of(alloc: Global, reports: &[&Report]) -> Result<Listed<Text>, Memory>
     Ok(names)
 }
 
-/// Whether the host was given the instance and did not report it yet.
-fn awaits_report(host: u32, instance: &Instance) -> bool
-    ensures { result ≡ awaits_report host instance.now }
-{
-    count::is_owned_by(host, instance) && instance.report.is_none()
-}
-
-/// Whether a report of the instance was judged.
-fn is_judged(instance: &Instance) -> bool
-    ensures { result ≡ is_judged instance.now }
-{
-    count::is_judged_success(instance) || count::is_judged_error(instance)
-}
-
 /// How many reports of these instances were judged.
 fn judged_count(instances: &[Instance]) -> usize
     ensures value { result ≡ count_by is_judged instances.now }
@@ -96,7 +53,7 @@ fn judged_count(instances: &[Instance]) -> usize
 {
     instances
         .iter()
-        .filter(|instance| is_judged(instance))
+        .filter(|instance| instance.is_judged())
         .count()
 }
 
@@ -148,7 +105,7 @@ fn reported_in(
     match instances.get(number as usize) {
         None => Ok(None),
         Some(instance) => {
-            if !awaits_report(host, instance) {
+            if !instance.awaits_report_of(host) {
                 return Ok(None);
             }
             let place = place_among(failed, instances);
@@ -172,7 +129,7 @@ fn reported_at<D: Desk>(
         reported_in host report.now (has_failed (status_at (D.world desk.old) place.unit))
         (instances_at (applied (D.world desk.old) delta.now) place.unit) place.number)) }
 {
-    let failed = count::has_failed(status_at(alloc, desk, place.unit)?);
+    let failed = status_at(alloc, desk, place.unit)?.has_failed();
     let instances = instances_under(alloc, desk, delta, place.unit)?;
     Ok(reported_in(host, report, failed, instances.as_slice(), place.number)?)
 }
@@ -263,7 +220,7 @@ pub fn take_reports<D: Desk>(
         IfOk result (λ taken. All IsReport request.now.results → Sound (D.world desk.old) → Fits (D.world desk.old) taken.delta)) }
     ensures touched { IfOk result (λ taken. AreTouched taken.delta taken.touched) }
 {
-    let firsts = first_reports(alloc, request.results.as_slice())?;
+    let firsts = first_of_each(alloc, request.results.as_slice())?;
     let acked = names_of(alloc, firsts.as_slice())?;
     let delta = take_in_turn(alloc, desk, host, firsts.as_slice())?;
     let touched = touched_by(alloc, delta.as_slice())?;

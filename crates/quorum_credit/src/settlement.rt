@@ -82,7 +82,7 @@ pub(crate) fn new_instances(agreement: &Agreement, unit: &Workunit, instances: &
     requires { length instances.now ≤ MOST_INSTANCES }
     ensures { result ≡ new_instances agreement.now unit.now instances.now }
 {
-    if count::is_open(count::status(agreement, unit, instances)) {
+    if count::status(agreement, unit, instances).is_open() {
         count::need(unit, instances)
     } else {
         0

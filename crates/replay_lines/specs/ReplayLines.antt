@@ -3,7 +3,7 @@ use Rattle.std.specs.Prelude.{ℕ, ℤ, pos, negsuc, ◌+◌, ◌/◌, ◌%◌, 
 use Rattle.std.specs.Result.{result_ok}
 use Rattle.std.specs.Str.{bytes_eq, is_utf8}
 use Rattle.jiff.specs.Words.{parse_timestamp}
-use Rattle.texts.specs.Words.{is_word}
+use Rattle.texts.specs.Words.{is_word, word_of}
 use Rattle.serde_json.specs.Find.{as_str}
 use Rattle.rpc_records.specs.Reading.{json_of}
 use Rattle.sched_book.specs.Limits.{last_moment}
@@ -40,10 +40,6 @@ first_part separator text = unwrap_or (option_map (λ at. take at text) (positio
 abbrev pub second_part : ℕ → List ℕ → Option (List ℕ)
 second_part separator text = option_map (λ at. drop (at + 1) text) (position (λ byte. byte == separator) text)
 
--- a word where the bytes are one
-abbrev pub word_in : List ℕ → Option (List ℕ)
-word_in text = if is_word text then Some text else None
-
 -- the text of the import of one account, whose name is its authenticator
 abbrev pub account_rows : List ℕ → List ℕ
 account_rows name = codes "authenticator,name" ++ 10 ∷ (name ++ 44 ∷ (name ++ 10 ∷ []))
@@ -68,7 +64,7 @@ import_by (Some kind) (Some batch) (Some text) = Some (Import kind batch text)
 abbrev pub import_line : Option (List ℕ) → Option (List ℕ) → Option Post
 import_line None body = None
 import_line (Some names) body =
-    import_by (word_in (first_part slash names)) (option_and_then word_in (second_part slash names)) (option_and_then text_told body)
+    import_by (word_of (first_part slash names)) (option_and_then word_of (second_part slash names)) (option_and_then text_told body)
 
 -- `tick` has no body, nor a space for one
 abbrev pub tick_line : Option (List ℕ) → Option Post

@@ -104,7 +104,7 @@ fn import_line(
     let Some(kind) = word_of(first_part(path, b'/')) else {
         return Ok(None);
     };
-    let Some(batch) = word_in(second_part(path, b'/')) else {
+    let Some(batch) = second_part(path, b'/').and_then(word_of) else {
         return Ok(None);
     };
     let Some(text) = text_in(alloc, body)? else {
@@ -115,16 +115,6 @@ fn import_line(
         batch: Text::copied(alloc, batch)?,
         text: Listed::of(text.into_bytes()),
     }))
-}
-
-/// The word that these bytes are, where they are there and are one.
-fn word_in(text: Option<&[u8]>) -> Option<&str>
-    ensures { option_map (λ word. word.now) result ≡ option_and_then spec.word_in (option_map (λ t. t.now) text.entry) }
-{
-    match text {
-        None => None,
-        Some(text) => word_of(text),
-    }
 }
 
 /// The text that a JSON string tells (RFC 8259), where it is there and is one.

@@ -12,7 +12,8 @@ use Rattle.serde_json.specs.Find.{get, as_i64, of_integer}
 use Rattle.serde_json.specs.View.{items_of}
 use Rattle.rpc_records.specs.Members.{key_of, is_of}
 use Rattle.rpc_records.specs.Ranges.{IsWord, IsName, IsHostInfo, IsReport, AreListed, IsInRange}
-use Rattle.rpc_records.specs.Reading.{and_then, needed, defaulted, host_at, platforms_at, request_at, value_meaning}
+use Rattle.rpc_records.specs.Reading.{needed, defaulted, host_at, platforms_at, request_at, value_meaning}
+use Rattle.texts.specs.Reading.{and_then}
 use Rattle.rpc_records.specs.Spelling.{whole, list_json, own_platform, alternatives, host_json, report_json, request_json}
 use Rattle.rpc_records.specs.Values.{text_in, whole_in, status_in, all_in, list_in, report_in, read_or}
 use Rattle.rpc_records.specs.declared.fault.Fault.{Fault}

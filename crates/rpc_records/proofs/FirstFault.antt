@@ -5,7 +5,8 @@ use Rattle.serde_json.specs.Data.{Data, null, boolean, number, string, array, ob
 use Rattle.serde_json.specs.Find.{get}
 use Rattle.rpc_records.specs.Members.{key_of}
 use Rattle.rpc_records.specs.Order.{in_order, is_faulty, is_wanting, is_spoiled, info_of, refusal_of}
-use Rattle.rpc_records.specs.Reading.{and_then, needed, defaulted, host_at, platforms_at, request_at, json_of, value_meaning, meaning}
+use Rattle.rpc_records.specs.Reading.{needed, defaulted, host_at, platforms_at, request_at, json_of, value_meaning, meaning}
+use Rattle.texts.specs.Reading.{and_then}
 use Rattle.rpc_records.specs.Values.{object_in, read_or}
 use Rattle.rpc_records.specs.declared.fault.Fault.{Fault}
 use Rattle.rpc_records.specs.declared.fault.Fault.TheVariants.{BadJson, BadMember}

@@ -12,10 +12,11 @@ use Rattle.serde_json.specs.Events.{items_len}
 use Rattle.serde_json.specs.Find.{get, as_str, as_number, as_u64, as_i64, as_array, as_object}
 use Rattle.rpc_records.specs.Members.{is_of, key_of}
 use Rattle.rpc_records.specs.Ranges.{IsWord, IsName, IsHostInfo, IsReport, AreListed, IsInRange}
-use Rattle.rpc_records.specs.Reading.{Gives, and_then, needed, defaulted, host_at, platforms_at, request_at, json_of, value_meaning, meaning}
+use Rattle.rpc_records.specs.Reading.{needed, defaulted, host_at, platforms_at, request_at, json_of, value_meaning, meaning}
+use Rattle.texts.specs.Reading.{GivesUnless, and_then}
 use Rattle.rpc_records.specs.Values.{text_in, whole_in, status_in, items_in, all_in, list_in, report_in, read_or}
 use Rattle.rpc_records.specs.declared.fault.Fault.{Fault}
-use Rattle.rpc_records.specs.declared.fault.Fault.TheVariants.{BadMember, BadJson}
+use Rattle.rpc_records.specs.declared.fault.Fault.TheVariants.{BadMember, BadJson, Unavailable}
 use Rattle.rpc_records.specs.declared.fault.Member.{Member}
 use Rattle.rpc_records.specs.declared.request.Report.{Report}
 use Rattle.rpc_records.specs.declared.request.Request.{Request}
@@ -199,9 +200,9 @@ meaning_in_range body =
     goes_on (λ _. ⊤) IsInRange (ok_or (json_of body) BadJson) value_meaning (known (λ _. ⊤) BadJson (json_of body) (λ _ _. tt)) (λ d _. value_meaning_in_range d)
 
 -- so is what a call answers that gives such a reading
-given : (r reading : Result Request Fault) → Gives r reading → IfOk reading IsInRange → IfOk r IsInRange
+given : (r reading : Result Request Fault) → GivesUnless Unavailable r reading → IfOk reading IsInRange → IfOk r IsInRange
 given (Ok x) reading is h = rw is at h
 given (Err e) reading is h = tt
 
-pub answer_in_range : (r : Result Request Fault) (d : Data) → Gives r (value_meaning d) → IfOk r IsInRange
+pub answer_in_range : (r : Result Request Fault) (d : Data) → GivesUnless Unavailable r (value_meaning d) → IfOk r IsInRange
 answer_in_range r d is = given r (value_meaning d) is (value_meaning_in_range d)

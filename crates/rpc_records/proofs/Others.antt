@@ -6,7 +6,8 @@ use Rattle.serde_json.specs.Data.{Data, Members, object}
 use Rattle.serde_json.specs.Find.{get}
 use Rattle.rpc_records.specs.Members.{key_of}
 use Rattle.rpc_records.specs.Order.{at_top}
-use Rattle.rpc_records.specs.Reading.{and_then, needed, defaulted, host_at, platforms_at, request_at, json_of, value_meaning, meaning}
+use Rattle.rpc_records.specs.Reading.{needed, defaulted, host_at, platforms_at, request_at, json_of, value_meaning, meaning}
+use Rattle.texts.specs.Reading.{and_then}
 use Rattle.rpc_records.specs.Values.{read_or}
 use Rattle.rpc_records.specs.declared.fault.Fault.{Fault}
 use Rattle.rpc_records.specs.declared.fault.Fault.TheVariants.{BadJson, BadMember}

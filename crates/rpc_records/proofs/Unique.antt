@@ -21,7 +21,8 @@ use Rattle.serde_json.specs.View.{items_of}
 use Rattle.serde_json.specs.Written.{outline, items_outline, compact_text}
 use Rattle.rpc_records.proofs.Again.{value_meaning-request_json}
 use Rattle.rpc_records.specs.Ranges.{IsHostInfo, IsReport, IsInRange}
-use Rattle.rpc_records.specs.Reading.{and_then, json_of, value_meaning, meaning}
+use Rattle.rpc_records.specs.Reading.{json_of, value_meaning, meaning}
+use Rattle.texts.specs.Reading.{and_then}
 use Rattle.rpc_records.specs.Spelling.{whole, list_json, alternatives, host_json, report_json, request_json, canonical_text}
 use Rattle.rpc_records.specs.declared.request.HostInfo.{HostInfo as Host}
 use Rattle.rpc_records.specs.declared.request.Report.{Report}

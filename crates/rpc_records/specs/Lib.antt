@@ -5,3 +5,4 @@ pub mod Order
 pub mod Ranges
 pub mod Spelling
 pub mod Replies
+pub mod HostNumbers

@@ -1,6 +1,6 @@
 -- The meaning of a body as a scheduler_request, with this profile's ranges. The members are looked at in the order in which they
 -- stand here, and the first that is missing or faulty is told. Other members are passed over.
-use Rattle.std.specs.Prelude.{◌≡◌, ◌≢◌, ℕ, List, [], ◌∷◌, Option, None, option_and_then, ok_or, is_some, Result, Ok, Err, if◌then◌else◌}
+use Rattle.std.specs.Prelude.{ℕ, List, [], ◌∷◌, Option, None, option_and_then, ok_or, is_some, Result, Ok, Err, if◌then◌else◌}
 use Rattle.std.specs.Str.{is_utf8}
 use Rattle.serde_json.specs.Data.{Data}
 use Rattle.serde_json.specs.Find.{get, as_object}
@@ -8,25 +8,12 @@ use Rattle.serde_json.specs.Read.{read}
 use Rattle.rpc_records.specs.Members.{key_of}
 use Rattle.rpc_records.specs.Values.{object_in, word_in, number_in, speed_in, size_in, seconds_in, alternatives_in, listed_in, reports_in, read_or}
 use Rattle.rpc_records.specs.declared.fault.Fault.{Fault}
-use Rattle.rpc_records.specs.declared.fault.Fault.TheVariants.{BadJson, BadMember, Unavailable}
+use Rattle.rpc_records.specs.declared.fault.Fault.TheVariants.{BadJson, BadMember}
 use Rattle.rpc_records.specs.declared.fault.Member.{Member}
 use Rattle.rpc_records.specs.declared.fault.Member.TheVariants.{Authenticator, Hostid, RpcSeqno, HostInfo, HostCpid, PFpops, MNbytes, DFree, PlatformName, AltPlatforms, WorkReqSeconds, OtherResults, Results}
 use Rattle.rpc_records.specs.declared.request.HostInfo.{HostInfo as Host}
 use Rattle.rpc_records.specs.declared.request.Request.{Request}
-
--- A reading goes on with what was read, and is over at the first fault.
-unfoldable pub and_then : {A B : Type 0} → Result A Fault → (A → Result B Fault) → Result B Fault
-and_then (Ok x) f = f x
-and_then (Err e) f = Err e
-
-infixl 10 ◌>>=◌
-abbrev ◌>>=◌ : {A B : Type 0} → Result A Fault → (A → Result B Fault) → Result B Fault
-◌>>=◌ = and_then
-
--- What a call answered is what a reading says, unless memory was wanting.
-abbrev pub Gives : {A : Type 0} → Result A Fault → Result A Fault → Type 0
-Gives (Ok x) reading = reading ≡ Ok x
-Gives (Err e) reading = e ≢ Unavailable → reading ≡ Err e
+use Rattle.texts.specs.Reading.{◌>>=◌}
 
 -- A member that has to be there.
 unfoldable pub needed : {A : Type 0} → Member → (Data → Option A) → Data → Result A Fault

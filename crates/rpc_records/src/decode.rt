@@ -4,7 +4,8 @@ ghost use Rattle.std.specs.Prelude.{[], None, IfOk, ok_or};
 ghost use Rattle.std.specs.Result.{result_map_both};
 ghost use Rattle.serde_json.specs.View.{view, items_view};
 ghost use Rattle.rpc_records.specs.Values.{all_in, alternatives_in, listed_in, report_in, reports_in};
-ghost use Rattle.rpc_records.specs.Reading.{Gives, defaulted, host_at, platforms_at, request_at, json_of, value_meaning, meaning};
+ghost use Rattle.texts.specs.Reading.{GivesUnless};
+ghost use Rattle.rpc_records.specs.Reading.{defaulted, host_at, platforms_at, request_at, json_of, value_meaning, meaning};
 ghost use Rattle.rpc_records.specs.Ranges.{IsInRange};
 
 use crate::fault::{Fault, Member};
@@ -34,9 +35,9 @@ const MOST_RESULTS: usize = 256;
 ///
 /// It is refused with [`Fault::BadJson`] where the body is no JSON object, and with [`Fault::BadMember`] where a member
 /// is missing or faulty: the first in the order of [`Member`]. [`Fault::Unavailable`] is want of memory.
-#[tactic(auto, unfolding(crate::specs::Reading::meaning, crate::specs::Reading::and_then))]
+#[tactic(auto, unfolding(crate::specs::Reading::meaning, texts::specs::Reading::and_then))]
 pub fn decode_request(alloc: Global, body: &[u8]) -> Result<Request, Fault>
-    ensures exact { Gives result (meaning body.now) }
+    ensures exact { GivesUnless Fault.Unavailable result (meaning body.now) }
     ensures in_range { IfOk result IsInRange }
 {
     let value = value_of(alloc, body)?;
@@ -45,7 +46,7 @@ pub fn decode_request(alloc: Global, body: &[u8]) -> Result<Request, Fault>
 
 /// The value that a body is.
 fn value_of(alloc: Global, body: &[u8]) -> Result<Value, Fault>
-    ensures { Gives (result_map_both view (λ fault. fault) result) (ok_or (json_of body.now) Fault.BadJson) }
+    ensures { GivesUnless Fault.Unavailable (result_map_both view (λ fault. fault) result) (ok_or (json_of body.now) Fault.BadJson) }
 {
     match Value::from_slice(alloc, body) {
         Ok(value) => Ok(value),
@@ -56,7 +57,7 @@ fn value_of(alloc: Global, body: &[u8]) -> Result<Value, Fault>
 
 #[tactic(auto, unfolding(crate::specs::Reading::value_meaning))]
 fn request_in(alloc: Global, value: &Value) -> Result<Request, Fault>
-    ensures { Gives result (value_meaning (view value.now)) }
+    ensures { GivesUnless Fault.Unavailable result (value_meaning (view value.now)) }
 {
     if !value.is_object() {
         return Err(Fault::BadJson);
@@ -64,9 +65,9 @@ fn request_in(alloc: Global, value: &Value) -> Result<Request, Fault>
     request_of(alloc, value)
 }
 
-#[tactic(auto, unfolding(crate::specs::Reading::request_at, crate::specs::Reading::and_then))]
+#[tactic(auto, unfolding(crate::specs::Reading::request_at, texts::specs::Reading::and_then))]
 fn request_of(alloc: Global, object: &Value) -> Result<Request, Fault>
-    ensures { Gives result (request_at (view object.now)) }
+    ensures { GivesUnless Fault.Unavailable result (request_at (view object.now)) }
 {
     let authenticator = text_at(alloc, object, Member::Authenticator, TextKind::Word)?;
     let hostid = whole_or_zero_at(object, Member::Hostid, MOST_NUMBER)?;
@@ -88,9 +89,9 @@ fn request_of(alloc: Global, object: &Value) -> Result<Request, Fault>
     })
 }
 
-#[tactic(auto, unfolding(crate::specs::Reading::host_at, crate::specs::Reading::and_then))]
+#[tactic(auto, unfolding(crate::specs::Reading::host_at, texts::specs::Reading::and_then))]
 fn host_of(alloc: Global, object: &Value) -> Result<HostInfo, Fault>
-    ensures { Gives result (host_at (view object.now)) }
+    ensures { GivesUnless Fault.Unavailable result (host_at (view object.now)) }
 {
     let info = object_at(object, Member::HostInfo)?;
     Ok(HostInfo {
@@ -102,9 +103,9 @@ fn host_of(alloc: Global, object: &Value) -> Result<HostInfo, Fault>
 }
 
 /// The host's own platform, and the alternatives behind it.
-#[tactic(auto, unfolding(crate::specs::Reading::platforms_at, crate::specs::Reading::and_then))]
+#[tactic(auto, unfolding(crate::specs::Reading::platforms_at, texts::specs::Reading::and_then))]
 fn platforms_of(alloc: Global, object: &Value) -> Result<Listed<Text>, Fault>
-    ensures { Gives result (platforms_at (view object.now)) }
+    ensures { GivesUnless Fault.Unavailable result (platforms_at (view object.now)) }
 {
     let own = text_at(alloc, object, Member::PlatformName, TextKind::Word)?;
     let mut platforms = alternatives_of(alloc, object)?.into_vec();
@@ -114,7 +115,7 @@ fn platforms_of(alloc: Global, object: &Value) -> Result<Listed<Text>, Fault>
 
 #[tactic(auto, unfolding(crate::specs::Reading::defaulted))]
 fn alternatives_of(alloc: Global, object: &Value) -> Result<Listed<Text>, Fault>
-    ensures { Gives result
+    ensures { GivesUnless Fault.Unavailable result
         (defaulted Member.AltPlatforms [] alternatives_in (view object.now)) }
 {
     match object.get(Member::AltPlatforms.key()) {
@@ -131,7 +132,7 @@ fn alternatives_of(alloc: Global, object: &Value) -> Result<Listed<Text>, Fault>
 
 #[tactic(auto, unfolding(crate::specs::Reading::defaulted))]
 fn other_results_of(alloc: Global, object: &Value) -> Result<Option<Listed<Text>>, Fault>
-    ensures { Gives result
+    ensures { GivesUnless Fault.Unavailable result
         (defaulted Member.OtherResults None listed_in (view object.now)) }
 {
     match object.get(Member::OtherResults.key()) {
@@ -151,7 +152,7 @@ fn other_results_of(alloc: Global, object: &Value) -> Result<Option<Listed<Text>
 
 #[tactic(auto, unfolding(crate::specs::Reading::defaulted))]
 fn results_of(alloc: Global, object: &Value) -> Result<Listed<Report>, Fault>
-    ensures { Gives result (defaulted Member.Results [] reports_in (view object.now)) }
+    ensures { GivesUnless Fault.Unavailable result (defaulted Member.Results [] reports_in (view object.now)) }
 {
     match object.get(Member::Results.key()) {
         None => Ok(Listed::new(alloc)),
@@ -163,7 +164,7 @@ fn results_of(alloc: Global, object: &Value) -> Result<Listed<Report>, Fault>
 }
 
 fn reports_of(alloc: Global, items: &[Value]) -> Result<Listed<Report>, Fault>
-    ensures { Gives result (ok_or (all_in report_in (items_view items.now)) (Fault.BadMember Member.Results)) }
+    ensures { GivesUnless Fault.Unavailable result (ok_or (all_in report_in (items_view items.now)) (Fault.BadMember Member.Results)) }
 {
     let mut reports = Vec::new(alloc);
     for item in items {
@@ -174,7 +175,7 @@ fn reports_of(alloc: Global, items: &[Value]) -> Result<Listed<Report>, Fault>
 
 #[tactic(auto, unfolding(crate::specs::Values::report_in))]
 fn report_of(alloc: Global, value: &Value) -> Result<Report, Fault>
-    ensures { Gives result (ok_or (report_in (view value.now)) (Fault.BadMember Member.Results)) }
+    ensures { GivesUnless Fault.Unavailable result (ok_or (report_in (view value.now)) (Fault.BadMember Member.Results)) }
 {
     let faulty = Fault::BadMember(Member::Results);
     let name = value

@@ -5,7 +5,8 @@ ghost use Rattle.std.specs.Result.{result_map_both};
 ghost use Rattle.serde_json.specs.Find.{get};
 ghost use Rattle.serde_json.specs.View.{view, items_view};
 ghost use Rattle.rpc_records.specs.Values.{text_in, whole_in, object_in, all_in, list_in};
-ghost use Rattle.rpc_records.specs.Reading.{Gives, needed, defaulted};
+ghost use Rattle.texts.specs.Reading.{GivesUnless};
+ghost use Rattle.rpc_records.specs.Reading.{needed, defaulted};
 
 use crate::fault::{Fault, Member};
 use crate::text_kind::TextKind;
@@ -22,7 +23,7 @@ pub(crate) fn text_at(
     member: Member,
     kind: TextKind,
 ) -> Result<Text, Fault>
-    ensures { Gives result (needed member (text_in kind) (view object.now)) }
+    ensures { GivesUnless Fault.Unavailable result (needed member (text_in kind) (view object.now)) }
 {
     let text = object
         .get(member.key())
@@ -75,7 +76,7 @@ pub(crate) fn texts_in(
     most: usize,
     kind: TextKind,
 ) -> Result<Listed<Text>, Fault>
-    ensures { Gives result (ok_or (list_in most (text_in kind) (view value.now)) (Fault.BadMember member)) }
+    ensures { GivesUnless Fault.Unavailable result (ok_or (list_in most (text_in kind) (view value.now)) (Fault.BadMember member)) }
 {
     let items = items_in(value, most).ok_or(Fault::BadMember(member))?;
     texts_of(alloc, items, member, kind)
@@ -87,7 +88,7 @@ fn texts_of(
     member: Member,
     kind: TextKind,
 ) -> Result<Listed<Text>, Fault>
-    ensures { Gives result (ok_or (all_in (text_in kind) (items_view items.now)) (Fault.BadMember member)) }
+    ensures { GivesUnless Fault.Unavailable result (ok_or (all_in (text_in kind) (items_view items.now)) (Fault.BadMember member)) }
 {
     let mut texts = Vec::new(alloc);
     for item in items {

@@ -1,17 +1,17 @@
 -- Lists of what each number was given: one instance more, one workunit more, and what they say of a world.
-use Rattle.std.proofs.Common.{◌≡◌, ◌≢◌, ℕ, zero, suc, ◌+◌, ◌*◌, ◌<◌, ◌≤◌, Bool, true, false, cond, eqb, List, [], ◌∷◌, ◌++◌, length, Option, Some, None, sym, refl, ap, ◌∙◌, arith, append_assoc, append-nil}
+use Rattle.std.proofs.Common.{◌≡◌, ◌≢◌, ℕ, zero, suc, ◌+◌, ◌*◌, ◌/◌, ◌<◌, ◌≤◌, Bool, true, false, cond, eqb, List, [], ◌∷◌, ◌++◌, length, Option, Some, None, sym, refl, ap, ◌∙◌, arith, append_assoc, append-nil}
 use Rattle.std.proofs.lemmas.Bool.{ne_eqb, eq-eqb}
 use Rattle.std.proofs.lemmas.Option.{none-some}
 use Rattle.std.proofs.lemmas.List.{map-append, length-append}
 use Rattle.std.proofs.lemmas.List.Elements.{filter-append}
 use Rattle.std.proofs.lemmas.List.Sums.{sum_by-cons, sum_by-append}
-use Rattle.std.specs.Prelude.{replicate, map, filter, count_by, sum_by, option_map, unwrap_or, is_some, slice_get, ◌&&◌, ◌||◌, ◌==◌, All}
+use Rattle.std.specs.Prelude.{replicate, map, filter, count_by, sum_by, option_map, option_and_then, unwrap_or, slice_get, ◌&&◌, ◌||◌, ◌==◌, All}
 use Rattle.std.specs.List.{list_any}
 use Rattle.sched_book.specs.Reports.{modify_at, modify_nth}
-use Rattle.sched_book.specs.Places.{nth, owned_by, held_by, sent_on_day, is_owned_by, is_held_by, is_of_user, owner_host, account_in, was_sent, places_in, places_among}
+use Rattle.sched_book.specs.Places.{nth, owned_by, held_by, sent_on_day, is_owned_by, is_held_by, is_of_user, option_any, was_sent, places_in, places_among}
 use Rattle.sched_book.specs.Count.{is_held}
 use Rattle.sched_book.specs.Desk.{units_from, units_of_user}
-use Rattle.sched_book.specs.Given.{map_from, given_as, given_in, given_among, is_listed_by, number_by, with_given, lists_by, units_in}
+use Rattle.sched_book.specs.Given.{map_from, sent_at, given_as, given_in, given_among, is_listed_by, number_by, with_given, lists_by, units_in}
 use Rattle.sched_book.specs.declared.given.By.{By}
 use Rattle.sched_book.specs.declared.given.By.TheVariants.{Host, User}
 use Rattle.sched_book.specs.declared.given.Given.{Given}
@@ -60,26 +60,30 @@ pub modify_nth-map_from : {X : Type 0} (f : X → X) (xs : List X) (k : ℕ) →
 modify_nth-map_from f xs zero = sym (past f 0 1 xs (omega arith))
 modify_nth-map_from f xs (suc i) = modify_nth-suc f xs i ∙ one f xs i 1 (suc i) (omega arith)
 
--- an instance that nobody was given
-not_listed : (by : By) (hosts : List HostRow) (x : Instance) → x.owner ≡ None → (n : ℕ) → is_listed_by by hosts n x ≡ false
-not_listed Host hosts x is n = ap (λ (o : Option Owner). is_some o && eqb (owner_host o) n) is
-not_listed User hosts x is n = ap (λ (o : Option Owner). is_some o && eqb (account_in hosts (owner_host o)) n) is
+-- an instance is listed under the number of its owner, and under no other
+listed : (by : By) (hosts : List HostRow) (x : Instance) (n : ℕ) → is_listed_by by hosts n x ≡ option_any (λ m. eqb m n) (option_and_then (number_by by hosts) x.owner)
+listed by hosts x n = cases by x.owner
+  where
+    cases : (by : By) (o : Option Owner) → is_listed_by by hosts n (record { owner = o; lapse = x.lapse; report = x.report })
+        ≡ option_any (λ m. eqb m n) (option_and_then (number_by by hosts) o)
+    cases Host None = refl
+    cases Host (Some o) = refl
+    cases User None = refl
+    cases User (Some o) = refl
 
-pub none_more : (by : By) (hosts : List HostRow) (p : Place) (x : Instance) (ls : List (List Given)) → x.owner ≡ None
-    → ls ≡ map_from 1 (λ n. with_given (is_listed_by by hosts n) p x) ls
+-- one that has no number is not listed
+pub none_more : (by : By) (hosts : List HostRow) (p : Place) (x : Instance) (ls : List (List Given))
+    → option_and_then (number_by by hosts) x.owner ≡ None → ls ≡ map_from 1 (λ n. with_given (is_listed_by by hosts n) p x) ls
 none_more by hosts p x ls is =
-    sym (map_from-none 1 _ (λ n l. ap (λ (b : Bool). cond b (l ++ given_as p x ∷ []) l) (not_listed by hosts x is n)) ls)
+    sym (map_from-none 1 _ (λ n l. ap (λ (b : Bool). cond b (l ++ given_as p x ∷ []) l) (listed by hosts x n ∙ ap (option_any (λ m. eqb m n)) is)) ls)
 
--- an instance that its owner's number gets
-listed : (by : By) (hosts : List HostRow) (x : Instance) (o : Owner) → x.owner ≡ Some o → (n : ℕ) → is_listed_by by hosts n x ≡ eqb (number_by by hosts (Some o)) n
-listed Host hosts x o is n = ap (λ (o : Option Owner). is_some o && eqb (owner_host o) n) is
-listed User hosts x o is n = ap (λ (o : Option Owner). is_some o && eqb (account_in hosts (owner_host o)) n) is
-
-pub one_more : (by : By) (hosts : List HostRow) (p : Place) (x : Instance) (o : Owner) (g : Given) (ls : List (List Given)) → x.owner ≡ Some o
-    → g ≡ given_as p x → modify_nth (λ (l : List Given). l ++ g ∷ []) ls (number_by by hosts (Some o)) ≡ map_from 1 (λ n. with_given (is_listed_by by hosts n) p x) ls
-one_more by hosts p x o g ls is given =
-    modify_nth-map_from (λ (l : List Given). l ++ g ∷ []) ls (number_by by hosts (Some o))
-    ∙ map_from-same 1 _ _ (λ n l. ap (λ (b : Bool). cond b (l ++ g ∷ []) l) (sym (listed by hosts x o is n))
+-- one that has a number stands behind the others of this number
+pub one_more : (by : By) (hosts : List HostRow) (p : Place) (x : Instance) (number : ℕ) (g : Given) (ls : List (List Given))
+    → option_and_then (number_by by hosts) x.owner ≡ Some number → g ≡ given_as p x
+    → modify_nth (λ (l : List Given). l ++ g ∷ []) ls number ≡ map_from 1 (λ n. with_given (is_listed_by by hosts n) p x) ls
+one_more by hosts p x number g ls is given =
+    modify_nth-map_from (λ (l : List Given). l ++ g ∷ []) ls number
+    ∙ map_from-same 1 _ _ (λ n l. ap (λ (b : Bool). cond b (l ++ g ∷ []) l) (sym (listed by hosts x n ∙ ap (option_any (λ m. eqb m n)) is))
     ∙ ap (λ (h : Given). cond (is_listed_by by hosts n x) (l ++ h ∷ []) l) given) ls
 
 -- one instance more of a workunit: what is done, then what is left, is still all
@@ -192,8 +196,15 @@ sent-in : (host day unit number : ℕ) (xs : List Instance)
     → count_by (λ (g : Given). g.day == day) (given_in unit number (is_owned_by host) xs) ≡ count_by (was_sent host day) xs
 sent-in host day unit number [] = refl
 sent-in host day unit number (x ∷ xs) =
-    cases (is_owned_by host x) _ _ (sent-in host day unit (number + 1) xs) ∙ sym (sum_by-cons (λ y. cond (was_sent host day y) 1 0) x xs)
+    cases (is_owned_by host x) _ _ (sent-in host day unit (number + 1) xs)
+    ∙ ap (λ (b : Bool). cond {A = ℕ} b 1 0 + count_by (was_sent host day) xs) (sym (sent x.owner))
+    ∙ sym (sum_by-cons (λ y. cond (was_sent host day y) 1 0) x xs)
   where
+    sent : (o : Option Owner) → option_any (λ (o : Owner). (o.host == host) && (o.sent / 86400 == day)) o
+        ≡ (option_any (λ n. n == host) (option_map (λ (o : Owner). o.host) o) && (sent_at o / 86400 == day))
+    sent None = refl
+    sent (Some o) = refl
+
     g : Given
     g = given_as (record { unit = unit; number = number }) x
 

@@ -24,3 +24,4 @@ pub mod GoodReports
 pub mod PlaceChanges
 pub mod LostPlaces
 pub mod Bounded
+pub mod Firsts

@@ -103,7 +103,7 @@ best (Some b) (v ∷ vs) = cases (nat_le v.version_num b.version_num) refl (best
 -- there is none for a platform, or the newest for it
 pub record IsNewestFor (versions : List Version) (app platform : List ℕ) (v : Version) : Type 0 where
   pub stands : Contains versions v
-  pub is_for : is_version_for app platform v ≡ true
+  pub matches : is_version_for app platform v ≡ true
   pub newest : (other : Version) → Contains versions other → is_version_for app platform other ≡ true → other.version_num ≤ v.version_num
 
 abbrev HasNone : List Version → List ℕ → List ℕ → Type 0
@@ -123,7 +123,7 @@ for_platform versions app platform (Some v) h =
     let there : Contains (filter q versions) v = elim h.stands [ inl never ↦ absurd cc | inr there ↦ there ] in
     record {
       stands = in_filter q versions v there;
-      is_for = passed_filter q versions v there;
+      matches = passed_filter q versions v there;
       newest = λ other stands pass. h.newest other (passes_filter q versions other stands pass);
     }
 
@@ -145,7 +145,7 @@ further versions app p ps none (Some v) rest = record {
     | inr later ↦ rest.none_earlier platform other later there
   ];
   stands = rest.stands;
-  is_for = rest.is_for;
+  matches = rest.matches;
   newest = rest.newest;
 }
 
@@ -161,7 +161,7 @@ choose versions app p ps (Some v) here o rest = record {
   split = refl;
   none_earlier = λ platform other among there. absurd (none_in_nothing platform among);
   stands = here.stands;
-  is_for = here.is_for;
+  matches = here.matches;
   newest = here.newest;
 }
 

@@ -31,8 +31,12 @@ abbrev pub tells_error : Option Outcome → Bool
 tells_error None = false
 tells_error (Some r) = not r.success && is_some r.place
 
+-- the place of its report among the judged ones, where it was judged
+abbrev pub report_place : Instance → Option ℕ
+report_place x = option_and_then (λ (r : Outcome). r.place) x.report
+
 abbrev pub is_judged : Instance → Bool
-is_judged x = tells_success x.report || tells_error x.report
+is_judged x = is_some (report_place x)
 
 abbrev pub told_output : Option Outcome → List ℕ
 told_output None = []

@@ -1,7 +1,7 @@
 -- What each host and each user was given, listed by number, as the plain desk keeps it beside its world.
 use Rattle.std.specs.Prelude.{◌≡◌, ℕ, ◌+◌, ◌/◌, ◌==◌, Bool, if◌then◌else◌, List, [], ◌∷◌, ◌++◌, length, replicate, Option, Some, None}
 use Rattle.sched_book.specs.Count.{is_held}
-use Rattle.sched_book.specs.Places.{account_in, is_of_user, is_owned_by, sent_at}
+use Rattle.sched_book.specs.Places.{account_at, is_of_user, is_owned_by}
 use Rattle.sched_book.specs.declared.given.By.{By}
 use Rattle.sched_book.specs.declared.given.By.TheVariants.{Host, User}
 use Rattle.sched_book.specs.declared.given.Given.{Given}
@@ -17,6 +17,11 @@ use Rattle.sched_book.specs.declared.world.World.{World}
 abbrev pub map_from : {X Y : Type 0} → ℕ → (ℕ → X → Y) → List X → List Y
 map_from n f [] = []
 map_from n f (x ∷ xs) = f n x ∷ map_from (n + 1) f xs
+
+-- the moment of sending of what was given, and 0 of anything else, which is not listed
+abbrev pub sent_at : Option Owner → ℕ
+sent_at None = 0
+sent_at (Some o) = o.sent
 
 -- what is listed of an instance
 abbrev pub given_as : Place → Instance → Given
@@ -40,11 +45,10 @@ abbrev pub is_listed_by : By → List HostRow → ℕ → Instance → Bool
 is_listed_by Host hosts n x = is_owned_by n x
 is_listed_by User hosts n x = is_of_user hosts n x
 
--- the number of the host that it was given to, or of that host's account; 0 where nobody was given it
-abbrev pub number_by : By → List HostRow → Option Owner → ℕ
-number_by by hosts None = 0
-number_by Host hosts (Some o) = o.host
-number_by User hosts (Some o) = account_in hosts o.host
+-- the number of the owner's host, or of that host's account
+abbrev pub number_by : By → List HostRow → Owner → Option ℕ
+number_by Host hosts o = Some o.host
+number_by User hosts o = account_at hosts o.host
 
 -- a list with one instance more, where that passes
 abbrev pub with_given : (Instance → Bool) → Place → Instance → List Given → List Given

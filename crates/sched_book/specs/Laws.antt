@@ -54,7 +54,7 @@ pub record IsVersionFor (versions : List Version) (app : List ℕ) (platforms : 
   pub split : platforms ≡ earlier ++ platform ∷ later
   pub none_earlier : HasNoVersion versions app earlier
   pub stands : Contains versions v
-  pub is_for : is_version_for app platform v ≡ true
+  pub matches : is_version_for app platform v ≡ true
   pub newest : (other : Version) → Contains versions other → is_version_for app platform other ≡ true → other.version_num ≤ v.version_num
 
 abbrev pub VersionIsNewestOfFirst : Type 0

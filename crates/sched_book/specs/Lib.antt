@@ -5,6 +5,7 @@ pub mod Places
 pub mod Fits
 pub mod Grant
 pub mod Reports
+pub mod Firsts
 pub mod Lost
 pub mod Settle
 pub mod Limits

@@ -1,10 +1,8 @@
 -- The ranges of the values of a world. They are this profile's, and stand here alone: rows that are read, changes that
 -- fit and worlds that are sound cite them.
-use Rattle.std.specs.Prelude.{ℕ, ◌^◌, ◌≤◌, Bool, ◌&&◌, nat_le, IsTrue, List, length, All}
+use Rattle.std.specs.Prelude.{ℕ, ◌^◌, ◌≤◌, Bool, ◌&&◌, nat_le, IsTrue, List, length, All, IfSome}
 use Rattle.rpc_records.specs.Members.{is_output}
 use Rattle.rpc_records.specs.Ranges.{IsWord}
-use Rattle.sched_book.specs.Count.{is_judged, told_output, told_place}
-use Rattle.sched_book.specs.Places.{deadline_of, sent_at}
 use Rattle.sched_book.specs.declared.instance.Instance.{Instance}
 use Rattle.sched_book.specs.declared.instance.UnitBook.{UnitBook}
 use Rattle.sched_book.specs.declared.rows.Account.{Account}
@@ -141,13 +139,12 @@ pub record IsHostInLimits (limit : ℕ) (h : HostRow) : Type 0 where
   pub words : All IsWord h.platforms
   pub quota : (1 ≤ h.quota) × (h.quota ≤ limit)
 
--- the moment of sending, the deadline, what was reported and the place of a judged report
+-- the moment of sending and the deadline, what was reported, and the place of a judged report
 pub record IsInstanceInLimits (x : Instance) : Type 0 where
-  pub sent : sent_at x.owner ≤ last_moment
-  pub deadline : deadline_of x.owner ≤ last_deadline
-  pub output : IsTrue (is_output (told_output x.report))
-  pub place : told_place x.report ≤ most_instances
-  pub judged : IsTrue (is_judged x) → 1 ≤ told_place x.report
+  pub sent : IfSome x.owner (λ o. o.sent ≤ last_moment)
+  pub deadline : IfSome x.owner (λ o. o.deadline ≤ last_deadline)
+  pub output : IfSome x.report (λ r. IsTrue (is_output r.output))
+  pub place : IfSome x.report (λ r. IfSome r.place (λ place. (1 ≤ place) × (place ≤ most_instances)))
 
 -- no list is longer than its table may be
 pub record IsBounded (w : World) : Type 0 where

@@ -1,10 +1,10 @@
 -- The jobs that a client lost, and the names that it should no longer work on. That lost jobs are sent again is
 -- BOINC's resend_lost_results, and result_abort is BOINC's; the exact rules are this profile's.
-use Rattle.std.specs.Prelude.{ℕ, ◌+◌, Bool, true, false, not, ◌&&◌, ◌||◌, nat_le, if◌then◌else◌, List, [], filter, Option, Some, None, option_map, unwrap_or}
+use Rattle.std.specs.Prelude.{ℕ, ◌+◌, Bool, true, not, ◌&&◌, ◌||◌, nat_le, if◌then◌else◌, List, [], filter, Option, Some, None, option_map, unwrap_or}
 use Rattle.std.specs.List.{list_any}
 use Rattle.std.specs.Str.{bytes_eq}
 use Rattle.sched_book.specs.Count.{is_open, has_failed}
-use Rattle.sched_book.specs.Places.{unit_at, passes, held_by, status_at, place_named, name_at}
+use Rattle.sched_book.specs.Places.{option_any, unit_at, passes, held_by, status_at, place_named, name_at}
 use Rattle.sched_book.specs.Fits.{unit_fits, estimate_at}
 use Rattle.sched_book.specs.Reports.{with_changed, first_of_each, awaits_report}
 use Rattle.sched_book.specs.declared.rows.HostRow.{HostRow}
@@ -30,7 +30,7 @@ lost w host names = if w.settings.resend_lost_results then unlisted w host names
 
 -- a lost job goes to its host again where its workunit was open at entry and fits the host
 abbrev pub is_resent : World → HostRow → Place → Bool
-is_resent entry h p = unwrap_or (option_map (λ b. is_open (status_at entry p.unit) && unit_fits entry h b) (unit_at entry p.unit)) false
+is_resent entry h p = option_any (λ b. is_open (status_at entry p.unit) && unit_fits entry h b) (unit_at entry p.unit)
 
 -- the seconds from the sending of the instance at a place to its deadline
 abbrev pub delay_at : World → Place → ℕ

@@ -1,6 +1,6 @@
 -- Workunits, hosts and instances of a world by their places, and what is counted over all of them.
 -- Places of rows and numbers of hosts count from 1, the numbers of a workunit's instances from 0.
-use Rattle.std.specs.Prelude.{true, ℕ, ◌+◌, ◌-◌, ◌*◌, ◌/◌, Bool, false, ◌&&◌, ◌||◌, ◌==◌, nat_lt, if◌then◌else◌, List, [], ◌∷◌, ◌++◌, find, position, count_by, sum_by, Option, Some, None, option_and_then, option_map, unwrap_or, is_some, slice_get}
+use Rattle.std.specs.Prelude.{true, ℕ, ◌+◌, ◌-◌, ◌*◌, ◌/◌, Bool, false, ◌&&◌, ◌||◌, ◌==◌, nat_lt, if◌then◌else◌, List, [], ◌∷◌, ◌++◌, find, position, count_by, sum_by, Option, Some, None, option_and_then, option_map, unwrap_or, slice_get}
 use Rattle.std.specs.List.{enumerate_from, list_any}
 use Rattle.std.specs.Str.{bytes_eq}
 use Rattle.sched_book.specs.Names.{instance_name, name_parts}
@@ -18,6 +18,10 @@ use Rattle.sched_book.specs.declared.instance.Status.TheVariants.{FailedTotal}
 use Rattle.sched_book.specs.declared.instance.UnitBook.{UnitBook}
 use Rattle.sched_book.specs.declared.instance.Verdict.{Verdict}
 use Rattle.sched_book.specs.declared.world.World.{World}
+
+-- something is there, and passes
+abbrev pub option_any : {X : Type 0} → (X → Bool) → Option X → Bool
+option_any p o = unwrap_or (option_map p o) false
 
 -- what stands at a place that counts from 1
 abbrev pub nth : {X : Type 0} → List X → ℕ → Option X
@@ -84,13 +88,12 @@ places w = places_where w (λ b x. true)
 abbrev pub passes : World → (UnitBook → Instance → Bool) → Place → Bool
 passes w p at = unwrap_or (option_and_then (λ b. option_map (p b) (slice_get b.instances at.number)) (unit_at w at.unit)) false
 
--- the number of the host that it was given to, or 0
-abbrev pub owner_host : Option Owner → ℕ
-owner_host None = 0
-owner_host (Some o) = o.host
+-- the number of the host that it was given to
+abbrev pub host_of : Instance → Option ℕ
+host_of x = option_map (λ (o : Owner). o.host) x.owner
 
 abbrev pub is_owned_by : ℕ → Instance → Bool
-is_owned_by host x = is_some x.owner && (owner_host x.owner == host)
+is_owned_by host x = option_any (λ n. n == host) (host_of x)
 
 abbrev pub is_held_by : ℕ → Instance → Bool
 is_held_by host x = is_owned_by host x && is_held x
@@ -102,17 +105,9 @@ owned_by w host = places_where w (λ b x. is_owned_by host x)
 abbrev pub held_by : World → ℕ → List Place
 held_by w host = places_where w (λ b x. is_held_by host x)
 
-abbrev pub sent_at : Option Owner → ℕ
-sent_at None = 0
-sent_at (Some o) = o.sent
-
-abbrev pub deadline_of : Option Owner → ℕ
-deadline_of None = 0
-deadline_of (Some o) = o.deadline
-
--- the host's instance was sent on a day, which has 86,400 seconds
+-- it was given to the host on a day, which has 86,400 seconds
 abbrev pub was_sent : ℕ → ℕ → Instance → Bool
-was_sent host day x = is_owned_by host x && (sent_at x.owner / 86400 == day)
+was_sent host day x = option_any (λ (o : Owner). (o.host == host) && (o.sent / 86400 == day)) x.owner
 
 -- how many of the host's instances were sent on a day, whatever became of them
 abbrev pub sent_on_day : World → ℕ → ℕ → ℕ
@@ -120,22 +115,31 @@ sent_on_day w host day = sum_by (λ b. count_by (was_sent host day) b.instances)
 
 -- it is held, and its deadline is past
 abbrev pub is_overdue : ℕ → Instance → Bool
-is_overdue now x = is_held x && nat_lt (deadline_of x.owner) now
+is_overdue now x = is_held x && option_any (λ (o : Owner). nat_lt o.deadline now) x.owner
 
 abbrev pub overdue : World → ℕ → List Place
 overdue w now = places_where w (λ b x. is_overdue now x)
 
--- the account of the host of a number, or 0
-abbrev pub account_in : List HostRow → ℕ → ℕ
-account_in hosts host = unwrap_or (option_map (λ h. h.account) (nth hosts host)) 0
+-- the account of the host of a number
+abbrev pub account_at : List HostRow → ℕ → Option ℕ
+account_at hosts host = option_map (λ (h : HostRow). h.account) (nth hosts host)
+
+-- the account of the host that it was given to
+abbrev pub user_of : List HostRow → Instance → Option ℕ
+user_of hosts x = option_and_then (account_at hosts) (host_of x)
 
 -- it was given to a host of the user
 abbrev pub is_of_user : List HostRow → ℕ → Instance → Bool
-is_of_user hosts account x = is_some x.owner && (account_in hosts (owner_host x.owner) == account)
+is_of_user hosts account x = option_any (λ n. n == account) (user_of hosts x)
 
 -- some instance of the workunit was given to a host of the user
 abbrev pub user_had : World → ℕ → UnitBook → Bool
 user_had w account b = list_any (is_of_user w.hosts account) b.instances
+
+-- the deadline of what was given to a host, and 0 of anything else
+abbrev pub deadline_of : Option Owner → ℕ
+deadline_of None = 0
+deadline_of (Some o) = o.deadline
 
 -- the credit that a host has from one workunit: the workunit's for each valid instance of the host
 abbrev pub credit_in : List App → ℕ → UnitBook → ℕ

@@ -1,8 +1,8 @@
 -- What holds of every world that a run reaches.
-use Rattle.std.specs.Prelude.{◌≡◌, ◌≢◌, ℕ, ◌+◌, ◌<◌, ◌≤◌, Bool, ◌&&◌, ◌==◌, IsTrue, List, length, count_by, All, AllPairs, is_some, None}
+use Rattle.std.specs.Prelude.{◌≡◌, ◌≢◌, ℕ, ◌+◌, ◌<◌, ◌≤◌, Bool, ◌==◌, IsTrue, List, length, count_by, All, AllPairs, is_some, None, IfSome}
 use Rattle.std.specs.List.{list_any}
-use Rattle.sched_book.specs.Count.{is_open, need, is_judged, told_place}
-use Rattle.sched_book.specs.Places.{nth, book_status, account_in, owner_host}
+use Rattle.sched_book.specs.Count.{is_open, need, is_judged, report_place}
+use Rattle.sched_book.specs.Places.{nth, option_any, book_status, host_of, user_of}
 use Rattle.sched_book.specs.Limits.{most_accounts, most_apps, most_versions, most_workunits, most_instances, AreSettingsInLimits, IsAccountInLimits, IsAppInLimits, IsVersionInLimits, IsUnitInLimits, IsHostInLimits, IsInstanceInLimits}
 use Rattle.sched_book.specs.Imports.{has_app, same_version}
 use Rattle.sched_book.specs.declared.instance.Instance.{Instance}
@@ -14,8 +14,7 @@ use Rattle.sched_book.specs.declared.world.World.{World}
 
 -- the two were not given to hosts of one user
 abbrev pub AreOfOtherUsers : List HostRow → Instance → Instance → Type 0
-AreOfOtherUsers hosts x y =
-    IsTrue (is_some x.owner) → IsTrue (is_some y.owner) → account_in hosts (owner_host x.owner) ≢ account_in hosts (owner_host y.owner)
+AreOfOtherUsers hosts x y = IsTrue (is_some (host_of x)) → IsTrue (is_some (host_of y)) → user_of hosts x ≢ user_of hosts y
 
 -- an instance that nobody was given has neither lapse nor report
 abbrev pub IsBare : Instance → Type 0
@@ -23,11 +22,11 @@ IsBare x = x.owner ≡ None → (x.lapse ≡ None) × (x.report ≡ None)
 
 -- the host that it was given to stands
 abbrev pub HasOwnerAmong : List HostRow → Instance → Type 0
-HasOwnerAmong hosts x = IsTrue (is_some x.owner) → IsTrue (is_some (nth hosts (owner_host x.owner)))
+HasOwnerAmong hosts x = IfSome (host_of x) (λ host. IsTrue (is_some (nth hosts host)))
 
 -- some judged report has the place n
 abbrev pub has_place : List Instance → ℕ → Bool
-has_place xs n = list_any (λ x. is_judged x && (told_place x.report == n)) xs
+has_place xs n = list_any (λ x. option_any (λ place. place == n) (report_place x)) xs
 
 -- A workunit with its instances, where these are the hosts and applications: all but that it has the instances that it
 -- needs, which holds between two steps and not within one.
@@ -35,7 +34,7 @@ pub record IsWellUnit (hosts : List HostRow) (apps : List App) (b : UnitBook) : 
   pub one_for_each_user : AllPairs (AreOfOtherUsers hosts) b.instances
   -- the places of the judged reports are 1 up to their count
   pub places : (n : ℕ) → n < count_by is_judged b.instances → IsTrue (has_place b.instances (n + 1))
-  pub in_range : All (λ x. IsTrue (is_judged x) → told_place x.report ≤ count_by is_judged b.instances) b.instances
+  pub in_range : All (λ x. IfSome (report_place x) (λ place. place ≤ count_by is_judged b.instances)) b.instances
   pub bare : All IsBare b.instances
   pub owners : All (HasOwnerAmong hosts) b.instances
   pub app : IsTrue (has_app apps b.unit.app)

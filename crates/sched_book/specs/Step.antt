@@ -16,7 +16,6 @@ use Rattle.sched_book.specs.declared.instance.Instance.{Instance}
 use Rattle.sched_book.specs.declared.instance.Lapse.TheVariants.{Late}
 use Rattle.sched_book.specs.declared.instance.Owner.{Owner}
 use Rattle.sched_book.specs.declared.instance.Place.{Place}
-use Rattle.sched_book.specs.declared.instance.UnitBook.{UnitBook}
 use Rattle.sched_book.specs.declared.machine.Answered.{Answered}
 use Rattle.sched_book.specs.declared.machine.Answered.TheVariants as answered
 use Rattle.sched_book.specs.declared.machine.Call.{Call}
@@ -26,6 +25,7 @@ use Rattle.sched_book.specs.declared.rows.Account.{Account}
 use Rattle.sched_book.specs.declared.rows.HostRow.{HostRow}
 use Rattle.sched_book.specs.declared.rows.Rows.{Rows}
 use Rattle.sched_book.specs.declared.rows.Version.{Version}
+use Rattle.sched_book.specs.declared.rows.Workunit.{Workunit}
 use Rattle.sched_book.specs.declared.settings.Settings.{Settings}
 use Rattle.sched_book.specs.declared.world.World.{World}
 
@@ -70,9 +70,13 @@ after_reports w c r = recorded (at_entry w c r) (host_number w c) r.results
 abbrev pub lost_of : World → Caller → Request → List Place
 lost_of w c r = lost (after_reports w c r) (host_number w c) r.other_results
 
+-- the quota of a host: its own, or the setting for a new one
+abbrev pub quota_of : World → Option ℕ → ℕ
+quota_of w host = unwrap_or (option_map (λ (h : HostRow). h.quota) (option_and_then (host_at w) host)) w.settings.daily_result_quota
+
 -- the caller's host as told now
 abbrev pub host_at_entry : World → Caller → Request → HostRow
-host_at_entry w c r = unwrap_or (host_at (at_entry w c r) (host_number w c)) (row_of_call c r 1)
+host_at_entry w c r = row_of_call c r (quota_of w c.host)
 
 abbrev pub after_lost : World → Caller → Request → ℕ → World
 after_lost w c r now = fold (resend_or_drop (at_entry w c r) (host_at_entry w c r) now) (after_reports w c r) (lost_of w c r)
@@ -107,32 +111,38 @@ grant_one host now w p = with_changed (with_owner (record { host = host; sent = 
 abbrev pub granted : World → ℕ → ℕ → List Place → World
 granted w host now jobs = fold (grant_one host now) w jobs
 
--- what the reply says of a job
+-- what a reply says of a job of this name and deadline
+abbrev pub job_of : List ℕ → ℕ → HostRow → Bool → Workunit → Version → Job
+job_of name deadline h resent u v = record {
+  app_name = u.app;
+  estimate = estimate u.rsc_fpops_est h.p_fpops;
+  name = name;
+  platform = v.platform;
+  report_deadline = deadline;
+  resent = resent;
+  version_num = v.version_num;
+  wu_name = u.name;
+}
+
+-- what the reply says of the job at a place
 abbrev pub deadline_at : World → Place → ℕ
 deadline_at w p = unwrap_or (option_map (λ x. deadline_of x.owner) (instance_at w p)) 0
 
-abbrev pub job_by : World → HostRow → Bool → Place → UnitBook → Version → Job
-job_by w h resent p b v = record {
-  app_name = b.unit.app;
-  estimate = estimate b.unit.rsc_fpops_est h.p_fpops;
-  name = name_at w p;
-  platform = v.platform;
-  report_deadline = deadline_at w p;
-  resent = resent;
-  version_num = v.version_num;
-  wu_name = b.unit.name;
-}
-
 abbrev pub job_at : World → HostRow → Bool → Place → Option Job
-job_at w h resent p = option_and_then (λ b. option_map (job_by w h resent p b) (version_for w h b.unit.app)) (unit_at w p.unit)
+job_at w h resent p =
+    option_and_then (λ b. option_map (job_of (name_at w p) (deadline_at w p) h resent b.unit) (version_for w h b.unit.app)) (unit_at w p.unit)
 
 abbrev pub user_name : World → ℕ → List ℕ
 user_name w account = unwrap_or (option_map (λ (a : Account). a.name) (nth w.accounts account)) []
 
+-- a new host has room
+abbrev pub HasRoom : World → Caller → Type 0
+HasRoom w c = c.host ≡ None → length w.hosts < w.settings.max_hosts
+
 -- What a scheduler call leaves, and what it answers. A new host needs room.
 pub record RpcStep (w : World) (c : Caller) (r : Request) (now : ℕ) (after : World) (reply : Reply) : Type 0 where
   pub caller : IsCaller w c r
-  pub room : c.host ≡ None → length w.hosts < w.settings.max_hosts
+  pub room : HasRoom w c
   pub jobs : List Place
   pub grant : IsGrant (after_settlement w c r now) (asking_of w c r now) jobs
   pub left : after ≡ granted (after_settlement w c r now) (host_number w c) now jobs

@@ -6,7 +6,7 @@ ghost use Rattle.std.specs.Prelude.{◌≡◌, ◌<◌, ◌≤◌, ◌^◌, ◌+
 ghost use Rattle.std.specs.List.{prefix_len};
 ghost use Rattle.std.specs.Option.{SomeIff};
 ghost use Rattle.arrayvec.specs.ArrayVec.{array_vec_len};
-ghost use Rattle.sched_book.specs.Count.{agree, tells_success, tells_error, is_held, is_live, output_of, place_of, put_by, good, errors, live, votes, leader, first_leader, canonical, want, need, status, verdict_by, verdict, is_open, has_failed, is_valid};
+ghost use Rattle.sched_book.specs.Count.{agree, output_of, place_of, put_by, good, errors, live, votes, leader, first_leader, canonical, want, need, status, verdict_by, verdict, is_valid};
 ghost use Rattle.sched_book.specs.Limits.{IsBounded};
 ghost use Rattle.sched_book.specs.Places.{agreement_by, book_status, is_owned_by, credit_in, host_credit, user_credit};
 
@@ -32,40 +32,6 @@ pub fn agree(agreement: &Agreement, left: &str, right: &str) -> bool
                 )
         }
     }
-}
-
-/// Whether a success was reported of the instance, and judged.
-pub fn is_judged_success(instance: &Instance) -> bool
-    ensures { result ≡ tells_success instance.now.report }
-{
-    match &instance.report {
-        None => false,
-        Some(outcome) => outcome.success && outcome.place.is_some(),
-    }
-}
-
-/// Whether a client error was reported of the instance, and judged.
-pub fn is_judged_error(instance: &Instance) -> bool
-    ensures { result ≡ tells_error instance.now.report }
-{
-    match &instance.report {
-        None => false,
-        Some(outcome) => !outcome.success && outcome.place.is_some(),
-    }
-}
-
-/// Whether a host has the instance: it was given to one, and has neither report nor lapse.
-pub fn is_held(instance: &Instance) -> bool
-    ensures { result ≡ is_held instance.now }
-{
-    instance.owner.is_some() && instance.report.is_none() && instance.lapse.is_none()
-}
-
-/// Whether a result may yet come of the instance: it was not given to a host, or one holds it.
-pub fn is_live(instance: &Instance) -> bool
-    ensures { result ≡ is_live instance.now }
-{
-    instance.owner.is_none() || is_held(instance)
 }
 
 /// The output that was reported of an instance, empty where none was.
@@ -123,7 +89,7 @@ fn good_reports(instances: &[Instance]) -> ArrayVec<usize, MOST_INSTANCES>
 {
     let mut reports = ArrayVec::new();
     for (number, instance) in instances.iter().enumerate() {
-        if is_judged_success(instance) {
+        if instance.is_judged_success() {
             put_report(instances, &mut reports, number);
         }
     }
@@ -216,7 +182,7 @@ pub fn error_count(instances: &[Instance]) -> usize
 {
     instances
         .iter()
-        .filter(|instance| is_judged_error(instance))
+        .filter(|instance| instance.is_judged_error())
         .count()
 }
 
@@ -227,7 +193,7 @@ pub fn live_count(instances: &[Instance]) -> usize
 {
     instances
         .iter()
-        .filter(|instance| is_live(instance))
+        .filter(|instance| instance.is_live())
         .count()
 }
 
@@ -277,26 +243,6 @@ pub fn status(agreement: &Agreement, unit: &Workunit, instances: &[Instance]) ->
     Status::Open
 }
 
-/// Whether a workunit of this status takes part in new grants.
-pub fn is_open(status: Status) -> bool
-    ensures { result ≡ is_open status }
-{
-    match status {
-        Status::Open => true,
-        Status::Done | Status::FailedErrors | Status::FailedSuccess | Status::FailedTotal => false,
-    }
-}
-
-/// Whether a workunit of this status has failed.
-pub fn has_failed(status: Status) -> bool
-    ensures { result ≡ has_failed status }
-{
-    match status {
-        Status::Open | Status::Done => false,
-        Status::FailedErrors | Status::FailedSuccess | Status::FailedTotal => true,
-    }
-}
-
 /// The verdict on one of the workunit's instances, by the number of the canonical result.
 pub fn verdict_by(
     agreement: &Agreement,
@@ -312,7 +258,7 @@ pub fn verdict_by(
     let Some(outcome) = &instance.report else {
         return None;
     };
-    if !is_judged_success(instance) {
+    if !outcome.is_judged_success() {
         return None;
     }
     if agree(
@@ -367,16 +313,6 @@ pub fn book_status(apps: &[App], book: &UnitBook) -> Status
     )
 }
 
-/// Whether the instance was given to the host of this number.
-pub fn is_owned_by(host: u32, instance: &Instance) -> bool
-    ensures { result ≡ is_owned_by host instance.now }
-{
-    match &instance.owner {
-        None => false,
-        Some(owner) => owner.host == host,
-    }
-}
-
 /// Whether a verdict says that the result is valid.
 pub fn is_valid(verdict: Option<Verdict>) -> bool
     ensures { result ≡ is_valid verdict }
@@ -398,7 +334,7 @@ fn is_valid_of(
 ) -> bool
     ensures { result ≡ (is_owned_by host instance.now && is_valid (verdict_by agreement.now instances.now canonical instance.now)) }
 {
-    is_owned_by(host, instance) && is_valid(verdict_by(agreement, instances, canonical, instance))
+    instance.is_owned_by(host) && is_valid(verdict_by(agreement, instances, canonical, instance))
 }
 
 /// The millicredits that the host of this number has from one workunit.

@@ -7,7 +7,6 @@ ghost use Rattle.sched_book.specs.Limits.{most_instances, most_workunits, IsBoun
 ghost use Rattle.sched_book.specs.declared.given.Given.{Given};
 ghost use Rattle.sched_book.specs.declared.instance.UnitBook.{UnitBook};
 
-use crate::count::is_held;
 use crate::instance::{Instance, Owner, Place, UnitBook};
 use crate::listings::account_of;
 use crate::rows::HostRow;
@@ -48,11 +47,11 @@ fn list_one(lists: &mut [Listed<Given>], number: u32, given: Given) -> Result<()
 }
 
 /// The number under which an instance of this owner is listed.
-fn number_by(by: By, hosts: &[HostRow], owner: &Owner) -> u32
-    ensures { result ≡ number_by by hosts.now (Some owner.now) }
+fn number_by(by: By, hosts: &[HostRow], owner: &Owner) -> Option<u32>
+    ensures { result ≡ number_by by hosts.now owner.now }
 {
     match by {
-        By::Host => owner.host,
+        By::Host => Some(owner.host),
         By::User => account_of(hosts, owner.host),
     }
 }
@@ -69,15 +68,18 @@ fn list_instance(
 {
     match &instance.owner {
         None => Ok(()),
-        Some(owner) => {
-            let given = Given {
-                place,
-                day: owner.sent.day(),
-                is_held: is_held(instance),
-            };
-            list_one(lists, number_by(by, hosts, owner), given)?;
-            Ok(())
-        }
+        Some(owner) => match number_by(by, hosts, owner) {
+            None => Ok(()),
+            Some(number) => {
+                let given = Given {
+                    place,
+                    day: owner.sent.day(),
+                    is_held: instance.is_held(),
+                };
+                list_one(lists, number, given)?;
+                Ok(())
+            }
+        },
     }
 }
 

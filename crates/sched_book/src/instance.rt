@@ -1,3 +1,8 @@
+ghost use Rattle.std.specs.Prelude.{◌≡◌, Some};
+ghost use Rattle.sched_book.specs.Count.{tells_success, tells_error, is_judged, is_held, is_live, is_open, has_failed};
+ghost use Rattle.sched_book.specs.Places.{is_owned_by, is_held_by};
+ghost use Rattle.sched_book.specs.Reports.{awaits_report};
+
 use crate::moment::Moment;
 use crate::rows::Workunit;
 use texts::{Listed, Same, Text};
@@ -74,6 +79,116 @@ pub enum Verdict {
     /// Its output agrees with that of the canonical result.
     Valid,
     Invalid,
+}
+
+impl Outcome {
+    /// Whether it is a success that was judged.
+    pub fn is_judged_success(&self) -> bool
+        ensures { result ≡ tells_success (Some self.now) }
+    {
+        self.success && self.place.is_some()
+    }
+
+    /// Whether it is a client error that was judged.
+    pub fn is_judged_error(&self) -> bool
+        ensures { result ≡ tells_error (Some self.now) }
+    {
+        !self.success && self.place.is_some()
+    }
+}
+
+impl Instance {
+    /// Whether it was given to the host of this number.
+    pub fn is_owned_by(&self, host: u32) -> bool
+        ensures { result ≡ is_owned_by host self.now }
+    {
+        match &self.owner {
+            None => false,
+            Some(owner) => owner.host == host,
+        }
+    }
+
+    /// Whether a host has it: it was given to one, and has neither report nor lapse.
+    pub fn is_held(&self) -> bool
+        ensures { result ≡ is_held self.now }
+    {
+        self.owner.is_some() && self.report.is_none() && self.lapse.is_none()
+    }
+
+    /// Whether the host of this number has it.
+    pub fn is_held_by(&self, host: u32) -> bool
+        ensures { result ≡ is_held_by host self.now }
+    {
+        self.is_owned_by(host) && self.is_held()
+    }
+
+    /// Whether a result may yet come of it: it was not given to a host, or one holds it.
+    pub fn is_live(&self) -> bool
+        ensures { result ≡ is_live self.now }
+    {
+        self.owner.is_none() || self.is_held()
+    }
+
+    /// Whether the host of this number was given it, and did not report it yet.
+    pub fn awaits_report_of(&self, host: u32) -> bool
+        ensures { result ≡ awaits_report host self.now }
+    {
+        self.is_owned_by(host) && self.report.is_none()
+    }
+
+    /// Whether a success was reported of it, and judged.
+    pub fn is_judged_success(&self) -> bool
+        ensures { result ≡ tells_success self.now.report }
+    {
+        match &self.report {
+            None => false,
+            Some(outcome) => outcome.is_judged_success(),
+        }
+    }
+
+    /// Whether a client error was reported of it, and judged.
+    pub fn is_judged_error(&self) -> bool
+        ensures { result ≡ tells_error self.now.report }
+    {
+        match &self.report {
+            None => false,
+            Some(outcome) => outcome.is_judged_error(),
+        }
+    }
+
+    /// Whether a report on it was judged.
+    pub fn is_judged(&self) -> bool
+        ensures { result ≡ is_judged self.now }
+    {
+        match &self.report {
+            None => false,
+            Some(outcome) => outcome.place.is_some(),
+        }
+    }
+}
+
+impl Status {
+    /// Whether a workunit of this status takes part in new grants.
+    pub fn is_open(self) -> bool
+        ensures { result ≡ is_open self }
+    {
+        match self {
+            Status::Open => true,
+            Status::Done | Status::FailedErrors | Status::FailedSuccess | Status::FailedTotal => {
+                false
+            }
+        }
+    }
+
+    /// Whether a workunit of this status has failed.
+    pub fn has_failed(self) -> bool
+        ensures { result ≡ has_failed self }
+    {
+        match self {
+            Status::Open | Status::Done => false,
+            Status::FailedErrors | Status::FailedSuccess | Status::FailedTotal => true,
+        }
+    }
 }
 
 impl Same for Instance {

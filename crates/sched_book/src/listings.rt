@@ -3,11 +3,10 @@
 ghost use Rattle.std.specs.Prelude.{◌≡◌, ◌≤◌, ◌*◌, ◌++◌, All, length, count_by, sum_by, IfOk, OnOk};
 ghost use Rattle.std.specs.List.{list_any};
 ghost use Rattle.sched_book.specs.Limits.{most_instances, most_workunits};
-ghost use Rattle.sched_book.specs.Places.{account_in, is_of_user, is_overdue, was_sent, places_in, places_among};
+ghost use Rattle.sched_book.specs.Places.{account_at, is_of_user, is_overdue, was_sent, places_in, places_among};
 ghost use Rattle.sched_book.specs.Desk.{is_listed_in, units_from};
 ghost use Rattle.sched_book.specs.declared.instance.UnitBook.{UnitBook};
 
-use crate::count::{is_held, is_owned_by};
 use crate::instance::{Instance, Place, UnitBook};
 use crate::look_ups::nth;
 use crate::moment::Moment;
@@ -32,7 +31,7 @@ pub(crate) fn is_overdue(now: Moment, instance: &Instance) -> bool
 {
     match &instance.owner {
         None => false,
-        Some(owner) => is_held(instance) && owner.deadline < now.seconds(),
+        Some(owner) => instance.is_held() && owner.deadline < now.seconds(),
     }
 }
 
@@ -40,8 +39,8 @@ fn is_listed(listing: &Listing, instance: &Instance) -> bool
     ensures { result ≡ is_listed_in listing.now instance.now }
 {
     match listing {
-        Listing::Held(host) => is_owned_by(*host, instance) && is_held(instance),
-        Listing::Owned(host) => is_owned_by(*host, instance),
+        Listing::Held(host) => instance.is_held_by(*host),
+        Listing::Owned(host) => instance.is_owned_by(*host),
         Listing::Overdue(now) => is_overdue(*now, instance),
     }
 }
@@ -122,13 +121,13 @@ pub(crate) fn count_sent_on_day(books: &[UnitBook], host: u32, day: u64) -> u32
     sent
 }
 
-/// The account that a host belongs to, 0 where none stands.
-pub(crate) fn account_of(hosts: &[HostRow], host: u32) -> u32
-    ensures { result ≡ account_in hosts.now host }
+/// The account that the host of this number belongs to.
+pub(crate) fn account_of(hosts: &[HostRow], host: u32) -> Option<u32>
+    ensures { result ≡ account_at hosts.now host }
 {
     match nth(hosts, host) {
-        None => 0,
-        Some(row) => row.account,
+        None => None,
+        Some(row) => Some(row.account),
     }
 }
 
@@ -137,7 +136,10 @@ fn is_given_to_user(hosts: &[HostRow], account: u32, instance: &Instance) -> boo
 {
     match &instance.owner {
         None => false,
-        Some(owner) => account_of(hosts, owner.host) == account,
+        Some(owner) => match account_of(hosts, owner.host) {
+            None => false,
+            Some(user) => user == account,
+        },
     }
 }
 

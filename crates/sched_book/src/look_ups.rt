@@ -20,7 +20,7 @@ use texts::{Memory, Same};
 pub(crate) const MOST_ROWS: usize = MOST_WORKUNITS;
 
 /// The row at a place.
-pub(crate) fn nth<T>(rows: &[T], place: u32) -> Option<&T>
+pub fn nth<T>(rows: &[T], place: u32) -> Option<&T>
     ensures { option_copied result ≡ nth rows.now place }
 {
     if place == 0 {

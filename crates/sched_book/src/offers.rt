@@ -6,7 +6,7 @@ ghost use Rattle.sched_book.specs.Places.{is_before};
 ghost use Rattle.sched_book.specs.Offers.{unsent, unsent_in, OffersAll, OffersSome, Offered, OfferedSome};
 ghost use Rattle.sched_book.specs.declared.instance.UnitBook.{UnitBook};
 
-use crate::count::{book_status, is_open};
+use crate::count::book_status;
 use crate::desk::{Candidate, Flow, Taker};
 use crate::instance::{Instance, Place, UnitBook};
 use crate::world::World;
@@ -64,7 +64,7 @@ pub(crate) fn offer_all<T: Taker>(world: &World, from: Place, taker: &mut T) -> 
     ensures some { OnErr result (OffersSome T.takes taker.old (unsent world.now from) taker.new) }
 {
     for (index, book) in world.units.as_slice().iter().enumerate() {
-        if is_open(book_status(world.apps.as_slice(), book)) {
+        if book_status(world.apps.as_slice(), book).is_open() {
             match offer_unit(taker, from, index as u32 + 1, book)? {
                 Flow::GoOn => {}
                 Flow::Stop => return Ok(()),

@@ -1,12 +1,12 @@
 -- A call's reports and lost jobs change none but workunits that its host has an instance of.
 use Rattle.std.proofs.Common.{◌≡◌, ℕ, ◌/◌, Bool, true, false, cond, not, List, [], ◌∷◌, Option, Some, None, sym, refl, ap, ◌∙◌}
-use Rattle.std.specs.Prelude.{◌&&◌, ◌==◌, All, fold, is_none, is_some, option_map, unwrap_or}
+use Rattle.std.specs.Prelude.{◌&&◌, ◌==◌, All, fold, is_none, option_map, unwrap_or}
 use Rattle.std.proofs.lemmas.List.Elements.{All-nil, All-filter, All-head, All-tail}
 use Rattle.rpc_records.specs.declared.request.Report.{Report}
 use Rattle.sched_book.specs.Count.{is_held}
 use Rattle.sched_book.specs.Fits.{estimate_at}
 use Rattle.sched_book.specs.Lost.{is_listed, unlisted, lost, is_resent, delay_at, deadline_after, with_deadline, with_lapse, resend_or_drop}
-use Rattle.sched_book.specs.Places.{passes, place_named, held_by, is_held_by, is_owned_by, owner_host, sent_at}
+use Rattle.sched_book.specs.Places.{passes, place_named, held_by, is_held_by, option_any, is_owned_by}
 use Rattle.sched_book.specs.Reports.{with_changed, awaits_report, with_report, judged_place, record_at, record_one}
 use Rattle.sched_book.specs.declared.instance.Lapse.{Lapse}
 use Rattle.sched_book.specs.declared.instance.Lapse.TheVariants.{Dropped}
@@ -33,13 +33,13 @@ deadline_stays : (host : ℕ) (f : ℕ → ℕ) → Stays host (with_deadline f)
 deadline_stays host f = record { owned = λ x. owned x.owner; sent = λ x day. sent day x.owner }
   where
     owned : (o : Option Owner)
-        → (is_some (option_map (moved f) o) && (owner_host (option_map (moved f) o) == host)) ≡ (is_some o && (owner_host o == host))
+        → option_any (λ n. n == host) (option_map (λ (o : Owner). o.host) (option_map (moved f) o)) ≡ option_any (λ n. n == host) (option_map (λ (o : Owner). o.host) o)
     owned None = refl
     owned (Some o) = refl
 
     sent : (day : ℕ) (o : Option Owner)
-        → ((is_some (option_map (moved f) o) && (owner_host (option_map (moved f) o) == host)) && (sent_at (option_map (moved f) o) / 86400 == day))
-        ≡ ((is_some o && (owner_host o == host)) && (sent_at o / 86400 == day))
+        → option_any (λ (o : Owner). (o.host == host) && (o.sent / 86400 == day)) (option_map (moved f) o)
+        ≡ option_any (λ (o : Owner). (o.host == host) && (o.sent / 86400 == day)) o
     sent day None = refl
     sent day (Some o) = refl
 

@@ -1,11 +1,11 @@
 -- Whose hosts they are: the same at the call's entry, and after settlement.
 use Rattle.std.proofs.Common.{◌≡◌, ℕ, suc, ◌+◌, ◌<◌, Bool, true, false, cond, eqb, List, length, get_or, Option, Some, None, sym, refl, ap, ◌∙◌, arith}
-use Rattle.std.specs.Prelude.{◌&&◌, ◌==◌, All, is_some, map, position, option_map, unwrap_or, slice_get}
+use Rattle.std.specs.Prelude.{◌==◌, All, is_some, map, position, option_map, option_and_then, unwrap_or, slice_get, IsTrue, IfSome}
 use Rattle.std.specs.List.{list_any, enumerate_from}
 use Rattle.std.proofs.lemmas.Bool.{eqb-true, eq-eqb, ne_eqb, and_parts}
 use Rattle.std.proofs.lemmas.List.Quantifiers.{position-Some}
 use Rattle.std.proofs.lemmas.Option.{slice_get-get_or, slice_get_within}
-use Rattle.sched_book.specs.Places.{nth, place_where, account_in, owner_host, is_owned_by, is_of_user, is_host_of, known_host}
+use Rattle.sched_book.specs.Places.{nth, place_where, account_at, host_of, option_any, is_owned_by, is_of_user, is_host_of, known_host}
 use Rattle.sched_book.specs.Settle.{with_quota}
 use Rattle.sched_book.specs.Sound.{HasOwnerAmong}
 use Rattle.sched_book.specs.Step.{IsCaller, host_number, row_of_call, hosts_at_entry}
@@ -20,9 +20,9 @@ use Rattle.quorum_credit.proofs.ByPlace.{nth-map_places}
 use Rattle.sched_machine.proofs.AlikeLists.{any_same, any_implied}
 use Rattle.sched_machine.proofs.AlikeUnits.{HasOne}
 
--- the account of a row, or 0
-abbrev pub account_by : Option HostRow → ℕ
-account_by o = unwrap_or (option_map (λ (h : HostRow). h.account) o) 0
+-- the account of a row
+abbrev pub account_by : Option HostRow → Option ℕ
+account_by o = option_map (λ (h : HostRow). h.account) o
 
 -- the first that passes stands at its place
 found_at : {X : Type 0} (p : X → Bool) (xs : List X) (n : ℕ) (d : X) → place_where p xs ≡ Some n → (x : X) × (nth xs n ≡ Some x) × (p x ≡ true)
@@ -45,11 +45,11 @@ known_account w account cpid n d known =
 
 -- the hosts as the call tells them
 module _ (w : World) (c : Caller) (r : Request) (caller : IsCaller w c r) where
-  pub account_told : account_in (hosts_at_entry w c r c.host) (host_number w c) ≡ c.account
-  account_told = cases c.host caller.host
+  pub account_at_entry : account_at (hosts_at_entry w c r c.host) (host_number w c) ≡ Some c.account
+  account_at_entry = cases c.host caller.host
     where
       cases : (o : Option ℕ) → known_host w c.account r.host.host_cpid ≡ o
-          → account_in (hosts_at_entry w c r o) (unwrap_or o (length w.hosts + 1)) ≡ c.account
+          → account_at (hosts_at_entry w c r o) (unwrap_or o (length w.hosts + 1)) ≡ Some c.account
       cases None is =
           ap account_by (nth-push w.hosts (row_of_call c r w.settings.daily_result_quota) (length w.hosts + 1)
           ∙ ap (λ (b : Bool). cond b (Some (row_of_call c r w.settings.daily_result_quota)) (nth w.hosts (length w.hosts + 1)))
@@ -61,7 +61,7 @@ module _ (w : World) (c : Caller) (r : Request) (caller : IsCaller w c r) where
           ∙ ap (λ (b : Bool). cond b (option_map renew (nth w.hosts n)) (nth w.hosts n)) (eq-eqb n n refl)
           ∙ ap (option_map renew) there.1)
 
-  pub account_stays : (n : ℕ) → is_some (nth w.hosts n) ≡ true → account_in (hosts_at_entry w c r c.host) n ≡ account_in w.hosts n
+  pub account_stays : (n : ℕ) → is_some (nth w.hosts n) ≡ true → account_at (hosts_at_entry w c r c.host) n ≡ account_at w.hosts n
   account_stays n stands = cases c.host caller.host
     where
       past : (i : ℕ) → length w.hosts + 1 ≡ i → is_some (nth w.hosts i) ≡ true → ⊥
@@ -73,13 +73,13 @@ module _ (w : World) (c : Caller) (r : Request) (caller : IsCaller w c r) where
           none (Some h) is also = let within : length w.hosts < length w.hosts = slice_get_within w.hosts (length w.hosts) h is in omega arith
 
       renewed : (n m : ℕ) → (h : HostRow) × (nth w.hosts m ≡ Some h) × (h.account ≡ c.account) → (b : Bool) → eqb m n ≡ b
-          → account_by (cond b (option_map (λ (h : HostRow). row_of_call c r h.quota) (nth w.hosts n)) (nth w.hosts n)) ≡ account_in w.hosts n
+          → account_by (cond b (option_map (λ (h : HostRow). row_of_call c r h.quota) (nth w.hosts n)) (nth w.hosts n)) ≡ account_at w.hosts n
       renewed n m there false other = refl
       renewed n m there true is =
           let here : nth w.hosts n ≡ Some there.0 = ap (nth w.hosts) (sym (eqb-true m n is)) ∙ there.1 in
-          ap (λ o. account_by (option_map (λ (h : HostRow). row_of_call c r h.quota) o)) here ∙ sym there.2 ∙ sym (ap account_by here)
+          ap (λ o. account_by (option_map (λ (h : HostRow). row_of_call c r h.quota) o)) here ∙ ap Some (sym there.2) ∙ sym (ap account_by here)
 
-      cases : (o : Option ℕ) → known_host w c.account r.host.host_cpid ≡ o → account_in (hosts_at_entry w c r o) n ≡ account_in w.hosts n
+      cases : (o : Option ℕ) → known_host w c.account r.host.host_cpid ≡ o → account_at (hosts_at_entry w c r o) n ≡ account_at w.hosts n
       cases None is =
           ap account_by (nth-push w.hosts (row_of_call c r w.settings.daily_result_quota) n
           ∙ ap (λ (b : Bool). cond b (Some (row_of_call c r w.settings.daily_result_quota)) (nth w.hosts n))
@@ -90,7 +90,7 @@ module _ (w : World) (c : Caller) (r : Request) (caller : IsCaller w c r) where
 
 -- a new quota leaves them
 pub account_settled : (old new : World) (hosts : List HostRow) (n : ℕ)
-    → account_in (map (with_quota old new) (enumerate_from 1 hosts)) n ≡ account_in hosts n
+    → account_at (map (with_quota old new) (enumerate_from 1 hosts)) n ≡ account_at hosts n
 account_settled old new hosts n = ap account_by (nth-map_places (with_quota old new) hosts n) ∙ cases (nth hosts n)
   where
     cases : (o : Option HostRow) → account_by (option_map (λ h. with_quota old new (n, h)) o) ≡ account_by o
@@ -98,30 +98,29 @@ account_settled old new hosts n = ap account_by (nth-map_places (with_quota old 
     cases (Some h) = refl
 
 -- a row's account, where one that stands has this and so has the other
-pub account_or : (o : Option HostRow) (d : HostRow) (account : ℕ) → account_by o ≡ account → d.account ≡ account → (unwrap_or o d).account ≡ account
-account_or None d account is other = other
-account_or (Some h) d account is other = is
+pub account_or : (o : Option HostRow) (d : HostRow) (account : ℕ) → account_by o ≡ Some account → (unwrap_or o d).account ≡ account
+account_or None d account is = absurd cc
+account_or (Some h) d account is = cc
 
 -- two lists of hosts of the same users
 pub same_user : (hosts others : List HostRow) (account : ℕ) (xs : List Instance)
-    → ((n : ℕ) → is_some (nth hosts n) ≡ true → account_in others n ≡ account_in hosts n)
+    → ((n : ℕ) → is_some (nth hosts n) ≡ true → account_at others n ≡ account_at hosts n)
     → All (HasOwnerAmong hosts) xs → list_any (is_of_user others account) xs ≡ list_any (is_of_user hosts account) xs
 same_user hosts others account xs same owners =
-    any_same (HasOwnerAmong hosts) (is_of_user others account) (is_of_user hosts account) (λ x among. cases x (is_some x.owner) among) xs owners
+    any_same (HasOwnerAmong hosts) (is_of_user others account) (is_of_user hosts account) (λ x among. cases (host_of x) among) xs owners
   where
-    cases : (x : Instance) (b : Bool) → (b ≡ true → is_some (nth hosts (owner_host x.owner)) ≡ true)
-        → (b && (account_in others (owner_host x.owner) == account)) ≡ (b && (account_in hosts (owner_host x.owner) == account))
-    cases x false among = refl
-    cases x true among = ap (λ n. n == account) (same (owner_host x.owner) (among refl))
+    cases : (o : Option ℕ) → IfSome o (λ host. IsTrue (is_some (nth hosts host)))
+        → option_any (λ n. n == account) (option_and_then (account_at others) o) ≡ option_any (λ n. n == account) (option_and_then (account_at hosts) o)
+    cases None among = refl
+    cases (Some host) among = ap (option_any (λ n. n == account)) (same host among)
 
 -- what the host was given, its user was
-pub user_of : (hosts : List HostRow) (host account : ℕ) (b : UnitBook) → account_in hosts host ≡ account → HasOne host b
+pub user_has_one : (hosts : List HostRow) (host account : ℕ) (b : UnitBook) → account_at hosts host ≡ Some account → HasOne host b
     → list_any (is_of_user hosts account) b.instances ≡ true
-user_of hosts host account b is has =
-    any_implied (is_owned_by host) (is_of_user hosts account) (λ x owned. cases x (is_some x.owner) (owner_host x.owner == host) refl owned) b.instances has
+user_has_one hosts host account b is has =
+    any_implied (is_owned_by host) (is_of_user hosts account) (λ x owned. cases (host_of x) owned) b.instances has
   where
-    cases : (x : Instance) (t s : Bool) → eqb (owner_host x.owner) host ≡ s → (t && s) ≡ true → (t && (account_in hosts (owner_host x.owner) == account)) ≡ true
-    cases x true true same owned =
-        eq-eqb (account_in hosts (owner_host x.owner)) account (ap (account_in hosts) (eqb-true (owner_host x.owner) host same) ∙ is)
-    cases x true false same owned = absurd cc
-    cases x false s same owned = absurd cc
+    cases : (o : Option ℕ) → option_any (λ n. n == host) o ≡ true → option_any (λ n. n == account) (option_and_then (account_at hosts) o) ≡ true
+    cases None owned = absurd cc
+    cases (Some n) owned =
+        ap (option_any (λ m. m == account)) (ap (account_at hosts) (eqb-true n host owned) ∙ is) ∙ eq-eqb account account refl

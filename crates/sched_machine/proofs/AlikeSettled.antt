@@ -7,11 +7,11 @@ use Rattle.rpc_records.specs.declared.request.Request.{Request}
 use Rattle.sched_book.specs.Count.{is_open}
 use Rattle.sched_book.specs.Fits.{estimate, unit_fits, is_for}
 use Rattle.sched_book.specs.Grant.{Asking}
-use Rattle.sched_book.specs.Places.{nth, status_of, host_at, user_had, account_in, was_sent}
+use Rattle.sched_book.specs.Places.{nth, status_of, host_at, user_had, account_at, was_sent}
 use Rattle.sched_book.specs.Reports.{first_reports}
 use Rattle.sched_book.specs.Settle.{grown, with_grown, settled}
 use Rattle.sched_book.specs.Sound.{IsSoundUnit, Sound}
-use Rattle.sched_book.specs.Step.{IsCaller, host_number, row_of_call, at_entry, after_reports, host_at_entry, lost_of, after_lost, after_settlement, asking_of}
+use Rattle.sched_book.specs.Step.{IsCaller, host_number, at_entry, after_reports, host_at_entry, lost_of, after_lost, after_settlement, asking_of}
 use Rattle.sched_book.specs.declared.instance.Instance.{Instance}
 use Rattle.sched_book.specs.declared.instance.UnitBook.{UnitBook}
 use Rattle.sched_book.specs.declared.machine.Caller.{Caller}
@@ -24,7 +24,7 @@ use Rattle.sched_machine.specs.Alike.{SettledIsLike}
 use Rattle.sched_machine.proofs.AlikeLists.{Along, along_same, along_map, along_nth, along_sum}
 use Rattle.sched_machine.proofs.AlikeUnits.{IsKept, kept_self, HasOne, row_grown, sent_grown, has_grown, IsFrom}
 use Rattle.sched_machine.proofs.AlikeCalls.{from_reports, lost_owned, from_lost}
-use Rattle.sched_machine.proofs.AlikeHosts.{account_told, account_stays, account_settled, account_or, same_user, user_of}
+use Rattle.sched_machine.proofs.AlikeHosts.{account_at_entry, account_stays, account_settled, account_or, same_user, user_has_one}
 
 -- a workunit that is sound, and needs nothing
 abbrev IsWhole : World → UnitBook → Type 0
@@ -65,8 +65,8 @@ module _ (w : World) (hosts : List HostRow) (units : List UnitBook) (q : Asking)
       ∙ and-false (is_open (status_of v b) && unit_fits v q.host b)
 
   -- settlement makes such of such
-  module _ (same : (n : ℕ) → is_some (nth w.hosts n) ≡ true → account_in hosts n ≡ account_in w.hosts n)
-      (account : account_in hosts q.number ≡ q.host.account) where
+  module _ (same : (n : ℕ) → is_some (nth w.hosts n) ≡ true → account_at hosts n ≡ account_at w.hosts n)
+      (account : account_at hosts q.number ≡ Some q.host.account) where
     alike_unit : (b d : UnitBook) → IsWhole w b → IsKept q.number b d → IsAlike w after q b (grown w.apps d)
     alike_unit b d whole kept = record {
       row = row_grown w.apps d ∙ kept.row;
@@ -86,8 +86,8 @@ module _ (w : World) (hosts : List HostRow) (units : List UnitBook) (q : Asking)
             → may_get (is_for after q.host (grown w.apps d)) number (grown w.apps d) ≡ may_get (is_for w q.host b) number b
         changed number before now =
             none_may (is_for after q.host (grown w.apps d)) number (grown w.apps d)
-            (not_for after (grown w.apps d) (user_of hosts q.number q.host.account (grown w.apps d) account (has_grown q.number w.apps d now)))
-            ∙ sym (none_may (is_for w q.host b) number b (not_for w b (sym users ∙ user_of hosts q.number q.host.account b account before)))
+            (not_for after (grown w.apps d) (user_has_one hosts q.number q.host.account (grown w.apps d) account (has_grown q.number w.apps d now)))
+            ∙ sym (none_may (is_for w q.host b) number b (not_for w b (sym users ∙ user_has_one hosts q.number q.host.account b account before)))
 
   like_by : Along (IsAlike w after q) w.units units → IsLike w after q
   like_by along = record {
@@ -143,9 +143,8 @@ module _ (w : World) (c : Caller) (r : Request) (now : ℕ) (sound : Sound w) (c
   account_asking =
       account_or (host_at (after_settlement w c r now) number) (host_at_entry w c r) c.account
       (account_settled entry (with_grown left) left.hosts number
-      ∙ ap (λ (v : World). account_in v.hosts number) from.rest
-      ∙ account_told w c r caller)
-      (account_or (host_at entry number) (row_of_call c r 1) c.account (account_told w c r caller) refl)
+      ∙ ap (λ (v : World). account_at v.hosts number) from.rest
+      ∙ account_at_entry w c r caller)
 
   abbrev hosts_after : List HostRow
   hosts_after = (settled entry changed).hosts
@@ -159,7 +158,7 @@ module _ (w : World) (c : Caller) (r : Request) (now : ℕ) (sound : Sound w) (c
       (along_map (IsWhole w) (IsKept number) (IsAlike w (with_both w hosts_after units_after) asking) (grown w.apps)
       (alike_unit w hosts_after units_after asking
       (λ n stands. account_settled entry (with_grown changed) entry.hosts n ∙ account_stays w c r caller n stands)
-      (account_settled entry (with_grown changed) entry.hosts number ∙ account_told w c r caller ∙ sym account_asking))
+      (account_settled entry (with_grown changed) entry.hosts number ∙ account_at_entry w c r caller ∙ ap Some (sym account_asking)))
       w.units left.units (all_whole w sound) from.units)
 
 pub the_settled_world_is_like_the_first : SettledIsLike

@@ -1,6 +1,6 @@
 -- The credit of a user after changes comes from the workunits of the user, of the hosts that changes put, and that they touch.
 use Rattle.std.proofs.Common.{◌≡◌, ℕ, zero, suc, ◌+◌, ◌*◌, ◌<◌, Bool, true, false, cond, eqb, List, [], ◌∷◌, length, Option, Some, None, sym, refl, ap, ◌∙◌, arith}
-use Rattle.std.specs.Prelude.{◌&&◌, ◌||◌, ◌==◌, is_some, filter_map, sum_by, count_by, option_map, unwrap_or, slice_get}
+use Rattle.std.specs.Prelude.{◌||◌, ◌==◌, filter_map, sum_by, count_by, option_map, option_and_then, unwrap_or, slice_get}
 use Rattle.std.specs.List.{list_any, list_all, enumerate_from, cons_option}
 use Rattle.std.proofs.lemmas.Bool.{eqb-true, eq-eqb}
 use Rattle.std.proofs.lemmas.Bool.Decides.{nat_tests}
@@ -9,7 +9,7 @@ use Rattle.std.proofs.lemmas.List.Sums.{sum_by-cons}
 use Rattle.sched_book.specs.Count.{is_valid}
 use Rattle.sched_book.specs.Delta.{applied}
 use Rattle.sched_book.specs.Desk.{units_from, units_of_user}
-use Rattle.sched_book.specs.Places.{nth, unit_at, host_at, owner_host, account_in, is_of_user, user_had, is_owned_by, owned_by, agreement_of, book_verdict, credit_in, user_credit}
+use Rattle.sched_book.specs.Places.{nth, unit_at, host_at, option_any, account_at, is_of_user, user_had, is_owned_by, owned_by, agreement_of, book_verdict, credit_in, user_credit}
 use Rattle.sched_book.specs.declared.delta.Change.{Change}
 use Rattle.sched_book.specs.declared.delta.Change.TheVariants as change
 use Rattle.sched_book.specs.declared.instance.Instance.{Instance}
@@ -225,13 +225,13 @@ module _ (w : World) (cs : List Change) (account : ℕ) where
   abbrev numbers : List ℕ
   numbers = numbers_put (length w.hosts) cs
 
-  not_of_user : (host : ℕ) → eqb (account_in w.hosts host) account ≡ false → is_among numbers host ≡ false → belongs (applied w cs).hosts account host ≡ false
+  not_of_user : (host : ℕ) → option_any (λ n. n == account) (account_at w.hosts host) ≡ false → is_among numbers host ≡ false → belongs (applied w cs).hosts account host ≡ false
   not_of_user host other apart =
       ap (λ o. unwrap_or (option_map (λ (h : HostRow). h.account == account) o) false)
       (host_at-applied w host cs ∙ host_stays host (length w.hosts) (host_at w host) cs apart)
       ∙ cases (nth w.hosts host) other
     where
-      cases : (o : Option HostRow) → eqb (unwrap_or (option_map (λ (h : HostRow). h.account) o) 0) account ≡ false
+      cases : (o : Option HostRow) → option_any (λ n. n == account) (option_map (λ (h : HostRow). h.account) o) ≡ false
           → unwrap_or (option_map (λ (h : HostRow). h.account == account) o) false ≡ false
       cases None other = refl
       cases (Some h) other = other
@@ -250,8 +250,8 @@ module _ (w : World) (cs : List Change) (account : ℕ) where
       alone host apart true is = sym (eq-eqb host host refl) ∙ apart host is
       alone host apart false is = refl
 
-      cases : (o : Option Owner) (b : Bool) (hs : List ℕ) → (is_some o && (account_in w.hosts (owner_host o) == account)) ≡ false
-          → ((n : ℕ) → is_among numbers n ≡ true → (is_some o && (owner_host o == n)) ≡ false)
+      cases : (o : Option Owner) (b : Bool) (hs : List ℕ) → option_any (λ n. n == account) (option_and_then (account_at w.hosts) (option_map (λ (o : Owner). o.host) o)) ≡ false
+          → ((n : ℕ) → is_among numbers n ≡ true → option_any (λ m. m == n) (option_map (λ (o : Owner). o.host) o) ≡ false)
           → count_by (belongs (applied w cs).hosts account) hs ≡ 0
           → count_by (belongs (applied w cs).hosts account) (cons_option (cond b (option_map (λ (o : Owner). o.host) o) None) hs) ≡ 0
       cases None true hs other apart none = none

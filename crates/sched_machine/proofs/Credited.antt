@@ -1,6 +1,6 @@
 -- The credit of a host after changes comes from the workunits that it had or that the changes touch.
 use Rattle.std.proofs.Common.{◌≡◌, ℕ, zero, suc, ◌+◌, ◌*◌, ◌<◌, ◌≤◌, Bool, true, false, cond, eqb, List, [], ◌∷◌, length, Option, Some, None, sym, refl, ap, ◌∙◌, arith}
-use Rattle.std.specs.Prelude.{◌&&◌, ◌||◌, ◌==◌, nat_lt, is_some, fold, filter_map, sum_by, count_by, option_map, unwrap_or, slice_get}
+use Rattle.std.specs.Prelude.{◌&&◌, ◌||◌, ◌==◌, nat_lt, fold, filter_map, sum_by, count_by, option_map, unwrap_or, slice_get}
 use Rattle.std.specs.BTreeSet.{insert_key}
 use Rattle.std.specs.List.{list_any, list_all, cons_option}
 use Rattle.std.specs.Ordering.{nat_cmp, match_ordering}
@@ -14,7 +14,7 @@ use borrow.Author.Tests.{ltb-true}
 use Rattle.sched_book.specs.Count.{is_valid}
 use Rattle.sched_book.specs.Delta.{applied}
 use Rattle.sched_book.specs.Desk.{workunit_at, agreement_at, instances_at}
-use Rattle.sched_book.specs.Places.{unit_at, owner_host, is_owned_by, owned_by, agreement_of, book_verdict, places_in, places_among, credit_in, host_credit}
+use Rattle.sched_book.specs.Places.{unit_at, option_any, is_owned_by, owned_by, agreement_of, book_verdict, places_in, places_among, credit_in, host_credit}
 use Rattle.sched_book.specs.declared.delta.Change.{Change}
 use Rattle.sched_book.specs.declared.delta.Change.TheVariants as change
 use Rattle.sched_book.specs.declared.instance.Instance.{Instance}
@@ -188,7 +188,7 @@ module _ (v : Instance → Option Verdict) (host : ℕ) where
     where
       one : (o : Option Owner) (b : Bool) (hs : List ℕ)
           → count_by (λ h. eqb h host) (cons_option (cond b (option_map (λ (o : Owner). o.host) o) None) hs)
-          ≡ cond {A = ℕ} ((is_some o && (owner_host o == host)) && b) 1 0 + count_by (λ h. eqb h host) hs
+          ≡ cond {A = ℕ} (option_any (λ n. n == host) (option_map (λ (o : Owner). o.host) o) && b) 1 0 + count_by (λ h. eqb h host) hs
       one None true hs = omega arith
       one None false hs = omega arith
       one (Some o) true hs =

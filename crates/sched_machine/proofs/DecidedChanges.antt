@@ -1,11 +1,11 @@
 -- What the parts of a step make of the workunits: each report that is judged is late, and is of no failed workunit.
 use Rattle.std.proofs.Common.{◌≡◌, ℕ, zero, suc, ◌+◌, ◌<◌, ◌≤◌, inl, inr, Bool, true, false, cond, eqb, eqb-true, not, List, [], ◌∷◌, ◌++◌, length, Option, Some, None, sym, refl, ap, ◌∙◌, subst, arith}
-use Rattle.std.specs.Prelude.{◌&&◌, ◌||◌, ◌==◌, fold, map, count_by, is_some, is_none, nat_abs, option_map, option_and_then, unwrap_or, replicate, slice_get}
+use Rattle.std.specs.Prelude.{◌&&◌, ◌||◌, ◌==◌, fold, map, count_by, is_some, is_none, option_map, option_and_then, unwrap_or, replicate, slice_get}
 use Rattle.rpc_records.specs.declared.request.Report.{Report}
-use Rattle.sched_book.specs.Count.{tells_success, tells_error, is_judged, told_place, is_live, is_held, is_open, has_failed, need, status}
+use Rattle.sched_book.specs.Count.{tells_success, is_judged, told_place, is_live, is_held, is_open, has_failed, need, status}
 use Rattle.sched_book.specs.Fits.{estimate_at}
 use Rattle.sched_book.specs.Lost.{with_deadline, with_lapse, deadline_after, delay_at, is_resent, resend_or_drop}
-use Rattle.sched_book.specs.Places.{nth, unit_at, passes, place_named, agreement_by, book_status, status_at, is_owned_by, owner_host}
+use Rattle.sched_book.specs.Places.{nth, unit_at, passes, place_named, agreement_by, book_status, status_at, option_any, is_owned_by}
 use Rattle.sched_book.specs.Reports.{with_number, with_changed, awaits_report, with_report, next_place, judged_place, record_at, record_one}
 use Rattle.sched_book.specs.Settle.{fresh, grown}
 use Rattle.sched_book.specs.declared.instance.Instance.{Instance}
@@ -115,7 +115,7 @@ pub record IsMild (y z : Instance) : Type 0 where
 -- with the same report it is as late
 late_kept : (n : ℕ) (failed : Bool) (y z : Instance) → z.report ≡ y.report → IsLate n failed y → IsLate n failed z
 late_kept n failed y z same late judged =
-    let late_y = late (ap (λ r. tells_success r || tells_error r) (sym same) ∙ judged) in
+    let late_y = late (ap (λ r. is_some (option_and_then (λ (t : Outcome). t.place) r)) (sym same) ∙ judged) in
     (subst (λ r. n < told_place r) (sym same) late_y.0, late_y.1)
 
 -- it keeps what became of each
@@ -167,7 +167,7 @@ deadline_mild f y = record {
     same_live (Some o) = refl
 
     same_owned : (host : ℕ) (o : Option Owner)
-        → (is_some (option_map moved o) && (owner_host (option_map moved o) == host)) ≡ (is_some o && (owner_host o == host))
+        → option_any (λ n. n == host) (option_map (λ (o : Owner). o.host) (option_map moved o)) ≡ option_any (λ n. n == host) (option_map (λ (o : Owner). o.host) o)
     same_owned host None = refl
     same_owned host (Some o) = refl
 
@@ -176,7 +176,7 @@ pub owner_mild : (o : Owner) (y : Instance) → y.owner ≡ None → IsMild y (r
 owner_mild o y free = record {
   report = refl;
   live = λ is. free_live y (ap is_none free);
-  owned = λ host is. (let never : false ≡ true = sym (ap (λ q. is_some q && (owner_host q == host)) free) ∙ is in absurd cc);
+  owned = λ host is. (let never : false ≡ true = sym (ap (λ q. option_any (λ n. n == host) (option_map (λ (o : Owner). o.host) q)) free) ∙ is in absurd cc);
 }
 
 -- a report that is new is late, or not judged
@@ -185,12 +185,8 @@ unreported None b awaits = refl
 unreported (Some r) true awaits = absurd cc
 unreported (Some r) false awaits = absurd cc
 
-unjudged : (s : Bool) → ((s && false) || (not s && false)) ≡ true → ⊥
-unjudged true is = absurd cc
-unjudged false is = absurd cc
-
 report_late : (n : ℕ) (failed : Bool) (m : ℕ) (r : Report) (y : Instance) → n < m → IsLate n failed (with_report r (cond failed None (Some m)) y)
-report_late n true m r y past judged = absurd (unjudged (nat_abs r.exit_status == 0) judged)
+report_late n true m r y past judged = absurd cc
 report_late n false m r y past judged = (past, refl)
 
 -- a recorded report keeps it too

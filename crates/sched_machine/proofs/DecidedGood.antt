@@ -1,11 +1,25 @@
 -- The good reports of a workunit stay in their order, and later ones come behind them.
 use Rattle.std.proofs.Common.{◌≡◌, ℕ, suc, ◌+◌, ◌<◌, ◌≤◌, ◌⊎◌, inl, inr, Bool, true, false, cond, List, [], ◌∷◌, ◌++◌, Option, Some, None, sym, refl, ap, ◌∙◌, subst, zero-add, arith}
-use Rattle.std.specs.Prelude.{◌||◌, fold, nat_le, slice_get, option_and_then}
+use Rattle.std.specs.Prelude.{◌&&◌, not, fold, nat_le, is_some, slice_get, option_and_then}
 use borrow.Author.Tests.{le-leb, lt-leb}
 use Rattle.sched_book.specs.Count.{tells_success, tells_error, is_judged, told_place, is_live, report_of, place_of, numbers_from, put_by, good}
 use Rattle.sched_book.specs.Places.{is_owned_by}
 use Rattle.sched_book.specs.declared.instance.Instance.{Instance}
+use Rattle.sched_book.specs.declared.instance.Outcome.{Outcome}
 use Rattle.sched_book.proofs.GoodReports.{put_step}
+
+-- a report that tells of a judged success or client error is judged
+last : (a b : Bool) → (a && b) ≡ true → b ≡ true
+last true b is = is
+last false b is = absurd cc
+
+pub success_is_judged : (o : Option Outcome) → tells_success o ≡ true → is_some (option_and_then (λ (t : Outcome). t.place) o) ≡ true
+success_is_judged None is = absurd cc
+success_is_judged (Some t) is = last t.success (is_some t.place) is
+
+pub error_is_judged : (o : Option Outcome) → tells_error o ≡ true → is_some (option_and_then (λ (t : Outcome). t.place) o) ≡ true
+error_is_judged None is = absurd cc
+error_is_judged (Some t) is = last (not t.success) (is_some t.place) is
 
 -- An instance and what became of it, where n reports were judged before and the workunit had failed or not: its
 -- report stays; a new one that is judged has a later place, and is of no failed workunit.
@@ -145,7 +159,7 @@ module _ (xs ys : List Instance) (n : ℕ) where
       cases : (b : Bool) → success y ≡ b → Goes failed old late was (cond (success y) (k ∷ now) now)
       cases false is = subst (λ (d : Bool). Goes failed old late was (cond d (k ∷ now) now)) (sym is) (rest late more)
       cases true is =
-          let new = judged (ap (λ (b : Bool). b || tells_error y.report) is) in
+          let new = judged (success_is_judged y.report is) in
           let here : ComesLater k = subst (λ o. n < told_place o) (sym y_here) new.0 in
           subst (λ (d : Bool). Goes failed old late was (cond d (k ∷ now) now)) (sym is)
           (subst (λ (f : Bool). Goes f old late was (k ∷ now)) (sym new.1)

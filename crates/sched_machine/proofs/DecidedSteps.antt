@@ -1,11 +1,11 @@
 -- What a step makes of the workunits and the hosts of a sound world.
 use Rattle.std.proofs.Common.{◌≡◌, ℕ, zero, suc, ◌+◌, ◌<◌, ◌≤◌, Bool, true, false, cond, eqb, ne_eqb, List, [], ◌∷◌, ◌++◌, length, get_or, All, AllPairs, Option, Some, None, sym, refl, ap, ◌∙◌, subst, arith}
-use Rattle.std.specs.Prelude.{◌&&◌, ◌||◌, IsTrue, fold, map, count_by, is_some, is_none, option_map, option_and_then, slice_get}
+use Rattle.std.specs.Prelude.{◌&&◌, IsTrue, fold, map, count_by, is_some, is_none, option_map, option_and_then, unwrap_or, slice_get, IfSome}
 use Rattle.std.specs.List.{enumerate_from}
 use Rattle.std.proofs.lemmas.List.Elements.{All-head, All-tail}
 use Rattle.rpc_records.specs.declared.reply.Reply.{Reply}
 use Rattle.rpc_records.specs.declared.request.Request.{Request}
-use Rattle.sched_book.specs.Count.{tells_error, is_judged, told_place}
+use Rattle.sched_book.specs.Count.{is_judged, report_place, told_place}
 use Rattle.sched_book.specs.Fits.{is_eligible, is_for}
 use Rattle.sched_book.specs.Imports.{has_app, new_unit, with_rows}
 use Rattle.sched_book.specs.Lost.{with_lapse, delay_at}
@@ -16,6 +16,7 @@ use Rattle.sched_book.specs.Sound.{IsSoundUnit, Sound}
 use Rattle.sched_book.specs.Step.{IsCaller, RpcStep, TickStep, Step, at_entry, after_reports, after_lost, after_settlement, host_number, host_at_entry, hosts_at_entry, row_of_call, lost_of, asking_of, lapsed, with_owner, grant_one, granted}
 use Rattle.sched_book.specs.declared.instance.Instance.{Instance}
 use Rattle.sched_book.specs.declared.instance.Lapse.TheVariants.{Late}
+use Rattle.sched_book.specs.declared.instance.Outcome.{Outcome}
 use Rattle.sched_book.specs.declared.instance.Owner.{Owner}
 use Rattle.sched_book.specs.declared.instance.Place.{Place}
 use Rattle.sched_book.specs.declared.instance.UnitBook.{UnitBook}
@@ -36,7 +37,7 @@ use Rattle.quorum_credit.proofs.ByPlace.{all_get, all_nth, nth-map_places}
 use Rattle.sched_machine.proofs.AlikeHosts.{account_by, account_stays}
 use Rattle.sched_machine.proofs.AlikeSettled.{before_settlement}
 use Rattle.sched_machine.proofs.RowsEntry.{AccountsStay}
-use Rattle.sched_machine.proofs.RowsListed.{pairs_head, pairs_tail}
+use Rattle.sched_book.proofs.Rising.{pairs_head, pairs_tail}
 use Rattle.sched_machine.proofs.RowsNamed.{agreement_stays}
 use Rattle.sched_machine.proofs.DecidedChanges.{UnitBecameAt, UnitsBecame, units_same, units_changed, mild_keeps, owner_mild, IsInRange, reports_kept, lost_kept, lapses_kept, units_grown}
 
@@ -49,9 +50,18 @@ pub record WorldBecame (w v : World) : Type 0 where
 -- in a sound world judged successes are in range
 pub in_range : (w : World) → Sound w → (k : ℕ) (b : UnitBook) → nth w.units k ≡ Some b → IsInRange b
 in_range w sound k b stands i x there is =
-    all_get (λ (y : Instance). IsTrue (is_judged y) → told_place y.report ≤ count_by is_judged b.instances) b.instances i x
-    (all_nth (IsSoundUnit w.hosts w.apps) w.units k b sound.units stands).well.in_range there
-    (ap (λ (t : Bool). t || tells_error x.report) is)
+    told x.report
+    (all_get (λ (y : Instance). IfSome (report_place y) (λ place. place ≤ count_by is_judged b.instances)) b.instances i x
+    (all_nth (IsSoundUnit w.hosts w.apps) w.units k b sound.units stands).well.in_range there)
+  where
+    placed : (o : Option ℕ) → IfSome o (λ place. place ≤ count_by is_judged b.instances) → unwrap_or o 0 ≤ count_by is_judged b.instances
+    placed None low = omega arith
+    placed (Some place) low = low
+
+    told : (o : Option Outcome) → IfSome (option_and_then (λ (t : Outcome). t.place) o) (λ place. place ≤ count_by is_judged b.instances)
+        → told_place o ≤ count_by is_judged b.instances
+    told None low = omega arith
+    told (Some t) low = placed t.place low
 
 -- a grant, where nobody was given what is granted
 abbrev IsFree : World → Place → Type 0
@@ -122,8 +132,8 @@ accounts_settled : (old new : World) (hosts : List HostRow) → AccountsStay hos
 accounts_settled old new hosts n h stands =
     (with_quota old new (n, h), nth-map_places (with_quota old new) hosts n ∙ ap (option_map (λ k. with_quota old new (n, k))) stands, refl)
 
-accounts_told : (w : World) (c : Caller) (r : Request) → IsCaller w c r → AccountsStay w.hosts (hosts_at_entry w c r c.host)
-accounts_told w c r caller n h stands = cases (nth (hosts_at_entry w c r c.host) n) refl
+accounts_at_entry : (w : World) (c : Caller) (r : Request) → IsCaller w c r → AccountsStay w.hosts (hosts_at_entry w c r c.host)
+accounts_at_entry w c r caller n h stands = cases (nth (hosts_at_entry w c r c.host) n) refl
   where
     still : (o : Option ℕ) → is_some (nth (hosts_at_entry w c r o) n) ≡ true
     still None =
@@ -141,12 +151,12 @@ accounts_told w c r caller n h stands = cases (nth (hosts_at_entry w c r c.host)
         either true = refl
         either false = refl
 
-    same : account_by (nth (hosts_at_entry w c r c.host) n) ≡ h.account
+    same : account_by (nth (hosts_at_entry w c r c.host) n) ≡ Some h.account
     same = account_stays w c r caller n (ap is_some stands) ∙ ap account_by stands
 
     cases : (o : Option HostRow) → nth (hosts_at_entry w c r c.host) n ≡ o → (k : HostRow) × (nth (hosts_at_entry w c r c.host) n ≡ Some k) × (k.account ≡ h.account)
     cases None is = absurd (let never : false ≡ true = sym (ap is_some is) ∙ still c.host in cc)
-    cases (Some k) is = (k, is, sym (ap account_by is) ∙ same)
+    cases (Some k) is = (k, is, (let both : Some k.account ≡ Some h.account = sym (ap account_by is) ∙ same in cc))
 
 -- a call
 module _ (w : World) (c : Caller) (r : Request) (now : ℕ) (sound : Sound w) (caller : IsCaller w c r) where
@@ -181,7 +191,7 @@ module _ (w : World) (c : Caller) (r : Request) (now : ℕ) (sound : Sound w) (c
             (λ k d within. eligible_free settlement (asking_of w c r now).host (get_or step.jobs k d) (step.grant.eligible k d within));
         hosts = subst (AccountsStay w.hosts) (sym (hosts_granted (host_number w c) now step.jobs settlement))
             (accounts_then w.hosts left.hosts settlement.hosts
-            (subst (AccountsStay w.hosts) (sym hosts_left) (accounts_told w c r caller))
+            (subst (AccountsStay w.hosts) (sym hosts_left) (accounts_at_entry w c r caller))
             (accounts_settled entry (with_grown left) left.hosts));
         agreements = λ name known.
             ap (λ apps. agreement_by apps name) (apps_granted (host_number w c) now step.jobs settlement ∙ apps_left);

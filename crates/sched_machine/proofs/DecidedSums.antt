@@ -1,11 +1,11 @@
 -- The hosts together, and the users together, have the credit of all valid results.
 use Rattle.std.proofs.Common.{◌≡◌, ◌≢◌, ℕ, zero, suc, ◌+◌, ◌*◌, ◌<◌, ◌≤◌, Bool, true, false, cond, eqb, List, [], ◌∷◌, length, Option, Some, None, sym, refl, ap, ◌∙◌, subst, arith}
-use Rattle.std.specs.Prelude.{◌&&◌, ◌==◌, sum_by, count_by, is_some, option_map, slice_get}
+use Rattle.std.specs.Prelude.{◌&&◌, ◌==◌, sum_by, count_by, is_some, option_map, slice_get, IsTrue, IfSome}
 use Rattle.std.specs.List.{enumerate_from}
 use Rattle.std.proofs.lemmas.Bool.{eq-eqb, ne_eqb}
 use Rattle.std.proofs.lemmas.List.Sums.{sum_by-cons}
 use Rattle.sched_book.specs.Count.{agree, tells_success, told_output, output_of, is_valid, canonical, verdict_by}
-use Rattle.sched_book.specs.Places.{nth, agreement_of, verdict_of, owner_host, is_owned_by, credit_in, host_credit}
+use Rattle.sched_book.specs.Places.{nth, agreement_of, verdict_of, option_any, host_of, is_owned_by, credit_in, host_credit}
 use Rattle.sched_book.specs.Sound.{IsBare, HasOwnerAmong, IsSoundUnit, IsSoundHost, Sound}
 use Rattle.sched_book.specs.declared.instance.Instance.{Instance}
 use Rattle.sched_book.specs.declared.instance.Outcome.{Outcome}
@@ -90,12 +90,18 @@ valid_reported w b x valid none = cases (canonical (agreement_of w b) b.unit b.i
 module _ (w : World) (sound : Sound w) where
   -- a valid result has an owner, whose host stands
   has_host : (b : UnitBook) → IsSoundUnit w.hosts w.apps b → (i : ℕ) (x : Instance) → slice_get b.instances i ≡ Some x
-      → is_valid (verdict_of w b x) ≡ true → is_some x.owner ≡ true
+      → is_valid (verdict_of w b x) ≡ true
+      → (host : ℕ) × (host_of x ≡ Some host) × IsTrue (is_some (nth w.hosts host))
   has_host b unit i x there valid = cases x.owner refl
     where
-      cases : (o : Option Owner) → x.owner ≡ o → is_some o ≡ true
+      among : IfSome (host_of x) (λ host. IsTrue (is_some (nth w.hosts host)))
+      among = all_get (HasOwnerAmong w.hosts) b.instances i x unit.well.owners there
+
+      cases : (o : Option Owner) → x.owner ≡ o → (host : ℕ) × (host_of x ≡ Some host) × IsTrue (is_some (nth w.hosts host))
       cases None is = absurd (valid_reported w b x valid (all_get IsBare b.instances i x unit.well.bare there is).1)
-      cases (Some o) is = refl
+      cases (Some o) is =
+          let host : host_of x ≡ Some o.host = ap (option_map (λ (o : Owner). o.host)) is in
+          (o.host, host, subst (λ q. IfSome q (λ host. IsTrue (is_some (nth w.hosts host)))) host among)
 
   -- one result's worth goes to one host
   one_host : (b : UnitBook) → IsSoundUnit w.hosts w.apps b → (i : ℕ) (x : Instance) → slice_get b.instances i ≡ Some x
@@ -118,11 +124,11 @@ module _ (w : World) (sound : Sound w) where
           (λ i e at. nothing (is_owned_by e.0 x))
           ∙ zeros (enumerate_from 1 w.hosts)
       cases true is =
-          let owned : is_some x.owner ≡ true = has_host b unit i x there is in
-          sum_alike (λ (e : ℕ × HostRow). cond (is_owned_by e.0 x && true) b.unit.credit 0) (λ e. cond (eqb (owner_host x.owner) e.0) b.unit.credit 0)
+          let owned = has_host b unit i x there is in
+          sum_alike (λ (e : ℕ × HostRow). cond (is_owned_by e.0 x && true) b.unit.credit 0) (λ e. cond (eqb owned.0 e.0) b.unit.credit 0)
           (enumerate_from 1 w.hosts)
-          (λ i e at. ap (λ (s : Bool). cond (s && eqb (owner_host x.owner) e.0 && true) b.unit.credit 0) owned ∙ also (eqb (owner_host x.owner) e.0))
-          ∙ of_place b.unit.credit w.hosts (owner_host x.owner) (all_get (HasOwnerAmong w.hosts) b.instances i x unit.well.owners there owned)
+          (λ i e at. ap (λ o. cond (option_any (λ n. n == e.0) o && true) b.unit.credit 0) owned.1 ∙ also (eqb owned.0 e.0))
+          ∙ of_place b.unit.credit w.hosts owned.0 owned.2
         where
           also : (s : Bool) → cond (s && true) b.unit.credit 0 ≡ cond s b.unit.credit 0
           also true = refl

@@ -1,6 +1,6 @@
 -- What is decided of a workunit stays: its canonical result, the verdicts on its instances, and its status.
 use Rattle.std.proofs.Common.{◌≡◌, ℕ, zero, suc, ◌+◌, ◌-◌, ◌<◌, ◌≤◌, inl, inr, Bool, true, false, cond, List, [], ◌∷◌, ◌++◌, length, take, drop, Option, Some, None, sym, refl, ap, ◌∙◌, subst, arith}
-use Rattle.std.specs.Prelude.{◌||◌, find, count_by, is_some, nat_le, nat_lt, slice_get}
+use Rattle.std.specs.Prelude.{find, count_by, is_some, nat_le, nat_lt, option_and_then, slice_get}
 use borrow.Author.Tests.{leb-true, le-leb, ltb-true, lt-ltb}
 use Rattle.std.proofs.lemmas.List.{append-nil, length-append, take-append-le, drop-append-le}
 use Rattle.std.proofs.lemmas.List.Sums.{sum_by-cons}
@@ -13,7 +13,7 @@ use Rattle.sched_book.specs.declared.instance.Verdict.{Verdict}
 use Rattle.sched_book.specs.declared.instance.Verdict.TheVariants.{Valid, Invalid}
 use Rattle.sched_book.specs.declared.rows.Agreement.{Agreement}
 use Rattle.sched_book.specs.declared.rows.Workunit.{Workunit}
-use Rattle.sched_machine.proofs.DecidedGood.{IsLate, IsReported, AllBecame, Each, Continues, good_continues}
+use Rattle.sched_machine.proofs.DecidedGood.{error_is_judged, IsLate, IsReported, AllBecame, Each, Continues, good_continues}
 
 -- what holds of each of two lists, of a front and of what is behind it
 each_append : (P : ℕ → Type 0) (is js : List ℕ) → Each P is → Each P js → Each P (is ++ js)
@@ -151,9 +151,9 @@ module _ (a : Agreement) (u : Workunit) (failed : Bool) (xs ys : List Instance) 
   pub verdict_stays : (x y : Instance) (n : ℕ) (v : Verdict) → IsReported n failed x y → verdict a u xs x ≡ Some v → verdict a u ys y ≡ Some v
   verdict_stays x y n v reported is = cases (canonical a u xs) refl is
     where
-      told : (o : Option ℕ) (r : Option Outcome) → Option Verdict
-      told None r = None
-      told (Some c) r = cond (tells_success r) (Some (cond (agree a (told_output r) (output_of xs c)) Valid Invalid)) None
+      known : (o : Option ℕ) (r : Option Outcome) → Option Verdict
+      known None r = None
+      known (Some c) r = cond (tells_success r) (Some (cond (agree a (told_output r) (output_of xs c)) Valid Invalid)) None
 
       cases : (o : Option ℕ) → canonical a u xs ≡ o → verdict_by a xs o x ≡ Some v → verdict a u ys y ≡ Some v
       cases None none is = absurd cc
@@ -179,11 +179,7 @@ module _ (a : Agreement) (u : Workunit) (failed : Bool) (xs ys : List Instance) 
 -- no new error is of a failed workunit
 not_new : (n : ℕ) (y : Instance) (b : Bool) → tells_error y.report ≡ b → IsLate n true y → tells_error y.report ≡ false
 not_new n y false is judged = is
-not_new n y true is judged = absurd (let never : true ≡ false = (judged (either (tells_success y.report) is)).1 in cc)
-  where
-    either : (s : Bool) → tells_error y.report ≡ true → (s || tells_error y.report) ≡ true
-    either true is = refl
-    either false is = is
+not_new n y true is judged = absurd (let never : true ≡ false = (judged (error_is_judged y.report is)).1 in cc)
 
 -- there are as many errors
 errors_became : (n : ℕ) (xs ys : List Instance) → AllBecame n true xs ys → errors ys ≡ errors xs
@@ -230,8 +226,8 @@ live_became n failed (x ∷ xs) (y ∷ ys) same became =
 -- what was judged stays so
 pub still_judged : (n : ℕ) (failed : Bool) (x y : Instance) → IsReported n failed x y → is_judged x ≡ true → is_judged y ≡ true
 still_judged n failed x y reported is = elim reported [
-  | inl same ↦ ap (λ r. tells_success r || tells_error r) same ∙ is
-  | inr new ↦ (let never : false ≡ true = sym (ap (λ r. tells_success r || tells_error r) new.0) ∙ is in absurd cc)
+  | inl same ↦ ap (λ r. is_some (option_and_then (λ (t : Outcome). t.place) r)) same ∙ is
+  | inr new ↦ (let never : false ≡ true = sym (ap (λ r. is_some (option_and_then (λ (t : Outcome). t.place) r)) new.0) ∙ is in absurd cc)
 ]
 
 -- as many are judged, or more

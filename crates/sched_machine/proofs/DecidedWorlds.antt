@@ -154,11 +154,11 @@ module _ (old new : World) (sound : Sound old) (became : WorldBecame old new) wh
         y = y;
         stands = stands;
         is = is;
-        verdict = λ d told.
+        verdict = λ d known.
             ap (λ a. verdict a there.c.unit there.c.instances y) there.agreement
             ∙ ap (λ u. verdict (agreement b) u there.c.instances y) there.is.row
             ∙ verdict_stays (agreement b) b.unit (failed b) b.instances there.c.instances (continues unit b stood there.c there.is) x y
-            (count_by is_judged b.instances) d is.report told;
+            (count_by is_judged b.instances) d is.report known;
       }
 
   verdicts : VerdictsStay old new
@@ -167,17 +167,17 @@ module _ (old new : World) (sound : Sound old) (became : WorldBecame old new) wh
       numbers : (b : UnitBook) → unit_at old p.unit ≡ Some b → (o : Option Instance) → slice_get b.instances p.number ≡ o
           → option_and_then (verdict_of old b) o ≡ Some d → verdict_at new p ≡ Some d
       numbers b stood None was never = absurd cc
-      numbers b stood (Some x) was told =
+      numbers b stood (Some x) was known =
           let there : At p.unit b = at p.unit b stood in
           let here : AtNumber p.unit p.number b x there.c = at_number p.unit p.number b x stood was there in
           ap (option_and_then (λ (c : UnitBook). option_and_then (verdict_of new c) (slice_get c.instances p.number))) there.stands
           ∙ ap (option_and_then (verdict_of new there.c)) here.stands
-          ∙ here.verdict d told
+          ∙ here.verdict d known
 
       cases : (o : Option UnitBook) → unit_at old p.unit ≡ o
           → option_and_then (λ (b : UnitBook). option_and_then (verdict_of old b) (slice_get b.instances p.number)) o ≡ Some d → verdict_at new p ≡ Some d
       cases None stood never = absurd cc
-      cases (Some b) stood told = numbers b stood (slice_get b.instances p.number) refl told
+      cases (Some b) stood known = numbers b stood (slice_get b.instances p.number) refl known
 
   -- the credit of a host from one workunit
   credit_grows : (host unit : ℕ) (b : UnitBook) → unit_at old unit ≡ Some b → (there : At unit b)
@@ -203,9 +203,9 @@ module _ (old new : World) (sound : Sound old) (became : WorldBecame old new) wh
 
       both : (s t : Bool) (d e : Option Verdict) → (s ≡ true → t ≡ true) → ((v : Verdict) → d ≡ Some v → e ≡ Some v)
           → (s && is_valid d) ≡ true → (t && is_valid e) ≡ true
-      both false t d e owned told is = absurd cc
-      both true t None e owned told is = absurd cc
-      both true t (Some v) e owned told is = ap (λ r. r && is_valid e) (owned refl) ∙ ap is_valid (told v refl) ∙ is
+      both false t d e owned known is = absurd cc
+      both true t None e owned known is = absurd cc
+      both true t (Some v) e owned known is = ap (λ r. r && is_valid e) (owned refl) ∙ ap is_valid (known v refl) ∙ is
 
   -- and from all
   host_grows : (host : ℕ) → host_credit old host ≤ host_credit new host

@@ -1,7 +1,7 @@
 -- The row of a call's host, put behind what the call's reports change.
 use Rattle.std.proofs.Common.{◌≡◌, ℕ, ◌+◌, ◌-◌, ◌<◌, ◌≤◌, Bool, true, false, cond, eqb, ltb, List, [], ◌∷◌, ◌++◌, length, Option, Some, None, sym, refl, ap, ◌∙◌, subst, arith, set}
 use Rattle.std.specs.Prelude.{IsTrue, bytes_eq, fold, is_some, option_map, unwrap_or}
-use Rattle.std.proofs.lemmas.Bool.{eqb-true, eq-eqb}
+use Rattle.std.proofs.lemmas.Bool.{eqb-true}
 use Rattle.std.proofs.lemmas.List.Sums.{fold-append}
 use Rattle.rpc_records.specs.Ranges.{IsInRange}
 use Rattle.rpc_records.specs.declared.request.Report.{Report}
@@ -11,7 +11,7 @@ use Rattle.sched_book.specs.Delta.{set_at, set_nth, applied_one, applied, FitsOn
 use Rattle.sched_book.specs.Limits.{IsHostInLimits}
 use Rattle.sched_book.specs.Reports.{modify_nth, with_changed, awaits_report, with_report, judged_place, record_at, record_one, recorded, first_reports}
 use Rattle.sched_book.specs.Sound.{IsSoundHost, Sound}
-use Rattle.sched_book.specs.Step.{IsCaller, host_number, row_of_call, hosts_at_entry, at_entry, host_at_entry, after_reports}
+use Rattle.sched_book.specs.Step.{IsCaller, HasRoom, host_number, quota_of, row_of_call, hosts_at_entry, at_entry, host_at_entry, after_reports}
 use Rattle.sched_book.specs.declared.delta.Change.{Change}
 use Rattle.sched_book.specs.declared.delta.Change.TheVariants as change
 use Rattle.sched_book.specs.declared.instance.Place.{Place}
@@ -19,15 +19,14 @@ use Rattle.sched_book.specs.declared.machine.Caller.{Caller}
 use Rattle.sched_book.specs.declared.rows.Account.{Account}
 use Rattle.sched_book.specs.declared.rows.HostRow.{HostRow}
 use Rattle.sched_book.specs.declared.world.World.{World}
-use Rattle.sched_book.proofs.PlacesOf.{nth-push, nth-modify_nth}
+use Rattle.sched_book.proofs.PlacesOf.{nth-modify_nth}
 use Rattle.quorum_credit.specs.Tallies.{number_got}
 use Rattle.quorum_credit.proofs.ByPlace.{same_by_place, all_nth}
 use Rattle.quorum_credit.proofs.GrownFits.{fits_then}
 use Rattle.quorum_credit.proofs.Numbered.{number_within}
 use Rattle.quorum_credit.proofs.Quotas.{nth-set_nth}
 use Rattle.sched_machine.specs.Calling.{IsCalling}
-use Rattle.sched_machine.specs.Entry.{quota_of}
-use Rattle.sched_machine.specs.declared.entry.Calling.{Calling}
+use Rattle.sched_machine.specs.declared.caller.Calling.{Calling}
 use Rattle.sched_machine.proofs.RowsListed.{place_found}
 
 -- a world with the settings, the accounts and the hosts of another, of which reports know nothing
@@ -95,8 +94,8 @@ module _ (w : World) (c : Caller) (r : Request) (caller : IsCaller w c r) where
   quota_at : (host : ℕ) (h : HostRow) → host_at w host ≡ Some h → quota_of w (Some host) ≡ h.quota
   quota_at host h stands = ap (λ o. unwrap_or (option_map (λ (k : HostRow). k.quota) o) w.settings.daily_result_quota) stands
 
-  puts_told : set_nth w.hosts (host_number w c) (row_of_call c r (quota_of w c.host)) ≡ hosts_at_entry w c r c.host
-  puts_told = cases c.host caller.host
+  puts_row_of_call : set_nth w.hosts (host_number w c) (row_of_call c r (quota_of w c.host)) ≡ hosts_at_entry w c r c.host
+  puts_row_of_call = cases c.host caller.host
     where
       cases : (o : Option ℕ) → known_host w c.account r.host.host_cpid ≡ o
           → set_nth w.hosts (unwrap_or o (length w.hosts + 1)) (row_of_call c r (quota_of w o)) ≡ hosts_at_entry w c r o
@@ -106,25 +105,9 @@ module _ (w : World) (c : Caller) (r : Request) (caller : IsCaller w c r) where
           ap (λ quota. set_nth w.hosts host (row_of_call c r quota)) (quota_at host found.0 found.1)
           ∙ put_changed (λ (h : HostRow). row_of_call c r h.quota) w.hosts host found.0 found.1
 
-  -- it is the caller's host as told now
-  pub row_told : row_of_call c r (quota_of w c.host) ≡ host_at_entry w c r
-  row_told = cases c.host caller.host
-    where
-      cases : (o : Option ℕ) → known_host w c.account r.host.host_cpid ≡ o
-          → row_of_call c r (quota_of w o) ≡ unwrap_or (nth (hosts_at_entry w c r o) (unwrap_or o (length w.hosts + 1))) (row_of_call c r 1)
-      cases None is =
-          let told = row_of_call c r w.settings.daily_result_quota in
-          sym (ap (λ (o : Option HostRow). unwrap_or o (row_of_call c r 1)) (
-          nth-push w.hosts told (length w.hosts + 1)
-          ∙ ap (λ (b : Bool). cond b (Some told) (nth w.hosts (length w.hosts + 1))) (eq-eqb (length w.hosts + 1) (length w.hosts + 1) refl)))
-      cases (Some host) is =
-          let found = place_found (is_host_of c.account r.host.host_cpid) w.hosts host is in
-          let renewed : HostRow → HostRow = λ (h : HostRow). row_of_call c r h.quota in
-          ap (row_of_call c r) (quota_at host found.0 found.1)
-          ∙ sym (ap (λ (o : Option HostRow). unwrap_or o (row_of_call c r 1)) (
-          nth-modify_nth renewed w.hosts host host
-          ∙ ap (λ (b : Bool). cond b (option_map renewed (nth w.hosts host)) (nth w.hosts host)) (eq-eqb host host refl)
-          ∙ ap (option_map renewed) found.1))
+  -- it is the caller's host at entry
+  pub row_at_entry : row_of_call c r (quota_of w c.host) ≡ host_at_entry w c r
+  row_at_entry = refl
 
 -- reports and then the caller's row are the row and then the reports
 pub entered : (w : World) (c : Caller) (r : Request) → Sound w → IsCaller w c r → (cs : List Change)
@@ -135,13 +118,13 @@ entered w c r sound caller cs are =
     let row = row_of_call c r (quota_of w c.host) in
     fold-append applied_one w cs (change.Host n row ∷ [])
     ∙ ap (λ v. applied_one v (change.Host n row)) (are ∙ recorded_as_in w n w r.results)
-    ∙ ap (λ hosts. as_in (record w { hosts = hosts }) (recorded w n r.results)) (puts_told w c r caller)
+    ∙ ap (λ hosts. as_in (record w { hosts = hosts }) (recorded w n r.results)) (puts_row_of_call w c r caller)
     ∙ sym (recorded_as_in w n (at_entry w c r) r.results)
 
 -- the row fits, with its number
 module _ (w : World) (c : Caller) (r : Request) (sound : Sound w) (caller : IsCaller w c r) (limits : IsInRange r) where
-  told_limits : (quota : ℕ) → (1 ≤ quota) × (quota ≤ w.settings.daily_result_quota) → IsHostInLimits w.settings.daily_result_quota (row_of_call c r quota)
-  told_limits quota within = record {
+  entry_limits : (quota : ℕ) → (1 ≤ quota) × (quota ≤ w.settings.daily_result_quota) → IsHostInLimits w.settings.daily_result_quota (row_of_call c r quota)
+  entry_limits quota within = record {
     cpid = limits.host.host_cpid;
     speed = (limits.host.some_fpops, limits.host.p_fpops);
     memory = limits.host.m_nbytes;
@@ -154,15 +137,15 @@ module _ (w : World) (c : Caller) (r : Request) (sound : Sound w) (caller : IsCa
   account_stands : IsTrue (is_some (nth w.accounts c.account))
   account_stands = ap is_some (place_found (λ (a : Account). bytes_eq a.authenticator r.authenticator) w.accounts c.account caller.account).1
 
-  told_fits : (c.host ≡ None → length w.hosts < w.settings.max_hosts) → FitsOne w (change.Host (host_number w c) (row_of_call c r (quota_of w c.host)))
-  told_fits room = cases c.host caller.host room
+  entry_fits : HasRoom w c → FitsOne w (change.Host (host_number w c) (row_of_call c r (quota_of w c.host)))
+  entry_fits room = cases c.host caller.host room
     where
       cases : (o : Option ℕ) → known_host w c.account r.host.host_cpid ≡ o → (o ≡ None → length w.hosts < w.settings.max_hosts)
           → FitsOne w (change.Host (unwrap_or o (length w.hosts + 1)) (row_of_call c r (quota_of w o)))
       cases None is left =
           let few : length w.hosts < w.settings.max_hosts = left refl in
           let same : w.settings.daily_result_quota ≤ w.settings.daily_result_quota = omega arith in
-          (omega arith, omega arith, omega arith, account_stands, told_limits w.settings.daily_result_quota (sound.rows.settings.quota.0, same))
+          (omega arith, omega arith, omega arith, account_stands, entry_limits w.settings.daily_result_quota (sound.rows.settings.quota.0, same))
       cases (Some host) is left =
           let found = place_found (is_host_of c.account r.host.host_cpid) w.hosts host is in
           let within = number_within w.hosts host found.0 found.1 in
@@ -173,33 +156,33 @@ module _ (w : World) (c : Caller) (r : Request) (sound : Sound w) (caller : IsCa
             omega arith,
             omega arith,
             account_stands,
-            told_limits (quota_of w (Some host)) (subst (λ q. (1 ≤ q) × (q ≤ w.settings.daily_result_quota)) (sym quota) before),
+            entry_limits (quota_of w (Some host)) (subst (λ q. (1 ≤ q) × (q ≤ w.settings.daily_result_quota)) (sym quota) before),
           )
 
   -- so the reports with the row behind them fit
-  pub entered_fits : (c.host ≡ None → length w.hosts < w.settings.max_hosts) → (cs : List Change)
+  pub entered_fits : HasRoom w c → (cs : List Change)
       → applied w cs ≡ recorded w (host_number w c) r.results → Fits w cs
       → Fits w (cs ++ change.Host (host_number w c) (row_of_call c r (quota_of w c.host)) ∷ [])
   entered_fits room cs are fits =
       let row = change.Host (host_number w c) (row_of_call c r (quota_of w c.host)) in
       fits_then w cs (row ∷ []) fits
-      (subst (λ v. FitsOne v row) (sym (are ∙ recorded_as_in w (host_number w c) w r.results)) (told_fits room), tt)
+      (subst (λ v. FitsOne v row) (sym (are ∙ recorded_as_in w (host_number w c) w r.results)) (entry_fits room), tt)
 
 -- the same of a call that is acted on
 module _ (w : World) (r : Request) (k : Calling) (calling : IsCalling w r k) (cs : List Change) (are : applied w cs ≡ recorded w k.number r.results) where
   row_is : row_of_call k.caller r (quota_of w k.caller.host) ≡ k.host
-  row_is = row_told w k.caller r calling.admitted.caller ∙ sym calling.host
+  row_is = row_at_entry w k.caller r calling.admitted.caller ∙ sym calling.host
 
   change_is : change.Host (host_number w k.caller) (row_of_call k.caller r (quota_of w k.caller.host)) ≡ change.Host k.number k.host
   change_is = ap (change.Host (host_number w k.caller)) row_is ∙ ap (λ n. change.Host n k.host) (sym calling.number)
 
-  told : applied w cs ≡ recorded w (host_number w k.caller) r.results
-  told = are ∙ ap (λ n. recorded w n r.results) calling.number
+  recorded_is : applied w cs ≡ recorded w (host_number w k.caller) r.results
+  recorded_is = are ∙ ap (λ n. recorded w n r.results) calling.number
 
   pub enters : applied w (cs ++ change.Host k.number k.host ∷ []) ≡ after_reports w k.caller r
-  enters = ap (λ c. applied w (cs ++ c ∷ [])) (sym change_is) ∙ entered w k.caller r calling.sound calling.admitted.caller cs told
+  enters = ap (λ c. applied w (cs ++ c ∷ [])) (sym change_is) ∙ entered w k.caller r calling.sound calling.admitted.caller cs recorded_is
 
   pub enters_fit : Fits w cs → Fits w (cs ++ change.Host k.number k.host ∷ [])
   enters_fit fits =
       subst (λ c. Fits w (cs ++ c ∷ [])) change_is
-      (entered_fits w k.caller r calling.sound calling.admitted.caller calling.admitted.limits calling.room cs told fits)
+      (entered_fits w k.caller r calling.sound calling.admitted.caller calling.admitted.limits calling.room cs recorded_is fits)

@@ -137,14 +137,13 @@ module _ (host now : ℕ) (before : World) where
         let late : now + delay_at w p ≤ last_deadline = omega arith in
         subst (λ z. FitsOne w (change.Instance p z) × IsLimited (applied_one w (change.Instance p z))) at.given
         (done_fits (with_owner (owner_for host now (delay_at w p))) w p at.book at.x limited at.unit at.number (
-          (λ given. stands),
+          stands,
           (λ none. absurd cc),
           record {
             sent = soon;
             deadline = late;
             output = (limited.each p at.x here).2.output;
             place = (limited.each p at.x here).2.place;
-            judged = (limited.each p at.x here).2.judged;
           },
         ))
 

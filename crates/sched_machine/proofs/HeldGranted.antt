@@ -1,9 +1,9 @@
 -- What a host holds through a grant, at one place.
-use Rattle.std.proofs.Common.{◌≡◌, ◌⊎◌, inl, inr, ℕ, ◌+◌, Bool, true, false, cond, eqb, List, [], ◌∷◌, Option, Some, None, sym, refl, ap, ◌∙◌, subst}
+use Rattle.std.proofs.Common.{◌≡◌, ◌⊎◌, inl, inr, ℕ, ◌+◌, Bool, true, false, cond, List, [], ◌∷◌, Option, Some, None, sym, refl, ap, ◌∙◌, subst}
 use Rattle.std.specs.Prelude.{◌&&◌, Contains, is_none, is_some, option_map}
 use borrow.Author.Tests.{eq-eqb}
 use Rattle.sched_book.specs.Lost.{delay_at}
-use Rattle.sched_book.specs.Places.{instance_at, is_held_by, is_same, owner_host}
+use Rattle.sched_book.specs.Places.{instance_at, is_held_by, is_owned_by, is_same}
 use Rattle.sched_book.specs.Step.{with_owner, grant_one, granted}
 use Rattle.sched_book.specs.declared.instance.Instance.{Instance}
 use Rattle.sched_book.specs.declared.instance.Lapse.{Lapse}
@@ -42,8 +42,8 @@ module _ (host now : ℕ) (p : Place) where
   none_of None is = refl
   none_of (Some x) is = absurd cc
 
-  -- of five tests that hold, the last two
-  last_two : (a b c d : Bool) → ((a && b) && ((a && c) && d)) ≡ true → (c ≡ true) × (d ≡ true)
+  -- of four tests that hold, the last two
+  last_two : (a b c d : Bool) → (a && ((b && c) && d)) ≡ true → (c ≡ true) × (d ≡ true)
   last_two true true true true is = (refl, refl)
   last_two true true true false is = absurd cc
   last_two true true false d is = absurd cc
@@ -54,7 +54,7 @@ module _ (host now : ℕ) (p : Place) where
   held_again : (deadline : ℕ) (x : Instance) → is_held_by host x ≡ true
       → is_held_by host (with_owner (record { host = host; sent = now; deadline = deadline }) x) ≡ true
   held_again deadline x held =
-      let both = last_two (is_some x.owner) (eqb (owner_host x.owner) host) (is_none x.report) (is_none x.lapse) held in
+      let both = last_two (is_owned_by host x) (is_some x.owner) (is_none x.report) (is_none x.lapse) held in
       given_is_held deadline x (none_of x.report both.0) (none_of x.lapse both.1)
 
   -- a grant takes away nothing that the host holds

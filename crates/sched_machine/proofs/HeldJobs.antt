@@ -1,6 +1,6 @@
 -- What a host holds after its call, by places.
 use Rattle.std.proofs.Common.{◌≡◌, ◌⊎◌, inl, inr, ℕ, Bool, true, false, cond, not, List, [], Option, Some, None, sym, refl, ap, ◌∙◌, subst}
-use Rattle.std.specs.Prelude.{◌&&◌, ◌==◌, Contains, filter, is_none, is_some, option_map, option_and_then, slice_get, unwrap_or}
+use Rattle.std.specs.Prelude.{◌&&◌, ◌==◌, Contains, filter, is_none, option_map, option_and_then, slice_get, unwrap_or}
 use Rattle.std.specs.List.{list_any}
 use Rattle.std.specs.Str.{bytes_eq}
 use Rattle.std.proofs.lemmas.List.Elements.{All-contains}
@@ -9,7 +9,7 @@ use Rattle.sched_book.specs.Count.{is_held}
 use Rattle.sched_book.specs.Fits.{is_eligible, is_for}
 use Rattle.sched_book.specs.Lost.{is_listed, is_resent, unlisted}
 use Rattle.sched_book.specs.Names.{instance_name}
-use Rattle.sched_book.specs.Places.{instance_at, held_by, is_held_by, is_owned_by, name_at, owner_host}
+use Rattle.sched_book.specs.Places.{instance_at, held_by, is_held_by, is_owned_by, name_at, option_any}
 use Rattle.sched_book.specs.Reports.{first_reports}
 use Rattle.sched_book.specs.Sound.{IsBare, IsSoundUnit, Sound}
 use Rattle.sched_book.specs.Step.{after_lost, after_reports, after_settlement, asking_of, at_entry, granted, host_number, host_at_entry, lost_of, resent_of}
@@ -39,7 +39,7 @@ use Rattle.sched_machine.proofs.UnitsGiven.{first_true}
 
 -- nobody owns or holds what was given to nobody
 free_not_owned : (host : ℕ) (x : Instance) → x.owner ≡ None → is_owned_by host x ≡ false
-free_not_owned host x free = ap (λ (o : Option Owner). is_some o && (owner_host o == host)) free
+free_not_owned host x free = ap (λ (o : Option Owner). option_any (λ n. n == host) (option_map (λ (o : Owner). o.host) o)) free
 
 free_not_held : (host : ℕ) (x : Instance) → x.owner ≡ None → is_held_by host x ≡ true → ⊥
 free_not_held host x free held =
@@ -177,11 +177,11 @@ module _ (w : World) (c : Caller) (r : Request) where
           reports_stand : instance_at reported p ≡ Some at.x
           reports_stand = elim (reports_are_recorded_by_place (at_entry w c r) host r.results p).stays_or_recorded [
             | inl same ↦ same ∙ stands
-            | inr told ↦ (
-                let equal : told.before ≡ at.x = (let both : Some told.before ≡ Some at.x = sym told.stood ∙ stands in cc) in
-                let owned : is_owned_by host told.before ≡ true = first_true (is_owned_by host told.before) (is_none told.before.report) told.awaited in
+            | inr known ↦ (
+                let equal : known.before ≡ at.x = (let both : Some known.before ≡ Some at.x = sym known.stood ∙ stands in cc) in
+                let owned : is_owned_by host known.before ≡ true = first_true (is_owned_by host known.before) (is_none known.before.report) known.awaited in
                 let never : false ≡ true =
-                sym (free_not_owned host told.before (ap (λ (z : Instance). z.owner) equal ∙ free)) ∙ owned in
+                sym (free_not_owned host known.before (ap (λ (z : Instance). z.owner) equal ∙ free)) ∙ owned in
                 absurd cc)
           ]
 

@@ -29,7 +29,7 @@ use Rattle.sched_machine.specs.Held.{HoldsWhatIsListedOrNamed, IsHeldByPlace, Is
 use Rattle.sched_machine.proofs.AlikeSettled.{the_settled_world_is_like_the_first}
 use Rattle.sched_machine.proofs.HeldGranted.{grant_gives}
 use Rattle.sched_machine.proofs.HeldJobs.{held_jobs_by_place}
-use Rattle.sched_machine.proofs.HeldTold.{eligible_runs, gave, given_by, resent_runs, told_name, told_of}
+use Rattle.sched_machine.proofs.HeldSaid.{eligible_runs, gave, given_by, resent_runs, said_name, said_of}
 use Rattle.sched_machine.proofs.RowsListed.{pairs_get}
 use Rattle.sched_machine.proofs.SettledHolds.{after_settlement_holds, is_held_in}
 
@@ -137,22 +137,22 @@ module _ (w : World) (c : Caller) (r : Request) (now : ℕ) (reply : Reply) (nam
     -- what is sent again is named
     resent_named : (p : Place) → Contains (resent_of w c r) p → IsNamed w reply p
     resent_named p there =
-        let told = told_of w c r now jobs (host_at_entry w c r) true p
+        let known = said_of w c r now jobs (host_at_entry w c r) true p
         (resent_runs w c r now jobs p (passed_filter (is_resent (at_entry w c r) (host_at_entry w c r)) (lost_of w c r) p there)) in (
-          told.0,
-          subst (λ js. Contains js told.0) (sym results)
-              (Contains-append_left sent given told.0 (given_by (job_at after (host_at_entry w c r) true) (resent_of w c r) p told.0 there told.1)),
-          told.2,
+          known.0,
+          subst (λ js. Contains js known.0) (sym results)
+              (Contains-append_left sent given known.0 (given_by (job_at after (host_at_entry w c r) true) (resent_of w c r) p known.0 there known.1)),
+          known.2,
         )
 
     -- so is what is granted
     granted_named : (p : Place) → Contains jobs p → IsNamed w reply p
     granted_named p there =
-        let told = told_of w c r now jobs (host_at_entry w c r) false p (eligible_runs w c r now jobs p (eligible p there)) in (
-          told.0,
-          subst (λ js. Contains js told.0) (sym results)
-              (Contains-append_right sent given told.0 (given_by (job_at after (host_at_entry w c r) false) jobs p told.0 there told.1)),
-          told.2,
+        let known = said_of w c r now jobs (host_at_entry w c r) false p (eligible_runs w c r now jobs p (eligible p there)) in (
+          known.0,
+          subst (λ js. Contains js known.0) (sym results)
+              (Contains-append_right sent given known.0 (given_by (job_at after (host_at_entry w c r) false) jobs p known.0 there known.1)),
+          known.2,
         )
 
     -- what is held is retained or named
@@ -175,10 +175,10 @@ module _ (w : World) (c : Caller) (r : Request) (now : ℕ) (reply : Reply) (nam
     job_held j there = elim (Contains-append_cases sent given j (subst (λ js. Contains js j) results there)) [
       | inl again ↦ (
           let found = gave (job_at after (host_at_entry w c r) true) (resent_of w c r) j again in
-          (found.0, sym (told_name w c r now jobs (host_at_entry w c r) true found.0 j found.2), (by_place found.0).resent found.1))
+          (found.0, sym (said_name w c r now jobs (host_at_entry w c r) true found.0 j found.2), (by_place found.0).resent found.1))
       | inr new ↦ (
           let found = gave (job_at after (host_at_entry w c r) false) jobs j new in
-          (found.0, sym (told_name w c r now jobs (host_at_entry w c r) false found.0 j found.2), (by_place found.0).granted found.1))
+          (found.0, sym (said_name w c r now jobs (host_at_entry w c r) false found.0 j found.2), (by_place found.0).granted found.1))
     ]
 
     -- so that each instance of such a name is held, since names are distinct

@@ -10,7 +10,7 @@ pub reports_end_holding : ReportsEndHolding
 reports_end_holding w c r p = (
   λ held. record {
     held = reports_hold_no_more entry host r.results p held;
-    unreported = λ told. held_unreported entry host r.results p held told.0 told.1 told.2;
+    unreported = λ known. held_unreported entry host r.results p held known.0 known.1 known.2;
   },
   λ kept. unreported_held entry host r.results p kept.held (λ t there names. kept.unreported (t, there, names)),
 )

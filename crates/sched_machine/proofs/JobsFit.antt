@@ -1,13 +1,13 @@
 -- What a call's lost jobs change fits behind what its reports change.
 use Rattle.std.proofs.Common.{◌≡◌, ℕ, ◌≤◌, Bool, true, false, cond, List, [], ◌∷◌, ◌++◌, map, Option, Some, None, sym, refl, subst, arith}
-use Rattle.std.specs.Prelude.{All, filter_map, is_some, option_map, option_and_then, unwrap_or, slice_get}
+use Rattle.std.specs.Prelude.{All, filter_map, is_some, option_map, option_and_then, unwrap_or, slice_get, IfSome}
 use Rattle.std.specs.List.{cons_option}
 use Rattle.std.proofs.lemmas.List.Elements.{All-head, All-tail}
 use Rattle.rpc_records.specs.declared.request.Request.{Request}
 use Rattle.sched_book.specs.Delta.{applied_one, applied, FitsOne, Fits}
 use Rattle.sched_book.specs.Limits.{last_moment, last_deadline, IsInstanceInLimits}
 use Rattle.sched_book.specs.Fits.{estimate_at}
-use Rattle.sched_book.specs.Lost.{is_resent, delay_at, deadline_after, with_deadline}
+use Rattle.sched_book.specs.Lost.{is_resent, delay_at, deadline_after}
 use Rattle.sched_book.specs.Places.{unit_at, instance_at, deadline_of}
 use Rattle.sched_book.specs.Sound.{IsBare, HasOwnerAmong, IsWellUnit, IsWell}
 use Rattle.sched_book.specs.Step.{after_reports, deadline_at, host_number, host_at_entry, lost_of}
@@ -15,6 +15,7 @@ use Rattle.sched_book.specs.declared.delta.Change.{Change}
 use Rattle.sched_book.specs.declared.delta.Change.TheVariants as change
 use Rattle.sched_book.specs.declared.instance.Instance.{Instance}
 use Rattle.sched_book.specs.declared.instance.Lapse.TheVariants.{Dropped}
+use Rattle.sched_book.specs.declared.instance.Owner.{Owner}
 use Rattle.sched_book.specs.declared.instance.Place.{Place}
 use Rattle.sched_book.specs.declared.instance.UnitBook.{UnitBook}
 use Rattle.sched_book.specs.declared.rows.HostRow.{HostRow}
@@ -28,8 +29,8 @@ use Rattle.quorum_credit.proofs.ByPlace.{all_get, all_nth}
 use Rattle.quorum_credit.proofs.FitReports.{done_fits}
 use Rattle.quorum_credit.proofs.GrownFits.{fits_then}
 use Rattle.sched_machine.specs.Calling.{IsCalling}
-use Rattle.sched_machine.specs.declared.entry.Calling.{Calling}
-use Rattle.sched_machine.proofs.JobsLost.{fates_told}
+use Rattle.sched_machine.specs.declared.caller.Calling.{Calling}
+use Rattle.sched_machine.proofs.JobsLost.{fates_known}
 use Rattle.sched_machine.proofs.StepsSound.{sound_is_well, reported}
 use Rattle.sched_machine.proofs.UnitsGiven.{IsGiven, given_after}
 use Rattle.sched_machine.proofs.UnitsLapsed.{lapse_keeps}
@@ -108,9 +109,13 @@ module _ (r : Place → Option ℕ) (before : World) (low : (p : Place) (d : ℕ
 deadline_was_low : (w : World) (p : Place) → IsLimited w → deadline_at w p ≤ last_deadline
 deadline_was_low w p limited = cases (instance_at w p) refl
   where
+    owned : (o : Option Owner) → IfSome o (λ o. o.deadline ≤ last_deadline) → deadline_of o ≤ last_deadline
+    owned None low = omega arith
+    owned (Some o) low = low
+
     cases : (o : Option Instance) → instance_at w p ≡ o → unwrap_or (option_map (λ (x : Instance). deadline_of x.owner) o) 0 ≤ last_deadline
     cases None is = omega arith
-    cases (Some x) is = (limited.each p x is).2.deadline
+    cases (Some x) is = owned x.owner (limited.each p x is).2.deadline
 
 -- a lost job is sent again with a deadline within limits
 resent_low : (w : World) (h : HostRow) (now : ℕ) → IsWell w → now ≤ last_moment → (p : Place) (d : ℕ) → resent_to w h now p ≡ Some d → d ≤ last_deadline
@@ -126,16 +131,16 @@ resent_low w h now well early p d is = cases (is_resent w h p) is
 
 -- what the fates of a call's lost jobs change fits behind the changes of its reports
 pub lost_fit : (w : World) (k : Calling) (r : Request) (now : ℕ) (before after : List Change) (fates : List Fate) → now ≤ last_moment
-    → IsCalling w r k → applied w before ≡ after_reports w k.caller r → fates ≡ fates_told w k.caller r now
+    → IsCalling w r k → applied w before ≡ after_reports w k.caller r → fates ≡ fates_known w k.caller r now
     → after ≡ before ++ filter_map (fate_change (applied w before)) fates → Fits w before → Fits w after
-lost_fit w k r now before after fates early is made told pushed fits =
+lost_fit w k r now before after fates early is made known pushed fits =
     let left : World = after_reports w k.caller r in
     let limited : IsLimited left =
     limited_from_well left (reported w k.caller r now is.sound is.admitted.caller is.room is.admitted.limits early) in
-    let behind : Fits left (filter_map (fate_change left) (fates_told w k.caller r now)) =
+    let behind : Fits left (filter_map (fate_change left) (fates_known w k.caller r now)) =
     in_turn_fit (resent_to w (host_at_entry w k.caller r) now) left (resent_low w (host_at_entry w k.caller r) now (sound_is_well w is.sound) early)
     left (lost_of w k.caller r) (λ p. refl) limited (lost_given left (host_number w k.caller) r.other_results) in
     subst (Fits w) (sym pushed)
     (fits_then w before (filter_map (fate_change (applied w before)) fates) fits
     (subst (λ v. Fits v (filter_map (fate_change v) fates)) (sym made)
-    (subst (λ fs. Fits left (filter_map (fate_change left) fs)) (sym told) behind)))
+    (subst (λ fs. Fits left (filter_map (fate_change left) fs)) (sym known) behind)))

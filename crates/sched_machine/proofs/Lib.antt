@@ -1,3 +1,4 @@
+pub mod RowsKept
 pub mod UnitsAlike
 pub mod UnitsWell
 pub mod UnitsGiven
@@ -28,7 +29,7 @@ pub mod Credited
 pub mod EntryHosts
 pub mod AskedSeconds
 pub mod GrantingDone
-pub mod JobsTold
+pub mod JobsSaid
 pub mod RowsAdded
 pub mod SettledCalls
 pub mod CallsDone
@@ -52,7 +53,7 @@ pub mod HeldLost
 pub mod HeldGranted
 pub mod HeldReported
 pub mod HeldJobs
-pub mod HeldTold
+pub mod HeldSaid
 pub mod HeldNamed
 pub mod Replied
 pub mod CreditBounds

@@ -40,25 +40,25 @@ module _ (w : World) (c : Caller) (r : Request) (sound : Sound w) where
   abbrev host : ℕ
   host = host_number w c
 
-  abbrev told : HostRow
-  told = host_at_entry w c r
+  abbrev known : HostRow
+  known = host_at_entry w c r
 
   -- a job that is sent again fits its host, so it takes no longer than its workunit's delay
-  one : (p : Place) → is_resent entry told p ≡ true → estimate_at entry told p ≤ 100000000
+  one : (p : Place) → is_resent entry known p ≡ true → estimate_at entry known p ≤ 100000000
   one p resent = cases (unit_at w p.unit) refl resent
     where
       cases : (o : Option UnitBook) → unit_at w p.unit ≡ o
-          → unwrap_or (option_map (λ b. is_open (status_at entry p.unit) && unit_fits entry told b) o) false ≡ true
-          → unwrap_or (option_map (λ (b : UnitBook). estimate b.unit.rsc_fpops_est told.p_fpops) o) 0 ≤ 100000000
+          → unwrap_or (option_map (λ b. is_open (status_at entry p.unit) && unit_fits entry known b) o) false ≡ true
+          → unwrap_or (option_map (λ (b : UnitBook). estimate b.unit.rsc_fpops_est known.p_fpops) o) 0 ≤ 100000000
       cases None stands resent = omega arith
       cases (Some b) stands resent =
-          let memory : Bool = nat_le b.unit.rsc_memory_bound told.m_nbytes in
-          let disk : Bool = nat_le b.unit.rsc_disk_bound told.d_free in
-          let time : Bool = nat_le (estimate b.unit.rsc_fpops_est told.p_fpops) b.unit.delay_bound in
-          let fits : unit_fits entry told b ≡ true = (and_parts (is_open (status_at entry p.unit)) (unit_fits entry told b) resent).1 in
+          let memory : Bool = nat_le b.unit.rsc_memory_bound known.m_nbytes in
+          let disk : Bool = nat_le b.unit.rsc_disk_bound known.d_free in
+          let time : Bool = nat_le (estimate b.unit.rsc_fpops_est known.p_fpops) b.unit.delay_bound in
+          let fits : unit_fits entry known b ≡ true = (and_parts (is_open (status_at entry p.unit)) (unit_fits entry known b) resent).1 in
           let in_time : time ≡ true =
-          (and_parts (memory && disk) time (and_parts (memory && disk && time) (is_some (version_for entry told b.unit.app)) fits).0).1 in
-          let within : estimate b.unit.rsc_fpops_est told.p_fpops ≤ b.unit.delay_bound = leb-true _ _ in_time in
+          (and_parts (memory && disk) time (and_parts (memory && disk && time) (is_some (version_for entry known b.unit.app)) fits).0).1 in
+          let within : estimate b.unit.rsc_fpops_est known.p_fpops ≤ b.unit.delay_bound = leb-true _ _ in_time in
           let most : b.unit.delay_bound ≤ 100000000 = (all_nth (IsSoundUnit w.hosts w.apps) w.units p.unit b sound.units stands).well.limits.delay.1 in
           omega arith
 
@@ -80,14 +80,14 @@ module _ (w : World) (c : Caller) (r : Request) (sound : Sound w) where
           let less = filtered (λ p. not (is_listed reported names p)) (held_by reported host) in
           omega (arith, held, less)
 
-  seconds : sum_by (estimate_at entry told) (resent_of w c r) ≤ 2000000000000000
+  seconds : sum_by (estimate_at entry known) (resent_of w c r) ≤ 2000000000000000
   seconds =
-      let each : All (λ p. estimate_at entry told p ≤ 100000000) (resent_of w c r) =
-      All-weaker (λ p. is_resent entry told p ≡ true) (λ p. estimate_at entry told p ≤ 100000000) one (resent_of w c r)
-      (filter_passes (is_resent entry told) (lost_of w c r)) in
-      let sum : sum_by (estimate_at entry told) (resent_of w c r) ≤ length (resent_of w c r) * 100000000 =
-      sum_by-le (estimate_at entry told) 100000000 (resent_of w c r) each in
-      let fewer = filtered (is_resent entry told) (lost_of w c r) in
+      let each : All (λ p. estimate_at entry known p ≤ 100000000) (resent_of w c r) =
+      All-weaker (λ p. is_resent entry known p ≡ true) (λ p. estimate_at entry known p ≤ 100000000) one (resent_of w c r)
+      (filter_passes (is_resent entry known) (lost_of w c r)) in
+      let sum : sum_by (estimate_at entry known) (resent_of w c r) ≤ length (resent_of w c r) * 100000000 =
+      sum_by-le (estimate_at entry known) 100000000 (resent_of w c r) each in
+      let fewer = filtered (is_resent entry known) (lost_of w c r) in
       omega (arith, few, fewer)
 
 pub resent_seconds_are_bounded : ResentSecondsAreBounded

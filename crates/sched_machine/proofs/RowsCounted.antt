@@ -12,15 +12,15 @@ use Rattle.sched_book.specs.declared.rows.Workunit.{Workunit}
 use Rattle.sched_book.proofs.PlacesOf.{slice_get-modify_at}
 use Rattle.sched_machine.proofs.RowsListed.{count_changed}
 
--- the first leader, where the outputs are told by a function
+-- the first leader, where the outputs are given by a function
 abbrev leader_by : Agreement → (ℕ → List ℕ) → ℕ → List ℕ → Option ℕ
-leader_by a told enough reports = find (λ i. nat_le enough (count_by (λ j. agree a (told i) (told j)) reports)) reports
+leader_by a known enough reports = find (λ i. nat_le enough (count_by (λ j. agree a (known i) (known j)) reports)) reports
 
 same_first_leader : (a : Agreement) (xs ys : List Instance) (enough : ℕ) (front rest : List ℕ) → output_of ys ≡ output_of xs
     → first_leader a ys enough front rest ≡ first_leader a xs enough front rest
-same_first_leader a xs ys enough front [] same = ap (λ told. leader_by a told enough front) same
+same_first_leader a xs ys enough front [] same = ap (λ known. leader_by a known enough front) same
 same_first_leader a xs ys enough front (i ∷ rest) same =
-    ap (λ told. cond (is_some (leader_by a told enough front)) (leader_by a told enough front) (first_leader a ys enough (front ++ i ∷ []) rest)) same
+    ap (λ known. cond (is_some (leader_by a known enough front)) (leader_by a known enough front) (first_leader a ys enough (front ++ i ∷ []) rest)) same
     ∙ ap (λ o. cond (is_some (leader a xs enough front)) (leader a xs enough front) o) (same_first_leader a xs ys enough (front ++ i ∷ []) rest same)
 
 -- the status, by what it is made of

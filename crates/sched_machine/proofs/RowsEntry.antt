@@ -1,17 +1,17 @@
 -- The row of a call's host, renewed or made, leaves a sound world sound.
-use Rattle.std.proofs.Common.{◌≡◌, ℕ, ◌+◌, ◌<◌, ◌≤◌, Bool, true, false, cond, eqb, eq-eqb, ne_eqb, eqb-true, List, [], ◌∷◌, ◌++◌, length, get_or, All, AllPairs, Option, Some, None, option_map, unwrap_or, sym, refl, ap, ◌∙◌, subst, arith, length-append}
-use Rattle.std.specs.Prelude.{◌&&◌, IsTrue, is_some, bytes_eq}
+use Rattle.std.proofs.Common.{◌≡◌, ℕ, ◌+◌, ◌<◌, ◌≤◌, Bool, true, false, cond, eqb, eq-eqb, ne_eqb, eqb-true, List, [], ◌∷◌, ◌++◌, length, get_or, All, AllPairs, Option, Some, None, option_map, sym, refl, ap, ◌∙◌, subst, arith, length-append}
+use Rattle.std.specs.Prelude.{◌&&◌, IsTrue, is_some, option_and_then, bytes_eq, IfSome}
 use Rattle.std.proofs.lemmas.List.Elements.{All-push}
 use Rattle.std.proofs.lemmas.List.Quantifiers.{all_pairs_push}
 use Rattle.std.proofs.lemmas.Option.{slice_get-get_or}
 use Rattle.std.proofs.lemmas.Slice.Eq.{bytes_eq-Decides}
 use Rattle.rpc_records.specs.Ranges.{IsInRange}
 use Rattle.rpc_records.specs.declared.request.Request.{Request}
-use Rattle.sched_book.specs.Places.{nth, account_in, owner_host, is_host_of}
+use Rattle.sched_book.specs.Places.{nth, account_at, host_of, user_of, is_host_of}
 use Rattle.sched_book.specs.Reports.{modify_nth}
 use Rattle.sched_book.specs.Sound.{AreOfOtherUsers, HasOwnerAmong, IsSoundUnit, IsSoundHost, HaveOtherKeys, Sound}
 use Rattle.sched_book.specs.Step.{IsCaller, row_of_call, hosts_at_entry}
-use Rattle.sched_book.specs.declared.instance.Owner.{Owner}
+use Rattle.sched_book.specs.declared.instance.Instance.{Instance}
 use Rattle.sched_book.specs.declared.instance.UnitBook.{UnitBook}
 use Rattle.sched_book.specs.declared.machine.Caller.{Caller}
 use Rattle.sched_book.specs.declared.rows.Account.{Account}
@@ -30,20 +30,27 @@ AccountsStay old new = (n : ℕ) (h : HostRow) → nth old n ≡ Some h → (k :
 
 -- then a sound workunit stays so
 module _ (old new : List HostRow) (stay : AccountsStay old new) where
-  same_account : (o : Option Owner) → IsTrue (is_some (nth old (owner_host o)))
-      → (account_in new (owner_host o) ≡ account_in old (owner_host o)) × IsTrue (is_some (nth new (owner_host o)))
-  same_account o stands = cases (nth old (owner_host o)) refl stands
+  same_account : (host : ℕ) → IsTrue (is_some (nth old host)) → (account_at new host ≡ account_at old host) × IsTrue (is_some (nth new host))
+  same_account host stands = cases (nth old host) refl stands
     where
-      cases : (q : Option HostRow) → nth old (owner_host o) ≡ q → IsTrue (is_some q)
-          → (account_in new (owner_host o) ≡ account_in old (owner_host o)) × IsTrue (is_some (nth new (owner_host o)))
+      cases : (q : Option HostRow) → nth old host ≡ q → IsTrue (is_some q) → (account_at new host ≡ account_at old host) × IsTrue (is_some (nth new host))
       cases None is some = absurd cc
       cases (Some h) is some =
-          let after = stay (owner_host o) h is in (
-            ap (λ q. unwrap_or (option_map (λ (k : HostRow). k.account) q) 0) after.1
-                ∙ after.2
-                ∙ sym (ap (λ q. unwrap_or (option_map (λ (k : HostRow). k.account) q) 0) is),
+          let after = stay host h is in (
+            ap (option_map (λ (k : HostRow). k.account)) after.1
+                ∙ ap Some after.2
+                ∙ sym (ap (option_map (λ (k : HostRow). k.account)) is),
             ap is_some after.1,
           )
+
+  -- so an instance is of the same user, and its owner's host stands
+  same_user : (x : Instance) → HasOwnerAmong old x → (user_of new x ≡ user_of old x) × HasOwnerAmong new x
+  same_user x among = cases (host_of x) among
+    where
+      cases : (o : Option ℕ) → IfSome o (λ host. IsTrue (is_some (nth old host)))
+          → (option_and_then (account_at new) o ≡ option_and_then (account_at old) o) × IfSome o (λ host. IsTrue (is_some (nth new host)))
+      cases None among = (refl, tt)
+      cases (Some host) among = same_account host among
 
   pub unit_among : (apps : List App) (b : UnitBook) → IsSoundUnit old apps b → IsSoundUnit new apps b
   unit_among apps b sound = record {
@@ -51,13 +58,13 @@ module _ (old new : List HostRow) (stay : AccountsStay old new) where
     well = record {
       one_for_each_user = pairs_from (AreOfOtherUsers new) b.instances (λ i j x y less here there given also same.
           pairs_get (AreOfOtherUsers old) b.instances i j x y sound.well.one_for_each_user less here there given also
-          (sym (same_account x.owner (all_get (HasOwnerAmong old) b.instances i x sound.well.owners here given)).0
+          (sym (same_user x (all_get (HasOwnerAmong old) b.instances i x sound.well.owners here)).0
           ∙ same
-          ∙ (same_account y.owner (all_get (HasOwnerAmong old) b.instances j y sound.well.owners there also)).0));
+          ∙ (same_user y (all_get (HasOwnerAmong old) b.instances j y sound.well.owners there)).0));
       places = sound.well.places;
       in_range = sound.well.in_range;
       bare = sound.well.bare;
-      owners = λ k d within given. (same_account (get_or b.instances k d).owner (sound.well.owners k d within given)).1;
+      owners = λ k d within. (same_user (get_or b.instances k d) (sound.well.owners k d within)).1;
       app = sound.well.app;
       few = sound.well.few;
       limits = sound.well.limits;
@@ -114,9 +121,9 @@ module _ (w : World) (c : Caller) (r : Request) (sound : Sound w) (caller : IsCa
       let found = place_found (λ (a : Account). bytes_eq a.authenticator r.authenticator) w.accounts c.account caller.account in
       number_within w.accounts c.account found.0 found.1
 
-  told_is_sound : (quota : ℕ) → (1 ≤ quota) × (quota ≤ w.settings.daily_result_quota)
+  entry_is_sound : (quota : ℕ) → (1 ≤ quota) × (quota ≤ w.settings.daily_result_quota)
       → IsSoundHost (length w.accounts) w.settings.daily_result_quota (row_of_call c r quota)
-  told_is_sound quota within = record {
+  entry_is_sound quota within = record {
     account = account_stands;
     limits = record {
       cpid = limits.host.host_cpid;
@@ -136,7 +143,7 @@ module _ (w : World) (c : Caller) (r : Request) (sound : Sound w) (caller : IsCa
   renews : (host : ℕ) → c.host ≡ Some host → Sound (record w { hosts = modify_nth (λ (h : HostRow). row_of_call c r h.quota) w.hosts host })
   renews host is =
       with_hosts w (modify_nth renewed w.hosts host) sound stay
-      (all_changed_nth (IsSoundHost (length w.accounts) w.settings.daily_result_quota) renewed w.hosts host sound.rows.hosts (λ h at before. told_is_sound h.quota before.limits.quota))
+      (all_changed_nth (IsSoundHost (length w.accounts) w.settings.daily_result_quota) renewed w.hosts host sound.rows.hosts (λ h at before. entry_is_sound h.quota before.limits.quota))
       (pairs_changed_nth HaveOtherKeys renewed w.hosts host sound.rows.host_keys (λ h at k.
       let key = here h at in (
         λ before same also. before (same ∙ sym key.0) (also ∙ sym key.1),
@@ -174,7 +181,7 @@ module _ (w : World) (c : Caller) (r : Request) (sound : Sound w) (caller : IsCa
   makes none room =
       with_hosts w (w.hosts ++ row ∷ []) sound stay
       (All-push (IsSoundHost (length w.accounts) w.settings.daily_result_quota) w.hosts row sound.rows.hosts
-      (told_is_sound w.settings.daily_result_quota (sound.rows.settings.quota.0, let same : w.settings.daily_result_quota ≤ w.settings.daily_result_quota = omega arith in same)))
+      (entry_is_sound w.settings.daily_result_quota (sound.rows.settings.quota.0, let same : w.settings.daily_result_quota ≤ w.settings.daily_result_quota = omega arith in same)))
       (all_pairs_push HaveOtherKeys w.hosts row sound.rows.host_keys (λ k d within same also.
       not_of_key c.account r.host.host_cpid (get_or w.hosts k d)
       (place_missing (is_host_of c.account r.host.host_cpid) w.hosts (caller.host ∙ none) k (get_or w.hosts k d) (slice_get-get_or w.hosts k d within))

@@ -1,15 +1,16 @@
 -- A new workunit is sound: all instances that it needs, and nothing done with them.
 use Rattle.std.proofs.Common.{◌≡◌, ℕ, zero, suc, ◌+◌, ◌-◌, ◌≤◌, max, Bool, true, false, cond, List, [], length, replicate, None, sym, refl, ap, ◌∙◌, arith, leb-true}
-use Rattle.std.specs.Prelude.{IsTrue, nat_le, fold, count_by, is_some}
+use Rattle.std.specs.Prelude.{IsTrue, nat_le, fold, count_by, is_some, option_map, IfSome}
 use Rattle.std.proofs.lemmas.List.{length-replicate}
 use Rattle.std.proofs.lemmas.List.Elements.{All-replicate}
 use Rattle.std.proofs.lemmas.List.Sums.{sum_by-cons}
-use Rattle.sched_book.specs.Count.{tells_success, is_judged, is_live, told_place, place_of, numbers_from, put_by, good, live, want, need}
+use Rattle.sched_book.specs.Count.{tells_success, is_judged, is_live, report_place, place_of, numbers_from, put_by, good, live, want, need}
 use Rattle.sched_book.specs.Imports.{has_app, new_unit}
 use Rattle.sched_book.specs.Limits.{IsUnitInLimits, IsInstanceInLimits}
 use Rattle.sched_book.specs.Settle.{fresh}
 use Rattle.sched_book.specs.Sound.{AreOfOtherUsers, IsBare, HasOwnerAmong, IsSoundUnit}
 use Rattle.sched_book.specs.declared.instance.Instance.{Instance}
+use Rattle.sched_book.specs.declared.instance.Owner.{Owner}
 use Rattle.sched_book.specs.declared.rows.App.{App}
 use Rattle.sched_book.specs.declared.rows.HostRow.{HostRow}
 use Rattle.sched_book.specs.declared.rows.Workunit.{Workunit}
@@ -58,12 +59,12 @@ new_unit_is_sound hosts apps u limits app = record {
   well = record {
     one_for_each_user = pairs_from (AreOfOtherUsers hosts) xs (λ i j x y less here there given also.
         let free : x.owner ≡ None = all_get (λ z. z.owner ≡ None) xs i x (All-replicate (λ (z : Instance). z.owner ≡ None) u.target_nresults fresh refl) here in
-        let never : false ≡ true = sym (ap is_some free) ∙ given in
+        let never : false ≡ true = sym (ap (λ o. is_some (option_map (λ (o : Owner). o.host) o)) free) ∙ given in
         absurd cc);
     places = λ n less. let none : count_by is_judged xs ≡ 0 = none_judged u.target_nresults in absurd (omega arith);
-    in_range = All-replicate (λ x. IsTrue (is_judged x) → told_place x.report ≤ count_by is_judged xs) u.target_nresults fresh (λ never. absurd cc);
+    in_range = All-replicate (λ x. IfSome (report_place x) (λ place. place ≤ count_by is_judged xs)) u.target_nresults fresh tt;
     bare = All-replicate IsBare u.target_nresults fresh (λ none. (refl, refl));
-    owners = All-replicate (HasOwnerAmong hosts) u.target_nresults fresh (λ given. absurd cc);
+    owners = All-replicate (HasOwnerAmong hosts) u.target_nresults fresh tt;
     app = app;
     few = let long : length xs ≡ u.target_nresults = length-replicate u.target_nresults fresh in omega (arith, limits.target.1);
     limits = limits;

@@ -1,14 +1,14 @@
 -- A grant to a host that stands leaves a sound world sound.
 use Rattle.std.proofs.Common.{◌≡◌, ◌≢◌, ℕ, ◌+◌, ◌<◌, ◌≤◌, Bool, true, false, not, cond, eqb, eq-eqb, ne_eqb, List, [], ◌∷◌, get_or, All, AllPairs, Option, Some, None, slice_get, option_map, option_and_then, unwrap_or, sym, refl, ap, ◌∙◌, subst, arith}
-use Rattle.std.specs.Prelude.{◌&&◌, IsTrue, count_by, is_some, is_none}
+use Rattle.std.specs.Prelude.{◌&&◌, ◌==◌, IsTrue, count_by, is_some, is_none, IfSome}
 use Rattle.std.specs.List.{list_any}
 use Rattle.std.proofs.lemmas.List.Elements.{All-head, All-tail}
-use Rattle.sched_book.specs.Count.{is_judged, is_live, is_open, told_place}
+use Rattle.sched_book.specs.Count.{is_judged, is_live, is_open, report_place}
 use Rattle.sched_book.specs.Fits.{is_eligible, is_for, unit_fits}
 use Rattle.sched_book.specs.Limits.{last_moment, last_deadline, most_delay, most_workunits, most_instances, IsInstanceInLimits}
 use Rattle.sched_book.specs.Lost.{delay_at}
-use Rattle.sched_book.specs.Places.{nth, unit_at, host_at, status_of, account_in, owner_host, agreement_by, is_of_user, user_had}
-use Rattle.sched_book.specs.Reports.{modify_at, with_number, with_changed}
+use Rattle.sched_book.specs.Places.{nth, unit_at, host_at, status_of, option_any, account_at, user_of, agreement_by, is_of_user, user_had}
+use Rattle.sched_book.specs.Reports.{modify_at, modify_nth, with_number, with_changed}
 use Rattle.sched_book.specs.Sound.{AreOfOtherUsers, IsBare, HasOwnerAmong, IsSoundUnit, Sound}
 use Rattle.sched_book.specs.Step.{with_owner, grant_one, granted}
 use Rattle.sched_book.specs.declared.instance.Instance.{Instance}
@@ -19,21 +19,25 @@ use Rattle.sched_book.specs.declared.rows.App.{App}
 use Rattle.sched_book.specs.declared.rows.HostRow.{HostRow}
 use Rattle.sched_book.specs.declared.world.World.{World}
 use Rattle.sched_book.proofs.PlacesOf.{nth-modify_nth, length-modify_nth}
+use Rattle.sched_book.proofs.Rising.{pairs_head, pairs_tail}
 use Rattle.quorum_credit.proofs.ByPlace.{all_get, all_nth}
 use Rattle.job_choice.proofs.Candidates.{Stood, stood}
 use Rattle.sched_machine.specs.Laws.{GrantKeepsSound}
-use Rattle.sched_machine.proofs.RowsListed.{all_changed, pairs_changed, all_changed_nth, pairs_changed_nth, count_changed, any_changed, none_any, pairs_head, pairs_tail}
+use Rattle.sched_machine.proofs.RowsKept.{rows_kept}
+use Rattle.sched_machine.proofs.RowsListed.{all_changed, pairs_changed, all_changed_nth, pairs_changed_nth, count_changed, any_changed, none_any}
 use Rattle.sched_machine.proofs.RowsCounted.{length-changed, need_stays, status_stays}
 
--- an instance that is not the user's went to no host of the user
-other_user : (given : Bool) (m account : ℕ) → IsTrue given → (given && eqb m account) ≡ false → m ≡ account → ⊥
-other_user true m account is fails same = let equal : eqb m account ≡ true = eq-eqb m account same in absurd cc
-other_user false m account is fails same = absurd cc
+-- what is not the user's went to no host of the user
+other_user : (account : ℕ) (user : Option ℕ) → option_any (λ n. n == account) user ≡ false → user ≡ Some account → ⊥
+other_user account user fails is =
+    let equal : eqb account account ≡ true = eq-eqb account account refl in
+    let apart : eqb account account ≡ false = sym (ap (option_any (λ n. n == account)) is) ∙ fails in
+    absurd cc
 
 -- An instance that nobody was given goes to a host of a user that was given none of the workunit.
 module _ (hosts : List HostRow) (apps : List App) (account : ℕ) (o : Owner) (b : UnitBook) (n : ℕ) (x : Instance)
     (sound : IsSoundUnit hosts apps b) (stands : slice_get b.instances n ≡ Some x) (free : x.owner ≡ None)
-    (had : list_any (is_of_user hosts account) b.instances ≡ false) (of_user : account_in hosts o.host ≡ account)
+    (had : list_any (is_of_user hosts account) b.instances ≡ false) (of_user : account_at hosts o.host ≡ Some account)
     (among : IsTrue (is_some (nth hosts o.host))) (sent : o.sent ≤ last_moment) (deadline : o.deadline ≤ last_deadline) where
   same_live : (y : Instance) → slice_get b.instances n ≡ Some y → is_live (with_owner o y) ≡ is_live y
   same_live y is =
@@ -44,11 +48,9 @@ module _ (hosts : List HostRow) (apps : List App) (account : ℕ) (o : Owner) (b
       ∙ ap (λ l. is_live (record { owner = Some o; lapse = l; report = None })) bare.0
       ∙ sym (ap (λ w. is_live (record { owner = w; lapse = y.lapse; report = y.report })) none)
 
-  others : (z : Instance) (k : ℕ) → slice_get b.instances k ≡ Some z → IsTrue (is_some z.owner)
-      → account_in hosts (owner_host z.owner) ≢ account_in hosts o.host
-  others z k there given same =
-      other_user (is_some z.owner) (account_in hosts (owner_host z.owner)) account given
-      (none_any (is_of_user hosts account) b.instances had k z there) (same ∙ of_user)
+  others : (z : Instance) (k : ℕ) → slice_get b.instances k ≡ Some z → user_of hosts z ≢ account_at hosts o.host
+  others z k there same =
+      other_user account (user_of hosts z) (none_any (is_of_user hosts account) b.instances had k z there) (same ∙ of_user)
 
   judged_stay : count_by is_judged (modify_at (with_owner o) b.instances n) ≡ count_by is_judged b.instances
   judged_stay = count_changed is_judged (with_owner o) b.instances n (λ y is. refl)
@@ -60,14 +62,14 @@ module _ (hosts : List HostRow) (apps : List App) (account : ℕ) (o : Owner) (b
         ∙ sound.satisfied (subst (λ s. IsTrue (is_open s)) (status_stays (with_owner o) b.instances n (λ y is. refl) same_live (agreement_by apps b.unit.app) b.unit) is_it);
     well = record {
       one_for_each_user = pairs_changed (AreOfOtherUsers hosts) (with_owner o) b.instances n sound.well.one_for_each_user
-          (λ y is k z there. (λ before given also. others z k there given, λ before also given same. others z k there given (sym same)));
+          (λ y is k z there. (λ before given also same. others z k there same, λ before given also same. others z k there (sym same)));
       places = λ m less.
-          subst IsTrue (sym (any_changed (λ y. is_judged y && eqb (told_place y.report) (m + 1)) (with_owner o) b.instances n (λ y is. refl)))
+          subst IsTrue (sym (any_changed (λ y. option_any (λ place. place == m + 1) (report_place y)) (with_owner o) b.instances n (λ y is. refl)))
           (sound.well.places m (subst (λ c. m < c) judged_stay less));
-      in_range = subst (λ c. All (λ (y : Instance). IsTrue (is_judged y) → told_place y.report ≤ c) (modify_at (with_owner o) b.instances n)) (sym judged_stay)
-          (all_changed (λ y. IsTrue (is_judged y) → told_place y.report ≤ count_by is_judged b.instances) (with_owner o) b.instances n sound.well.in_range (λ y is before. before));
+      in_range = subst (λ c. All (λ (y : Instance). IfSome (report_place y) (λ place. place ≤ c)) (modify_at (with_owner o) b.instances n)) (sym judged_stay)
+          (all_changed (λ y. IfSome (report_place y) (λ place. place ≤ count_by is_judged b.instances)) (with_owner o) b.instances n sound.well.in_range (λ y is before. before));
       bare = all_changed IsBare (with_owner o) b.instances n sound.well.bare (λ y is before none. absurd cc);
-      owners = all_changed (HasOwnerAmong hosts) (with_owner o) b.instances n sound.well.owners (λ y is before given. among);
+      owners = all_changed (HasOwnerAmong hosts) (with_owner o) b.instances n sound.well.owners (λ y is before. among);
       app = sound.well.app;
       few = subst (λ m. m ≤ most_instances) (sym (length-changed (with_owner o) b.instances n)) sound.well.few;
       limits = sound.well.limits;
@@ -77,7 +79,6 @@ module _ (hosts : List HostRow) (apps : List App) (account : ℕ) (o : Owner) (b
             deadline = deadline;
             output = before.output;
             place = before.place;
-            judged = before.judged;
           });
     };
   }
@@ -98,24 +99,10 @@ not_had false b c d is = absurd cc
 module _ (host now : ℕ) (h : HostRow) (soon : now ≤ last_moment) where
   give_one : (w : World) (p : Place) → Sound w → host_at w host ≡ Some h → is_eligible w h p ≡ true → Sound (grant_one host now w p)
   give_one w p sound stands eligible = record {
-    rows = record {
-      settings = sound.rows.settings;
-      accounts = sound.rows.accounts;
-      apps = sound.rows.apps;
-      versions = sound.rows.versions;
-      hosts = sound.rows.hosts;
-      account_names = sound.rows.account_names;
-      app_names = sound.rows.app_names;
-      version_names = sound.rows.version_names;
-      unit_names = pairs_changed_nth (λ a b. a.unit.name ≢ b.unit.name) (with_number (with_owner o) p.number) w.units p.unit sound.rows.unit_names
-          (λ b is c. (λ before. before, λ before. before));
-      host_keys = sound.rows.host_keys;
-      account_count = sound.rows.account_count;
-      app_count = sound.rows.app_count;
-      version_count = sound.rows.version_count;
-      unit_count = subst (λ n. n ≤ most_workunits) (sym (length-modify_nth (with_number (with_owner o) p.number) w.units p.unit)) sound.rows.unit_count;
-      host_count = sound.rows.host_count;
-    };
+    rows = rows_kept w (modify_nth (with_number (with_owner o) p.number) w.units p.unit) sound.rows
+        (pairs_changed_nth (λ a b. a.unit.name ≢ b.unit.name) (with_number (with_owner o) p.number) w.units p.unit sound.rows.unit_names
+        (λ b is c. (λ before. before, λ before. before)))
+        (subst (λ n. n ≤ most_workunits) (sym (length-modify_nth (with_number (with_owner o) p.number) w.units p.unit)) sound.rows.unit_count);
     units = all_changed_nth (IsSoundUnit w.hosts w.apps) (with_number (with_owner o) p.number) w.units p.unit sound.units
         (λ b is before. let same : at.book ≡ b = (let both : Some at.book ≡ Some b = sym at.at ∙ is in cc) in subst (λ c. IsSoundUnit w.hosts w.apps (with_number (with_owner o) p.number c)) same here);
   }
@@ -136,7 +123,7 @@ module _ (host now : ℕ) (h : HostRow) (soon : now ≤ last_moment) where
           given_stays_sound w.hosts w.apps h.account o at.book p.number at.x unit at.stands
           (none_free at.x.owner (is_for w h at.book) at.passed)
           (not_had (is_none at.x.owner) (is_open (status_of w at.book)) (unit_fits w h at.book) (user_had w h.account at.book) at.passed)
-          (ap (λ q. unwrap_or (option_map (λ (k : HostRow). k.account) q) 0) stands)
+          (ap (option_map (λ (k : HostRow). k.account)) stands)
           (ap is_some stands) soon
           (let late : now + delay_at w p ≤ last_deadline = omega arith in late)
 

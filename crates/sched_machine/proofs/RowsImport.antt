@@ -18,6 +18,7 @@ use Rattle.sched_book.specs.declared.rows.Workunit.{Workunit}
 use Rattle.sched_book.specs.declared.world.World.{World}
 use Rattle.quorum_credit.proofs.ByPlace.{all_get}
 use Rattle.sched_machine.specs.Laws.{ImportKeepsSound}
+use Rattle.sched_machine.proofs.RowsKept.{rows_kept}
 use Rattle.sched_machine.proofs.RowsListed.{all_from, pairs_map, pairs_of_map}
 use Rattle.sched_machine.proofs.RowsNamed.{no_fault, new_names, other_text, other_version, named_apps, HasRoom, room_from, app_stays, agreement_stays}
 use Rattle.sched_machine.proofs.RowsFresh.{new_unit_is_sound}
@@ -147,26 +148,12 @@ module _ (w : World) (sound : Sound w) where
   units_added us checked =
       let free = unrefused w (rows.Workunits us) checked in
       record {
-        rows = record {
-          settings = sound.rows.settings;
-          accounts = sound.rows.accounts;
-          apps = sound.rows.apps;
-          versions = sound.rows.versions;
-          hosts = sound.rows.hosts;
-          account_names = sound.rows.account_names;
-          app_names = sound.rows.app_names;
-          version_names = sound.rows.version_names;
-          unit_names = pairs_of_map (λ (b : UnitBook). b.unit) (λ a b. a.name ≢ b.name) (w.units ++ map new_unit us)
-              (subst (AllPairs (λ a b. a.name ≢ b.name)) (sym (unit_rows w.units us))
-              (new_names same_unit (λ a b. a.name ≢ b.name) (λ a b fails. other_text a.name b.name fails) 1 (map (λ (b : UnitBook). b.unit) w.units) us free.new_ones
-              (pairs_map (λ (b : UnitBook). b.unit) (λ a b. a.name ≢ b.name) w.units sound.rows.unit_names)));
-          host_keys = sound.rows.host_keys;
-          account_count = sound.rows.account_count;
-          app_count = sound.rows.app_count;
-          version_count = sound.rows.version_count;
-          unit_count = units_fit free.room.units;
-          host_count = sound.rows.host_count;
-        };
+        rows = rows_kept w (w.units ++ map new_unit us) sound.rows
+            (pairs_of_map (λ (b : UnitBook). b.unit) (λ a b. a.name ≢ b.name) (w.units ++ map new_unit us)
+            (subst (AllPairs (λ a b. a.name ≢ b.name)) (sym (unit_rows w.units us))
+            (new_names same_unit (λ a b. a.name ≢ b.name) (λ a b fails. other_text a.name b.name fails) 1 (map (λ (b : UnitBook). b.unit) w.units) us free.new_ones
+            (pairs_map (λ (b : UnitBook). b.unit) (λ a b. a.name ≢ b.name) w.units sound.rows.unit_names))))
+            (units_fit free.room.units);
         units = All-append (IsSoundUnit w.hosts w.apps) w.units (map new_unit us) sound.units
             (All-map (IsSoundUnit w.hosts w.apps) new_unit us (all_from (λ u. IsSoundUnit w.hosts w.apps (new_unit u)) us (λ i u there.
             new_unit_is_sound w.hosts w.apps u (all_get IsUnitInLimits us i u checked.in_limits there)

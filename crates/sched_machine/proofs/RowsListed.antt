@@ -10,6 +10,7 @@ use Rattle.sched_book.specs.Places.{nth, place_where}
 use Rattle.sched_book.specs.Reports.{modify_at, modify_nth}
 use Rattle.sched_book.proofs.PlacesOf.{nth-suc, place_where-is}
 use Rattle.quorum_credit.proofs.ByPlace.{all_get}
+use Rattle.sched_book.proofs.Rising.{pairs_head, pairs_tail}
 
 -- a fact of each element, and of each two, by index
 pub all_from : {X : Type 0} (P : X → Type 0) (xs : List X) → ((i : ℕ) (x : X) → slice_get xs i ≡ Some x → P x) → All P xs
@@ -26,12 +27,6 @@ pairs_get R xs i j x y all less here there =
     let first : get_or xs i x ≡ x = get_or_from_slice_get xs i x x here in
     let second : get_or xs j x ≡ y = get_or_from_slice_get xs j y x there in
     subst (λ z. R z y) first (subst (R (get_or xs i x)) second (all i j x less (slice_get_within xs j y there)))
-
-pub pairs_tail : {X : Type 0} (R : X → X → Type 0) (x : X) (xs : List X) → AllPairs R (x ∷ xs) → AllPairs R xs
-pairs_tail R x xs all i j d less within = all (suc i) (suc j) d (omega arith) (omega arith)
-
-pub pairs_head : {X : Type 0} (R : X → X → Type 0) (x : X) (xs : List X) → AllPairs R (x ∷ xs) → All (R x) xs
-pairs_head R x xs all k d within = all zero (suc k) d (omega arith) (omega arith)
 
 -- the same under a function
 pub pairs_map : {X Y : Type 0} (f : X → Y) (R : Y → Y → Type 0) (xs : List X) → AllPairs (λ a b. R (f a) (f b)) xs → AllPairs R (map f xs)

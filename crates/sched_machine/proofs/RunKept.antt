@@ -1,6 +1,6 @@
 -- What lasts between an instance and what becomes of it, through each part of a step.
 use Rattle.std.proofs.Common.{◌≡◌, ℕ, zero, suc, ◌+◌, ◌-◌, ◌<◌, Bool, true, false, cond, eqb, ne_eqb, List, [], ◌∷◌, ◌++◌, Option, Some, None, sym, refl, ap, ◌∙◌, subst, arith}
-use Rattle.std.specs.Prelude.{◌&&◌, All, AllPairs, Contains, fold, get_or, is_none, is_some, map, nat_lt, not, replicate, option_map, option_and_then, unwrap_or, slice_get}
+use Rattle.std.specs.Prelude.{◌&&◌, All, AllPairs, Contains, fold, get_or, is_none, is_some, map, not, replicate, option_map, option_and_then, unwrap_or, slice_get}
 use Rattle.std.proofs.lemmas.List.Elements.{All-nil, All-filter, All-head, All-tail}
 use Rattle.rpc_records.specs.declared.request.Report.{Report}
 use Rattle.rpc_records.specs.declared.request.Request.{Request}
@@ -9,7 +9,7 @@ use Rattle.sched_book.specs.Fits.{is_eligible, is_for, estimate_at}
 use Rattle.sched_book.specs.Grant.{Asking, IsGrant}
 use Rattle.sched_book.specs.Imports.{new_unit, with_rows}
 use Rattle.sched_book.specs.Lost.{is_listed, unlisted, lost, is_resent, delay_at, deadline_after, with_deadline, with_lapse, resend_or_drop}
-use Rattle.sched_book.specs.Places.{nth, unit_at, instance_at, passes, place_named, book_status, is_held_by, is_owned_by, is_overdue, overdue, held_by, deadline_of, is_same}
+use Rattle.sched_book.specs.Places.{nth, unit_at, instance_at, passes, place_named, book_status, is_held_by, is_owned_by, is_overdue, overdue, held_by, is_same}
 use Rattle.sched_book.specs.Reports.{with_changed, first_reports, awaits_report, with_report, judged_place, record_at, record_one, recorded}
 use Rattle.sched_book.specs.Settle.{fresh, grown, settled}
 use Rattle.sched_book.specs.Step.{Step, at_entry, after_reports, lost_of, host_at_entry, host_number, resent_of, after_lost, after_settlement, with_owner, grant_one, granted, lapsed, asking_of}
@@ -33,7 +33,7 @@ use Rattle.sched_book.proofs.Recording.{instance_at-with_changed, passes-is, is_
 use Rattle.sched_book.proofs.Settling.{nth-map}
 use Rattle.job_choice.proofs.Candidates.{Stood, stood}
 use Rattle.sched_machine.proofs.AlikePlaces.{places_hold}
-use Rattle.sched_machine.proofs.RowsListed.{pairs_head, pairs_tail}
+use Rattle.sched_book.proofs.Rising.{pairs_head, pairs_tail}
 use Rattle.sched_machine.proofs.UnitsGiven.{first_true}
 
 -- an instance has no lapse but this
@@ -137,7 +137,7 @@ module _ (R : Instance → Instance → Type 0) (lasting : IsLasting R) (p : Pla
       let z = second y.0 y.1 in
       (z.0, z.1, lasting.chain x y.0 z.0 y.2 z.2)
 
-  -- one instance changed, where this is told of it
+  -- one instance changed, where this is known of it
   kept_changed : (f : Instance → Instance) (w : World) (q : Place) → (q ≡ p → HoldsAt (λ x. R x (f x)) w p) → KeptAt R p w (with_changed f w q)
   kept_changed f w q good x stands = cases (is_same q p) refl
     where
@@ -187,7 +187,7 @@ module _ (R : Instance → Instance → Type 0) (lasting : IsLasting R) (p : Pla
   kept_lapses w now =
       all (overdue w now) w
       (places_hold w (is_overdue now) (HasNoOther Late)
-      (λ x late. held_no_lapse Late x (first_true (is_held x) (nat_lt (deadline_of x.owner) now) late)))
+      (λ x late. held_no_lapse Late x (first_true (is_held x) _ late)))
     where
       all : (qs : List Place) (v : World) → All (HoldsAt (HasNoOther Late) v) qs → KeptAt R p v (fold (with_changed (with_lapse Late)) v qs)
       all [] v free = kept_self v
@@ -199,7 +199,7 @@ module _ (R : Instance → Instance → Type 0) (lasting : IsLasting R) (p : Pla
           holds_after (HasNoOther Late) (with_lapse Late) (λ x before l is. (let same : Some Late ≡ Some l = is in cc)) v q _
           (All-tail (HoldsAt (HasNoOther Late) v) q qs free k d within)))
 
-  -- lost jobs, where a new deadline at this place keeps what is told
+  -- lost jobs, where a new deadline at this place keeps what is known
   module _ (entry : World) (h : HostRow) (now : ℕ) where
     abbrev later : Place → ℕ → ℕ
     later q = deadline_after now (estimate_at entry h q) (delay_at entry q)
@@ -278,7 +278,7 @@ module _ (R : Instance → Instance → Type 0) (lasting : IsLasting R) (p : Pla
       at_unit (Some b) is there =
           ap (option_and_then (λ (b : UnitBook). slice_get b.instances p.number)) (front_nth w.units (map new_unit xs) p.unit b is) ∙ there
 
-  -- a call, and each step, where a new deadline of a job that is sent again keeps what is told
+  -- a call, and each step, where a new deadline of a job that is sent again keeps what is known
   kept_call : (w : World) (c : Caller) (r : Request) (now : ℕ) (jobs : List Place)
       → (Contains (resent_of w c r) p → (f : ℕ → ℕ) (x : Instance) → R x (with_deadline f x))
       → IsGrant (after_settlement w c r now) (asking_of w c r now) jobs

@@ -103,7 +103,7 @@ settings_stay_in_step w after call.Tick now (answered.Imported n) step = absurd 
 -- A turn of a run, which is a step of a sound world with the settings of the first.
 record IsTurn (w : World) (turns : List (Answered × World)) (n : ℕ) (e : Call × ℕ) : Type 0 where
   answer : Answered
-  told : slice_get turns n ≡ Some (answer, world_after w turns (suc n))
+  there : slice_get turns n ≡ Some (answer, world_after w turns (suc n))
   sound : Sound (world_after w turns n)
   step : Step (world_after w turns n) e.0 e.1 (world_after w turns (suc n)) answer
   settings : (world_after w turns n).settings ≡ w.settings
@@ -117,7 +117,7 @@ turn_at w (f ∷ fs) (u ∷ us) sound limits trace zero e called =
     let same : f ≡ e = (let both : Some f ≡ Some e = called in cc) in
     record {
       answer = u.0;
-      told = refl;
+      there = refl;
       sound = sound;
       step = subst (λ (f : Call × ℕ). Step w f.0 f.1 u.1 u.0) same trace.0;
       settings = refl;
@@ -126,7 +126,7 @@ turn_at w (f ∷ fs) (u ∷ us) sound limits trace (suc n) e called =
     let later = turn_at u.1 fs us (step_keeps_sound w u.1 f.0 f.1 u.0 sound limits.0 limits.1 trace.0) limits.2 trace.1 n e called in
     record {
       answer = later.answer;
-      told = later.told;
+      there = later.there;
       sound = later.sound;
       step = later.step;
       settings = later.settings ∙ settings_stay_in_step w u.1 f.0 f.1 u.0 trace.0;
@@ -135,7 +135,7 @@ turn_at w (f ∷ fs) (u ∷ us) sound limits trace (suc n) e called =
 pub a_host_holds_what_is_listed_or_named_in_runs : HoldsWhatIsListedOrNamedInRuns
 a_host_holds_what_is_listed_or_named_in_runs w calls turns sound limits trace resends n now c r names called lists =
     let turn = turn_at w calls turns sound limits trace n (call.Rpc c r, now) called in
-    cases turn.answer turn.told turn.step turn.sound (ap (λ (s : Settings). s.resend_lost_results) turn.settings ∙ resends)
+    cases turn.answer turn.there turn.step turn.sound (ap (λ (s : Settings). s.resend_lost_results) turn.settings ∙ resends)
   where
     before : World
     before = world_after w turns n
@@ -145,7 +145,7 @@ a_host_holds_what_is_listed_or_named_in_runs w calls turns sound limits trace re
 
     cases : (answer : Answered) → slice_get turns n ≡ Some (answer, after) → Step before (call.Rpc c r) now after answer → Sound before
         → before.settings.resend_lost_results ≡ true → IsInSightAfter w turns n c r names
-    cases (answered.Rpc reply) told step sound again =
-        record { reply = reply; told = told; held = named.a_host_holds_what_is_listed_or_named before after c r now reply names step sound again lists }
-    cases (answered.Imported count) told step sound again = absurd step
-    cases (answered.Lapsed count) told step sound again = absurd step
+    cases (answered.Rpc reply) there step sound again =
+        record { reply = reply; turn = there; held = named.a_host_holds_what_is_listed_or_named before after c r now reply names step sound again lists }
+    cases (answered.Imported count) there step sound again = absurd step
+    cases (answered.Lapsed count) there step sound again = absurd step

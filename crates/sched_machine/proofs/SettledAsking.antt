@@ -1,4 +1,4 @@
--- What a call asks of its grant, told from the world before the call.
+-- What a call asks of its grant, read off the world before the call.
 use Rattle.std.proofs.Common.{◌≡◌, ℕ, ◌+◌, List, [], ◌∷◌, length, sym, refl, ap, ◌∙◌, subst}
 use Rattle.std.specs.Prelude.{sum_by, option_map, unwrap_or}
 use Rattle.std.proofs.lemmas.List.Sums.{sum_by-cons}
@@ -20,7 +20,7 @@ use Rattle.job_choice.specs.declared.granted.Grant.{Grant}
 use Rattle.job_choice.proofs.Carried.{grants_carry_over}
 use Rattle.lost_jobs.specs.Holding.{HoldsNoMore}
 use Rattle.sched_machine.specs.Calling.{IsCalling}
-use Rattle.sched_machine.specs.declared.entry.Calling.{Calling}
+use Rattle.sched_machine.specs.declared.caller.Calling.{Calling}
 use Rattle.sched_machine.proofs.AlikeLists.{Along, along_map, along_nth}
 use Rattle.sched_machine.proofs.AlikeUnits.{IsKept, row_grown}
 use Rattle.sched_machine.proofs.AlikeSettled.{before_settlement, the_settled_world_is_like_the_first}
@@ -65,7 +65,7 @@ module _ (w : World) (k : Calling) (r : Request) (now : ℕ) where
   abbrev asking : Asking
   asking = asking_of w k.caller r now
 
-  -- what is asked for by these parts, told from the world before
+  -- what is asked for by these parts, read off the world before
   abbrev parts : ℕ → World → HostRow → List Place → Asking
   parts number after host resent = record {
     number = number;
@@ -81,13 +81,13 @@ module _ (w : World) (k : Calling) (r : Request) (now : ℕ) where
       → parts k.number after k.host resent ≡ asking
   parts_are after resent calling is sent =
       let number : ℕ = host_number w k.caller in
-      let told : HostRow = host_at_entry w k.caller r in
+      let known : HostRow = host_at_entry w k.caller r in
       ap (λ n. parts n after k.host resent) calling.number
       ∙ ap (λ v. parts number v k.host resent) is
       ∙ ap (λ h. parts number settlement h resent) calling.host
-      ∙ ap (parts number settlement told) sent
+      ∙ ap (parts number settlement known) sent
       ∙ ap {A = ℕ} {B = Asking} (λ seconds. record asking { before = seconds })
-      (sym (all_seconds_settled w k.caller r now told (resent_of w k.caller r)))
+      (sym (all_seconds_settled w k.caller r now known (resent_of w k.caller r)))
 
   -- the call's host holds no more in it
   holds_no_more : (after : World) → IsCalling w r k → after ≡ settlement → HoldsNoMore w after k.number
@@ -108,7 +108,7 @@ module _ (w : World) (k : Calling) (r : Request) (now : ℕ) where
       (carried.0, choice.end_word_is ∙ sym carried.1)
 
   -- the same, where the world before, that of the changes in it, and the host's row were read one after another
-  pub choice_told : (v : World) (changes : List Change) (row : HostRow) (resent : List Place) (g : Grant) → v ≡ w
+  pub choice_known : (v : World) (changes : List Change) (row : HostRow) (resent : List Place) (g : Grant) → v ≡ w
       → row ≡ unwrap_or (host_at (applied w changes) k.number) k.host
       → (HoldsNoMore v (applied v changes) k.number → IsChoice v (record {
         number = k.number;
@@ -120,7 +120,7 @@ module _ (w : World) (k : Calling) (r : Request) (now : ℕ) where
       }) g)
       → IsCalling w r k → applied w changes ≡ settlement → resent ≡ resent_of w k.caller r
       → IsGrant settlement asking (places_of g.jobs) × (g.end_word ≡ end_word settlement asking (places_of g.jobs))
-  choice_told v changes row resent g same read chosen calling is sent =
+  choice_known v changes row resent g same read chosen calling is sent =
       choice_settled (applied w changes) resent g calling is sent
       (subst (Chosen w) read (subst (λ u. Chosen u row) same chosen))
     where

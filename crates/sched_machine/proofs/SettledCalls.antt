@@ -8,7 +8,7 @@ use Rattle.sched_book.specs.Step.{after_reports, after_lost, after_settlement}
 use Rattle.sched_book.specs.declared.delta.Change.{Change}
 use Rattle.sched_book.specs.declared.world.World.{World}
 use Rattle.sched_machine.specs.Calling.{IsCalling}
-use Rattle.sched_machine.specs.declared.entry.Calling.{Calling}
+use Rattle.sched_machine.specs.declared.caller.Calling.{Calling}
 
 -- settlement looks at the workunits, the applications and the settings of the world before, which entry leaves
 pub settles_call : (w v u : World) (r : Request) (k : Calling) (now : ℕ) (reported lost all : List Change) → v ≡ w → u ≡ v → IsCalling w r k
@@ -18,11 +18,11 @@ pub settles_call : (w v u : World) (r : Request) (k : Calling) (now : ℕ) (repo
     → (IsCalling v r k → applied v reported ≡ after_reports v k.caller r → Fits v reported → Fits v lost)
     → (Sound u → Fits u lost → applied u all ≡ settled u (applied u lost))
     → applied w all ≡ after_settlement w k.caller r now
-settles_call w v u r k now reported lost all first second calling told fits lost_told lost_fits settles =
+settles_call w v u r k now reported lost all first second calling known fits lost_known lost_fits settles =
     let then : applied w lost ≡ after_lost w k.caller r now =
-    subst (λ (z : World). IsCalling z r k → applied z reported ≡ after_reports z k.caller r → applied z lost ≡ after_lost z k.caller r now) first lost_told calling told in
+    subst (λ (z : World). IsCalling z r k → applied z reported ≡ after_reports z k.caller r → applied z lost ≡ after_lost z k.caller r now) first lost_known calling known in
     let then_fits : Fits w lost =
-    subst (λ (z : World). IsCalling z r k → applied z reported ≡ after_reports z k.caller r → Fits z reported → Fits z lost) first lost_fits calling told fits in
+    subst (λ (z : World). IsCalling z r k → applied z reported ≡ after_reports z k.caller r → Fits z reported → Fits z lost) first lost_fits calling known fits in
     let last : applied w all ≡ settled w (applied w lost) =
     subst (λ (z : World). Sound z → Fits z lost → applied z all ≡ settled z (applied z lost)) (second ∙ first) settles calling.sound then_fits in
     last ∙ ap (settled w) then

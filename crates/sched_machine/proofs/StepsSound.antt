@@ -1,6 +1,6 @@
 -- Each step leaves a sound world sound: its parts, one after the other.
-use Rattle.std.proofs.Common.{◌≡◌, ℕ, ◌≤◌, ◌<◌, Bool, true, false, cond, List, [], ◌∷◌, length, Option, Some, None, sym, refl, ap, ◌∙◌, subst, arith}
-use Rattle.std.specs.Prelude.{◌≢◌, ◌+◌, All, AllPairs, IsTrue, fold, get_or, is_some, option_map, unwrap_or}
+use Rattle.std.proofs.Common.{◌≡◌, ℕ, ◌≤◌, Bool, true, false, cond, List, [], ◌∷◌, length, Option, Some, None, sym, refl, ap, ◌∙◌, subst, arith}
+use Rattle.std.specs.Prelude.{◌≢◌, ◌+◌, All, AllPairs, IsTrue, fold, is_some, option_map, unwrap_or}
 use Rattle.std.proofs.lemmas.Bool.{eq-eqb}
 use Rattle.rpc_records.specs.Ranges.{IsInRange}
 use Rattle.rpc_records.specs.declared.request.Request.{Request}
@@ -13,8 +13,8 @@ use Rattle.sched_book.specs.Limits.{last_moment, IsAccountInLimits, IsAppInLimit
 use Rattle.sched_book.specs.Places.{host_at, nth, overdue, place_named, passes, is_host_of}
 use Rattle.sched_book.specs.Reports.{awaits_report, judged_place, with_changed, with_report, record_at, record_one, recorded, first_reports}
 use Rattle.sched_book.specs.Settle.{with_grown, with_quota}
-use Rattle.sched_book.specs.Sound.{IsSoundUnit, IsSoundHost, IsSoundVersion, HaveOtherKeys, Sound, IsWellUnit, IsWell}
-use Rattle.sched_book.specs.Step.{IsCaller, RpcStep, TickStep, at_entry, after_reports, after_lost, after_settlement, host_number, host_at_entry, lost_of, hosts_at_entry, row_of_call, asking_of, lapsed}
+use Rattle.sched_book.specs.Sound.{IsSoundUnit, IsSoundHost, IsSoundVersion, HaveOtherKeys, Sound, IsWell}
+use Rattle.sched_book.specs.Step.{IsCaller, HasRoom, RpcStep, TickStep, at_entry, after_reports, after_lost, after_settlement, host_number, host_at_entry, lost_of, hosts_at_entry, row_of_call, asking_of, lapsed}
 use Rattle.sched_book.specs.declared.instance.Lapse.TheVariants.{Late, Dropped}
 use Rattle.sched_book.specs.declared.instance.Place.{Place}
 use Rattle.sched_book.specs.declared.instance.UnitBook.{UnitBook}
@@ -107,7 +107,7 @@ mapped_some f None = refl
 mapped_some f (Some x) = refl
 
 module _ (w : World) (c : Caller) (r : Request) (now : ℕ) (sound : Sound w) (caller : IsCaller w c r)
-    (room : c.host ≡ None → length w.hosts < w.settings.max_hosts) (limits : IsInRange r) (early : now ≤ last_moment) where
+    (room : HasRoom w c) (limits : IsInRange r) (early : now ≤ last_moment) where
   entered : Sound (at_entry w c r)
   entered = entry_keeps_sound w c r sound caller room limits
 

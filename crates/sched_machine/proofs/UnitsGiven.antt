@@ -1,11 +1,12 @@
 -- Jobs that were given to hosts, changed one after another.
-use Rattle.std.proofs.Common.{◌≡◌, Bool, true, false, cond, List, [], ◌∷◌, Option, Some, None, sym, refl, ap, ◌∙◌}
-use Rattle.std.specs.Prelude.{◌&&◌, All, fold, is_some, option_map}
+use Rattle.std.proofs.Common.{◌≡◌, ℕ, Bool, true, false, cond, List, [], ◌∷◌, Option, Some, None, sym, refl, ap, ◌∙◌}
+use Rattle.std.specs.Prelude.{◌&&◌, ◌==◌, All, fold, is_some, option_map}
 use Rattle.std.proofs.lemmas.List.Elements.{All-head, All-tail}
-use Rattle.sched_book.specs.Places.{instance_at, places_where, is_same}
+use Rattle.sched_book.specs.Places.{instance_at, option_any, is_owned_by, places_where, is_same}
 use Rattle.sched_book.specs.Reports.{with_changed}
 use Rattle.sched_book.specs.Sound.{IsWell}
 use Rattle.sched_book.specs.declared.instance.Instance.{Instance}
+use Rattle.sched_book.specs.declared.instance.Owner.{Owner}
 use Rattle.sched_book.specs.declared.instance.Place.{Place}
 use Rattle.sched_book.specs.declared.world.World.{World}
 use Rattle.sched_book.proofs.Recording.{instance_at-with_changed}
@@ -19,6 +20,14 @@ IsGiven w p = (x : Instance) → instance_at w p ≡ Some x → is_some x.owner 
 pub first_true : (a b : Bool) → (a && b) ≡ true → a ≡ true
 first_true true b is = refl
 first_true false b is = is
+
+-- what a host owns was given to it
+pub owned_given : (host : ℕ) (x : Instance) → is_owned_by host x ≡ true → is_some x.owner ≡ true
+owned_given host x owned = cases x.owner owned
+  where
+    cases : (o : Option Owner) → option_any (λ n. n == host) (option_map (λ (o : Owner). o.host) o) ≡ true → is_some o ≡ true
+    cases None is = absurd cc
+    cases (Some o) is = refl
 
 -- a change that takes no owner away
 pub given_after : (f : Instance → Instance) (w : World) (p q : Place) → ((x : Instance) → is_some (f x).owner ≡ is_some x.owner)

@@ -1,6 +1,6 @@
 -- A well workunit with the instances that it needs is sound.
-use Rattle.std.proofs.Common.{◌≡◌, ℕ, zero, suc, ◌+◌, ◌-◌, ◌*◌, ◌≤◌, Bool, true, false, cond, List, [], ◌∷◌, ◌++◌, length, get_or, sym, refl, ap, ◌∙◌, subst, length-append, arith}
-use Rattle.std.specs.Prelude.{◌||◌, ◌&&◌, ◌==◌, All, AllPairs, IsTrue, count_by, fold, is_some, nat_le, replicate}
+use Rattle.std.proofs.Common.{◌≡◌, ◌≢◌, ℕ, zero, suc, ◌+◌, ◌-◌, ◌*◌, ◌≤◌, Bool, true, false, cond, List, [], ◌∷◌, ◌++◌, length, get_or, Option, Some, None, sym, refl, ap, ◌∙◌, subst, length-append, arith}
+use Rattle.std.specs.Prelude.{◌||◌, ◌==◌, All, AllPairs, IsTrue, count_by, fold, is_some, nat_le, replicate, option_and_then, IfSome}
 use Rattle.std.specs.List.{list_any, prefix_len}
 use Rattle.std.proofs.lemmas.List.{length-replicate}
 use Rattle.std.proofs.lemmas.List.Edits.{length-insert}
@@ -8,9 +8,9 @@ use Rattle.std.proofs.lemmas.List.Elements.{All-append, All-replicate}
 use Rattle.std.proofs.lemmas.List.Folds.{list_any-append, sum_by-replicate}
 use Rattle.std.proofs.lemmas.List.Kept.{AllPairs-cons}
 use Rattle.std.proofs.lemmas.List.Sums.{sum_by-append, prefix_len-le-length}
-use Rattle.sched_book.specs.Count.{tells_success, is_judged, told_place, is_live, place_of, numbers_from, put_by, good, live, want, need, is_open}
+use Rattle.sched_book.specs.Count.{tells_success, is_judged, report_place, is_live, place_of, numbers_from, put_by, good, live, want, need, is_open}
 use Rattle.sched_book.specs.Limits.{most_instances, IsInstanceInLimits}
-use Rattle.sched_book.specs.Places.{nth, agreement_by, book_status, account_in, owner_host}
+use Rattle.sched_book.specs.Places.{nth, option_any, agreement_by, book_status, account_at, host_of}
 use Rattle.sched_book.specs.Settle.{fresh, grown}
 use Rattle.sched_book.specs.Sound.{AreOfOtherUsers, IsBare, HasOwnerAmong, IsSoundUnit, IsWellUnit}
 use Rattle.sched_book.specs.declared.instance.Instance.{Instance}
@@ -85,17 +85,22 @@ grown_needs_none u xs =
 
 -- these hosts have the accounts of those
 pub record HaveSameUsers (hosts others : List HostRow) : Type 0 where
-  pub account : (n : ℕ) → account_in others n ≡ account_in hosts n
+  pub account : (n : ℕ) → account_at others n ≡ account_at hosts n
   pub stands : (n : ℕ) → is_some (nth others n) ≡ is_some (nth hosts n)
 
 -- a workunit after settlement, where the hosts after it are the others
 module _ (hosts others : List HostRow) (apps : List App) (users : HaveSameUsers hosts others) where
   other_users : (x y : Instance) → AreOfOtherUsers hosts x y → AreOfOtherUsers others x y
-  other_users x y apart = λ given also same.
-      apart given also (sym (users.account (owner_host x.owner)) ∙ same ∙ users.account (owner_host y.owner))
+  other_users x y apart =
+      let same : account_at hosts ≡ account_at others = λ i n. sym (users.account n) i in
+      subst (λ (at : ℕ → Option ℕ). IsTrue (is_some (host_of x)) → IsTrue (is_some (host_of y)) → option_and_then at (host_of x) ≢ option_and_then at (host_of y)) same apart
 
   owner_among : (x : Instance) → HasOwnerAmong hosts x → HasOwnerAmong others x
-  owner_among x among = λ given. users.stands (owner_host x.owner) ∙ among given
+  owner_among x among = cases (host_of x) among
+    where
+      cases : (o : Option ℕ) → IfSome o (λ host. IsTrue (is_some (nth hosts host))) → IfSome o (λ host. IsTrue (is_some (nth others host)))
+      cases None among = tt
+      cases (Some host) among = users.stands host ∙ among
 
   all_owners : (xs : List Instance) → All (HasOwnerAmong hosts) xs → All (HasOwnerAmong others) xs
   all_owners xs all = λ k d within. owner_among (get_or xs k d) (all k d within)
@@ -137,14 +142,14 @@ module _ (hosts others : List HostRow) (apps : List App) (users : HaveSameUsers 
         well = record {
           one_for_each_user = pairs_more (AreOfOtherUsers others) xs n fresh (λ x given also. absurd cc) (all_apart xs well.one_for_each_user);
           places = λ m within.
-              list_any-append (λ x. is_judged x && (told_place x.report == m + 1)) xs more
-              ∙ ap (λ (c : Bool). c || list_any (λ x. is_judged x && (told_place x.report == m + 1)) more) (well.places m (omega arith));
+              list_any-append (λ x. option_any (λ place. place == m + 1) (report_place x)) xs more
+              ∙ ap (λ (c : Bool). c || list_any (λ x. option_any (λ place. place == m + 1) (report_place x)) more) (well.places m (omega arith));
           in_range =
-              subst (λ m. All (λ x. IsTrue (is_judged x) → told_place x.report ≤ m) (xs ++ more)) (sym many)
-              (All-append (λ x. IsTrue (is_judged x) → told_place x.report ≤ count_by is_judged xs) xs more well.in_range
-              (All-replicate (λ x. IsTrue (is_judged x) → told_place x.report ≤ count_by is_judged xs) n fresh (λ judged. absurd cc)));
+              subst (λ m. All (λ x. IfSome (report_place x) (λ place. place ≤ m)) (xs ++ more)) (sym many)
+              (All-append (λ x. IfSome (report_place x) (λ place. place ≤ count_by is_judged xs)) xs more well.in_range
+              (All-replicate (λ x. IfSome (report_place x) (λ place. place ≤ count_by is_judged xs)) n fresh tt));
           bare = All-append IsBare xs more well.bare (All-replicate IsBare n fresh (λ none. (refl, refl)));
-          owners = All-append (HasOwnerAmong others) xs more (all_owners xs well.owners) (All-replicate (HasOwnerAmong others) n fresh (λ given. absurd cc));
+          owners = All-append (HasOwnerAmong others) xs more (all_owners xs well.owners) (All-replicate (HasOwnerAmong others) n fresh tt);
           app = well.app;
           few = omega arith;
           limits = well.limits;

@@ -1,9 +1,9 @@
 -- Lapses leave a world well.
 use Rattle.std.proofs.Common.{◌≡◌, inl, true, false, refl, ap, ◌∙◌}
-use Rattle.std.specs.Prelude.{◌&&◌, nat_lt, is_some, is_none, option_and_then, slice_get}
+use Rattle.std.specs.Prelude.{◌&&◌, is_some, is_none, option_and_then, slice_get}
 use Rattle.sched_book.specs.Count.{is_held}
 use Rattle.sched_book.specs.Lost.{with_lapse}
-use Rattle.sched_book.specs.Places.{is_overdue, overdue, deadline_of}
+use Rattle.sched_book.specs.Places.{is_overdue, overdue}
 use Rattle.sched_book.specs.Reports.{with_changed}
 use Rattle.sched_book.specs.Sound.{IsWell}
 use Rattle.sched_book.specs.declared.instance.Instance.{Instance}
@@ -19,7 +19,6 @@ use Rattle.sched_machine.proofs.UnitsWell.{Keeps, changed_well}
 -- what was given is not bare, whatever lapses
 pub lapse_keeps : (lapse : Lapse) (x : Instance) → is_some x.owner ≡ true → Keeps x (with_lapse lapse x)
 lapse_keeps lapse x given = record {
-  given = refl;
   host = refl;
   bare = λ bare none. (let never : is_some x.owner ≡ false = ap is_some none in absurd cc);
   limits = λ limits. record {
@@ -27,7 +26,6 @@ lapse_keeps lapse x given = record {
     deadline = limits.deadline;
     output = limits.output;
     place = limits.place;
-    judged = limits.judged;
   };
 }
 
@@ -41,10 +39,10 @@ pub lapse_well : (lapse : Lapse) (w : World) (p : Place) → IsWell w → IsGive
 lapse_well lapse w p well given =
     changed_well (with_lapse lapse) w p well
     (λ b x unit stands is.
-    (lapse_keeps lapse x (given x (ap (option_and_then (λ (u : UnitBook). slice_get u.instances p.number)) stands ∙ is)), inl (refl, refl)))
+    (lapse_keeps lapse x (given x (ap (option_and_then (λ (u : UnitBook). slice_get u.instances p.number)) stands ∙ is)), inl refl))
 
 pub lapses_keep_well : LapsesKeepWell
 lapses_keep_well w now well =
     fold_well (with_changed (with_lapse Late)) (lapse_well Late) (λ v p q. given_after (with_lapse Late) v p q (λ x. refl)) (overdue w now) w well
     (places_given w (is_overdue now)
-    (λ x late. held_given x (first_true (is_held x) (nat_lt (deadline_of x.owner) now) late)))
+    (λ x late. held_given x (first_true (is_held x) _ late)))

@@ -1,12 +1,12 @@
 -- Lost jobs, sent again or dropped, leave a world well.
 use Rattle.std.proofs.Common.{◌≡◌, ℕ, ◌+◌, ◌≤◌, inl, Bool, true, false, cond, not, List, [], Option, Some, None, refl, arith}
-use Rattle.std.specs.Prelude.{◌&&◌, All, nat_le, is_some, option_map, unwrap_or}
+use Rattle.std.specs.Prelude.{◌&&◌, All, nat_le, is_some, option_map, unwrap_or, IfSome}
 use Rattle.std.proofs.lemmas.List.Elements.{All-nil, All-filter}
 use Rattle.sched_book.specs.Count.{is_held}
 use Rattle.sched_book.specs.Fits.{estimate_at}
 use Rattle.sched_book.specs.Lost.{is_listed, unlisted, lost, is_resent, delay_at, deadline_after, with_deadline, with_lapse, resend_or_drop}
 use Rattle.sched_book.specs.Limits.{last_moment, last_deadline, most_delay}
-use Rattle.sched_book.specs.Places.{unit_at, is_held_by, is_owned_by, owner_host, sent_at, deadline_of, held_by}
+use Rattle.sched_book.specs.Places.{unit_at, is_held_by, is_owned_by, held_by}
 use Rattle.sched_book.specs.Reports.{with_changed}
 use Rattle.sched_book.specs.Sound.{IsWellUnit, IsWell}
 use Rattle.sched_book.specs.declared.instance.Instance.{Instance}
@@ -49,34 +49,32 @@ module _ (f : ℕ → ℕ) where
   still_some None = refl
   still_some (Some o) = refl
 
-  same_host : (o : Option Owner) → owner_host (option_map moved o) ≡ owner_host o
+  same_host : (o : Option Owner) → option_map (λ (o : Owner). o.host) (option_map moved o) ≡ option_map (λ (o : Owner). o.host) o
   same_host None = refl
   same_host (Some o) = refl
 
-  same_sent : (o : Option Owner) → sent_at (option_map moved o) ≡ sent_at o
-  same_sent None = refl
-  same_sent (Some o) = refl
+  sent_early : (o : Option Owner) → IfSome o (λ o. o.sent ≤ last_moment) → IfSome (option_map moved o) (λ o. o.sent ≤ last_moment)
+  sent_early None early = tt
+  sent_early (Some o) early = early
 
   none_before : (o : Option Owner) → option_map moved o ≡ None → o ≡ None
   none_before None is = refl
   none_before (Some o) is = absurd cc
 
-  deadline_low : ((d : ℕ) → d ≤ last_deadline → f d ≤ last_deadline) → (o : Option Owner) → deadline_of o ≤ last_deadline
-      → deadline_of (option_map moved o) ≤ last_deadline
-  deadline_low low None was = was
+  deadline_low : ((d : ℕ) → d ≤ last_deadline → f d ≤ last_deadline) → (o : Option Owner) → IfSome o (λ o. o.deadline ≤ last_deadline)
+      → IfSome (option_map moved o) (λ o. o.deadline ≤ last_deadline)
+  deadline_low low None was = tt
   deadline_low low (Some o) was = low o.deadline was
 
   pub deadline_keeps : ((d : ℕ) → d ≤ last_deadline → f d ≤ last_deadline) → (x : Instance) → Keeps x (with_deadline f x)
   deadline_keeps low x = record {
-    given = still_some x.owner;
     host = same_host x.owner;
     bare = λ bare none. bare (none_before x.owner none);
     limits = λ limits. record {
-      sent = (let was : sent_at x.owner ≤ last_moment = limits.sent in let same : sent_at (option_map moved x.owner) ≡ sent_at x.owner = same_sent x.owner in omega arith);
+      sent = sent_early x.owner limits.sent;
       deadline = deadline_low low x.owner limits.deadline;
       output = limits.output;
       place = limits.place;
-      judged = limits.judged;
     };
   }
 
@@ -108,7 +106,7 @@ module _ (entry : World) (h : HostRow) (now : ℕ) (entered : IsWell entry) (ear
       cases true =
           changed_well (with_deadline (later p)) w p well
           (λ b x unit stands is.
-          (deadline_keeps (later p) (deadline_is_low now (estimate_at entry h p) (delay_at entry p) early (delay_is_low entry p entered)) x, inl (refl, refl)))
+          (deadline_keeps (later p) (deadline_is_low now (estimate_at entry h p) (delay_at entry p) early (delay_is_low entry p entered)) x, inl refl))
       cases false = lapse_well Dropped w p well given
 
   one_given : (w : World) (p q : Place) → IsGiven w q → IsGiven (resend_or_drop entry h now w p) q

@@ -1,6 +1,6 @@
 -- Settlement makes a well world sound.
 use Rattle.std.proofs.Common.{◌≡◌, ◌≢◌, ℕ, ◌≤◌, Bool, true, false, cond, List, ◌++◌, length, Option, Some, None, sym, refl, ap, ◌∙◌, subst, arith}
-use Rattle.std.specs.Prelude.{map, replicate, is_some, option_map, unwrap_or}
+use Rattle.std.specs.Prelude.{map, replicate, is_some, option_map}
 use Rattle.std.specs.List.{enumerate_from}
 use Rattle.std.proofs.lemmas.List.{length-map}
 use Rattle.sched_book.specs.Count.{is_open, need}
@@ -28,12 +28,12 @@ module _ (old changed : World) (same : old.settings ≡ changed.settings) (well 
   -- hosts keep their accounts and keys
   same_users : HaveSameUsers changed.hosts hosts_after
   same_users = record {
-    account = λ n. ap (λ o. unwrap_or (option_map (λ (h : HostRow). h.account) o) 0) (nth-map_places quoted changed.hosts n) ∙ account_of n (nth changed.hosts n);
+    account = λ n. ap (option_map (λ (h : HostRow). h.account)) (nth-map_places quoted changed.hosts n) ∙ account_of n (nth changed.hosts n);
     stands = λ n. ap is_some (nth-map_places quoted changed.hosts n) ∙ still_some n (nth changed.hosts n);
   }
     where
       account_of : (n : ℕ) (o : Option HostRow)
-          → unwrap_or (option_map (λ (h : HostRow). h.account) (option_map (λ h. quoted (n, h)) o)) 0 ≡ unwrap_or (option_map (λ (h : HostRow). h.account) o) 0
+          → option_map (λ (h : HostRow). h.account) (option_map (λ h. quoted (n, h)) o) ≡ option_map (λ (h : HostRow). h.account) o
       account_of n None = refl
       account_of n (Some h) = refl
 

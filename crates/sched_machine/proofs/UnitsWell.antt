@@ -1,10 +1,11 @@
 -- A world stays well where one instance is changed and keeps what is said of it.
 use Rattle.std.proofs.Common.{◌≡◌, ◌≢◌, ℕ, ◌+◌, ◌<◌, ◌≤◌, ◌⊎◌, inl, inr, Bool, true, false, ltb, List, length, Option, Some, None, sym, refl, ap, ◌∙◌, subst, arith}
-use Rattle.std.specs.Prelude.{◌&&◌, ◌==◌, All, IsTrue, count_by, is_some, slice_get}
+use Rattle.std.specs.Prelude.{◌==◌, All, IsTrue, count_by, is_some, option_and_then, slice_get, IfSome}
+use Rattle.std.proofs.lemmas.Option.{IfSome_then}
 use borrow.Author.Tests.{ltb-true, ltb-false, eq-eqb}
-use Rattle.sched_book.specs.Count.{is_judged, told_place}
+use Rattle.sched_book.specs.Count.{is_judged, report_place}
 use Rattle.sched_book.specs.Limits.{most_instances, most_workunits, IsInstanceInLimits}
-use Rattle.sched_book.specs.Places.{nth, unit_at, owner_host, account_in}
+use Rattle.sched_book.specs.Places.{nth, unit_at, option_any, host_of, account_at}
 use Rattle.sched_book.specs.Reports.{modify_at, modify_nth, with_number, with_changed}
 use Rattle.sched_book.specs.Sound.{AreOfOtherUsers, IsBare, HasOwnerAmong, has_place, IsWellUnit, IsWell}
 use Rattle.sched_book.specs.declared.instance.Instance.{Instance}
@@ -15,21 +16,21 @@ use Rattle.sched_book.specs.declared.rows.HostRow.{HostRow}
 use Rattle.sched_book.specs.declared.world.World.{World}
 use Rattle.sched_book.proofs.PlacesOf.{length-modify_nth}
 use Rattle.quorum_credit.proofs.ByPlace.{all_get}
+use Rattle.sched_machine.proofs.RowsKept.{rows_kept}
 use Rattle.sched_machine.proofs.UnitsAlike.{Alike, all_alike, pairs_alike, alike_changed_at, alike_changed_nth, modify_at-none, length_changed, count_same, count_more, any_kept, any_here}
 
 -- the changed instance is with the same host, and stays bare and within limits
 pub record Keeps (x y : Instance) : Type 0 where
-  pub given : is_some y.owner ≡ is_some x.owner
-  pub host : owner_host y.owner ≡ owner_host x.owner
+  pub host : host_of y ≡ host_of x
   pub bare : IsBare x → IsBare y
   pub limits : IsInstanceInLimits x → IsInstanceInLimits y
 
 -- it is judged as before, or newly at the place behind so many
 abbrev pub IsJudgedAlike : Instance → Instance → Type 0
-IsJudgedAlike x y = (is_judged y ≡ is_judged x) × (told_place y.report ≡ told_place x.report)
+IsJudgedAlike x y = report_place y ≡ report_place x
 
 abbrev pub IsNewlyJudged : ℕ → Instance → Instance → Type 0
-IsNewlyJudged n x y = (is_judged x ≡ false) × (is_judged y ≡ true) × (told_place y.report ≡ n + 1)
+IsNewlyJudged n x y = (report_place x ≡ None) × (report_place y ≡ Some (n + 1))
 
 abbrev pub IsGoodChange : UnitBook → Instance → Instance → Type 0
 IsGoodChange b x y = Keeps x y × (IsJudgedAlike x y ⊎ IsNewlyJudged (count_by is_judged b.instances) x y)
@@ -37,10 +38,14 @@ IsGoodChange b x y = Keeps x y × (IsJudgedAlike x y ⊎ IsNewlyJudged (count_by
 -- the judged reports have the places up to their count
 pub record ArePlaced (xs : List Instance) : Type 0 where
   pub places : (n : ℕ) → n < count_by is_judged xs → IsTrue (has_place xs (n + 1))
-  pub in_range : All (λ x. IsTrue (is_judged x) → told_place x.report ≤ count_by is_judged xs) xs
+  pub in_range : All (λ x. IfSome (report_place x) (λ place. place ≤ count_by is_judged xs)) xs
 
 abbrev IsInRange : ℕ → Instance → Type 0
-IsInRange n x = IsTrue (is_judged x) → told_place x.report ≤ n
+IsInRange n x = IfSome (report_place x) (λ place. place ≤ n)
+
+-- its report has the place n
+abbrev IsAt : ℕ → Instance → Bool
+IsAt n x = option_any (λ place. place == n) (report_place x)
 
 -- one is changed, which stands there
 module _ (f : Instance → Instance) (xs : List Instance) (i : ℕ) (x : Instance) (stands : slice_get xs i ≡ Some x) (placed : ArePlaced xs) where
@@ -49,22 +54,20 @@ module _ (f : Instance → Instance) (xs : List Instance) (i : ℕ) (x : Instanc
       let n : ℕ = count_by is_judged xs in
       let carried : Instance → Instance → Type 0 = λ y z. IsInRange n y → IsInRange m z in
       all_alike (IsInRange n) (IsInRange m) carried xs (modify_at f xs i)
-      (alike_changed_at carried (λ y low judged. (let below : told_place y.report ≤ n = low judged in omega arith)) f xs i
+      (alike_changed_at carried (λ y low. IfSome_then (report_place y) low (λ place below. omega arith)) f xs i
       (λ y is low. (let same : x ≡ y = cc in subst (λ z. IsInRange m (f z)) same now)))
       (λ y z carry low. carry low) placed.in_range
 
   placed_alike : IsJudgedAlike x (f x) → ArePlaced (modify_at f xs i)
   placed_alike alike =
-      let many : count_by is_judged (modify_at f xs i) ≡ count_by is_judged xs = count_same is_judged f xs i x stands alike.0 in
+      let many : count_by is_judged (modify_at f xs i) ≡ count_by is_judged xs = count_same is_judged f xs i x stands (ap is_some alike) in
       record {
         places = λ n within.
-            any_kept (λ y. is_judged y && (told_place y.report == n + 1)) f xs i
+            any_kept (IsAt (n + 1)) f xs i
             (λ y is passes.
             (let same : x ≡ y = cc in
-            subst (λ z. (is_judged (f z) && (told_place (f z).report == n + 1)) ≡ true) same
-            (ap (λ (b : Bool). b && (told_place (f x).report == n + 1)) alike.0
-            ∙ ap (λ m. is_judged x && (m == n + 1)) alike.1
-            ∙ subst (λ z. (is_judged z && (told_place z.report == n + 1)) ≡ true) (sym same) passes)))
+            subst (λ z. IsAt (n + 1) (f z) ≡ true) same
+            (ap (option_any (λ place. place == n + 1)) alike ∙ subst (λ z. IsAt (n + 1) z ≡ true) (sym same) passes)))
             (placed.places n (omega arith));
         in_range = subst (λ m. All (IsInRange m) (modify_at f xs i)) (sym many)
             (in_range_after (count_by is_judged xs) (omega arith) (at_most (count_by is_judged xs) (all_here placed.in_range)));
@@ -74,36 +77,31 @@ module _ (f : Instance → Instance) (xs : List Instance) (i : ℕ) (x : Instanc
       all_here all = all_get (IsInRange (count_by is_judged xs)) xs i x all stands
 
       at_most : (n : ℕ) → IsInRange n x → IsInRange n (f x)
-      at_most n low judged =
-          let below : told_place x.report ≤ n = low (sym alike.0 ∙ judged) in
-          let same : told_place (f x).report ≡ told_place x.report = alike.1 in
-          omega arith
+      at_most n low = subst (λ o. IfSome o (λ place. place ≤ n)) (sym alike) low
 
   placed_newly : IsNewlyJudged (count_by is_judged xs) x (f x) → ArePlaced (modify_at f xs i)
   placed_newly new =
-      let many : count_by is_judged (modify_at f xs i) ≡ count_by is_judged xs + 1 = count_more is_judged f xs i x stands new.0 new.1 in
+      let many : count_by is_judged (modify_at f xs i) ≡ count_by is_judged xs + 1 = count_more is_judged f xs i x stands (ap is_some new.0) (ap is_some new.1) in
       record {
         places = λ n within. cases n (omega arith) (ltb n (count_by is_judged xs)) refl;
         in_range = subst (λ m. All (IsInRange m) (modify_at f xs i)) (sym many)
-            (in_range_after (count_by is_judged xs + 1) (omega arith) (λ judged. (let last : told_place (f x).report ≡ count_by is_judged xs + 1 = new.2 in omega arith)));
+            (in_range_after (count_by is_judged xs + 1) (omega arith)
+            (subst (λ o. IfSome o (λ place. place ≤ count_by is_judged xs + 1)) (sym new.1) (let last : count_by is_judged xs + 1 ≤ count_by is_judged xs + 1 = omega arith in last)));
       }
     where
       cases : (n : ℕ) → n < count_by is_judged xs + 1 → (b : Bool) → ltb n (count_by is_judged xs) ≡ b → IsTrue (has_place (modify_at f xs i) (n + 1))
       cases n within true below =
-          any_kept (λ y. is_judged y && (told_place y.report == n + 1)) f xs i
+          any_kept (IsAt (n + 1)) f xs i
           (λ y is passes.
           (let same : x ≡ y = cc in
-          let never : (false && (told_place x.report == n + 1)) ≡ true =
-          sym (ap (λ (b : Bool). b && (told_place x.report == n + 1)) new.0)
-          ∙ subst (λ z. (is_judged z && (told_place z.report == n + 1)) ≡ true) (sym same) passes in
+          let never : false ≡ true =
+          sym (ap (option_any (λ place. place == n + 1)) new.0) ∙ subst (λ z. IsAt (n + 1) z ≡ true) (sym same) passes in
           absurd cc))
           (placed.places n (ltb-true n (count_by is_judged xs) below))
       cases n within false past =
           let low : count_by is_judged xs ≤ n = ltb-false n (count_by is_judged xs) past in
-          let last : told_place (f x).report ≡ count_by is_judged xs + 1 = new.2 in
-          any_here (λ y. is_judged y && (told_place y.report == n + 1)) f xs i x stands
-          (ap (λ (b : Bool). b && (told_place (f x).report == n + 1)) new.1
-          ∙ eq-eqb (told_place (f x).report) (n + 1) (omega arith))
+          any_here (IsAt (n + 1)) f xs i x stands
+          (ap (option_any (λ place. place == n + 1)) new.1 ∙ eq-eqb (count_by is_judged xs + 1) (n + 1) (omega arith))
 
 -- a changed instance, where one stands or not
 placed_after : (f : Instance → Instance) (xs : List Instance) (i : ℕ) → ArePlaced xs
@@ -121,15 +119,14 @@ placed_after f xs i placed judged = cases (slice_get xs i) refl
 -- the owner's host is the same, so that its user is
 other_users : (hosts : List HostRow) (x y a b : Instance) → Keeps x a → Keeps y b → AreOfOtherUsers hosts x y → AreOfOtherUsers hosts a b
 other_users hosts x y a b first second others = λ given also same.
-    others (sym first.given ∙ given) (sym second.given ∙ also)
-    (sym (ap (account_in hosts) first.host) ∙ same ∙ ap (account_in hosts) second.host)
+    others (sym (ap is_some first.host) ∙ given) (sym (ap is_some second.host) ∙ also)
+    (sym (ap (option_and_then (account_at hosts)) first.host) ∙ same ∙ ap (option_and_then (account_at hosts)) second.host)
 
 pub owner_among : (hosts : List HostRow) (x y : Instance) → Keeps x y → HasOwnerAmong hosts x → HasOwnerAmong hosts y
-owner_among hosts x y keeps among = λ given.
-    ap (λ n. is_some (nth hosts n)) keeps.host ∙ among (sym keeps.given ∙ given)
+owner_among hosts x y keeps among = subst (λ o. IfSome o (λ host. IsTrue (is_some (nth hosts host)))) (sym keeps.host) among
 
 keeps_self : (x : Instance) → Keeps x x
-keeps_self x = record { given = refl; host = refl; bare = λ bare. bare; limits = λ limits. limits }
+keeps_self x = record { host = refl; bare = λ bare. bare; limits = λ limits. limits }
 
 -- a workunit with one instance changed
 unit_well : (hosts : List HostRow) (apps : List App) (f : Instance → Instance) (i : ℕ) (b : UnitBook) → IsWellUnit hosts apps b
@@ -162,26 +159,12 @@ changed_well f w p well good =
     let row : UnitBook → UnitBook → Type 0 = λ b c. c.unit ≡ b.unit in
     let carried : UnitBook → UnitBook → Type 0 = λ b c. IsWellUnit w.hosts w.apps b → IsWellUnit w.hosts w.apps c in
     record {
-      rows = record {
-        settings = well.rows.settings;
-        accounts = well.rows.accounts;
-        apps = well.rows.apps;
-        versions = well.rows.versions;
-        hosts = well.rows.hosts;
-        account_names = well.rows.account_names;
-        app_names = well.rows.app_names;
-        version_names = well.rows.version_names;
-        unit_names = pairs_alike (λ a b. a.unit.name ≢ b.unit.name) (λ a b. a.unit.name ≢ b.unit.name) row w.units (modify_nth g w.units p.unit)
-            (alike_changed_nth row (λ b. refl) g w.units p.unit (λ b stands. refl))
-            (λ x y a b first second apart same. apart (sym (ap (λ u. u.name) first) ∙ same ∙ ap (λ u. u.name) second))
-            well.rows.unit_names;
-        host_keys = well.rows.host_keys;
-        account_count = well.rows.account_count;
-        app_count = well.rows.app_count;
-        version_count = well.rows.version_count;
-        unit_count = (let few : length w.units ≤ most_workunits = well.rows.unit_count in omega arith);
-        host_count = well.rows.host_count;
-      };
+      rows = rows_kept w (modify_nth g w.units p.unit) well.rows
+          (pairs_alike (λ a b. a.unit.name ≢ b.unit.name) (λ a b. a.unit.name ≢ b.unit.name) row w.units (modify_nth g w.units p.unit)
+          (alike_changed_nth row (λ b. refl) g w.units p.unit (λ b stands. refl))
+          (λ x y a b first second apart same. apart (sym (ap (λ u. u.name) first) ∙ same ∙ ap (λ u. u.name) second))
+          well.rows.unit_names)
+          (let few : length w.units ≤ most_workunits = well.rows.unit_count in omega arith);
       units = all_alike (IsWellUnit w.hosts w.apps) (IsWellUnit w.hosts w.apps) carried w.units (modify_nth g w.units p.unit)
           (alike_changed_nth carried (λ b is. is) g w.units p.unit
           (λ b stands unit. unit_well w.hosts w.apps f p.number b unit (λ x is. good b x unit stands is)))

@@ -1,32 +1,32 @@
 -- A call that is acted on.
-use Rattle.std.specs.Prelude.{◌≡◌, ◌<◌, ◌≤◌, length, None}
+use Rattle.std.specs.Prelude.{◌≡◌, ◌≤◌, length, None}
 use Rattle.rpc_records.specs.Ranges.{IsInRange}
 use Rattle.rpc_records.specs.declared.request.Request.{Request}
 use Rattle.sched_book.specs.Imports.{AreChecked}
 use Rattle.sched_book.specs.Sound.{Sound}
-use Rattle.sched_book.specs.Step.{IsCaller, host_number, host_at_entry}
+use Rattle.sched_book.specs.Step.{IsCaller, HasRoom, host_number, host_at_entry}
 use Rattle.sched_book.specs.declared.machine.Call.{Call}
 use Rattle.sched_book.specs.declared.machine.Call.TheVariants as call
 use Rattle.sched_book.specs.declared.machine.Caller.{Caller}
 use Rattle.sched_book.specs.declared.world.World.{World}
-use Rattle.sched_machine.specs.declared.entry.Calling.{Calling}
+use Rattle.sched_machine.specs.declared.caller.Calling.{Calling}
 
 -- the caller is the one that the request names, and what it tells is within limits
 pub record IsAdmitted (w : World) (c : Caller) (r : Request) : Type 0 where
   pub caller : IsCaller w c r
   pub limits : IsInRange r
 
--- What the machine may be told: an admitted call, rows that were checked, or that time goes by.
-abbrev pub MayBeTold : World → Call → Type 0
-MayBeTold w (call.Rpc c r) = IsAdmitted w c r
-MayBeTold w (call.Import new) = AreChecked w new
-MayBeTold w call.Tick = Unit {0}
+-- What the machine may hear: an admitted call, rows that were checked, or that time goes by.
+abbrev pub MayBeHeard : World → Call → Type 0
+MayBeHeard w (call.Rpc c r) = IsAdmitted w c r
+MayBeHeard w (call.Import new) = AreChecked w new
+MayBeHeard w call.Tick = Unit {0}
 
--- a new host has room
-abbrev pub HasRoom : World → Caller → Type 0
-HasRoom w c = c.host ≡ None → length w.hosts < w.settings.max_hosts
+-- the host is new, and no more may stand
+abbrev pub LacksRoom : World → Caller → Type 0
+LacksRoom w c = (c.host ≡ None) × (w.settings.max_hosts ≤ length w.hosts)
 
--- An admitted call with room in a sound world, and its host: the number, and the row as it is told now.
+-- An admitted call with room in a sound world, and its host: the number, and its row as the call tells it.
 pub record IsCalling (w : World) (r : Request) (k : Calling) : Type 0 where
   pub sound : Sound w
   pub admitted : IsAdmitted w k.caller r
@@ -34,8 +34,8 @@ pub record IsCalling (w : World) (r : Request) (k : Calling) : Type 0 where
   pub number : k.number ≡ host_number w k.caller
   pub host : k.host ≡ host_at_entry w k.caller r
 
--- the call is of a new host, and no more may stand
+-- a call has no room for its host
 abbrev pub IsFull : World → Call → Type 0
-IsFull w (call.Rpc c r) = (c.host ≡ None) × (w.settings.max_hosts ≤ length w.hosts)
+IsFull w (call.Rpc c r) = LacksRoom w c
 IsFull w (call.Import new) = ⊥
 IsFull w call.Tick = ⊥

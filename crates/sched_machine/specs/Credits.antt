@@ -1,10 +1,10 @@
 -- Credits of hosts and users after changes, from the workunits alone that can give them any.
-use Rattle.std.specs.Prelude.{ℕ, ◌*◌, ◌==◌, Bool, false, if◌then◌else◌, List, [], ◌∷◌, ◌++◌, length, fold, filter_map, count_by, Option, None, Some, option_map, unwrap_or}
+use Rattle.std.specs.Prelude.{ℕ, ◌*◌, ◌==◌, Bool, if◌then◌else◌, List, [], ◌∷◌, ◌++◌, length, fold, filter_map, count_by, Option, None, Some, option_map, unwrap_or}
 use Rattle.std.specs.BTreeSet.{insert_key}
 use Rattle.std.specs.List.{cons_option}
 use Rattle.std.specs.Ordering.{nat_cmp}
 use Rattle.sched_book.specs.Count.{verdict, verdict_by, is_valid}
-use Rattle.sched_book.specs.Places.{nth, unit_at, owned_by, agreement_of}
+use Rattle.sched_book.specs.Places.{option_any, nth, unit_at, owned_by, agreement_of}
 use Rattle.sched_book.specs.declared.delta.Change.{Change}
 use Rattle.sched_book.specs.declared.delta.Change.TheVariants as change
 use Rattle.sched_book.specs.declared.instance.Instance.{Instance}
@@ -65,7 +65,7 @@ units_with units places changes = fold with_change (fold with_place (fold (inser
 
 -- the host of this number stands, and belongs to the account
 abbrev pub belongs : List HostRow → ℕ → ℕ → Bool
-belongs hosts account host = unwrap_or (option_map (λ (h : HostRow). h.account == account) (nth hosts host)) false
+belongs hosts account host = option_any (λ (h : HostRow). h.account == account) (nth hosts host)
 
 -- what the user of an account has of a workunit's award
 abbrev pub user_share : List HostRow → ℕ → Award → ℕ

@@ -1,5 +1,5 @@
 -- How soundness is kept by the parts of a step.
-use Rattle.std.specs.Prelude.{◌≡◌, All, ℕ, ◌<◌, ◌≤◌, List, [], ◌∷◌, length, fold, Option, Some, None}
+use Rattle.std.specs.Prelude.{◌≡◌, All, ℕ, ◌≤◌, List, [], ◌∷◌, fold, Option, Some}
 use Rattle.rpc_records.specs.Ranges.{IsInRange, IsReport}
 use Rattle.rpc_records.specs.declared.request.Report.{Report}
 use Rattle.rpc_records.specs.declared.request.Request.{Request}
@@ -11,7 +11,7 @@ use Rattle.sched_book.specs.Places.{host_at}
 use Rattle.sched_book.specs.Reports.{recorded}
 use Rattle.sched_book.specs.Settle.{settled}
 use Rattle.sched_book.specs.Sound.{Sound, IsWell}
-use Rattle.sched_book.specs.Step.{IsCaller, at_entry, granted, lapsed, empty_world, ImportStep, Step, Trace}
+use Rattle.sched_book.specs.Step.{IsCaller, HasRoom, at_entry, granted, lapsed, empty_world, ImportStep, Step, Trace}
 use Rattle.sched_book.specs.declared.machine.Answered.{Answered}
 use Rattle.sched_book.specs.declared.machine.Call.{Call}
 use Rattle.sched_book.specs.declared.machine.Caller.{Caller}
@@ -23,7 +23,7 @@ use Rattle.sched_book.specs.declared.world.World.{World}
 
 -- the host of a call is renewed, or made where there is room
 abbrev pub EntryKeepsSound : Type 0
-EntryKeepsSound = (w : World) (c : Caller) (r : Request) → Sound w → IsCaller w c r → (c.host ≡ None → length w.hosts < w.settings.max_hosts)
+EntryKeepsSound = (w : World) (c : Caller) (r : Request) → Sound w → IsCaller w c r → HasRoom w c
     → IsInRange r → Sound (at_entry w c r)
 
 -- reports, lapses and lost jobs leave all but the need of open workunits

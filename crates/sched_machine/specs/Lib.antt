@@ -2,7 +2,6 @@ pub mod Laws
 pub mod Admission
 pub mod Alike
 pub mod Credits
-pub mod Entry
 pub mod Asked
 pub mod Granting
 pub mod Calling

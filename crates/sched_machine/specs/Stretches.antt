@@ -31,7 +31,7 @@ DeadlinesMoveByResendsInRuns = (w : World) (calls : List (Call × ℕ)) (turns :
 -- The call that follows on so many turns of a run got a reply, and after it its host holds just what is listed or named.
 pub record IsInSightAfter (w : World) (turns : List (Answered × World)) (n : ℕ) (c : Caller) (r : Request) (names : List (List ℕ)) : Type 0 where
   pub reply : Reply
-  pub told : slice_get turns n ≡ Some (answered.Rpc reply, world_after w turns (suc n))
+  pub turn : slice_get turns n ≡ Some (answered.Rpc reply, world_after w turns (suc n))
   pub held : IsHeldByName (world_after w turns n) (world_after w turns (suc n)) c r names reply
 
 -- each call of a run that lists names is followed by such a world, where lost jobs are sent again

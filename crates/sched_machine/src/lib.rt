@@ -2,22 +2,20 @@
 #![tactic(auto)]
 
 mod admission;
-mod asking;
-mod choosing;
+mod caller;
+mod changed;
 mod credits;
-mod entering;
-mod entry;
-mod giving;
-mod granting;
-mod importing;
-mod jobs;
+mod grant;
+mod held;
+mod imports;
 pub mod laws;
-mod losing;
-mod machine;
-mod preparing;
-mod replying;
-mod settling;
+mod lost;
+mod owners;
+mod reply;
+mod reports;
+mod settlement;
+mod steps;
 
 pub use admission::{Refused, admit};
-pub use machine::step;
 pub use sched_book::{Answered, Call, Caller};
+pub use steps::step;

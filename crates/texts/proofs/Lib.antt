@@ -1,2 +1,2 @@
-pub mod SeenTexts
+pub mod SeenKeys
 pub mod Words

@@ -1,2 +1,3 @@
 pub mod Words
-pub mod Seen
+pub mod SeenSet
+pub mod Reading

@@ -6,13 +6,13 @@
 
 pub mod listed;
 pub mod same;
-pub mod seen;
+pub mod seen_set;
 pub mod text;
 pub mod word;
 
 pub use listed::Listed;
 pub use same::Same;
-pub use seen::Seen;
+pub use seen_set::SeenSet;
 pub use text::{Text, utf8_text};
 pub use word::{is_word, word_of};
 

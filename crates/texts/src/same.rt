@@ -7,3 +7,9 @@ pub trait Same: Clone {
     /// A clone is the value again.
     ghost exact: { (a b : Self) → Self.is_clone a b → a ≡ b };
 }
+
+impl Same for u32 {
+    ghost use Rattle.std.proofs.Common.{rules};
+
+    ghost exact = { λ number copy is_copy. Prim.search rules };
+}

@@ -1,4 +1,4 @@
-ghost use Rattle.std.specs.Prelude.{◌≡◌, if◌then◌else◌, option_map};
+ghost use Rattle.std.specs.Prelude.{◌≡◌, option_map};
 ghost use Rattle.std.specs.List.{list_all};
 ghost use Rattle.texts.specs.Words as spec;
 
@@ -16,7 +16,7 @@ pub fn is_word(text: &[u8]) -> bool
 
 /// The word that these bytes are, where they are one.
 pub fn word_of(text: &[u8]) -> Option<&str>
-    ensures { option_map (λ word. word.now) result ≡ (if spec.is_word text.now then Some text.now else None) }
+    ensures { option_map (λ word. word.now) result ≡ spec.word_of text.now }
 {
     if !is_word(text) {
         return None;

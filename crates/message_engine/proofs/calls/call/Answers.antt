@@ -5,11 +5,11 @@ use Rattle.message_engine.proofs.calls.call.Goals as goal
 pub returns-in-Ok-clause-exact : goal.returns-in-Ok-clause-exact
 returns-in-Ok-clause-exact g c = λ honest kept.
     let reads = c.admit.ensures.reads in
-    let honest_1 = c.call_of.ensures.honest honest in
+    let honest_1 = c.call_admitted.ensures.honest honest in
     let kept_1 = g.met.S.Units.stays_kept _ _ reads honest_1 kept in
-    named_serves _ _ _ _ _ _ _ _ _ c.in-Ok.caller c.args.request c.args.now c.call_of.result (g.met.S.Units.stays_same _ _ reads honest_1 kept)
+    named_serves _ _ _ _ _ _ _ _ _ c.in-Ok.caller c.args.request c.args.now c.call_admitted.result (g.met.S.Units.stays_same _ _ reads honest_1 kept)
     (g.met.S.Store.stays_calls _ _ reads honest_1 kept) (g.met.S.Store.stays_batches _ _ reads honest_1 kept)
-    (c.in-Ok.ensures.caller honest_1 kept) (c.call_of.ensures.exact honest kept_1)
+    (c.in-Ok.ensures.caller honest_1 kept) (c.call_admitted.ensures.exact honest kept_1)
 
 pub returns-in-Err-BadAccount-clause-exact : goal.returns-in-Err-BadAccount-clause-exact
 returns-in-Err-BadAccount-clause-exact g c = λ honest kept.
@@ -34,8 +34,8 @@ returns-in-Err-BadHost-clause-exact g c = λ honest kept.
 pub returns-in-Ok-clause-err : goal.returns-in-Ok-clause-err
 returns-in-Ok-clause-err g c = λ honest kept.
     let reads = c.admit.ensures.reads in
-    let honest_1 = c.call_of.ensures.honest honest in
+    let honest_1 = c.call_admitted.ensures.honest honest in
     let kept_1 = g.met.S.Units.stays_kept _ _ reads honest_1 kept in
-    left_before _ _ _ _ _ _ _ _ _ c.call_of.result
+    left_before _ _ _ _ _ _ _ _ _ c.call_admitted.result
     (g.met.S.Units.stays_same _ _ reads honest_1 kept) (g.met.S.Store.stays_calls _ _ reads honest_1 kept) (g.met.S.Store.stays_batches _ _ reads honest_1 kept)
-    (c.call_of.ensures.err honest kept_1)
+    (c.call_admitted.ensures.err honest kept_1)

@@ -1,10 +1,18 @@
 -- The desk after a reading stands for the same world; the row at hand is taken or what is left decides.
-use Rattle.std.proofs.Common.{◌+◌, ◌<◌, sym, ◌∙◌, ap, length, take, arith}
+use Rattle.std.proofs.Common.{◌+◌, ◌<◌, sym, ◌∙◌, ap, length, take, arith, rules}
 use Rattle.std.specs.Prelude.{◌||◌}
 use Rattle.std.specs.List.{list_any}
-use Rattle.office_files.specs.Keys.{same_key}
+use Rattle.office_files.specs.Keys.{same_key, lent_key}
 use Rattle.office_files.proofs.TakenNames.{taken, one_more, found, passed}
 use Rattle.office_files.proofs.checks.first_taken.Goals as goal
+
+pub loop-index-init : goal.loop-index-init
+loop-index-init g c =
+    record {
+      reads = g.met.D.Units.reads_none _;
+      seen = λ key. c.new-seen.ensures (lent_key key);
+      left = λ honest kept. search rules;
+    }
 
 pub returns-then-branch-clause-answer : goal.returns-then-branch-clause-answer
 returns-then-branch-clause-answer g c = λ honest kept.

@@ -1,0 +1,10 @@
+-- The first of each text, of elements whose texts did not come by yet.
+use Rattle.std.specs.Prelude.{ℕ, Bool, ◌||◌, if◌then◌else◌, List, [], ◌∷◌}
+use Rattle.std.specs.Str.{bytes_eq}
+
+abbrev pub first_beyond : {X : Type 0} → (X → List ℕ) → (List ℕ → Bool) → List X → List X
+first_beyond text came [] = []
+first_beyond text came (x ∷ xs) =
+    if came (text x)
+    then first_beyond text came xs
+    else x ∷ first_beyond text (λ other. bytes_eq other (text x) || came other) xs

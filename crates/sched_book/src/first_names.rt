@@ -1,0 +1,64 @@
+//! The first of each name.
+
+ghost use Rattle.std.specs.Prelude.{◌≡◌, ℕ, List, [], ◌∷◌, ◌++◌, map, IfOk, OnOk};
+ghost use Rattle.texts.specs.SeenSet.{has_text};
+ghost use Rattle.sched_book.specs.Reports.{first_of_each};
+ghost use Rattle.sched_book.specs.Firsts.{first_beyond};
+
+use rpc_records::Report;
+use std::alloc::Global;
+use texts::{Memory, SeenSet, Text};
+
+/// What has a name.
+pub trait Named {
+    /// Its name.
+    ghost name_of: { Self → List ℕ };
+
+    /// Its name.
+    fn name(&self) -> &str
+        ensures { result.now ≡ name_of self.now };
+}
+
+impl Named for Report {
+    ghost name_of = { λ report. report.name };
+
+    fn name(&self) -> &str {
+        self.name.as_str()
+    }
+}
+
+impl Named for Text {
+    ghost name_of = { λ text. text };
+
+    fn name(&self) -> &str {
+        self.as_str()
+    }
+}
+
+/// Puts an item behind the first ones, unless its name came by; `seen` knows which did.
+fn add_first<'a, T: Named>(
+    firsts: &mut Vec<&'a T>,
+    seen: &mut SeenSet<&'a str>,
+    item: &'a T,
+) -> Result<(), Memory>
+    ensures { OnOk result ((later : List T) →
+        map (λ x. x.now) firsts.new.items ++ first_beyond T.name_of (has_text seen.new) later
+        ≡ map (λ x. x.now) firsts.old.items ++ first_beyond T.name_of (has_text seen.old) (item.now ∷ later)) }
+{
+    if seen.is_first(item.name())? {
+        firsts.push(item)?;
+    }
+    Ok(())
+}
+
+/// The first of these items of each name, in their order.
+pub fn first_of_each<'a, T: Named>(alloc: Global, items: &'a [T]) -> Result<Vec<&'a T>, Memory>
+    ensures { IfOk result (λ firsts. map (λ x. x.now) firsts.items ≡ first_of_each T.name_of [] items.now) }
+{
+    let mut seen = SeenSet::new(alloc);
+    let mut firsts = Vec::new(alloc);
+    for item in items {
+        add_first(&mut firsts, &mut seen, item)?;
+    }
+    Ok(firsts)
+}

@@ -1,0 +1,246 @@
+-- What a reply tells of the jobs that a call sends again and grants: each has the name of its instance.
+use Rattle.std.proofs.Common.{◌≡◌, ◌⊎◌, inl, inr, ℕ, ◌+◌, Bool, true, false, cond, eqb, eq-eqb, List, [], ◌∷◌, length, Option, Some, None, sym, refl, ap, ◌∙◌, subst}
+use Rattle.std.specs.Prelude.{◌&&◌, Contains, filter_map, is_none, is_some, nat_le, not, option_map, option_and_then, unwrap_or}
+use Rattle.std.specs.List.{cons_option, list_any}
+use Rattle.std.specs.Str.{bytes_eq}
+use Rattle.rpc_records.specs.declared.reply.Job.{Job}
+use Rattle.rpc_records.specs.declared.request.Request.{Request}
+use Rattle.sched_book.specs.Count.{is_open}
+use Rattle.sched_book.specs.Desk.{workunit_at}
+use Rattle.sched_book.specs.Fits.{estimate, is_eligible, is_for, unit_fits, version_among, version_for}
+use Rattle.sched_book.specs.Lost.{delay_at, is_resent}
+use Rattle.sched_book.specs.Names.{instance_name}
+use Rattle.sched_book.specs.Places.{host_at, name_at, nth, status_at, status_of, unit_at, user_had}
+use Rattle.sched_book.specs.Reports.{with_number}
+use Rattle.sched_book.specs.Settle.{with_grown, with_quota}
+use Rattle.sched_book.specs.Step.{after_lost, after_settlement, asking_of, at_entry, deadline_at, grant_one, granted, host_number, host_at_entry, hosts_at_entry, job_at, job_of, row_of_call, with_owner}
+use Rattle.sched_book.specs.declared.instance.Instance.{Instance}
+use Rattle.sched_book.specs.declared.instance.Place.{Place}
+use Rattle.sched_book.specs.declared.instance.UnitBook.{UnitBook}
+use Rattle.sched_book.specs.declared.machine.Caller.{Caller}
+use Rattle.sched_book.specs.declared.rows.App.{App}
+use Rattle.sched_book.specs.declared.rows.HostRow.{HostRow}
+use Rattle.sched_book.specs.declared.rows.Version.{Version}
+use Rattle.sched_book.specs.declared.rows.Workunit.{Workunit}
+use Rattle.sched_book.specs.declared.world.World.{World}
+use Rattle.sched_book.proofs.Newest.{behind, front_of, in_front, none_in_nothing}
+use Rattle.sched_book.proofs.PlacesOf.{nth-push, nth-modify_nth}
+use Rattle.job_choice.proofs.Candidates.{Stood, stood}
+use Rattle.lost_jobs.proofs.Standing.{name_none, name_some}
+use Rattle.quorum_credit.proofs.ByPlace.{nth-map_places}
+use Rattle.sched_machine.proofs.AlikeLists.{along_nth}
+use Rattle.sched_machine.proofs.AlikeSettled.{before_settlement}
+use Rattle.sched_machine.proofs.JobsSaid.{said_is, said_some}
+use Rattle.sched_machine.proofs.SettledAsking.{SameRow, rows_settled}
+use Rattle.sched_machine.proofs.UnitsGiven.{first_true}
+
+-- what a list holds, of which some elements give something
+pub given_by : {X Y : Type 0} (f : X → Option Y) (xs : List X) (x : X) (y : Y) → Contains xs x → f x ≡ Some y → Contains (filter_map f xs) y
+given_by f [] x y there is = absurd (none_in_nothing x there)
+given_by f (z ∷ xs) x y there is = cases (f z) refl (in_front z xs x there) (given_by f xs x y)
+  where
+    cases : (o : Option _) → f z ≡ o → (z ≡ x) ⊎ Contains xs x → (Contains xs x → f x ≡ Some y → Contains (filter_map f xs) y)
+        → Contains (cons_option o (filter_map f xs)) y
+    cases None gives (inl same) more = let never : None ≡ Some y = sym gives ∙ ap f same ∙ is in absurd cc
+    cases None gives (inr further) more = more further is
+    cases (Some u) gives (inl same) more =
+        let value : u ≡ y = (let both : Some u ≡ Some y = sym gives ∙ ap f same ∙ is in cc) in
+        subst (Contains (u ∷ filter_map f xs)) value (front_of u (filter_map f xs))
+    cases (Some u) gives (inr further) more = behind u (filter_map f xs) y (more further is)
+
+-- and of what it comes
+pub gave : {X Y : Type 0} (f : X → Option Y) (xs : List X) (y : Y) → Contains (filter_map f xs) y → (x : X) × Contains xs x × (f x ≡ Some y)
+gave f [] y there = absurd (none_in_nothing y there)
+gave {X} {Y} f (z ∷ xs) y there = cases (f z) refl there (gave f xs y)
+  where
+    later : (x : X) × Contains xs x × (f x ≡ Some y) → (x : X) × Contains (z ∷ xs) x × (f x ≡ Some y)
+    later found = (found.0, behind z xs found.0 found.1, found.2)
+
+    cases : (o : Option Y) → f z ≡ o → Contains (cons_option o (filter_map f xs)) y
+        → (Contains (filter_map f xs) y → (x : X) × Contains xs x × (f x ≡ Some y)) → (x : X) × Contains (z ∷ xs) x × (f x ≡ Some y)
+    cases None gives there more = later (more there)
+    cases (Some u) gives there more = elim (in_front u (filter_map f xs) y there) [
+      | inl same ↦ (z, front_of z xs, gives ∙ ap Some same)
+      | inr further ↦ later (more further)
+    ]
+
+-- a grant leaves the rows of workunits, the applications and the versions
+module _ (host now : ℕ) where
+  -- the rows
+  row_granted : (jobs : List Place) (v : World) (n : ℕ) → workunit_at (granted v host now jobs) n ≡ workunit_at v n
+  row_granted [] v n = refl
+  row_granted (q ∷ jobs) v n =
+      row_granted jobs (grant_one host now v q) n
+      ∙ ap (option_map (λ (b : UnitBook). b.unit)) (nth-modify_nth (with_number f q.number) v.units q.unit n)
+      ∙ cases (eqb q.unit n) (unit_at v n)
+    where
+      f : Instance → Instance
+      f = with_owner (record { host = host; sent = now; deadline = now + delay_at v q })
+
+      cases : (s : Bool) (o : Option UnitBook)
+          → option_map (λ (b : UnitBook). b.unit) (cond s (option_map (with_number f q.number) o) o) ≡ option_map (λ (b : UnitBook). b.unit) o
+      cases true None = refl
+      cases true (Some b) = refl
+      cases false o = refl
+
+  -- the applications
+  apps_granted : (jobs : List Place) (v : World) → (granted v host now jobs).apps ≡ v.apps
+  apps_granted [] v = refl
+  apps_granted (q ∷ jobs) v = apps_granted jobs (grant_one host now v q)
+
+  -- the versions
+  versions_granted : (jobs : List Place) (v : World) → (granted v host now jobs).versions ≡ v.versions
+  versions_granted [] v = refl
+  versions_granted (q ∷ jobs) v = versions_granted jobs (grant_one host now v q)
+
+-- the last of two that hold
+last_true : (a b : Bool) → (a && b) ≡ true → b ≡ true
+last_true true b is = is
+last_true false b is = absurd cc
+
+-- an option that has something
+some_of : {X : Type 0} (o : Option X) → is_some o ≡ true → (x : X) × (o ≡ Some x)
+some_of None is = absurd cc
+some_of (Some x) is = (x, refl)
+
+module _ (w : World) (c : Caller) (r : Request) (now : ℕ) (jobs : List Place) where
+  -- the world that the call leaves
+  abbrev after : World
+  after = granted (after_settlement w c r now) (host_number w c) now jobs
+
+  -- so does a whole call
+  row_stays : (n : ℕ) → workunit_at after n ≡ workunit_at w n
+  row_stays n =
+      row_granted (host_number w c) now jobs (after_settlement w c r now) n
+      ∙ along_nth SameRow (option_map (λ (b : UnitBook). b.unit)) (option_map (λ (b : UnitBook). b.unit)) refl (λ b d same. ap Some same)
+      w.units (after_settlement w c r now).units n (rows_settled w c r now)
+
+  -- the host runs the same versions
+  version_stays : (h : HostRow) (app : List ℕ) → version_for after h app ≡ version_for w h app
+  version_stays h app =
+      ap (λ apps. cond (list_any (λ (a : App). bytes_eq a.name app) apps) (version_among after.versions app h.platforms) None)
+      (apps_granted (host_number w c) now jobs (after_settlement w c r now) ∙ ap (λ (v : World). v.apps) (before_settlement w c r now).rest)
+      ∙ ap (λ versions. cond (list_any (λ (a : App). bytes_eq a.name app) w.apps) (version_among versions app h.platforms) None)
+      (versions_granted (host_number w c) now jobs (after_settlement w c r now) ∙ ap (λ (v : World). v.versions) (before_settlement w c r now).rest)
+
+  -- the names are the same
+  name_stays : (p : Place) → name_at after p ≡ name_at w p
+  name_stays p = cases (workunit_at w p.unit) refl
+    where
+      cases : (o : Option Workunit) → workunit_at w p.unit ≡ o → name_at after p ≡ name_at w p
+      cases None is = name_none after p (row_stays p.unit ∙ is) ∙ sym (name_none w p is)
+      cases (Some u) is = name_some after p u (row_stays p.unit ∙ is) ∙ sym (name_some w p u is)
+
+  -- the workunit at a place stands, and the host runs a version of its application
+  pub record Runs (h : HostRow) (p : Place) : Type 0 where
+    pub unit : Workunit
+    pub version : Version
+    pub stands : workunit_at w p.unit ≡ Some unit
+    pub found : version_for w h unit.app ≡ Some version
+
+  -- so a reply tells of it, with its name
+  pub said_of : (h : HostRow) (resent : Bool) (p : Place) → Runs h p
+      → (j : Job) × (job_at after h resent p ≡ Some j) × (j.name ≡ name_at w p)
+  said_of h resent p runs = (
+    job_of (instance_name runs.unit.name p.number) (deadline_at after p) h resent runs.unit runs.version,
+    sym (said_is after [] h resent p refl)
+        ∙ said_some after after h resent p runs.unit runs.version (row_stays p.unit ∙ runs.stands) (version_stays h runs.unit.app ∙ runs.found),
+    sym (name_some w p runs.unit runs.stands),
+  )
+
+  -- and what it tells of has that name
+  pub said_name : (h : HostRow) (resent : Bool) (p : Place) (j : Job) → job_at after h resent p ≡ Some j → j.name ≡ name_at w p
+  said_name h resent p j is = at_unit (unit_at after p.unit) is ∙ name_stays p
+    where
+      at_version : (b : UnitBook) (o : Option Version) → option_map (job_of (name_at after p) (deadline_at after p) h resent b.unit) o ≡ Some j → j.name ≡ name_at after p
+      at_version b None is = absurd cc
+      at_version b (Some v) is = let value : job_of (name_at after p) (deadline_at after p) h resent b.unit v ≡ j = cc in sym (ap (λ (z : Job). z.name) value)
+
+      at_unit : (o : Option UnitBook) → option_and_then (λ (b : UnitBook). option_map (job_of (name_at after p) (deadline_at after p) h resent b.unit) (version_for after h b.unit.app)) o ≡ Some j
+          → j.name ≡ name_at after p
+      at_unit None is = absurd cc
+      at_unit (Some b) is = at_version b (version_for after h b.unit.app) is
+
+  -- the host runs what fits it
+  fits_runs : (h : HostRow) (p : Place) (b : UnitBook) → unit_at w p.unit ≡ Some b → unit_fits w h b ≡ true → Runs h p
+  fits_runs h p b stands fits =
+      let found = some_of (version_for w h b.unit.app)
+      (last_true (nat_le b.unit.rsc_memory_bound h.m_nbytes && nat_le b.unit.rsc_disk_bound h.d_free
+      && nat_le (estimate b.unit.rsc_fpops_est h.p_fpops) b.unit.delay_bound)
+      (is_some (version_for w h b.unit.app)) fits) in
+      record { unit = b.unit; version = found.0; stands = ap (option_map (λ (b : UnitBook). b.unit)) stands; found = found.1 }
+
+  -- what is sent again to it
+  pub resent_runs : (p : Place) → is_resent (at_entry w c r) (host_at_entry w c r) p ≡ true → Runs (host_at_entry w c r) p
+  resent_runs p is = cases (unit_at w p.unit) refl is
+    where
+      cases : (o : Option UnitBook) → unit_at w p.unit ≡ o
+          → unwrap_or (option_map (λ (b : UnitBook). is_open (status_at (at_entry w c r) p.unit) && unit_fits (at_entry w c r) (host_at_entry w c r) b) o) false ≡ true
+          → Runs (host_at_entry w c r) p
+      cases None stands is = absurd cc
+      cases (Some b) stands is =
+          fits_runs (host_at_entry w c r) p b stands
+          (last_true (is_open (status_at (at_entry w c r) p.unit)) (unit_fits (at_entry w c r) (host_at_entry w c r) b) is)
+
+  -- the caller's row has the platforms of the request
+  platforms_at_entry : (h : HostRow) → host_at (at_entry w c r) (host_number w c) ≡ Some h → h.platforms ≡ r.platforms
+  platforms_at_entry h stands = cases c.host stands
+    where
+      renewed : (o : Option HostRow) → option_map (λ (k : HostRow). row_of_call c r k.quota) o ≡ Some h → h.platforms ≡ r.platforms
+      renewed None is = absurd cc
+      renewed (Some k) is = let same : row_of_call c r k.quota ≡ h = cc in ap (λ (k : HostRow). k.platforms) (sym same)
+
+      cases : (o : Option ℕ) → nth (hosts_at_entry w c r o) (unwrap_or o (length w.hosts + 1)) ≡ Some h → h.platforms ≡ r.platforms
+      cases None is =
+          let row : HostRow = row_of_call c r w.settings.daily_result_quota in
+          let found : Some row ≡ Some h =
+          sym (nth-push w.hosts row (length w.hosts + 1)
+          ∙ ap (λ (b : Bool). cond b (Some row) (nth w.hosts (length w.hosts + 1))) (eq-eqb (length w.hosts + 1) (length w.hosts + 1) refl))
+          ∙ is in
+          let same : row ≡ h = cc in
+          ap (λ (k : HostRow). k.platforms) (sym same)
+      cases (Some host) is =
+          renewed (nth w.hosts host)
+          (sym (nth-modify_nth (λ (k : HostRow). row_of_call c r k.quota) w.hosts host host
+          ∙ ap (λ (b : Bool). cond b (option_map (λ (k : HostRow). row_of_call c r k.quota) (nth w.hosts host)) (nth w.hosts host)) (eq-eqb host host refl))
+          ∙ is)
+
+  -- the host that asks for jobs has the platforms that its call names
+  platforms_stay : (asking_of w c r now).host.platforms ≡ (host_at_entry w c r).platforms
+  platforms_stay =
+      ap (λ o. (unwrap_or o (host_at_entry w c r)).platforms)
+      (nth-map_places (with_quota (at_entry w c r) (with_grown (after_lost w c r now))) (after_lost w c r now).hosts (host_number w c)
+      ∙ ap (λ (v : World). option_map (λ h. with_quota (at_entry w c r) (with_grown (after_lost w c r now)) (host_number w c, h)) (nth v.hosts (host_number w c)))
+      (before_settlement w c r now).rest)
+      ∙ cases (host_at (at_entry w c r) (host_number w c)) platforms_at_entry
+    where
+      cases : (o : Option HostRow) → ((h : HostRow) → o ≡ Some h → h.platforms ≡ r.platforms)
+          → (unwrap_or (option_map (λ h. with_quota (at_entry w c r) (with_grown (after_lost w c r now)) (host_number w c, h)) o) (host_at_entry w c r)).platforms
+          ≡ (host_at_entry w c r).platforms
+      cases None row = refl
+      cases (Some h) row = row h refl
+
+  -- and what is eligible
+  pub eligible_runs : (p : Place) → is_eligible w (asking_of w c r now).host p ≡ true → Runs (host_at_entry w c r) p
+  eligible_runs p eligible = record {
+    unit = runs.unit;
+    version = runs.version;
+    stands = runs.stands;
+    found =
+        ap (λ platforms. cond (list_any (λ (a : App). bytes_eq a.name runs.unit.app) w.apps) (version_among w.versions runs.unit.app platforms) None)
+        (sym platforms_stay)
+        ∙ runs.found;
+  }
+    where
+      asks : HostRow
+      asks = (asking_of w c r now).host
+
+      at : Stood w (λ b x. is_none x.owner && is_for w asks b) p
+      at = stood w (λ b x. is_none x.owner && is_for w asks b) p eligible
+
+      runs : Runs asks p
+      runs =
+          fits_runs asks p at.book at.at
+          (last_true (is_open (status_of w at.book)) (unit_fits w asks at.book)
+          (first_true (is_open (status_of w at.book) && unit_fits w asks at.book) (not (user_had w asks.account at.book))
+          (last_true (is_none at.x.owner) (is_for w asks at.book) at.passed)))
