@@ -17,8 +17,8 @@ use crate::given::{Given, Lists, count_on_day, held_places, places_of, units_of}
 use crate::instance::{Instance, Place};
 use crate::listings::{Listing, count_sent_on_day, list_places, list_units_of_user};
 use crate::look_ups::{
-    account_place, app_place, copy_at, copy_instance, copy_nth, find_version, host_place, nth,
-    unit_place,
+    account_place, app_place, copy_at, copy_instance, copy_nth, copy_of, find_version, host_place,
+    nth, unit_place,
 };
 use crate::moment::Moment;
 use crate::offers::offer_all;
@@ -90,6 +90,37 @@ impl ListDesk {
             world,
             lists,
         })
+    }
+
+    /// The desk of a world, where no list of it is longer than its table may be.
+    pub fn of(alloc: Global, world: World) -> Result<ListDesk, Unavailable>
+        ensures { IfOk result (λ d. d ≡ world) }
+    {
+        if !is_bounded(&world) {
+            return Err(Unavailable);
+        }
+        let lists = Lists::of(alloc, &world)?;
+        Ok(ListDesk {
+            alloc,
+            world,
+            lists,
+        })
+    }
+
+    /// The world that it stands for.
+    pub fn as_world(&self) -> &World
+        ensures { result.now ≡ self.now }
+    {
+        &self.world
+    }
+
+    /// The desk of the world with these changes made, beside this one.
+    pub fn with(&self, delta: &Delta) -> Result<ListDesk, Unavailable>
+        ensures { IfOk result (λ d. d ≡ applied self.now delta.now) }
+    {
+        let mut desk = ListDesk::of(self.alloc, copy_of(&self.world)?)?;
+        desk.apply(delta)?;
+        Ok(desk)
     }
 
     /// Makes all changes, or none. Changes that would make a list longer than its table may be are refused.

@@ -3,6 +3,7 @@ use Rattle.std.proofs.Common.{◌≡◌, ℕ, pos, Bool, true, false, ◌&&◌, 
 use Rattle.std.specs.Prelude.{◌==◌}
 use Rattle.std.specs.List.{AllByRecursion, list_any, range_with_len}
 use Rattle.std.proofs.lemmas.Bool.{and_parts, or_from, eqb-true}
+use Rattle.std.proofs.lemmas.Bool.Decides.{Decides-int_eq}
 use Rattle.sqlite_value.specs.declared.value.Value.{Value}
 use Rattle.sqlite_value.specs.declared.value.Value.TheVariants.{Null, Int, Real, Text, Blob}
 use Rattle.sqlite_value.specs.declared.keys.Collation.TheVariants.{Binary}
@@ -13,7 +14,7 @@ use Rattle.sqlite_sql.specs.Ops.{binary}
 use Rattle.sqlite_schema.specs.Rules.{agree, equal}
 use Rattle.sqlite_keyed.proofs.KeyedLemmas.{same_int}
 use Rattle.sqlite_typed.specs.Columns.{bytes_of}
-use Rattle.sqlite_typed.proofs.TestLemmas.{at_ints, at_texts, same_bytes}
+use Rattle.sqlite_typed.proofs.TestLemmas.{at_ints, at_texts, same_bytes, bytes_eq_refl}
 use Rattle.table_meaning.specs.declared.tables.TableName.{TableName}
 use Rattle.table_meaning.specs.declared.tables.TableName.TheVariants.{Setting, Account, App, Version, Unit, Host, Instance, Kept, Batch}
 use Rattle.table_meaning.specs.declared.rows.StoredRow.{StoredRow}
@@ -113,6 +114,25 @@ one_key a b h =
     let table = same_table (table_at a) (table_at b) (eqb-true _ _ parts.0) in
     let columns = same_columns (key_columns b) (key_columns a) (columns_of_keys b) (columns_of_keys a) parts.1 in
     sym (key_back a) ∙ ap₂ key_from table (sym columns) ∙ key_back b
+
+-- every key is itself
+equal_ints : (n : ℕ) → equal Binary (Int (pos n)) (Int (pos n)) ≡ true
+equal_ints n = at_ints false Eq (pos n) (pos n) ∙ (Decides-int_eq (pos n) (pos n)).1 refl
+
+equal_texts : (t : List ℕ) → equal Binary (Text t) (Text t) ≡ true
+equal_texts t = at_texts false Eq t t ∙ bytes_eq_refl t
+
+pub key_itself : (key : RowKey) → same_key key key ≡ true
+unfolding first_key
+key_itself (setting_key name) = ap (λ b. b && true) (equal_texts name)
+key_itself (account_key id) = ap (λ b. b && true) (equal_ints id)
+key_itself (app_key id) = ap (λ b. b && true) (equal_ints id)
+key_itself (version_key id) = ap (λ b. b && true) (equal_ints id)
+key_itself (unit_key id) = ap (λ b. b && true) (equal_ints id)
+key_itself (host_key id) = ap (λ b. b && true) (equal_ints id)
+key_itself (instance_key unit num) = ap₂ (λ b c. b && (c && true)) (equal_ints unit) (equal_ints num)
+key_itself (kept_key id) = ap (λ b. b && true) (equal_ints id)
+key_itself (batch_key kind name) = ap₂ (λ b c. b && (c && true)) (equal_texts kind) (equal_texts name)
 
 -- ---- what is held after rows are put
 

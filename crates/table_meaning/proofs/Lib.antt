@@ -1,5 +1,7 @@
 pub mod Binding
+pub mod ByKey
 pub mod Definitions
+pub mod FormatLemmas
 pub mod Keys
 pub mod Knowing
 pub mod LookUps
@@ -9,5 +11,6 @@ pub mod PutTexts
 pub mod Putting
 pub mod ReadTexts
 pub mod Reading
+pub mod RowsHeld
 pub mod Statements
 pub mod StepLemmas

@@ -1,20 +1,22 @@
 -- A read of a whole table shows its rows in the order of its tree.
-use Rattle.std.proofs.Common.{◌≡◌, ℕ, ℤ, true, List, [], ◌∷◌, map, map-id, drop, refl, sym, ap, ap₂, subst, ◌∙◌, Less}
-use Rattle.std.specs.List.{AllByRecursion}
-use Rattle.sqlite_value.specs.declared.value.Value.TheVariants.{Null, Int}
+use Rattle.std.proofs.Common.{◌≡◌, ℕ, ℤ, Bool, true, false, cond, List, [], ◌∷◌, map, map-id, drop, filter, find, slice_get, Option, Some, None, option_map, refl, sym, ap, ap₂, subst, ◌∙◌, Less}
+use Rattle.std.specs.List.{AllByRecursion, list_all}
+use Rattle.std.proofs.lemmas.Option.{slice_get-map}
+use Rattle.sqlite_value.specs.declared.value.Value.TheVariants.{Null, Int, Text}
 use Rattle.sqlite_value.specs.Order.{Row, column, value_cmp}
+use Rattle.sqlite_value.specs.Keys.{first_key}
 use Rattle.sqlite_value.proofs.OrderLemmas.{value_cmp-Int}
 use Rattle.sqlite_trees.specs.declared.store.Shape.TheVariants.{Table as TableTree}
 use Rattle.sqlite_trees.specs.Tree.{Trees, rowid, IsTable}
 use Rattle.sqlite_trees.specs.View.{IsShaped, is_int}
-use Rattle.sqlite_sql.specs.Term.{col}
+use Rattle.sqlite_sql.specs.Term.{col, holds}
 use Rattle.sqlite_sql.specs.Program.{overlay}
 use Rattle.sqlite_sql.specs.Query.{IsAnswer}
 use Rattle.sqlite_schema.specs.declared.command.Command.TheVariants.{Select}
 use Rattle.sqlite_rules.specs.Edit.{id_in}
 use Rattle.sqlite_rules.proofs.TableLemmas.{int_is}
 use Rattle.sqlite_keyed.specs.Keyed.{IsKeyedBy}
-use Rattle.sqlite_keyed.proofs.ListLemmas.{map-map, ascending_from_map, ascending_weaker}
+use Rattle.sqlite_keyed.proofs.ListLemmas.{map-map, ascending_from_map, ascending_weaker, slice_get-filter}
 use Rattle.sqlite_keyed.proofs.KeyedLemmas.{lt_from_Less}
 use Rattle.sqlite_typed.proofs.AnswerLemmas.{at_end, last_table, answer_by_keys, unfiltered}
 use Rattle.sqlite_typed.proofs.TestLemmas.{last_key}
@@ -24,10 +26,13 @@ use Rattle.table_meaning.specs.declared.tables.TableName.{TableName}
 use Rattle.table_meaning.specs.declared.tables.TableName.TheVariants.{Setting, Account, App, Version, Unit, Host, Instance, Kept, Batch}
 use Rattle.table_meaning.specs.Schema.{stored_schema}
 use Rattle.table_meaning.specs.Texts.{read_text}
-use Rattle.table_meaning.specs.Rows.{tree_of, places_of, rows_in}
+use Rattle.table_meaning.specs.Rows.{tree_of, places_of, rows_in, whole, kept_key, batch_key, has_key, look_up}
 use Rattle.table_meaning.specs.Reads.{read_query}
+use Rattle.table_meaning.specs.ByKey.{kept_text, batch_text, key_tests, key_query}
+use Rattle.table_meaning.specs.Formats.{columns_in}
 use Rattle.table_meaning.specs.Holding.{AreKnown}
 use Rattle.table_meaning.proofs.ReadTexts.{names_of, each_is_read}
+use Rattle.table_meaning.proofs.ByKey.{kept_is_read, batch_is_read}
 
 -- a row of a tree as its number and its columns
 abbrev Numbered : Type 0
@@ -76,3 +81,48 @@ shown_rows t old new known rows h =
     let meaning = each_is_read t in
     let read = reads_as (read_text t) [] old new stored_schema known.schema (Select (record { lets = []; body = read_query (tree_of t) (places_of t) }) (names_of t)) meaning.0 meaning.1 meaning.2 rows h in
     read_rows old.now.trees (tree_of t) (places_of t) (own_rows t old.now.trees) (known.ordered t) rows (read.answer Null)
+
+-- ---- what stands at a key
+
+-- the first row that passes, of numbered rows or of rows
+first_row : (p : Row → Bool) (show : Row → Row) (xs : List Numbered) → option_map (λ n. show (as_row n)) (find (λ n. p (as_row n)) xs) ≡ option_map show (find p (map as_row xs))
+first_row p show [] = refl
+first_row p show (x ∷ xs) = turn (p (as_row x)) (first_row p show xs)
+  where
+    turn : (b : Bool) → option_map (λ n. show (as_row n)) (find (λ n. p (as_row n)) xs) ≡ option_map show (find p (map as_row xs))
+        → option_map (λ n. show (as_row n)) (cond b (Some x) (find (λ n. p (as_row n)) xs)) ≡ option_map show (cond b (Some (as_row x)) (find p (map as_row xs)))
+    turn true later = refl
+    turn false later = later
+
+module _ (db : Trees) (tree : ℕ) (key places : List ℕ) (params : Row) (p : Row → Bool) (own : overlay db [] tree ≡ db tree) (shaped : IsShaped TableTree (db tree))
+    (tests : (n : Numbered) → list_all (holds (params ∷ as_row n ∷ [])) (key_tests 0 key) ≡ p (as_row n)) where
+  key_rows : (rows : List Row) → IsAnswer (key_query tree key places) (overlay db []) params rows → slice_get rows 0 ≡ option_map (λ r. map (column r) places) (find p (db tree))
+  key_rows rows answer =
+      let xs = map parted (db tree) in
+      let is : db tree ≡ map as_row xs = as_rows (db tree) shaped.1 in
+      let source = last_table (overlay db []) tree as_row (λ n. n.0) xs (own ∙ is) (numbers_rise xs (subst IsTable is shaped.0)) (at_end (overlay db [])) in
+      let show = λ (n : Numbered). map (column (as_row n)) places in
+      let found = answer_by_keys (key_query tree key places) (overlay db []) params source (λ n. p (as_row n)) tests (λ r. r) show (λ n. map-map _ (col 1) places) refl refl (λ a b. last_key (value_cmp-Int a.0 b.0)) rows answer in
+      ap (λ l. slice_get l 0) (sym (map-id rows) ∙ found) ∙ slice_get-map show (filter (λ n. p (as_row n)) xs) 0 ∙ ap (option_map show) (slice_get-filter (λ n. p (as_row n)) xs)
+      ∙ first_row p (λ r. map (column r) places) xs ∙ sym (ap (λ l. option_map (λ r. map (column r) places) (find p l)) is)
+
+-- columns that a function leaves as they are
+kept_same : (show same : Row → Row) → ((r : Row) → same (show r) ≡ show r) → (found : Option Row) → option_map same (option_map show found) ≡ option_map show found
+kept_same show same is None = refl
+kept_same show same is (Some r) = ap Some (is r)
+
+pub kept_shown_at : (old new : State) → AreKnown old.now → (host : ℕ) (rows : List Row) → Shown kept_text (whole host ∷ []) old new rows
+    → option_map (λ r. columns_in r 4) (slice_get rows 0) ≡ look_up old.now.trees (kept_key host)
+unfolding first_key
+kept_shown_at old new known host rows h =
+    let read = reads_as kept_text (whole host ∷ []) old new stored_schema known.schema _ kept_is_read.0 kept_is_read.1 kept_is_read.2 rows h in
+    let found = key_rows old.now.trees 14 (0 ∷ []) (places_of Kept) (whole host ∷ []) (has_key (kept_key host)) refl (known.ordered Kept) (λ n. refl) rows (read.answer Null) in
+    ap (option_map (λ r. columns_in r 4)) found ∙ kept_same _ (λ r. columns_in r 4) (λ r. refl) _
+
+pub batch_shown_at : (old new : State) → AreKnown old.now → (kind name : List ℕ) (rows : List Row) → Shown batch_text (Text kind ∷ Text name ∷ []) old new rows
+    → option_map (λ r. columns_in r 4) (slice_get rows 0) ≡ look_up old.now.trees (batch_key kind name)
+unfolding first_key
+batch_shown_at old new known kind name rows h =
+    let read = reads_as batch_text (Text kind ∷ Text name ∷ []) old new stored_schema known.schema _ batch_is_read.0 batch_is_read.1 batch_is_read.2 rows h in
+    let found = key_rows old.now.trees 15 (1 ∷ 2 ∷ []) (places_of Batch) (Text kind ∷ Text name ∷ []) (has_key (batch_key kind name)) refl (known.ordered Batch) (λ n. refl) rows (read.answer Null) in
+    ap (option_map (λ r. columns_in r 4)) found ∙ kept_same _ (λ r. columns_in r 4) (λ r. refl) _

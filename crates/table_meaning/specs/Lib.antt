@@ -1,3 +1,5 @@
+pub mod ByKey
+pub mod Formats
 pub mod Holding
 pub mod Making
 pub mod Reads

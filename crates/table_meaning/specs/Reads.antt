@@ -1,11 +1,14 @@
 -- The form of the statements that read a table whole, and what a read leaves of a connection.
-use Rattle.std.specs.Prelude.{◌≡◌, ℕ, pos, negsuc, false, List, [], ◌∷◌, map, None, IsTrue}
+use Rattle.std.specs.Prelude.{◌≡◌, ℕ, pos, negsuc, true, false, List, [], ◌∷◌, map, None, IsTrue}
 use Rattle.sqlite_value.specs.declared.value.Value.TheVariants.{Int}
 use Rattle.sqlite_value.specs.declared.keys.Collation.TheVariants.{Binary}
+use Rattle.sqlite_value.specs.Order.{Row}
 use Rattle.sqlite_value.specs.Keys.{ascending}
 use Rattle.sqlite_sql.specs.Term.{lit, col}
 use Rattle.sqlite_sql.specs.Query.{Query, inner, end}
-use Rattle.sqlite.specs.State.{State, HasCleanDisk, Survives}
+use Rattle.sqlite_trees.specs.declared.store.Store.{Ghosts}
+use Rattle.sqlite.specs.Held.{Held, state}
+use Rattle.sqlite.specs.State.{State, HasCleanDisk, Survives, Shown}
 
 -- the rows of a tree at these places, by their number
 abbrev pub read_query : ℕ → List ℕ → Query
@@ -26,3 +29,7 @@ pub record Reads (old new : State) : Type 0 where
   pub survives : Survives old new (λ _. ⊥)
   pub was_open : HasCleanDisk new → IsTrue new.is_open → IsTrue old.is_open
   pub same : HasCleanDisk new → IsTrue new.is_open → old.now ≡ old.committed → (new.now ≡ old.now) × (new.committed ≡ old.committed)
+
+-- These are the rows that a text shows in a transaction.
+abbrev pub Shows : {S : Type 0} → Ghosts S → Held S → List ℕ → Row → List Row → Type 0
+Shows {S} store old text params rows = (after : Held S) × Shown text params (state store (record old { in_transaction = true })) (state store after) rows

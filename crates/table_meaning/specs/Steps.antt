@@ -1,5 +1,5 @@
 -- What the steps of a transaction make of the tables.
-use Rattle.std.specs.Prelude.{◌≡◌, List, [], IsTrue}
+use Rattle.std.specs.Prelude.{◌≡◌, List, [], None, IsTrue}
 use Rattle.sqlite.specs.Effect.{Database}
 use Rattle.sqlite.specs.State.{State}
 use Rattle.table_meaning.specs.declared.tables.TableName.{TableName}
@@ -21,3 +21,7 @@ pub record Moves (old new : State) (rows : List StoredRow) : Type 0 where
 pub record AreNew (db : Database) : Type 0 where
   pub schema : db.schema ≡ stored_schema
   pub empty : (t : TableName) → db.trees (tree_of t) ≡ []
+
+-- the tables hold these rows, put in order, and nothing else
+abbrev pub HoldJust : Database → List StoredRow → Type 0
+HoldJust db rows = Hold db (with_rows (λ key. None) rows)

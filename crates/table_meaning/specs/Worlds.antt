@@ -1,11 +1,15 @@
 -- What the tables hold of a world: at each key the row that the world, the kept calls and the kept batches have there.
 -- A status, what is held, a credit and what is queued are counted from the world's other rows.
-use Rattle.std.specs.Prelude.{ℕ, pos, Bool, ◌&&◌, ◌==◌, if◌then◌else◌, List, [], ◌∷◌, ◌++◌, length, codes, slice_get, Option, Some, None, is_none, option_map, option_and_then, unwrap_or}
+use Rattle.std.specs.Prelude.{ℕ, pos, Bool, ◌&&◌, ◌==◌, if◌then◌else◌, List, [], ◌∷◌, ◌++◌, flat_map, length, codes, slice_get, Option, Some, None, is_none, option_map, option_and_then, unwrap_or}
 use Rattle.std.specs.Str.{bytes_eq}
 use Rattle.reply_register.specs.declared.kept.Kept.{Kept as Call}
 use Rattle.sched_book.specs.Places.{nth, place_where, unit_at, host_at, status_of, held_by, host_credit}
+use Rattle.sched_book.specs.declared.rows.Account.{Account}
 use Rattle.sched_book.specs.declared.rows.Agreement.{Agreement}
 use Rattle.sched_book.specs.declared.rows.Agreement.TheVariants.{Exact, Within}
+use Rattle.sched_book.specs.declared.rows.App.{App}
+use Rattle.sched_book.specs.declared.rows.HostRow.{HostRow}
+use Rattle.sched_book.specs.declared.rows.Version.{Version}
 use Rattle.sched_book.specs.declared.instance.Instance.{Instance as Job}
 use Rattle.sched_book.specs.declared.instance.Lapse.{Lapse}
 use Rattle.sched_book.specs.declared.instance.Lapse.TheVariants.{Late, Dropped}
@@ -17,11 +21,14 @@ use Rattle.sched_book.specs.declared.world.World.{World}
 use Rattle.sqlite.specs.Effect.{Database}
 use Rattle.table_meaning.specs.declared.rows.SettingValue.{SettingValue}
 use Rattle.table_meaning.specs.declared.rows.SettingValue.TheVariants.{Number, Word}
+use Rattle.table_meaning.specs.declared.rows.StoredAccount.{StoredAccount}
+use Rattle.table_meaning.specs.declared.rows.StoredApp.{StoredApp}
+use Rattle.table_meaning.specs.declared.rows.StoredVersion.{StoredVersion}
 use Rattle.table_meaning.specs.declared.rows.StoredUnit.{StoredUnit}
 use Rattle.table_meaning.specs.declared.rows.StoredHost.{StoredHost}
 use Rattle.table_meaning.specs.declared.rows.StoredInstance.{StoredInstance}
 use Rattle.table_meaning.specs.declared.rows.StoredRow.{StoredRow}
-use Rattle.table_meaning.specs.declared.rows.StoredRow.TheVariants.{Setting, Account, App, Version, Unit, Host, Instance, Kept, Batch}
+use Rattle.table_meaning.specs.declared.rows.StoredRow.TheVariants as stored
 use Rattle.table_meaning.specs.Rows.{RowKey, setting_key, account_key, app_key, version_key, unit_key, host_key, instance_key, kept_key, batch_key}
 use Rattle.table_meaning.specs.Holding.{Contents, Hold}
 
@@ -57,14 +64,37 @@ lapse_code (Some Dropped) = 2
 -- words joined by commas
 abbrev pub joined : List (List ℕ) → List ℕ
 joined [] = []
-joined (word ∷ []) = word
-joined (word ∷ other ∷ more) = word ++ codes "," ++ joined (other ∷ more)
+joined (word ∷ more) = word ++ flat_map (λ w. codes "," ++ w) more
 
 -- the place of the application of this name
 abbrev pub app_place : World → List ℕ → ℕ
 app_place w name = unwrap_or (place_where (λ a. bytes_eq a.name name) w.apps) 0
 
 -- ---- rows
+
+abbrev pub account_row : ℕ → Account → StoredAccount
+account_row id a = record { id = id; auth = a.authenticator; name = a.name }
+
+abbrev pub app_row : ℕ → App → StoredApp
+app_row id a = record { id = id; name = a.name; agreement = agreement_limit a.agreement }
+
+abbrev pub version_row : World → ℕ → Version → StoredVersion
+version_row w id v = record { id = id; app_id = app_place w v.app; platform = v.platform; num = v.version_num }
+
+-- a host, with how many instances it holds and its credit
+abbrev pub host_row : ℕ → ℕ → ℕ → HostRow → StoredHost
+host_row held credit id h = record {
+  id = id;
+  account_id = h.account;
+  cpid = h.cpid;
+  platforms = joined h.platforms;
+  fpops = pos h.p_fpops;
+  memory = pos h.m_nbytes;
+  disk = pos h.d_free;
+  quota = h.quota;
+  held = held;
+  credit = pos credit;
+}
 
 abbrev pub unit_row : World → ℕ → UnitBook → StoredUnit
 unit_row w id b = record {
@@ -108,27 +138,15 @@ BatchText = List ℕ × List ℕ
 
 module _ (w : World) (calls : ℕ → Option Call) (batches : List ℕ → List ℕ → Option BatchText) where
   abbrev pub contents_of : Contents
-  contents_of (setting_key name) = option_map (λ v. Setting (record { name = name; value = v })) (setting_in w.settings name)
-  contents_of (account_key id) = option_map (λ a. Account (record { id = id; auth = a.authenticator; name = a.name })) (nth w.accounts id)
-  contents_of (app_key id) = option_map (λ a. App (record { id = id; name = a.name; agreement = agreement_limit a.agreement })) (nth w.apps id)
-  contents_of (version_key id) = option_map (λ v. Version (record { id = id; app_id = app_place w v.app; platform = v.platform; num = v.version_num })) (nth w.versions id)
-  contents_of (unit_key id) = option_map (λ b. Unit (unit_row w id b)) (unit_at w id)
-  contents_of (host_key id) =
-      option_map (λ h. Host (record {
-        id = id;
-        account_id = h.account;
-        cpid = h.cpid;
-        platforms = joined h.platforms;
-        fpops = pos h.p_fpops;
-        memory = pos h.m_nbytes;
-        disk = pos h.d_free;
-        quota = h.quota;
-        held = length (held_by w id);
-        credit = pos (host_credit w id);
-      })) (host_at w id)
-  contents_of (instance_key unit num) = option_and_then (λ b. option_map (λ x. Instance (instance_row w b unit num x)) (slice_get b.instances num)) (unit_at w unit)
-  contents_of (kept_key id) = option_map (λ k. Kept (record { host_id = id; seqno = k.seqno; text = k.text; reply = k.reply })) (calls id)
-  contents_of (batch_key kind name) = option_map (λ b. Batch (record { kind = kind; name = name; text = b.0; answer = b.1 })) (batches kind name)
+  contents_of (setting_key name) = option_map (λ v. stored.Setting (record { name = name; value = v })) (setting_in w.settings name)
+  contents_of (account_key id) = option_map (λ a. stored.Account (account_row id a)) (nth w.accounts id)
+  contents_of (app_key id) = option_map (λ a. stored.App (app_row id a)) (nth w.apps id)
+  contents_of (version_key id) = option_map (λ v. stored.Version (version_row w id v)) (nth w.versions id)
+  contents_of (unit_key id) = option_map (λ b. stored.Unit (unit_row w id b)) (unit_at w id)
+  contents_of (host_key id) = option_map (λ h. stored.Host (host_row (length (held_by w id)) (host_credit w id) id h)) (host_at w id)
+  contents_of (instance_key unit num) = option_and_then (λ b. option_map (λ x. stored.Instance (instance_row w b unit num x)) (slice_get b.instances num)) (unit_at w unit)
+  contents_of (kept_key id) = option_map (λ k. stored.Kept (record { host_id = id; seqno = k.seqno; text = k.text; reply = k.reply })) (calls id)
+  contents_of (batch_key kind name) = option_map (λ b. stored.Batch (record { kind = kind; name = name; text = b.0; answer = b.1 })) (batches kind name)
 
 -- The tables hold this world, with these calls by the number of their host and these batches by kind and name.
 abbrev pub HoldWorld : Database → World → (ℕ → Option Call) → (List ℕ → List ℕ → Option BatchText) → Type 0

@@ -5,10 +5,13 @@ ghost use Rattle.sqlite.specs.Held.{state};
 ghost use Rattle.sqlite.specs.State.{HasCleanDisk, KeepsCommit, Survives};
 ghost use Rattle.table_meaning.specs.Schema.{no_schema};
 ghost use Rattle.table_meaning.specs.Texts.{definition_texts};
-ghost use Rattle.table_meaning.specs.Steps.{AreNew};
+ghost use Rattle.table_meaning.specs.Steps.{AreNew, HoldJust};
 
 use crate::opening::OpenFault;
+use crate::put::put_each;
 use sqlite::{Alter, Connection, Error, Transaction};
+use std::alloc::Global;
+use table_meaning::rows::StoredRow;
 
 /// How many texts make the tables and the indexes.
 const DEFINITIONS: usize = 13;
@@ -68,14 +71,35 @@ fn define_all<S: Alter>(tx: &mut Transaction<'_, S>) -> Result<(), Error>
     Ok(())
 }
 
-/// Makes the nine tables, each with no row, in a database that has none: all of them or nothing.
-pub fn create<S: Alter>(conn: &mut Connection<S>) -> Result<(), OpenFault>
-    ensures made { HasCleanDisk (state S.Store conn.new) → OnOk result (AreNew (state S.Store conn.new).committed) }
+/// Makes the tables and the indexes, and puts these rows.
+fn make_tables<S: Alter>(
+    alloc: Global,
+    tx: &mut Transaction<'_, S>,
+    rows: &[StoredRow],
+) -> Result<(), Error>
+    ensures same_reference { tx.new.conn.ghost_name ≡ tx.old.conn.ghost_name }
+    ensures survives { Survives (state S.Store tx.old.conn.now) (state S.Store tx.new.conn.now) (λ _. ⊥) }
+    ensures kept { HasCleanDisk (state S.Store tx.new.conn.now) → KeepsCommit (state S.Store tx.old.conn.now) (state S.Store tx.new.conn.now) }
+    ensures made { HasCleanDisk (state S.Store tx.new.conn.now) → IsTrue (state S.Store tx.old.conn.now).in_transaction → (state S.Store tx.old.conn.now).now.schema ≡ no_schema
+        → OnOk result (IsTrue (state S.Store tx.new.conn.now).in_transaction × HoldJust (state S.Store tx.new.conn.now).now rows.now) }
+{
+    define_all(tx)?;
+    put_each(alloc, tx, rows)
+}
+
+/// Makes the nine tables with these rows, put in order, in a database that has none: all of them or nothing.
+pub fn create<S: Alter>(
+    alloc: Global,
+    conn: &mut Connection<S>,
+    rows: &[StoredRow],
+) -> Result<(), OpenFault>
+    ensures was_open { HasCleanDisk (state S.Store conn.new) → IsTrue (state S.Store conn.new).is_open → IsTrue (state S.Store conn.old).is_open }
+    ensures made { HasCleanDisk (state S.Store conn.new) → OnOk result (HoldJust (state S.Store conn.new).committed rows.now) }
     ensures rest { HasCleanDisk (state S.Store conn.new) → OnOk result ((state S.Store conn.new).now ≡ (state S.Store conn.new).committed) }
     ensures taken { IfErr result (λ e. e ≡ OpenFault.NotTables → (state S.Store conn.old).now.schema ≢ no_schema) }
     ensures neither { HasCleanDisk (state S.Store conn.new) → IsTrue (state S.Store conn.new).is_open
         → OnErr result (((state S.Store conn.new).now ≡ (state S.Store conn.old).now) × ((state S.Store conn.new).committed ≡ (state S.Store conn.old).committed)) }
-    ensures crash { Survives (state S.Store conn.old) (state S.Store conn.new) (λ trees. (db : _) × AreNew db × (trees ≡ db.trees)) }
+    ensures crash { Survives (state S.Store conn.old) (state S.Store conn.new) (λ trees. (db : _) × HoldJust db rows.now × (trees ≡ db.trees)) }
 {
     if !conn.is_autocommit() {
         return Err(OpenFault::Unavailable);
@@ -84,7 +108,7 @@ pub fn create<S: Alter>(conn: &mut Connection<S>) -> Result<(), OpenFault>
         return Err(OpenFault::NotTables);
     }
     let mut tx = conn.transaction();
-    define_all(&mut tx)?;
+    make_tables(alloc, &mut tx, rows)?;
     tx.commit()?;
     Ok(())
 }

@@ -3,12 +3,17 @@
 
 pub mod alike;
 pub mod definitions;
+pub mod fields;
+pub mod keyed;
 pub mod opening;
 pub mod put;
 pub mod read;
+pub mod typed;
 pub mod values;
 
 pub use definitions::create;
+pub use keyed::{batch_of, kept_of};
 pub use opening::{OpenFault, in_memory, known};
 pub use put::put_rows;
 pub use read::{all_rows, rows_of};
+pub use typed::stored_rows_of;

@@ -8,7 +8,7 @@ ghost use Rattle.sqlite.specs.Held.{state};
 ghost use Rattle.sqlite.specs.Steps.{over_memory};
 ghost use Rattle.sqlite.specs.State.{HasCleanDisk, IsLive, Opens};
 ghost use Rattle.table_meaning.specs.Schema.{stored_schema};
-ghost use Rattle.table_meaning.specs.Steps.{AreNew};
+ghost use Rattle.table_meaning.specs.Steps.{HoldJust};
 ghost use Rattle.table_meaning.specs.Holding.{AreKnown};
 
 use crate::alike::Alike;
@@ -16,12 +16,15 @@ use crate::definitions::create;
 use sqlite::{Alter, Connection, Error, MemStore};
 use sqlite_schema::schema::Schema;
 use std::alloc::{AllocError, Global};
+use table_meaning::rows::StoredRow;
 
 /// Why a connection is not taken.
 #[derive(Clone, Copy, Debug)]
 pub enum OpenFault {
     /// Its tables are not the stored ones.
     NotTables,
+    /// A row has not the form of its table, or a value out of its range.
+    BadRow,
     /// Memory or the disk failed.
     Unavailable,
 }
@@ -48,12 +51,13 @@ impl From<AllocError> for OpenFault {
     }
 }
 
-/// New tables in memory.
-pub fn in_memory(alloc: Global) -> Result<Connection<MemStore>, OpenFault>
-    ensures { IfOk result (λ c. AreNew (state over_memory c).now) }
+/// New tables in memory, with these rows.
+pub fn in_memory(alloc: Global, rows: &[StoredRow]) -> Result<Connection<MemStore>, OpenFault>
+    ensures made { IfOk result (λ c. HoldJust (state over_memory c).now rows.now) }
+    ensures rest { IfOk result (λ c. (state over_memory c).now ≡ (state over_memory c).committed) }
 {
     let mut conn = Connection::open_in_memory(alloc)?;
-    create(&mut conn)?;
+    create(alloc, &mut conn, rows)?;
     Ok(conn)
 }
 
@@ -61,7 +65,7 @@ pub fn in_memory(alloc: Global) -> Result<Connection<MemStore>, OpenFault>
 pub fn wanted_schema(alloc: Global) -> Result<Schema, OpenFault>
     ensures { IfOk result (λ schema. schema ≡ stored_schema) }
 {
-    let conn = in_memory(alloc)?;
+    let conn = in_memory(alloc, &[])?;
     let schema = conn.schema().copy(alloc)?;
     Ok(schema)
 }

@@ -56,7 +56,7 @@ fn put_row<S: Alter>(
 }
 
 /// Puts each row in turn.
-fn put_each<S: Alter>(
+pub(crate) fn put_each<S: Alter>(
     alloc: Global,
     tx: &mut Transaction<'_, S>,
     rows: &[StoredRow],
@@ -79,6 +79,7 @@ pub fn put_rows<S: Alter>(
     conn: &mut Connection<S>,
     rows: &[StoredRow],
 ) -> Result<(), Error>
+    ensures was_open { HasCleanDisk (state S.Store conn.new) → IsTrue (state S.Store conn.new).is_open → IsTrue (state S.Store conn.old).is_open }
     ensures both { HasCleanDisk (state S.Store conn.new) → OnOk result (PutsRows (state S.Store conn.old).now (state S.Store conn.new).committed rows.now) }
     ensures rest { HasCleanDisk (state S.Store conn.new) → OnOk result ((state S.Store conn.new).now ≡ (state S.Store conn.new).committed) }
     ensures neither { HasCleanDisk (state S.Store conn.new) → IsTrue (state S.Store conn.new).is_open

@@ -3,11 +3,13 @@
 ghost use Rattle.std.specs.Prelude.{◌≡◌, IfOk, IsTrue, map};
 ghost use Rattle.sqlite.specs.Held.{state};
 ghost use Rattle.sqlite.specs.State.{HasCleanDisk};
+ghost use Rattle.sqlite.specs.Values.{bound};
 ghost use Rattle.table_meaning.specs.Texts.{read_text as sql_read};
 ghost use Rattle.table_meaning.specs.Rows.{rows_in};
-ghost use Rattle.table_meaning.specs.Reads.{Reads};
+ghost use Rattle.table_meaning.specs.Reads.{Reads, Shows};
 ghost use Rattle.table_meaning.specs.Holding.{AreKnown};
 
+use sqlite::types::ValueRef;
 use sqlite::{Alter, Connection, Error, ErrorCode, Row};
 use std::alloc::Global;
 use table_meaning::tables::TableName;
@@ -32,18 +34,30 @@ fn read_text(table: TableName) -> &'static str
     }
 }
 
-/// The rows of a table, each with its columns in order. The connection shows what it showed.
-pub fn rows_of<S: Alter>(conn: &mut Connection<S>, table: TableName) -> Result<Vec<Row>, Error>
+/// The rows that a statement shows. The connection shows what it showed.
+pub(crate) fn shown_by<S: Alter>(
+    conn: &mut Connection<S>,
+    text: &str,
+    params: &[ValueRef<'_>],
+) -> Result<Vec<Row>, Error>
     ensures reads { Reads (state S.Store conn.old) (state S.Store conn.new) }
-    ensures rows { HasCleanDisk (state S.Store conn.new) → AreKnown (state S.Store conn.old).now → IfOk result (λ rows. rows.items ≡ rows_in (state S.Store conn.old).now.trees table) }
+    ensures shown { HasCleanDisk (state S.Store conn.new) → IfOk result (λ rows. Shows S.Store conn.old text.now (bound params.now) rows.items) }
 {
     if !conn.is_autocommit() {
         return Err(Error::SqliteFailure(ErrorCode::TransactionState));
     }
     let mut tx = conn.transaction();
-    let rows = tx.query_all(read_text(table), &[])?;
+    let rows = tx.query_all(text, params)?;
     tx.rollback();
     Ok(rows)
+}
+
+/// The rows of a table, each with its columns in order. The connection shows what it showed.
+pub fn rows_of<S: Alter>(conn: &mut Connection<S>, table: TableName) -> Result<Vec<Row>, Error>
+    ensures reads { Reads (state S.Store conn.old) (state S.Store conn.new) }
+    ensures rows { HasCleanDisk (state S.Store conn.new) → AreKnown (state S.Store conn.old).now → IfOk result (λ rows. rows.items ≡ rows_in (state S.Store conn.old).now.trees table) }
+{
+    shown_by(conn, read_text(table), &[])
 }
 
 /// The rows of each of the tables, in turn.

@@ -11,7 +11,7 @@ use std::alloc::{AllocError, Global};
 use table_meaning::rows::{SettingValue, StoredRow};
 use texts::Text;
 
-fn whole(n: u32) -> ValueRef<'static>
+pub(crate) fn whole(n: u32) -> ValueRef<'static>
     ensures { owned result ≡ sql_whole n }
 {
     ValueRef::Int(i64::from(n))

@@ -1,0 +1,137 @@
+-- A commit keeps its entry, and all else as it was.
+use Rattle.std.proofs.Common.{◌≡◌, ℕ, Bool, true, false, ◌&&◌, ◌||◌, cond, eqb, List, [], ◌∷◌, Option, Some, None, option_map, option_to_list, refl, sym, ap, ap₂, subst, ◌∙◌, true≢false}
+use Rattle.std.specs.Prelude.{◌==◌, take}
+use Rattle.std.specs.Str.{bytes_eq}
+use Rattle.std.specs.List.{cons_option}
+use Rattle.std.proofs.lemmas.Bool.{eq-eqb, eqb-true}
+use Rattle.std.proofs.lemmas.Slice.Eq.{bytes_eq-Decides}
+use Rattle.sqlite.specs.Effect.{Database}
+use Rattle.sqlite.specs.State.{State}
+use Rattle.message_engine.specs.Stores.{calls_with, batches_with, IsCommitted}
+use Rattle.message_engine.specs.declared.entry.Entry.{Entry}
+use Rattle.message_engine.specs.declared.entry.Entry.TheVariants as entry
+use Rattle.pasts.specs.Kinds.{kind_name}
+use Rattle.pasts.specs.declared.batch.KeptBatch.{KeptBatch}
+use Rattle.pasts.specs.declared.kind.Kind.{Kind}
+use Rattle.reply_register.specs.declared.kept.Kept.{Kept}
+use Rattle.sched_book.specs.Delta.{applied}
+use Rattle.sched_book.specs.declared.delta.Change.{Change}
+use Rattle.sched_book.specs.declared.world.World.{World}
+use Rattle.table_meaning.specs.declared.rows.StoredRow.{StoredRow}
+use Rattle.table_meaning.specs.declared.rows.StoredRow.TheVariants as stored
+use Rattle.table_meaning.specs.Rows.{RowKey, kept_key, batch_key, columns_of, same_key}
+use Rattle.table_meaning.specs.Holding.{Hold}
+use Rattle.table_meaning.specs.Worlds.{BatchText, contents_of, HoldWorld}
+use Rattle.table_meaning.proofs.Keys.{key_itself}
+use Rattle.sched_tables.specs.Commits.{LastCalls, Imports, Keeps, LeadsTo}
+use Rattle.sched_tables.specs.Entries.{row_of, last_calls_with, imports_with, kept_batch, calls_of, batches_of}
+use Rattle.sched_tables.specs.Held.{AreWellKept}
+use Rattle.sched_tables.specs.Kept.{call_of, batch_of, calls_in, batches_in}
+
+-- ---- the row of an entry
+
+same_bytes : (a b : List ℕ) → bytes_eq a b ≡ true → a ≡ b
+same_bytes a b = (bytes_eq-Decides a b).0
+
+itself : (a : List ℕ) → bytes_eq a a ≡ true
+itself a = (bytes_eq-Decides a a).1 refl
+
+other_key : (a b : RowKey) → (same_key a b || false) ≡ false → a ≡ b → ⊥
+other_key a b apart same = absurd (true≢false (sym (ap (λ k. same_key k b || false) same ∙ ap (λ c. c || false) (key_itself b)) ∙ apart))
+
+pub keeps_entry : (w : World) (e : Entry) (calls : LastCalls) (batches : Imports) → Keeps w (cons_option (row_of e) []) calls batches (last_calls_with e calls) (imports_with e batches)
+keeps_entry w (entry.Kept host k) calls batches = record {
+  each = (
+    ap (λ (b : Bool). option_map (λ (c : Kept). stored.Kept (record { host_id = host; seqno = c.seqno; text = c.text; reply = c.reply })) (cond b (Some k) (calls host))) (eq-eqb host host refl),
+    tt,
+  );
+  other_calls = λ id none. other id (eqb host id) refl none;
+  other_batches = λ kind name none. refl;
+}
+  where
+    other : (id : ℕ) (b : Bool) → eqb host id ≡ b → (same_key (kept_key id) (kept_key host) || false) ≡ false → calls id ≡ cond b (Some k) (calls id)
+    other id true same apart = absurd (other_key (kept_key id) (kept_key host) apart (ap kept_key (sym (eqb-true host id same))))
+    other id false same apart = refl
+keeps_entry w (entry.Batch kind name b) calls batches = record {
+  each = (
+    ap₂ (λ (c d : Bool). option_map (λ (t : BatchText). stored.Batch (record { kind = kind_name kind; name = name; text = t.0; answer = t.1 })) (cond (c && d) (Some (b.text, b.answer)) (batches (kind_name kind) name)))
+        (itself (kind_name kind)) (itself name),
+    tt,
+  );
+  other_calls = λ id none. refl;
+  other_batches = λ k n none. other k n (bytes_eq (kind_name kind) k) (bytes_eq name n) refl refl none;
+}
+  where
+    other : (k n : List ℕ) (c d : Bool) → bytes_eq (kind_name kind) k ≡ c → bytes_eq name n ≡ d → (same_key (batch_key k n) (batch_key (kind_name kind) name) || false) ≡ false
+        → batches k n ≡ cond (c && d) (Some (b.text, b.answer)) (batches k n)
+    other k n true true one two apart =
+        absurd (other_key (batch_key k n) (batch_key (kind_name kind) name) apart (ap₂ batch_key (sym (same_bytes (kind_name kind) k one)) (sym (same_bytes name n two))))
+    other k n true false one two apart = refl
+    other k n false d one two apart = refl
+keeps_entry w entry.Nothing calls batches = record { each = tt; other_calls = λ id none. refl; other_batches = λ kind name none. refl }
+
+-- ---- what tables keep is what they hold
+
+module _ (db : Database) (w : World) (calls : LastCalls) (batches : Imports) (holds : HoldWorld db w calls batches) where
+  pub calls_back : (host : ℕ) → calls_in db.trees host ≡ calls host
+  calls_back host = ap (option_map call_of) (holds.rows (kept_key host)) ∙ cases (calls host)
+    where
+      cases : (o : Option Kept) → option_map call_of (option_map columns_of (option_map (λ (k : Kept). stored.Kept (record { host_id = host; seqno = k.seqno; text = k.text; reply = k.reply })) o)) ≡ o
+      cases None = refl
+      cases (Some k) = refl
+
+  pub batches_back : (kind name : List ℕ) → batches_in db.trees kind name ≡ batches kind name
+  batches_back kind name = ap (option_map batch_of) (holds.rows (batch_key kind name)) ∙ cases (batches kind name)
+    where
+      cases : (o : Option BatchText) → option_map batch_of (option_map columns_of (option_map (λ (b : BatchText). stored.Batch (record { kind = kind; name = name; text = b.0; answer = b.1 })) o)) ≡ o
+      cases None = refl
+      cases (Some b) = refl
+
+  -- so they hold the world with what they keep
+  pub held_with_kept : HoldWorld db w (calls_in db.trees) (batches_in db.trees)
+  held_with_kept = subst (λ (c : LastCalls). HoldWorld db w c (batches_in db.trees)) (λ i host. sym (calls_back host) i) (subst (λ (b : Imports). HoldWorld db w calls b) (λ i kind name. sym (batches_back kind name) i) holds)
+
+-- ---- a commit
+
+module _ (old new : State) (w v : World) (cs : List Change) (e : Entry) (row : Option StoredRow) (row_is : row ≡ row_of e) (after : v ≡ applied w cs) (kept : AreWellKept old w)
+    (rests : new.now ≡ new.committed) (leads : LeadsTo w cs row old.now new.now) where
+  abbrev calls : LastCalls
+  calls = calls_in old.now.trees
+
+  abbrev batches : Imports
+  batches = batches_in old.now.trees
+
+  now_held : HoldWorld new.now (applied w cs) (last_calls_with e calls) (imports_with e batches)
+  now_held = leads calls (last_calls_with e calls) batches (imports_with e batches)
+      (subst (λ r. Keeps (applied w cs) (cons_option r []) calls batches (last_calls_with e calls) (imports_with e batches)) (sym row_is) (keeps_entry (applied w cs) e calls batches)) kept.holds
+
+  pub kept_then : AreWellKept new v
+  kept_then = record {
+    rests = rests;
+    holds = subst (λ u. HoldWorld new.now u (calls_in new.now.trees) (batches_in new.now.trees)) (sym after) (held_with_kept new.now (applied w cs) (last_calls_with e calls) (imports_with e batches) now_held);
+  }
+
+  pub committed : IsCommitted cs e w (calls_of old.now.trees) (batches_of old.now.trees) v (calls_of new.now.trees) (batches_of new.now.trees)
+  committed = record {
+    world_is = after;
+    calls_are = λ host. ap option_to_list (calls_back new.now (applied w cs) (last_calls_with e calls) (imports_with e batches) now_held host) ∙ calls_said e host;
+    batches_are = λ kind name. ap (option_map kept_batch) (batches_back new.now (applied w cs) (last_calls_with e calls) (imports_with e batches) now_held (kind_name kind) name) ∙ batches_said e kind name;
+  }
+    where
+      calls_said : (e : Entry) (host : ℕ) → option_to_list (last_calls_with e calls host) ≡ calls_with e (calls_of old.now.trees) host
+      calls_said (entry.Kept number k) host = cases (eqb number host)
+        where
+          cases : (b : Bool) → option_to_list (cond b (Some k) (calls host)) ≡ cond b (k ∷ []) (option_to_list (calls host))
+          cases true = refl
+          cases false = refl
+      calls_said (entry.Batch kind name b) host = refl
+      calls_said entry.Nothing host = refl
+
+      batches_said : (e : Entry) (kind : Kind) (name : List ℕ) → option_map kept_batch (imports_with e batches (kind_name kind) name) ≡ batches_with e (batches_of old.now.trees) kind name
+      batches_said (entry.Batch k n b) kind name = cases (bytes_eq (kind_name k) (kind_name kind) && bytes_eq n name)
+        where
+          cases : (c : Bool) → option_map kept_batch (cond c (Some (b.text, b.answer)) (batches (kind_name kind) name)) ≡ cond c (Some b) (option_map kept_batch (batches (kind_name kind) name))
+          cases true = refl
+          cases false = refl
+      batches_said (entry.Kept number k) kind name = refl
+      batches_said entry.Nothing kind name = refl

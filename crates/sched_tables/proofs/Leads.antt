@@ -1,0 +1,45 @@
+-- Rows put lead from tables that hold a world to tables that hold the next one.
+use Rattle.std.proofs.Common.{◌≡◌, List, [], ◌++◌, Option, false, true≢false, Result, Ok, Err, is_err, OnOk, OnErr, sym, ap, subst, ◌∙◌, option_map}
+use Rattle.std.specs.List.{cons_option}
+use Rattle.sqlite.specs.Effect.{Database}
+use Rattle.sqlite.specs.State.{State}
+use Rattle.sched_book.specs.Delta.{applied}
+use Rattle.sched_book.specs.declared.delta.Change.{Change}
+use Rattle.sched_book.specs.declared.world.World.{World}
+use Rattle.table_meaning.specs.declared.rows.StoredRow.{StoredRow}
+use Rattle.table_meaning.specs.Rows.{RowKey, columns_of}
+use Rattle.table_meaning.specs.Holding.{Contents, Hold}
+use Rattle.table_meaning.specs.Steps.{PutsRows}
+use Rattle.table_meaning.specs.Worlds.{contents_of, HoldWorld}
+use Rattle.table_worlds.specs.Changes.{AreChanges}
+use Rattle.table_worlds.proofs.WorldSettled.{world_settled}
+use Rattle.sched_tables.specs.Commits.{LeadsTo}
+use Rattle.sched_tables.specs.Held.{AreWellKept}
+use Rattle.sched_tables.specs.Kept.{calls_in, batches_in}
+
+-- contents that are the same at each key
+pub held_same : (db : Database) (f g : Contents) → ((key : RowKey) → f key ≡ g key) → Hold db f → Hold db g
+held_same db f g same holds = record { known = holds.known; rows = λ key. holds.rows key ∙ ap (option_map columns_of) (same key) }
+
+pub leads : (w v : World) (cs : List Change) (rows all : List StoredRow) (more : Option StoredRow) (old new : Database) → v ≡ applied w cs → AreChanges w v rows
+    → all ≡ rows ++ cons_option more [] → PutsRows old new all → LeadsTo w cs more old new
+leads w v cs rows all more old new after changes pushed puts = λ calls calls' batches batches' keeps holds.
+    held_same new _ _ (world_settled w cs rows (subst (λ u. AreChanges w u rows) after changes) calls calls' batches batches' (cons_option more []) keeps.each keeps.other_calls keeps.other_batches)
+    (subst (PutsRows old new) pushed puts (contents_of w calls batches) holds)
+
+pub was_ok : {T E : Type 0} (r : Result T E) (P : Type 0) → is_err r ≡ false → OnOk r P → P
+was_ok (Ok x) P good holds = holds
+was_ok (Err e) P good holds = absurd (true≢false good)
+
+pub all_ok : {T E : Type 0} (r : Result T E) (A B C D : Type 0) → OnOk r A → OnOk r B → OnOk r C → (A → B → C → D) → OnOk r D
+all_ok (Ok x) A B C D a b c f = f a b c
+all_ok (Err e) A B C D a b c f = tt
+
+-- tables that are left as they are stay well kept
+pub kept_after : {T E : Type 0} (r : Result T E) (old new : State) (w v : World) → OnOk r (AreWellKept new v) → OnErr r ((new.now ≡ old.now) × (new.committed ≡ old.committed) × (v ≡ w)) → AreWellKept old w
+    → AreWellKept new v
+kept_after (Ok x) old new w v good left kept = good
+kept_after (Err e) old new w v good left kept = record {
+  rests = left.0 ∙ kept.rests ∙ sym left.1;
+  holds = subst (λ u. HoldWorld new.now u (calls_in new.now.trees) (batches_in new.now.trees)) (sym left.2) (subst (λ (db : Database). HoldWorld db w (calls_in db.trees) (batches_in db.trees)) (sym left.0) kept.holds);
+}

@@ -1,0 +1,3 @@
+pub mod EntriesKept
+pub mod Leads
+pub mod NewTables

@@ -1,0 +1,18 @@
+use Rattle.std.proofs.Common.{◌≡◌, subst, ◌∙◌}
+use Rattle.sqlite.specs.Held.{state}
+use Rattle.table_meaning.specs.Steps.{HoldJust}
+use Rattle.table_worlds.specs.RowsOf.{setting_rows}
+use Rattle.sched_tables.proofs.NewTables.{new_kept, new_nothing}
+use Rattle.sched_tables.proofs.tables.Tables.create.Goals as goal
+
+pub returns-clause-held : goal.returns-clause-held
+returns-clause-held g c = λ honest.
+    let new = state g.S.Store c.create.new.conn in
+    new_kept c.args.settings.now new c.in_ok-desk.desk c.in_ok-desk.ensures (c.in_ok-create.ensures.rest honest.0)
+    (subst (HoldJust new.committed) (c.as_slice.ensures ∙ c.in_ok-rows.ensures) (c.in_ok-create.ensures.made honest.0))
+
+pub returns-clause-nothing : goal.returns-clause-nothing
+returns-clause-nothing g c = λ honest.
+    let new = state g.S.Store c.create.new.conn in
+    new_nothing c.args.settings.now new (c.in_ok-create.ensures.rest honest.0)
+    (subst (HoldJust new.committed) (c.as_slice.ensures ∙ c.in_ok-rows.ensures) (c.in_ok-create.ensures.made honest.0))

@@ -1,0 +1,4 @@
+pub mod Commits
+pub mod Entries
+pub mod Held
+pub mod Kept

@@ -1,0 +1,11 @@
+//! The world of the job machine, the kept calls and the kept imports, in tables of SQLite.
+#![tactic(auto)]
+
+mod committing;
+mod desk;
+mod keeping;
+mod opening;
+mod store;
+mod tables;
+
+pub use tables::Tables;

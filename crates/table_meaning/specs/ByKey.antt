@@ -1,0 +1,24 @@
+-- The statements that read what stands at a key.
+use Rattle.std.specs.Prelude.{ℕ, suc, List, [], ◌∷◌, codes}
+use Rattle.sqlite_value.specs.declared.keys.Collation.TheVariants.{Binary}
+use Rattle.sqlite_sql.specs.declared.ops.BinaryOp.TheVariants.{Compare}
+use Rattle.sqlite_sql.specs.declared.ops.CompareOp.TheVariants.{Eq}
+use Rattle.sqlite_sql.specs.Term.{Term, col, op2}
+use Rattle.sqlite_sql.specs.Query.{Query}
+use Rattle.table_meaning.specs.Reads.{read_query}
+
+-- reads what is kept of the last call of a host, and of an import
+abbrev pub kept_text : List ℕ
+kept_text = codes "SELECT host_id, seqno, text, reply FROM kept WHERE host_id = ?1 ORDER BY host_id"
+
+abbrev pub batch_text : List ℕ
+batch_text = codes "SELECT kind, name, text, answer FROM batch WHERE kind = ?1 AND name = ?2 ORDER BY rowid"
+
+-- the columns at these places are the parameters from one on
+abbrev pub key_tests : ℕ → List ℕ → List Term
+key_tests slot [] = []
+key_tests slot (place ∷ places) = op2 (Compare Eq Binary) (col 1 place) (col 0 slot) ∷ key_tests (suc slot) places
+
+-- the rows of a tree that have the parameters as their key, at these places, by their number
+abbrev pub key_query : ℕ → List ℕ → List ℕ → Query
+key_query tree key places = record (read_query tree places) { filter = key_tests 0 key }

@@ -1,0 +1,113 @@
+//! Columns of a row as values with types.
+
+ghost use Rattle.std.specs.Prelude.{◌≡◌, pos, IfOk, IfErr, if◌then◌else◌};
+ghost use Rattle.sqlite.specs.Values.{or_null};
+ghost use Rattle.sqlite_value.specs.Value.{owned};
+ghost use Rattle.sqlite_value.specs.declared.value.Value.TheVariants.{Int as SqlInt, Text as SqlText, Blob as SqlBlob};
+ghost use Rattle.sqlite_value.specs.Order.{column};
+ghost use Rattle.table_meaning.specs.Rows.{whole as sql_whole, setting_value as sql_setting};
+ghost use Rattle.table_meaning.specs.Formats.{words, flag as sql_flag, octets as sql_octets, optional, either, number as sql_number, integer as sql_integer, IsOf};
+
+use crate::opening::OpenFault;
+use sqlite::Row;
+use sqlite::types::{FromSql, FromSqlError, ValueRef};
+use std::alloc::Global;
+use table_meaning::rows::SettingValue;
+use texts::{Listed, Text};
+
+/// The value in a column, and NULL past the end.
+fn value(row: &Row, at: usize) -> ValueRef<'_>
+    ensures { owned result ≡ column row.now at }
+{
+    match row.get_ref(at) {
+        Ok(value) => value,
+        Err(_) => ValueRef::Null,
+    }
+}
+
+/// The column as a value of a type.
+fn field<T: FromSql>(alloc: Global, row: &Row, at: usize) -> Result<T, OpenFault>
+    ensures read { IfOk result (T.FromSql.reads_as (column row.now at)) }
+    ensures bad { IfErr result (λ e. e ≡ OpenFault.BadRow → ¬ T.FromSql.is_readable (column row.now at)) }
+{
+    match T::column_result(alloc, value(row, at)) {
+        Ok(field) => Ok(field),
+        Err(FromSqlError::OutOfMemory) => Err(OpenFault::Unavailable),
+        Err(_) => Err(OpenFault::BadRow),
+    }
+}
+
+/// A number below 2^32.
+pub(crate) fn whole(alloc: Global, row: &Row, at: usize) -> Result<u32, OpenFault>
+    ensures read { IfOk result (λ n. sql_whole n ≡ column row.now at) }
+    ensures bad { IfErr result (λ e. e ≡ OpenFault.BadRow → ¬ IsOf sql_number (column row.now at)) }
+{
+    field(alloc, row, at)
+}
+
+/// Any integer.
+pub(crate) fn int(alloc: Global, row: &Row, at: usize) -> Result<i64, OpenFault>
+    ensures read { IfOk result (λ n. SqlInt n ≡ column row.now at) }
+    ensures bad { IfErr result (λ e. e ≡ OpenFault.BadRow → ¬ IsOf sql_integer (column row.now at)) }
+{
+    field(alloc, row, at)
+}
+
+pub(crate) fn text(alloc: Global, row: &Row, at: usize) -> Result<Text, OpenFault>
+    ensures read { IfOk result (λ text. SqlText text ≡ column row.now at) }
+    ensures bad { IfErr result (λ e. e ≡ OpenFault.BadRow → ¬ IsOf words (column row.now at)) }
+{
+    Ok(Text::of(field(alloc, row, at)?))
+}
+
+pub(crate) fn octets(alloc: Global, row: &Row, at: usize) -> Result<Listed<u8>, OpenFault>
+    ensures read { IfOk result (λ bytes. SqlBlob bytes ≡ column row.now at) }
+    ensures bad { IfErr result (λ e. e ≡ OpenFault.BadRow → ¬ IsOf sql_octets (column row.now at)) }
+{
+    Ok(Listed::of(field(alloc, row, at)?))
+}
+
+pub(crate) fn flag(alloc: Global, row: &Row, at: usize) -> Result<bool, OpenFault>
+    ensures read { IfOk result (λ flag. sql_whole (if flag then 1 else 0) ≡ column row.now at) }
+    ensures bad { IfErr result (λ e. e ≡ OpenFault.BadRow → ¬ IsOf sql_flag (column row.now at)) }
+{
+    match whole(alloc, row, at)? {
+        0 => Ok(false),
+        1 => Ok(true),
+        _ => Err(OpenFault::BadRow),
+    }
+}
+
+pub(crate) fn optional_whole(alloc: Global, row: &Row, at: usize) -> Result<Option<u32>, OpenFault>
+    ensures read { IfOk result (λ n. or_null sql_whole n ≡ column row.now at) }
+    ensures bad { IfErr result (λ e. e ≡ OpenFault.BadRow → ¬ IsOf (optional sql_number) (column row.now at)) }
+{
+    field(alloc, row, at)
+}
+
+pub(crate) fn optional_int(alloc: Global, row: &Row, at: usize) -> Result<Option<i64>, OpenFault>
+    ensures read { IfOk result (λ n. or_null SqlInt n ≡ column row.now at) }
+    ensures bad { IfErr result (λ e. e ≡ OpenFault.BadRow → ¬ IsOf (optional sql_integer) (column row.now at)) }
+{
+    field(alloc, row, at)
+}
+
+pub(crate) fn optional_text(alloc: Global, row: &Row, at: usize) -> Result<Option<Text>, OpenFault>
+    ensures read { IfOk result (λ text. or_null SqlText text ≡ column row.now at) }
+    ensures bad { IfErr result (λ e. e ≡ OpenFault.BadRow → ¬ IsOf (optional words) (column row.now at)) }
+{
+    match value(row, at) {
+        ValueRef::Null => Ok(None),
+        _ => Ok(Some(text(alloc, row, at)?)),
+    }
+}
+
+pub(crate) fn setting_value(alloc: Global, row: &Row, at: usize) -> Result<SettingValue, OpenFault>
+    ensures read { IfOk result (λ value. sql_setting value ≡ column row.now at) }
+    ensures bad { IfErr result (λ e. e ≡ OpenFault.BadRow → ¬ IsOf (either sql_number words) (column row.now at)) }
+{
+    match value(row, at) {
+        ValueRef::Int(_) => Ok(SettingValue::Number(whole(alloc, row, at)?)),
+        _ => Ok(SettingValue::Word(text(alloc, row, at)?)),
+    }
+}

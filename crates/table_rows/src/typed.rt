@@ -1,0 +1,218 @@
+//! Whole tables as typed rows.
+
+ghost use Rattle.std.specs.Prelude.{◌≡◌, length, map, IfOk, IfErr};
+ghost use Rattle.sqlite.specs.Held.{state};
+ghost use Rattle.sqlite.specs.State.{HasCleanDisk};
+ghost use Rattle.table_meaning.specs.declared.rows.StoredRow.TheVariants as stored;
+ghost use Rattle.table_meaning.specs.declared.tables.TableName.TheVariants as named;
+ghost use Rattle.table_meaning.specs.Rows.{table_of, columns_of, rows_in};
+ghost use Rattle.table_meaning.specs.Formats.{kinds_of, AreOf, columns_in, IsStored, HasBadRow};
+ghost use Rattle.table_meaning.specs.Reads.{Reads};
+ghost use Rattle.table_meaning.specs.Holding.{AreKnown};
+
+use crate::fields::{
+    flag, int, octets, optional_int, optional_text, optional_whole, setting_value, text, whole,
+};
+use crate::opening::OpenFault;
+use crate::read::rows_of;
+use sqlite::{Alter, Connection, Row};
+use std::alloc::Global;
+use table_meaning::rows::{
+    StoredAccount, StoredApp, StoredBatch, StoredCall, StoredHost, StoredInstance, StoredRow,
+    StoredSetting, StoredUnit, StoredVersion,
+};
+use table_meaning::tables::TableName;
+use texts::Listed;
+
+/// How many columns a row of the table has.
+fn width(table: TableName) -> usize
+    ensures { result ≡ length (kinds_of table) }
+{
+    match table {
+        TableName::Setting => 2,
+        TableName::Account | TableName::App => 3,
+        TableName::Version | TableName::Kept | TableName::Batch => 4,
+        TableName::Unit => 14,
+        TableName::Host | TableName::Instance => 10,
+    }
+}
+
+fn setting(alloc: Global, row: &Row) -> Result<StoredSetting, OpenFault>
+    ensures read { IfOk result (λ s. columns_of (stored.Setting s) ≡ columns_in row.now 2) }
+    ensures bad { IfErr result (λ e. e ≡ OpenFault.BadRow → ¬ AreOf (kinds_of named.Setting) row.now 0) }
+{
+    Ok(StoredSetting {
+        name: text(alloc, row, 0)?,
+        value: setting_value(alloc, row, 1)?,
+    })
+}
+
+fn account(alloc: Global, row: &Row) -> Result<StoredAccount, OpenFault>
+    ensures read { IfOk result (λ a. columns_of (stored.Account a) ≡ columns_in row.now 3) }
+    ensures bad { IfErr result (λ e. e ≡ OpenFault.BadRow → ¬ AreOf (kinds_of named.Account) row.now 0) }
+{
+    Ok(StoredAccount {
+        id: whole(alloc, row, 0)?,
+        auth: text(alloc, row, 1)?,
+        name: text(alloc, row, 2)?,
+    })
+}
+
+fn app(alloc: Global, row: &Row) -> Result<StoredApp, OpenFault>
+    ensures read { IfOk result (λ a. columns_of (stored.App a) ≡ columns_in row.now 3) }
+    ensures bad { IfErr result (λ e. e ≡ OpenFault.BadRow → ¬ AreOf (kinds_of named.App) row.now 0) }
+{
+    Ok(StoredApp {
+        id: whole(alloc, row, 0)?,
+        name: text(alloc, row, 1)?,
+        agreement: optional_whole(alloc, row, 2)?,
+    })
+}
+
+fn version(alloc: Global, row: &Row) -> Result<StoredVersion, OpenFault>
+    ensures read { IfOk result (λ v. columns_of (stored.Version v) ≡ columns_in row.now 4) }
+    ensures bad { IfErr result (λ e. e ≡ OpenFault.BadRow → ¬ AreOf (kinds_of named.Version) row.now 0) }
+{
+    Ok(StoredVersion {
+        id: whole(alloc, row, 0)?,
+        app_id: whole(alloc, row, 1)?,
+        platform: text(alloc, row, 2)?,
+        num: whole(alloc, row, 3)?,
+    })
+}
+
+fn unit(alloc: Global, row: &Row) -> Result<StoredUnit, OpenFault>
+    ensures read { IfOk result (λ u. columns_of (stored.Unit u) ≡ columns_in row.now 14) }
+    ensures bad { IfErr result (λ e. e ≡ OpenFault.BadRow → ¬ AreOf (kinds_of named.Unit) row.now 0) }
+{
+    Ok(StoredUnit {
+        id: whole(alloc, row, 0)?,
+        name: text(alloc, row, 1)?,
+        app_id: whole(alloc, row, 2)?,
+        min_quorum: whole(alloc, row, 3)?,
+        target_nresults: whole(alloc, row, 4)?,
+        max_error_results: whole(alloc, row, 5)?,
+        max_total_results: whole(alloc, row, 6)?,
+        max_success_results: whole(alloc, row, 7)?,
+        delay_bound: whole(alloc, row, 8)?,
+        rsc_fpops_est: int(alloc, row, 9)?,
+        rsc_memory_bound: int(alloc, row, 10)?,
+        rsc_disk_bound: int(alloc, row, 11)?,
+        credit: whole(alloc, row, 12)?,
+        status: whole(alloc, row, 13)?,
+    })
+}
+
+fn host(alloc: Global, row: &Row) -> Result<StoredHost, OpenFault>
+    ensures read { IfOk result (λ h. columns_of (stored.Host h) ≡ columns_in row.now 10) }
+    ensures bad { IfErr result (λ e. e ≡ OpenFault.BadRow → ¬ AreOf (kinds_of named.Host) row.now 0) }
+{
+    Ok(StoredHost {
+        id: whole(alloc, row, 0)?,
+        account_id: whole(alloc, row, 1)?,
+        cpid: text(alloc, row, 2)?,
+        platforms: text(alloc, row, 3)?,
+        fpops: int(alloc, row, 4)?,
+        memory: int(alloc, row, 5)?,
+        disk: int(alloc, row, 6)?,
+        quota: whole(alloc, row, 7)?,
+        held: whole(alloc, row, 8)?,
+        credit: int(alloc, row, 9)?,
+    })
+}
+
+fn instance(alloc: Global, row: &Row) -> Result<StoredInstance, OpenFault>
+    ensures read { IfOk result (λ i. columns_of (stored.Instance i) ≡ columns_in row.now 10) }
+    ensures bad { IfErr result (λ e. e ≡ OpenFault.BadRow → ¬ AreOf (kinds_of named.Instance) row.now 0) }
+{
+    Ok(StoredInstance {
+        unit_id: whole(alloc, row, 0)?,
+        num: whole(alloc, row, 1)?,
+        host_id: optional_whole(alloc, row, 2)?,
+        sent: optional_int(alloc, row, 3)?,
+        deadline: optional_int(alloc, row, 4)?,
+        lapse: whole(alloc, row, 5)?,
+        outcome: optional_whole(alloc, row, 6)?,
+        output: optional_text(alloc, row, 7)?,
+        place: optional_whole(alloc, row, 8)?,
+        queued: flag(alloc, row, 9)?,
+    })
+}
+
+pub(crate) fn call(alloc: Global, row: &Row) -> Result<StoredCall, OpenFault>
+    ensures read { IfOk result (λ k. columns_of (stored.Kept k) ≡ columns_in row.now 4) }
+    ensures bad { IfErr result (λ e. e ≡ OpenFault.BadRow → ¬ AreOf (kinds_of named.Kept) row.now 0) }
+{
+    Ok(StoredCall {
+        host_id: whole(alloc, row, 0)?,
+        seqno: whole(alloc, row, 1)?,
+        text: text(alloc, row, 2)?,
+        reply: text(alloc, row, 3)?,
+    })
+}
+
+pub(crate) fn batch(alloc: Global, row: &Row) -> Result<StoredBatch, OpenFault>
+    ensures read { IfOk result (λ b. columns_of (stored.Batch b) ≡ columns_in row.now 4) }
+    ensures bad { IfErr result (λ e. e ≡ OpenFault.BadRow → ¬ AreOf (kinds_of named.Batch) row.now 0) }
+{
+    Ok(StoredBatch {
+        kind: text(alloc, row, 0)?,
+        name: text(alloc, row, 1)?,
+        text: octets(alloc, row, 2)?,
+        answer: text(alloc, row, 3)?,
+    })
+}
+
+/// The row of a table with its types. BadRow where it has not the format of the table.
+pub(crate) fn stored_row(alloc: Global, table: TableName, row: &Row) -> Result<StoredRow, OpenFault>
+    ensures exact { IfOk result (λ stored. columns_of stored ≡ row.now) }
+    ensures of_table { IfOk result (λ stored. table_of stored ≡ table) }
+    ensures bad { IfErr result (λ e. e ≡ OpenFault.BadRow → ¬ IsStored table row.now) }
+{
+    if row.column_count() != width(table) {
+        return Err(OpenFault::BadRow);
+    }
+    Ok(match table {
+        TableName::Setting => StoredRow::Setting(setting(alloc, row)?),
+        TableName::Account => StoredRow::Account(account(alloc, row)?),
+        TableName::App => StoredRow::App(app(alloc, row)?),
+        TableName::Version => StoredRow::Version(version(alloc, row)?),
+        TableName::Unit => StoredRow::Unit(unit(alloc, row)?),
+        TableName::Host => StoredRow::Host(host(alloc, row)?),
+        TableName::Instance => StoredRow::Instance(instance(alloc, row)?),
+        TableName::Kept => StoredRow::Kept(call(alloc, row)?),
+        TableName::Batch => StoredRow::Batch(batch(alloc, row)?),
+    })
+}
+
+/// The rows with their types.
+fn stored_rows(
+    alloc: Global,
+    table: TableName,
+    rows: &[Row],
+) -> Result<Listed<StoredRow>, OpenFault>
+    ensures exact { IfOk result (λ all. map columns_of all ≡ rows.now) }
+    ensures bad { IfErr result (λ e. e ≡ OpenFault.BadRow → HasBadRow table rows.now) }
+{
+    let mut all = Listed::new(alloc);
+    for row in rows {
+        all.push(stored_row(alloc, table, row)?)?;
+    }
+    Ok(all)
+}
+
+/// The rows of a table. The connection shows what it showed.
+pub fn stored_rows_of<S: Alter>(
+    alloc: Global,
+    conn: &mut Connection<S>,
+    table: TableName,
+) -> Result<Listed<StoredRow>, OpenFault>
+    ensures reads { Reads (state S.Store conn.old) (state S.Store conn.new) }
+    ensures rows { HasCleanDisk (state S.Store conn.new) → AreKnown (state S.Store conn.old).now
+        → IfOk result (λ rows. map columns_of rows ≡ rows_in (state S.Store conn.old).now.trees table) }
+    ensures bad { HasCleanDisk (state S.Store conn.new) → AreKnown (state S.Store conn.old).now
+        → IfErr result (λ e. e ≡ OpenFault.BadRow → HasBadRow table (rows_in (state S.Store conn.old).now.trees table)) }
+{
+    let rows = rows_of(conn, table)?;
+    stored_rows(alloc, table, rows.as_slice())
+}

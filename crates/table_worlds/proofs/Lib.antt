@@ -1,0 +1,10 @@
+pub mod ChangesFound
+pub mod HostTotals
+pub mod InstanceRows
+pub mod KeysStand
+pub mod Members
+pub mod NewWorld
+pub mod NothingGoes
+pub mod RowsHold
+pub mod TotalsCounted
+pub mod WorldSettled

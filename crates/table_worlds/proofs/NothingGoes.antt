@@ -1,0 +1,173 @@
+-- Where a world has a row, it has one after changes.
+use Rattle.std.proofs.Common.{◌≡◌, ℕ, zero, suc, ◌+◌, ◌-◌, ◌<◌, ◌≤◌, Bool, true, false, cond, eqb, List, [], ◌∷◌, ◌++◌, length, Option, Some, None, option_map, option_and_then, refl, sym, ap, subst, ◌∙◌, arith, nat_lt}
+use Rattle.std.specs.Prelude.{slice_get, slice_set, fold}
+use Rattle.std.proofs.lemmas.Bool.{eqb-true}
+use Rattle.std.proofs.lemmas.List.{length-append, length-set}
+use Rattle.std.proofs.lemmas.Option.{none-some}
+use Rattle.sched_book.specs.Delta.{set_at, set_nth, with_instance, applied_one, applied}
+use Rattle.sched_book.specs.Imports.{new_unit}
+use Rattle.sched_book.specs.Places.{nth, unit_at}
+use Rattle.sched_book.specs.Reports.{modify_nth}
+use Rattle.sched_book.specs.declared.delta.Change.{Change}
+use Rattle.sched_book.specs.declared.delta.Change.TheVariants as change
+use Rattle.sched_book.specs.declared.instance.Instance.{Instance as Job}
+use Rattle.sched_book.specs.declared.instance.UnitBook.{UnitBook}
+use Rattle.sched_book.specs.declared.world.World.{World}
+use Rattle.sched_book.proofs.Fitting.{settings_stay as settings_one}
+use Rattle.sched_book.proofs.PlacesOf.{nth-suc, nth-push, nth-modify_nth, length-modify_nth}
+use Rattle.table_meaning.specs.declared.rows.StoredRow.{StoredRow}
+use Rattle.table_worlds.specs.declared.keys.WorldKey.{WorldKey}
+use Rattle.table_worlds.specs.declared.keys.WorldKey.TheVariants.{Account, App, Version, Unit, Host, Instance}
+use Rattle.table_worlds.specs.Keys.{row_in}
+
+-- ---- by lengths
+
+beyond : {X : Type 0} (xs : List X) (i : ℕ) → slice_get xs i ≡ None → length xs ≤ i
+beyond [] i none = omega arith
+beyond (x ∷ xs) zero none = absurd (none-some x (sym none))
+beyond (x ∷ xs) (suc i) none = omega (arith, beyond xs i none)
+
+none_beyond : {X : Type 0} (xs : List X) (i : ℕ) → length xs ≤ i → slice_get xs i ≡ None
+none_beyond [] i past = refl
+none_beyond (x ∷ xs) zero past = absurd (omega (arith, past))
+none_beyond (x ∷ xs) (suc i) past = none_beyond xs i (omega (arith, past))
+
+no_more : {X : Type 0} (xs ys : List X) (i : ℕ) → length xs ≤ length ys → slice_get ys i ≡ None → slice_get xs i ≡ None
+no_more xs ys i fewer none = none_beyond xs i (omega (arith, fewer, beyond ys i none))
+
+none_at : {X : Type 0} (xs ys : List X) (n : ℕ) → length xs ≤ length ys → nth ys n ≡ None → nth xs n ≡ None
+none_at xs ys zero fewer none = refl
+none_at xs ys (suc i) fewer none = nth-suc xs i ∙ no_more xs ys i fewer (sym (nth-suc ys i) ∙ none)
+
+more_pushed : {X : Type 0} (xs : List X) (x : X) → length xs ≤ length (xs ++ x ∷ [])
+more_pushed xs x = omega (arith, length-append xs (x ∷ []))
+
+more_set : {X : Type 0} (xs : List X) (i : ℕ) (x : X) → length xs ≤ length (set_at xs i x)
+more_set xs i x = cases (nat_lt i (length xs))
+  where
+    cases : (b : Bool) → length xs ≤ length (cond b (slice_set xs i x) (xs ++ x ∷ []))
+    cases true = omega (arith, length-set xs i x)
+    cases false = more_pushed xs x
+
+more_put : {X : Type 0} (xs : List X) (n : ℕ) (x : X) → length xs ≤ length (set_nth xs n x)
+more_put xs n x = cases (eqb n 0)
+  where
+    cases : (b : Bool) → length xs ≤ length (cond b xs (set_at xs (n - 1) x))
+    cases true = omega arith
+    cases false = more_set xs (n - 1) x
+
+-- ---- one change
+
+no_source : {X Y : Type 0} (f : X → Y) (o : Option X) → option_map f o ≡ None → o ≡ None
+no_source f None none = refl
+no_source f (Some x) none = absurd (none-some (f x) (sym none))
+
+abbrev job_at : ℕ → Option UnitBook → Option Job
+job_at k o = option_and_then (λ (b : UnitBook). slice_get b.instances k) o
+
+no_job : (f : UnitBook → Job → StoredRow) (k : ℕ) (o : Option UnitBook) → option_and_then (λ (b : UnitBook). option_map (f b) (slice_get b.instances k)) o ≡ None → job_at k o ≡ None
+no_job f k None none = refl
+no_job f k (Some b) none = no_source (f b) (slice_get b.instances k) none
+
+no_job_row : (f : UnitBook → Job → StoredRow) (k : ℕ) (o : Option UnitBook) → job_at k o ≡ None → option_and_then (λ (b : UnitBook). option_map (f b) (slice_get b.instances k)) o ≡ None
+no_job_row f k None none = refl
+no_job_row f k (Some b) none = ap (option_map (f b)) none
+
+-- no list is shorter, and where an instance stood there is one
+record NoFewer (w w' : World) : Type 0 where
+  accounts : length w.accounts ≤ length w'.accounts
+  apps : length w.apps ≤ length w'.apps
+  versions : length w.versions ≤ length w'.versions
+  units : length w.units ≤ length w'.units
+  hosts : length w.hosts ≤ length w'.hosts
+  jobs : (unit number : ℕ) → job_at number (unit_at w' unit) ≡ None → job_at number (unit_at w unit) ≡ None
+
+same : (xs : ℕ) → xs ≤ xs
+same n = omega arith
+
+new_unit_jobs : (bs : List UnitBook) (b : UnitBook) (unit number : ℕ) → job_at number (nth (bs ++ b ∷ []) unit) ≡ None → job_at number (nth bs unit) ≡ None
+new_unit_jobs bs b unit number none =
+    cases (eqb (length bs + 1) unit) refl (sym (ap (job_at number) (nth-push bs b unit)) ∙ none)
+  where
+    cases : (c : Bool) → eqb (length bs + 1) unit ≡ c → job_at number (cond c (Some b) (nth bs unit)) ≡ None → job_at number (nth bs unit) ≡ None
+    cases true new none = ap (job_at number) (past unit (eqb-true (length bs + 1) unit new))
+      where
+        past : (n : ℕ) → length bs + 1 ≡ n → nth bs n ≡ None
+        past zero is = refl
+        past (suc i) is = nth-suc bs i ∙ none_beyond bs i (omega (arith, is))
+    cases false old none = none
+
+changed_jobs : (p : ℕ) (k : ℕ) (x : Job) (bs : List UnitBook) (unit number : ℕ) → job_at number (nth (modify_nth (with_instance k x) bs p) unit) ≡ None → job_at number (nth bs unit) ≡ None
+changed_jobs p k x bs unit number none = cases (eqb p unit) (nth bs unit) (sym (ap (job_at number) (nth-modify_nth (with_instance k x) bs p unit)) ∙ none)
+  where
+    cases : (c : Bool) (o : Option UnitBook) → job_at number (cond c (option_map (with_instance k x) o) o) ≡ None → job_at number o ≡ None
+    cases true None none = refl
+    cases true (Some b) none = no_more b.instances (set_at b.instances k x) number (more_set b.instances k x) none
+    cases false o none = none
+
+one_change : (w : World) (c : Change) → NoFewer w (applied_one w c)
+one_change w (change.Account a) = record {
+  accounts = more_pushed w.accounts a;
+  apps = same (length w.apps);
+  versions = same (length w.versions);
+  units = same (length w.units);
+  hosts = same (length w.hosts);
+  jobs = λ unit number none. none;
+}
+one_change w (change.App a) = record {
+  accounts = same (length w.accounts);
+  apps = more_pushed w.apps a;
+  versions = same (length w.versions);
+  units = same (length w.units);
+  hosts = same (length w.hosts);
+  jobs = λ unit number none. none;
+}
+one_change w (change.Version v) = record {
+  accounts = same (length w.accounts);
+  apps = same (length w.apps);
+  versions = more_pushed w.versions v;
+  units = same (length w.units);
+  hosts = same (length w.hosts);
+  jobs = λ unit number none. none;
+}
+one_change w (change.Workunit u) = record {
+  accounts = same (length w.accounts);
+  apps = same (length w.apps);
+  versions = same (length w.versions);
+  units = more_pushed w.units (new_unit u);
+  hosts = same (length w.hosts);
+  jobs = new_unit_jobs w.units (new_unit u);
+}
+one_change w (change.Host number h) = record {
+  accounts = same (length w.accounts);
+  apps = same (length w.apps);
+  versions = same (length w.versions);
+  units = same (length w.units);
+  hosts = more_put w.hosts number h;
+  jobs = λ unit number none. none;
+}
+one_change w (change.Instance p x) = record {
+  accounts = same (length w.accounts);
+  apps = same (length w.apps);
+  versions = same (length w.versions);
+  units = let long = length-modify_nth (with_instance p.number x) w.units p.unit in omega (arith, long);
+  hosts = same (length w.hosts);
+  jobs = changed_jobs p.unit p.number x w.units;
+}
+
+none_between : (w w' : World) → NoFewer w w' → (key : WorldKey) → row_in w' key ≡ None → row_in w key ≡ None
+none_between w w' grown (Account id) none = ap (option_map _) (none_at w.accounts w'.accounts id grown.accounts (no_source _ _ none))
+none_between w w' grown (App id) none = ap (option_map _) (none_at w.apps w'.apps id grown.apps (no_source _ _ none))
+none_between w w' grown (Version id) none = ap (option_map _) (none_at w.versions w'.versions id grown.versions (no_source _ _ none))
+none_between w w' grown (Unit id) none = ap (option_map _) (none_at w.units w'.units id grown.units (no_source _ _ none))
+none_between w w' grown (Host id) none = ap (option_map _) (none_at w.hosts w'.hosts id grown.hosts (no_source _ _ none))
+none_between w w' grown (Instance p) none = no_job_row _ p.number (unit_at w p.unit) (grown.jobs p.unit p.number (no_job _ p.number (unit_at w' p.unit) none))
+
+-- after any changes
+pub none_goes : (w : World) (cs : List Change) (key : WorldKey) → row_in (applied w cs) key ≡ None → row_in w key ≡ None
+none_goes w [] key none = none
+none_goes w (c ∷ cs) key none = none_between w (applied_one w c) (one_change w c) key (none_goes (applied_one w c) cs key none)
+
+pub settings_stay : (w : World) (cs : List Change) → (applied w cs).settings ≡ w.settings
+settings_stay w [] = refl
+settings_stay w (c ∷ cs) = settings_stay (applied_one w c) cs ∙ settings_one w c

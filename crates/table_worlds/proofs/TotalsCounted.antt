@@ -1,0 +1,109 @@
+-- Totals of hosts: one instance more, one workunit more, and what they say of a world.
+use Rattle.std.proofs.Common.{◌≡◌, ℕ, ◌+◌, ◌*◌, Bool, true, false, cond, eqb, ◌&&◌, List, [], ◌∷◌, length, Option, Some, None, refl, sym, ap, ◌∙◌, arith}
+use Rattle.std.proofs.Math.Nat.{mul-add}
+use Rattle.std.proofs.lemmas.List.{length-append}
+use Rattle.std.proofs.lemmas.List.Sums.{sum_by-cons}
+use Rattle.std.specs.Prelude.{replicate, count_by, sum_by, option_map}
+use Rattle.sched_book.specs.Count.{is_held}
+use Rattle.sched_book.specs.Given.{map_from}
+use Rattle.sched_book.specs.Places.{is_owned_by, is_held_by, option_any, places_in, places_among, credit_in}
+use Rattle.sched_book.specs.Reports.{modify_nth}
+use Rattle.sched_book.specs.declared.instance.Instance.{Instance}
+use Rattle.sched_book.specs.declared.instance.Owner.{Owner}
+use Rattle.sched_book.specs.declared.instance.Place.{Place}
+use Rattle.sched_book.specs.declared.instance.UnitBook.{UnitBook}
+use Rattle.sched_book.specs.declared.rows.App.{App}
+use Rattle.sched_book.specs.declared.world.World.{World}
+use Rattle.sched_book.proofs.Givens.{map_from-same, map_from-then, map_from-none, modify_nth-map_from}
+use Rattle.table_worlds.specs.Totals.{more, with_instance, with_instances, with_unit, with_units, totals_of}
+use Rattle.table_worlds.specs.declared.totals.Total.{Total}
+
+abbrev pub total : ℕ → ℕ → Total
+total held credit = record { held = held; credit = credit }
+
+same_total : (h k c d : ℕ) → h ≡ k → c ≡ d → total h c ≡ total k d
+same_total h k c d held credit = ap (λ m. total m c) held ∙ ap (total k) credit
+
+-- an instance that nobody was given is counted of no host
+pub none_more : (x : Instance) (credit : ℕ) (ts : List Total) → x.owner ≡ None → ts ≡ map_from 1 (with_instance x credit) ts
+none_more x credit ts is =
+    sym (map_from-none 1 _ (λ n t. ap (λ (o : Option Owner). cond (option_any (λ m. eqb m n) (option_map (λ (w : Owner). w.host) o)) (more t (cond (is_held x) 1 0) credit) t) is) ts)
+
+-- any other is counted of its owner's host
+pub one_more : (x : Instance) (o : Owner) (held credit : ℕ) (ts : List Total) → x.owner ≡ Some o → held ≡ cond (is_held x) 1 0
+    → modify_nth (λ t. more t held credit) ts o.host ≡ map_from 1 (with_instance x credit) ts
+one_more x o held credit ts is counts =
+    modify_nth-map_from (λ t. more t held credit) ts o.host
+    ∙ map_from-same 1 _ _ (λ n t. ap (λ (p : Option Owner). cond (option_any (λ m. eqb m n) (option_map (λ (w : Owner). w.host) p)) (more t held credit) t) (sym is)
+    ∙ ap (λ m. cond (is_owned_by n x) (more t m credit) t) counts) ts
+
+-- what is done, then what is left, is still all, with one instance more
+pub instance_more : (valid : Instance → Bool) (credit earned : ℕ) (x : Instance) (xs : List Instance) (before after : List Total)
+    → earned ≡ cond (valid x) credit 0 → after ≡ map_from 1 (with_instance x earned) before
+    → map_from 1 (with_instances valid credit xs) after ≡ map_from 1 (with_instances valid credit (x ∷ xs)) before
+instance_more valid credit earned x xs before after earns made =
+    ap (map_from 1 (with_instances valid credit xs)) made
+    ∙ map_from-then 1 _ _ before
+    ∙ map_from-same 1 _ _ (λ n t. cases (is_owned_by n x) (is_held x) (valid x) t (count_by (is_held_by n) xs) (count_by (λ y. is_owned_by n y && valid y) xs) earned earns
+    ∙ same_total _ _ _ _ (ap (λ m. t.held + m) (sym (sum_by-cons (λ y. cond (is_held_by n y) 1 0) x xs)))
+    (ap (λ m. t.credit + credit * m) (sym (sum_by-cons (λ y. cond (is_owned_by n y && valid y) 1 0) x xs)))) before
+  where
+    cases : (o h v : Bool) (t : Total) (a b c : ℕ) → c ≡ cond v credit 0
+        → more (cond o (more t (cond h 1 0) c) t) a (credit * b) ≡ more t (cond (o && h) 1 0 + a) (credit * (cond (o && v) 1 0 + b))
+    cases false h v t a b c is = same_total _ _ _ _ (omega arith) (ap (λ m. t.credit + credit * m) (let same : b ≡ 0 + b = omega arith in same))
+    cases true h false t a b c is =
+        same_total _ _ _ _ (omega arith) (ap (λ m. t.credit + m + credit * b) is ∙ ap (λ m. m + credit * b) (let same : t.credit + 0 ≡ t.credit = omega arith in same)
+        ∙ ap (λ m. t.credit + credit * m) (let same : b ≡ 0 + b = omega arith in same))
+    cases true h true t a b c is =
+        same_total _ _ _ _ (omega arith) (ap (λ m. t.credit + m + credit * b) is
+        ∙ (let all : credit * (1 + b) ≡ credit * 1 + credit * b = mul-add credit 1 b in
+        let once : credit * 1 ≡ credit = omega arith in omega (arith, all, once)))
+
+-- one workunit more
+pub unit_more : (apps : List App) (b : UnitBook) (bs : List UnitBook) (before after : List Total) → after ≡ map_from 1 (with_unit apps b) before
+    → map_from 1 (with_units apps bs) after ≡ map_from 1 (with_units apps (b ∷ bs)) before
+unit_more apps b bs before after made =
+    ap (map_from 1 (with_units apps bs)) made
+    ∙ map_from-then 1 _ _ before
+    ∙ map_from-same 1 _ _ (λ n t. let held = sum_by-cons (λ (e : UnitBook). count_by (is_held_by n) e.instances) b bs in
+    let credit = sum_by-cons (credit_in apps n) b bs in
+    same_total _ _ _ _ (omega (arith, held)) (omega (arith, credit))) before
+
+-- none is left
+nothing_more : (t : Total) → more t 0 0 ≡ t
+nothing_more t = same_total (t.held + 0) t.held (t.credit + 0) t.credit (omega arith) (omega arith)
+
+pub no_instance_left : (valid : Instance → Bool) (credit : ℕ) (ts : List Total) → map_from 1 (with_instances valid credit []) ts ≡ ts
+no_instance_left valid credit ts =
+    map_from-none 1 _ (λ n t. ap (more t 0) (let none : credit * 0 ≡ 0 = omega arith in none) ∙ nothing_more t) ts
+
+pub no_unit_left : (apps : List App) (ts : List Total) → map_from 1 (with_units apps []) ts ≡ ts
+no_unit_left apps ts = map_from-none 1 _ (λ n t. nothing_more t) ts
+
+-- what a host holds, a workunit at a time
+held-in : (p : Instance → Bool) (unit number : ℕ) (xs : List Instance) → length (places_in unit number p xs) ≡ count_by p xs
+held-in p unit number [] = refl
+held-in p unit number (x ∷ xs) = cases (p x) _ (held-in p unit (number + 1) xs) ∙ sym (sum_by-cons (λ y. cond (p y) 1 0) x xs)
+  where
+    cases : (b : Bool) (ps : List Place) → length ps ≡ count_by p xs
+        → length (cond b ((record { unit = unit; number = number }) ∷ ps) ps) ≡ cond b 1 0 + count_by p xs
+    cases true ps same = omega (arith, same)
+    cases false ps same = omega (arith, same)
+
+held-among : (p : Instance → Bool) (unit : ℕ) (bs : List UnitBook) → length (places_among unit (λ b x. p x) bs) ≡ sum_by (λ (b : UnitBook). count_by p b.instances) bs
+held-among p unit [] = refl
+held-among p unit (b ∷ bs) =
+    length-append (places_in unit 0 p b.instances) (places_among (unit + 1) (λ b x. p x) bs)
+    ∙ ap (λ m. m + length (places_among (unit + 1) (λ b x. p x) bs)) (held-in p unit 0 b.instances)
+    ∙ ap (λ m. count_by p b.instances + m) (held-among p (unit + 1) bs)
+    ∙ sym (sum_by-cons (λ (b : UnitBook). count_by p b.instances) b bs)
+
+-- from nothing, all workunits make the totals
+from_replicate : {X Y Z : Type 0} (n : ℕ) (f : ℕ → Y → Z) (y : Y) (xs : List X) → map_from n f (replicate (length xs) y) ≡ map_from n (λ m x. f m y) xs
+from_replicate n f y [] = refl
+from_replicate n f y (x ∷ xs) = ap (λ zs. f n y ∷ zs) (from_replicate (n + 1) f y xs)
+
+pub all_counted : (w : World) → map_from 1 (with_units w.apps w.units) (replicate (length w.hosts) (total 0 0)) ≡ totals_of w
+all_counted w =
+    from_replicate 1 (with_units w.apps w.units) (total 0 0) w.hosts
+    ∙ map_from-same 1 _ _ (λ n h. let held = held-among (is_held_by n) 1 w.units in same_total _ _ _ _ (omega (arith, held)) (omega arith)) w.hosts

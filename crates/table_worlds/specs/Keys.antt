@@ -1,0 +1,46 @@
+-- The keys of the rows that stand for a world, and the row at each. (The settings never change, and are not among them.)
+use Rattle.std.specs.Prelude.{ℕ, ◌+◌, List, [], ◌∷◌, ◌++◌, map, length, Option, None}
+use Rattle.std.specs.List.{range_with_len}
+use Rattle.sched_book.specs.Places.{places}
+use Rattle.sched_book.specs.declared.world.World.{World}
+use Rattle.table_meaning.specs.declared.rows.StoredRow.{StoredRow}
+use Rattle.table_meaning.specs.Rows.{RowKey, account_key, app_key, version_key, unit_key, host_key, instance_key}
+use Rattle.table_meaning.specs.Worlds.{contents_of}
+use Rattle.table_worlds.specs.declared.keys.NumberedTable.{NumberedTable}
+use Rattle.table_worlds.specs.declared.keys.NumberedTable.TheVariants as table
+use Rattle.table_worlds.specs.declared.keys.WorldKey.{WorldKey}
+use Rattle.table_worlds.specs.declared.keys.WorldKey.TheVariants.{Account, App, Version, Unit, Host, Instance}
+
+abbrev pub row_key : WorldKey → RowKey
+row_key (Account id) = account_key id
+row_key (App id) = app_key id
+row_key (Version id) = version_key id
+row_key (Unit id) = unit_key id
+row_key (Host id) = host_key id
+row_key (Instance p) = instance_key p.unit p.number
+
+-- the row that a world has at a key
+abbrev pub row_in : World → WorldKey → Option StoredRow
+row_in w key = contents_of w (λ _. None) (λ _ _. None) (row_key key)
+
+-- the key of the row of a number
+abbrev pub keyed : NumberedTable → ℕ → WorldKey
+keyed table.Account id = Account id
+keyed table.App id = App id
+keyed table.Version id = Version id
+keyed table.Unit id = Unit id
+keyed table.Host id = Host id
+
+-- the keys of so many rows of a table, from number 1 on
+abbrev pub numbered : NumberedTable → ℕ → List WorldKey
+numbered t count = map (keyed t) (range_with_len 1 count)
+
+-- the keys of all rows, those that others refer to first
+abbrev pub keys_in : World → List WorldKey
+keys_in w =
+    numbered table.Account (length w.accounts)
+    ++ numbered table.App (length w.apps)
+    ++ numbered table.Version (length w.versions)
+    ++ numbered table.Unit (length w.units)
+    ++ numbered table.Host (length w.hosts)
+    ++ map Instance (places w)

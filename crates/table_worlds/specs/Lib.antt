@@ -1,0 +1,4 @@
+pub mod Changes
+pub mod Keys
+pub mod RowsOf
+pub mod Totals

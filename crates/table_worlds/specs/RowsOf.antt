@@ -1,0 +1,43 @@
+-- The rows of a world, a table each.
+use Rattle.std.specs.Prelude.{◌≡◌, ℕ, List, [], ◌∷◌, map, filter_map, length, codes, option_map}
+use Rattle.sqlite_rules.specs.Lists.{Has}
+use Rattle.sched_book.specs.Places.{places}
+use Rattle.sched_book.specs.declared.settings.Settings.{Settings}
+use Rattle.sched_book.specs.declared.world.World.{World}
+use Rattle.table_meaning.specs.declared.rows.StoredRow.{StoredRow}
+use Rattle.table_meaning.specs.declared.rows.StoredRow.TheVariants as stored
+use Rattle.table_meaning.specs.Worlds.{setting_in}
+use Rattle.table_worlds.specs.declared.decoded.TableRows.{TableRows}
+use Rattle.table_worlds.specs.declared.keys.NumberedTable.TheVariants as table
+use Rattle.table_worlds.specs.declared.keys.WorldKey.TheVariants.{Instance}
+use Rattle.table_worlds.specs.Keys.{row_in, numbered}
+
+-- the names of the settings
+abbrev pub setting_names : List (List ℕ)
+setting_names =
+    codes "schema"
+    ∷ codes "daily_result_quota"
+    ∷ codes "max_hosts"
+    ∷ codes "max_wus_in_progress"
+    ∷ codes "max_wus_to_send"
+    ∷ codes "operator_key"
+    ∷ codes "request_delay"
+    ∷ codes "resend_lost_results"
+    ∷ []
+
+abbrev pub setting_rows : Settings → List StoredRow
+setting_rows s = filter_map (λ name. option_map (λ v. stored.Setting (record { name = name; value = v })) (setting_in s name)) setting_names
+
+-- the two lists have the same members
+abbrev pub HaveSame : List StoredRow → List StoredRow → Type 0
+HaveSame xs ys = ((r : StoredRow) → Has xs r → Has ys r) × ((r : StoredRow) → Has ys r → Has xs r)
+
+-- These are the rows of a world: of settings and instances in any order.
+pub record AreRowsOf (w : World) (rows : TableRows) : Type 0 where
+  pub settings : HaveSame rows.settings (setting_rows w.settings)
+  pub accounts : rows.accounts ≡ filter_map (row_in w) (numbered table.Account (length w.accounts))
+  pub apps : rows.apps ≡ filter_map (row_in w) (numbered table.App (length w.apps))
+  pub versions : rows.versions ≡ filter_map (row_in w) (numbered table.Version (length w.versions))
+  pub units : rows.units ≡ filter_map (row_in w) (numbered table.Unit (length w.units))
+  pub hosts : rows.hosts ≡ filter_map (row_in w) (numbered table.Host (length w.hosts))
+  pub instances : HaveSame rows.instances (filter_map (row_in w) (map Instance (places w)))

@@ -1,0 +1,292 @@
+//! The row of a world at a key.
+
+ghost use Rattle.std.specs.Prelude.{◌≡◌, pos, position, option_map, option_and_then, if◌then◌else◌, IfOk};
+ghost use Rattle.std.specs.Str.{bytes_eq};
+ghost use Rattle.sched_book.specs.Places.{status_of};
+ghost use Rattle.table_meaning.specs.declared.rows.StoredRow.TheVariants as stored;
+ghost use Rattle.table_meaning.specs.Worlds.{agreement_limit, status_code, lapse_code, joined, app_place, is_queued, account_row, app_row, version_row, unit_row, host_row, instance_row};
+ghost use Rattle.table_worlds.specs.Keys.{row_in};
+ghost use Rattle.table_worlds.specs.declared.keys.WorldKey.TheVariants as key;
+ghost use Rattle.table_worlds.specs.Totals.{totals_of};
+
+use crate::keys::{WorldKey, number_of};
+use crate::totals::Total;
+use sched_book::count::book_status;
+use sched_book::limits::MOST_INSTANCES;
+use sched_book::{
+    Account, Agreement, App, HostRow, Instance, Lapse, Outcome, Place, Status, Unavailable,
+    UnitBook, Version, World, nth,
+};
+use std::alloc::Global;
+use table_meaning::rows::{
+    StoredAccount, StoredApp, StoredHost, StoredInstance, StoredRow, StoredUnit, StoredVersion,
+};
+use texts::{Memory, Text};
+
+/// The number as a table writes it.
+fn written(number: u64) -> Result<i64, Unavailable>
+    ensures { IfOk result (λ written. written ≡ pos number) }
+{
+    i64::try_from(number).map_err(|_| Unavailable)
+}
+
+/// How far apart two outputs may be, or none where they have to be equal.
+fn agreement_limit(agreement: Agreement) -> Option<u32>
+    ensures { result ≡ agreement_limit agreement }
+{
+    match agreement {
+        Agreement::Exact => None,
+        Agreement::Within(distance) => Some(distance),
+    }
+}
+
+fn status_code(status: Status) -> u32
+    ensures { result ≡ status_code status }
+{
+    match status {
+        Status::Open => 0,
+        Status::Done => 1,
+        Status::FailedErrors => 2,
+        Status::FailedSuccess => 3,
+        Status::FailedTotal => 4,
+    }
+}
+
+fn lapse_code(lapse: Option<Lapse>) -> u32
+    ensures { result ≡ lapse_code lapse }
+{
+    match lapse {
+        None => 0,
+        Some(Lapse::Late) => 1,
+        Some(Lapse::Dropped) => 2,
+    }
+}
+
+/// The words, joined by commas.
+fn joined(alloc: Global, words: &[Text]) -> Result<Text, Memory>
+    ensures { IfOk result (λ text. text ≡ joined words.now) }
+{
+    let mut text = String::new(alloc);
+    let [first, others @ ..] = words else {
+        return Ok(Text::of(text));
+    };
+    text.push_str(first.as_str())?;
+    for word in others {
+        text.push_str(",")?;
+        text.push_str(word.as_str())?;
+    }
+    Ok(Text::of(text))
+}
+
+fn app_index(apps: &[App], name: &str) -> Option<usize>
+    ensures { result ≡ position (λ a. bytes_eq a.name name.now) apps.now }
+{
+    apps.iter().position(|app| app.name.is(name))
+}
+
+/// The place of the application of this name, 0 where none has it.
+fn app_place(world: &World, name: &str) -> Result<u32, Unavailable>
+    ensures { IfOk result (λ place. place ≡ app_place world.now name.now) }
+{
+    match app_index(world.apps.as_slice(), name) {
+        None => Ok(0),
+        Some(index) => number_of(index),
+    }
+}
+
+fn account_row(id: u32, account: &Account) -> Result<StoredRow, Unavailable>
+    ensures { IfOk result (λ row. row ≡ stored.Account (account_row id account.now)) }
+{
+    Ok(StoredRow::Account(StoredAccount {
+        id,
+        auth: account.authenticator.clone()?,
+        name: account.name.clone()?,
+    }))
+}
+
+fn app_row(id: u32, app: &App) -> Result<StoredRow, Unavailable>
+    ensures { IfOk result (λ row. row ≡ stored.App (app_row id app.now)) }
+{
+    Ok(StoredRow::App(StoredApp {
+        id,
+        name: app.name.clone()?,
+        agreement: agreement_limit(app.agreement),
+    }))
+}
+
+fn version_row(world: &World, id: u32, version: &Version) -> Result<StoredRow, Unavailable>
+    ensures { IfOk result (λ row. row ≡ stored.Version (version_row world.now id version.now)) }
+{
+    Ok(StoredRow::Version(StoredVersion {
+        id,
+        app_id: app_place(world, version.app.as_str())?,
+        platform: version.platform.clone()?,
+        num: version.version_num,
+    }))
+}
+
+/// Where a workunit of the world stands; one with more instances than it may have is not told.
+fn status_of(world: &World, book: &UnitBook) -> Result<Status, Unavailable>
+    ensures { IfOk result (λ status. status ≡ status_of world.now book.now) }
+{
+    if book.instances.len() > MOST_INSTANCES {
+        return Err(Unavailable);
+    }
+    Ok(book_status(world.apps.as_slice(), book))
+}
+
+fn unit_row(world: &World, id: u32, book: &UnitBook) -> Result<StoredRow, Unavailable>
+    ensures { IfOk result (λ row. row ≡ stored.Unit (unit_row world.now id book.now)) }
+{
+    let unit = &book.unit;
+    Ok(StoredRow::Unit(StoredUnit {
+        id,
+        name: unit.name.clone()?,
+        app_id: app_place(world, unit.app.as_str())?,
+        min_quorum: unit.min_quorum,
+        target_nresults: unit.target_nresults,
+        max_error_results: unit.max_error_results,
+        max_total_results: unit.max_total_results,
+        max_success_results: unit.max_success_results,
+        delay_bound: unit.delay_bound,
+        rsc_fpops_est: written(unit.rsc_fpops_est)?,
+        rsc_memory_bound: written(unit.rsc_memory_bound)?,
+        rsc_disk_bound: written(unit.rsc_disk_bound)?,
+        credit: unit.credit,
+        status: status_code(status_of(world, book)?),
+    }))
+}
+
+fn host_row(alloc: Global, id: u32, host: &HostRow, total: Total) -> Result<StoredRow, Unavailable>
+    ensures { IfOk result (λ row. row ≡ stored.Host (host_row total.held total.credit id host.now)) }
+{
+    Ok(StoredRow::Host(StoredHost {
+        id,
+        account_id: host.account,
+        cpid: host.cpid.clone()?,
+        platforms: joined(alloc, host.platforms.as_slice())?,
+        fpops: written(host.p_fpops)?,
+        memory: written(host.m_nbytes)?,
+        disk: written(host.d_free)?,
+        quota: host.quota,
+        held: total.held,
+        credit: written(total.credit)?,
+    }))
+}
+
+/// The moment of sending and the deadline.
+fn times(instance: &Instance) -> Result<(Option<i64>, Option<i64>), Unavailable>
+    ensures { IfOk result (λ t. t ≡ (option_map (λ o. pos o.sent) instance.now.owner, option_map (λ o. pos o.deadline) instance.now.owner)) }
+{
+    match &instance.owner {
+        None => Ok((None, None)),
+        Some(owner) => Ok((
+            Some(written(owner.sent.seconds())?),
+            Some(written(owner.deadline)?),
+        )),
+    }
+}
+
+/// The outcome, the output and the place of what was reported.
+fn report_columns(
+    report: &Option<Outcome>,
+) -> Result<(Option<u32>, Option<Text>, Option<u32>), Unavailable>
+    ensures { IfOk result (λ t. t ≡ (option_map (λ r. if r.success then 1 else 3) report.now, option_map (λ r. r.output) report.now, option_and_then (λ r. r.place) report.now)) }
+{
+    match report {
+        None => Ok((None, None, None)),
+        Some(report) => Ok((
+            Some(if report.success { 1 } else { 3 }),
+            Some(report.output.clone()?),
+            report.place,
+        )),
+    }
+}
+
+fn instance_row(
+    world: &World,
+    book: &UnitBook,
+    place: Place,
+    instance: &Instance,
+) -> Result<StoredRow, Unavailable>
+    ensures { IfOk result (λ row. row ≡ stored.Instance (instance_row world.now book.now place.unit place.number instance.now)) }
+{
+    let (sent, deadline) = times(instance)?;
+    let (outcome, output, report_place) = report_columns(&instance.report)?;
+    let status = status_of(world, book)?;
+    Ok(StoredRow::Instance(StoredInstance {
+        unit_id: place.unit,
+        num: place.number,
+        host_id: instance.owner.as_ref().map(|owner| owner.host),
+        sent,
+        deadline,
+        lapse: lapse_code(instance.lapse),
+        outcome,
+        output,
+        place: report_place,
+        queued: instance.owner.is_none() && status_code(status) == 0,
+    }))
+}
+
+/// The row of a host, with what is counted of it.
+fn host_at(
+    alloc: Global,
+    world: &World,
+    totals: &[Total],
+    id: u32,
+) -> Result<Option<StoredRow>, Unavailable>
+    ensures { totals.now ≡ totals_of world.now → IfOk result (λ row. row ≡ row_in world.now (key.Host id)) }
+{
+    let Some(host) = nth(world.hosts.as_slice(), id) else {
+        return Ok(None);
+    };
+    match nth(totals, id) {
+        None => Err(Unavailable),
+        Some(total) => Ok(Some(host_row(alloc, id, host, *total)?)),
+    }
+}
+
+/// The row of an instance.
+fn instance_at(world: &World, place: Place) -> Result<Option<StoredRow>, Unavailable>
+    ensures { IfOk result (λ row. row ≡ row_in world.now (key.Instance place)) }
+{
+    let Some(book) = nth(world.units.as_slice(), place.unit) else {
+        return Ok(None);
+    };
+    match book.instances.as_slice().get(place.number as usize) {
+        None => Ok(None),
+        Some(instance) => Ok(Some(instance_row(world, book, place, instance)?)),
+    }
+}
+
+/// The row of a world at a key, where these are the totals of its hosts. It is unavailable where memory is wanting, or a
+/// number is not one that a table can hold.
+pub fn row_at(
+    alloc: Global,
+    world: &World,
+    totals: &[Total],
+    key: WorldKey,
+) -> Result<Option<StoredRow>, Unavailable>
+    ensures { totals.now ≡ totals_of world.now → IfOk result (λ row. row ≡ row_in world.now key) }
+{
+    match key {
+        WorldKey::Account(id) => match nth(world.accounts.as_slice(), id) {
+            None => Ok(None),
+            Some(account) => Ok(Some(account_row(id, account)?)),
+        },
+        WorldKey::App(id) => match nth(world.apps.as_slice(), id) {
+            None => Ok(None),
+            Some(app) => Ok(Some(app_row(id, app)?)),
+        },
+        WorldKey::Version(id) => match nth(world.versions.as_slice(), id) {
+            None => Ok(None),
+            Some(version) => Ok(Some(version_row(world, id, version)?)),
+        },
+        WorldKey::Unit(id) => match nth(world.units.as_slice(), id) {
+            None => Ok(None),
+            Some(book) => Ok(Some(unit_row(world, id, book)?)),
+        },
+        WorldKey::Host(id) => host_at(alloc, world, totals, id),
+        WorldKey::Instance(place) => instance_at(world, place),
+    }
+}

@@ -1,0 +1,118 @@
+//! What each host holds, and its credit.
+
+ghost use Rattle.std.specs.Prelude.{◌≡◌, ◌≤◌, length, replicate, if◌then◌else◌, IfOk, OnOk};
+ghost use Rattle.sched_book.specs.Count.{verdict_by, is_valid};
+ghost use Rattle.sched_book.specs.Given.{map_from};
+ghost use Rattle.sched_book.specs.Reports.{modify_nth};
+ghost use Rattle.table_worlds.specs.Totals.{more, with_instance, with_unit, totals_of};
+
+use sched_book::count::{agreement_by, canonical, is_valid, verdict_by};
+use sched_book::limits::MOST_INSTANCES;
+use sched_book::{Agreement, App, Instance, Unavailable, UnitBook, World};
+use std::alloc::Global;
+use texts::{Listed, Memory};
+
+/// What is counted of a host.
+#[derive(Clone, Copy)]
+pub struct Total {
+    /// How many instances it holds.
+    pub held: u32,
+    /// Its credit, in millicredits.
+    pub credit: u64,
+}
+
+impl Total {
+    /// With so many more instances held, and so much more credit. That either is past what fits comes about in no
+    /// world whose tables are no longer than they may be: it has 20 million instances, and 2 * 10^15 millicredits.
+    fn plus(self, held: u32, credit: u64) -> Result<Total, Unavailable>
+        ensures { IfOk result (λ total. total ≡ more self held credit) }
+    {
+        match (self.held.checked_add(held), self.credit.checked_add(credit)) {
+            (Some(held), Some(credit)) => Ok(Total { held, credit }),
+            _ => Err(Unavailable),
+        }
+    }
+}
+
+/// Counts so many more instances held and so much more credit of the host of a number, where it stands.
+fn count_more(totals: &mut [Total], host: u32, held: u32, credit: u64) -> Result<(), Unavailable>
+    ensures { OnOk result (totals.new ≡ modify_nth (λ t. more t held credit) totals.old host) }
+{
+    if host == 0 {
+        return Ok(());
+    }
+    let index = host as usize - 1;
+    if index < totals.len() {
+        let total = totals[index];
+        totals[index] = total.plus(held, credit)?;
+    }
+    Ok(())
+}
+
+/// Counts an instance that earned so much, where it was given to a host.
+fn count_instance(totals: &mut [Total], instance: &Instance, credit: u64) -> Result<(), Unavailable>
+    ensures { OnOk result (totals.new ≡ map_from 1 (with_instance instance.now credit) totals.old) }
+{
+    match &instance.owner {
+        None => Ok(()),
+        Some(owner) => count_more(totals, owner.host, u32::from(instance.is_held()), credit),
+    }
+}
+
+/// What an instance of a workunit earned, by the number of the canonical result.
+fn earned(
+    agreement: &Agreement,
+    book: &UnitBook,
+    canonical: Option<usize>,
+    instance: &Instance,
+) -> u64
+    ensures { result ≡ (if is_valid (verdict_by agreement.now book.now.instances canonical instance.now) then book.now.unit.credit else 0) }
+{
+    if is_valid(verdict_by(agreement, book.instances.as_slice(), canonical, instance)) {
+        u64::from(book.unit.credit)
+    } else {
+        0
+    }
+}
+
+/// Counts the instances of a workunit; one with more instances than it may have is not counted.
+fn count_unit(totals: &mut [Total], apps: &[App], book: &UnitBook) -> Result<(), Unavailable>
+    ensures { OnOk result (totals.new ≡ map_from 1 (with_unit apps.now book.now) totals.old) }
+{
+    let instances = book.instances.as_slice();
+    if MOST_INSTANCES < instances.len() {
+        return Err(Unavailable);
+    }
+    let agreement = agreement_by(apps, book.unit.app.as_str());
+    let canonical = canonical(&agreement, &book.unit, instances);
+    for instance in instances {
+        count_instance(
+            totals,
+            instance,
+            earned(&agreement, book, canonical, instance),
+        )?;
+    }
+    Ok(())
+}
+
+/// Totals of so many hosts, of which nothing was counted yet.
+fn no_totals(alloc: Global, count: usize) -> Result<Vec<Total>, Memory>
+    ensures { IfOk result (λ totals. totals.items ≡ replicate count (record { held = 0; credit = 0 })) }
+{
+    let mut totals = Vec::new(alloc);
+    for _ in 0..count {
+        totals.push(Total { held: 0, credit: 0 })?;
+    }
+    Ok(totals)
+}
+
+/// What is counted of each host, by its number, in one pass over all instances.
+pub fn totals_of(alloc: Global, world: &World) -> Result<Listed<Total>, Unavailable>
+    ensures { IfOk result (λ totals. totals ≡ totals_of world.now) }
+{
+    let mut totals = no_totals(alloc, world.hosts.len())?;
+    for book in world.units.as_slice() {
+        count_unit(totals.as_mut_slice(), world.apps.as_slice(), book)?;
+    }
+    Ok(Listed::of(totals))
+}
