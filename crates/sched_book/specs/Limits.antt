@@ -79,12 +79,18 @@ most_request_delay = 2592000
 abbrev pub most_platforms : ℕ
 most_platforms = 8
 
+-- the fewest bytes of the operator's word
+abbrev pub least_key : ℕ
+least_key = 8
+
 pub record AreSettingsInLimits (s : Settings) : Type 0 where
   pub quota : (1 ≤ s.daily_result_quota) × (s.daily_result_quota ≤ most_quota)
   pub hosts : (1 ≤ s.max_hosts) × (s.max_hosts ≤ most_hosts)
   pub in_progress : (1 ≤ s.max_wus_in_progress) × (s.max_wus_in_progress ≤ most_in_progress)
   pub to_send : (1 ≤ s.max_wus_to_send) × (s.max_wus_to_send ≤ most_to_send)
   pub delay : s.request_delay ≤ most_request_delay
+  pub key : IsWord s.operator_key
+  pub key_length : least_key ≤ length s.operator_key
 
 -- a volunteer's name has 1 to 64 bytes
 abbrev pub is_user_name : List ℕ → Bool
