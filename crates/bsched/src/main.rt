@@ -12,6 +12,8 @@ mod tests;
 
 use replay_lines::{Ended, replay};
 use sched_book::Settings;
+use sched_tables::{OpenFault, Tables};
+use sqlite::MemStore;
 use std::alloc::Global;
 use std::io::{BufReader, BufWriter};
 use std::process::ExitCode;
@@ -27,8 +29,8 @@ fn main(rt: HostRuntime) -> io::Result<ExitCode> {
     }
     let reader = BufReader::new(alloc, rt.reader())?;
     let writer = BufWriter::new(alloc, io::writer(&rt))?;
-    let ended = match default_settings(alloc) {
-        Ok(settings) => replay(alloc, &settings, reader, writer),
+    let ended = match new_tables(alloc) {
+        Ok(mut tables) => replay(alloc, &mut tables, reader, writer),
         Err(_) => Ended::Unavailable,
     };
     if ended != Ended::Good {
@@ -44,6 +46,11 @@ fn asks_for_replay(words: &[String]) -> bool {
         [_, command] => command.as_str() == "replay",
         _ => false,
     }
+}
+
+/// New tables in memory, with the settings that `replay` takes where none are told.
+fn new_tables(alloc: Global) -> Result<Tables<MemStore>, OpenFault> {
+    Tables::in_memory(alloc, &default_settings(alloc)?)
 }
 
 /// What `replay` takes where no settings are told.

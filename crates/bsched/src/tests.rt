@@ -12,13 +12,44 @@ mod spellings;
 mod worked;
 
 use crate::default_settings;
+use message_engine::{ListStore, Store};
 use repeats::first_answered_otherwise;
 use replay_lines::{Ended, replay};
 use rows::{Row, first_wrong};
+use sched_book::Settings;
+use sched_tables::Tables;
 use std::alloc::Global;
 use std::io;
 use std::io::{BufReader, ErrorKind, Read};
 use std::test::Fail;
+
+/// What a replay of these lines prints over a store, and how it ends.
+fn replayed_over<S: Store>(
+    alloc: Global,
+    store: &mut S,
+    lines: &[u8],
+) -> Result<(Vec<u8>, Ended), Fail> {
+    let mut printed = Vec::new(alloc);
+    let ended = replay(alloc, store, BufReader::new(alloc, lines)?, &mut printed);
+    Ok((printed, ended))
+}
+
+/// What a replay of these lines prints over tables with these settings, and how it ends; it fails where the plain lists
+/// print anything else.
+fn replayed_by(
+    alloc: Global,
+    settings: &Settings,
+    lines: &[u8],
+) -> Result<(Vec<u8>, Ended), Fail> {
+    let mut lists = ListStore::new(alloc, settings)?;
+    let mut tables = Tables::in_memory(alloc, settings)?;
+    let by_lists = replayed_over(alloc, &mut lists, lines)?;
+    let by_tables = replayed_over(alloc, &mut tables, lines)?;
+    if by_tables != by_lists {
+        return Err(Fail::new("the tables answer otherwise than the lists"));
+    }
+    Ok(by_tables)
+}
 
 /// What a replay of these lines prints, and how it ends.
 fn replayed(alloc: Global, lines: &[u8]) -> Result<(Vec<u8>, Ended), Fail> {
@@ -27,16 +58,9 @@ fn replayed(alloc: Global, lines: &[u8]) -> Result<(Vec<u8>, Ended), Fail> {
 
 /// The same, where so many hosts may stand.
 fn replayed_with(alloc: Global, max_hosts: u32, lines: &[u8]) -> Result<(Vec<u8>, Ended), Fail> {
-    let mut printed = Vec::new(alloc);
     let mut settings = default_settings(alloc)?;
     settings.max_hosts = max_hosts;
-    let ended = replay(
-        alloc,
-        &settings,
-        BufReader::new(alloc, lines)?,
-        &mut printed,
-    );
-    Ok((printed, ended))
+    replayed_by(alloc, &settings, lines)
 }
 
 const PROJECT: &str =
@@ -448,32 +472,32 @@ fn short_answers(alloc: Global) -> Result<String, Fail> {
 
 /// What a replay prints whose reader is interrupted before each few bytes, and how it ends.
 fn replayed_interrupted(alloc: Global, text: &[u8]) -> Result<(Vec<u8>, Ended), Fail> {
-    let settings = default_settings(alloc)?;
+    let mut store = ListStore::new(alloc, &default_settings(alloc)?)?;
     let interrupted = Interrupted {
         text,
         is_ready: false,
     };
     let reader = BufReader::with_capacity(alloc, 7, interrupted)?;
     let mut printed = Vec::new(alloc);
-    let ended = replay(alloc, &settings, reader, &mut printed);
+    let ended = replay(alloc, &mut store, reader, &mut printed);
     Ok((printed, ended))
 }
 
 /// What a replay prints whose reader fails behind these bytes, and how it ends.
 fn replayed_before_a_fault(alloc: Global, front: &[u8]) -> Result<(Vec<u8>, Ended), Fail> {
-    let settings = default_settings(alloc)?;
+    let mut store = ListStore::new(alloc, &default_settings(alloc)?)?;
     let reader = BufReader::new(alloc, front.chain(Broken))?;
     let mut printed = Vec::new(alloc);
-    let ended = replay(alloc, &settings, reader, &mut printed);
+    let ended = replay(alloc, &mut store, reader, &mut printed);
     Ok((printed, ended))
 }
 
 /// What a replay prints into so many bytes of room, and how it ends.
 fn replayed_into(alloc: Global, length: usize, lines: &[u8]) -> Result<(Vec<u8>, Ended), Fail> {
-    let settings = default_settings(alloc)?;
+    let mut store = ListStore::new(alloc, &default_settings(alloc)?)?;
     let reader = BufReader::new(alloc, lines)?;
     let mut room = vec![in alloc; b' '; length]?;
-    let ended = replay(alloc, &settings, reader, room.as_mut_slice());
+    let ended = replay(alloc, &mut store, reader, room.as_mut_slice());
     Ok((room, ended))
 }
 

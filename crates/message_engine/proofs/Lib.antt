@@ -5,4 +5,4 @@ mod ImportsServed
 mod TicksServed
 mod Meant
 mod Followed
-mod Begun
+pub mod Begun

@@ -9,10 +9,9 @@ ghost use Rattle.replay_lines.specs.Endings.{exit_status};
 mod line;
 
 pub use line::arrival_of;
-use message_engine::{ListStore, serve};
+use message_engine::{Store, serve};
 use pasts::Answer;
 use rpc_records::{Fault, fault_text, unavailable_text};
-use sched_book::Settings;
 use std::alloc::Global;
 use std::io::{BufRead, ErrorKind, Read, Write};
 use std::{fmt, io};
@@ -61,16 +60,16 @@ impl fmt::Display for Ended {
     }
 }
 
-/// Answers the lines of `reader`, each by a line of `writer`: its status, a space and its body. The first
-/// line that is none ends it. An answer that finds no memory is the refusal `unavailable`, and the lines
+/// Answers the lines of `reader` from a store, each by a line of `writer`: its status, a space and its body. The
+/// first line that is none ends it. An answer that finds no memory is the refusal `unavailable`, and the lines
 /// behind it are answered all the same.
-pub fn replay<R: BufRead + Drop, W: Write + Drop>(
+pub fn replay<S: Store, R: BufRead + Drop, W: Write + Drop>(
     alloc: Global,
-    settings: &Settings,
+    store: &mut S,
     mut reader: R,
     mut writer: W,
 ) -> Ended {
-    let ended = answer_lines(alloc, settings, &mut reader, &mut writer).unwrap_or_else(
+    let ended = answer_lines(alloc, store, &mut reader, &mut writer).unwrap_or_else(
         |error| ended_by(&error),
     );
     match writer.flush() {
@@ -86,37 +85,26 @@ fn ended_by(error: &io::Error) -> Ended {
     }
 }
 
-fn answer_lines<R: BufRead, W: Write>(
+/// Answers each line.
+fn answer_lines<S: Store, R: BufRead, W: Write>(
     alloc: Global,
-    settings: &Settings,
+    store: &mut S,
     reader: &mut R,
     writer: &mut W,
 ) -> io::Result<Ended> {
-    let mut store = ListStore::new(alloc, settings)?;
     let mut line = Vec::new(alloc);
-    answer_each(alloc, &mut store, &mut line, reader, writer)
-}
-
-/// Answers each line that is read into `line`.
-fn answer_each<R: BufRead, W: Write>(
-    alloc: Global,
-    store: &mut ListStore,
-    line: &mut Vec<u8>,
-    reader: &mut R,
-    writer: &mut W,
-) -> io::Result<Ended> {
     let mut ended = Ended::Good;
     for number in 1..=MOST_LINES {
-        if !read_line(reader, line)? {
+        if !read_line(reader, &mut line)? {
             return Ok(ended);
         }
-        match print_answer(alloc, store, line, writer)? {
+        match print_answer(alloc, store, &line, writer)? {
             Printed::Answer => {}
             Printed::Unavailable => ended = Ended::Unavailable,
             Printed::NoLine => return Ok(Ended::Line(number)),
         }
     }
-    if read_line(reader, line)? {
+    if read_line(reader, &mut line)? {
         return Ok(Ended::Line(MOST_LINES + 1));
     }
     Ok(ended)
@@ -150,9 +138,9 @@ enum Printed {
 }
 
 /// Prints the answer to a line, which may have its line feed.
-fn print_answer<W: Write>(
+fn print_answer<S: Store, W: Write>(
     alloc: Global,
-    store: &mut ListStore,
+    store: &mut S,
     line: &[u8],
     writer: &mut W,
 ) -> io::Result<Printed> {

@@ -26,7 +26,7 @@ use Rattle.table_meaning.proofs.Keys.{key_itself}
 use Rattle.sched_tables.specs.Commits.{LastCalls, Imports, Keeps, LeadsTo}
 use Rattle.sched_tables.specs.Entries.{row_of, last_calls_with, imports_with, kept_batch, calls_of, batches_of}
 use Rattle.sched_tables.specs.Held.{AreWellKept}
-use Rattle.sched_tables.specs.Kept.{call_of, batch_of, calls_in, batches_in}
+use Rattle.table_meaning.specs.Kept.{call_of, batch_of, calls_in, batches_in}
 
 -- ---- the row of an entry
 
@@ -105,8 +105,9 @@ module _ (old new : State) (w v : World) (cs : List Change) (e : Entry) (row : O
   now_held = leads calls (last_calls_with e calls) batches (imports_with e batches)
       (subst (λ r. Keeps (applied w cs) (cons_option r []) calls batches (last_calls_with e calls) (imports_with e batches)) (sym row_is) (keeps_entry (applied w cs) e calls batches)) kept.holds
 
-  pub kept_then : AreWellKept new v
-  kept_then = record {
+  pub kept_then : new.in_transaction ≡ false → AreWellKept new v
+  kept_then idle = record {
+    idle = idle;
     rests = rests;
     holds = subst (λ u. HoldWorld new.now u (calls_in new.now.trees) (batches_in new.now.trees)) (sym after) (held_with_kept new.now (applied w cs) (last_calls_with e calls) (imports_with e batches) now_held);
   }

@@ -15,7 +15,7 @@ use Rattle.table_worlds.specs.Changes.{AreChanges}
 use Rattle.table_worlds.proofs.WorldSettled.{world_settled}
 use Rattle.sched_tables.specs.Commits.{LeadsTo}
 use Rattle.sched_tables.specs.Held.{AreWellKept}
-use Rattle.sched_tables.specs.Kept.{calls_in, batches_in}
+use Rattle.table_meaning.specs.Kept.{calls_in, batches_in}
 
 -- contents that are the same at each key
 pub held_same : (db : Database) (f g : Contents) → ((key : RowKey) → f key ≡ g key) → Hold db f → Hold db g
@@ -36,10 +36,11 @@ all_ok (Ok x) A B C D a b c f = f a b c
 all_ok (Err e) A B C D a b c f = tt
 
 -- tables that are left as they are stay well kept
-pub kept_after : {T E : Type 0} (r : Result T E) (old new : State) (w v : World) → OnOk r (AreWellKept new v) → OnErr r ((new.now ≡ old.now) × (new.committed ≡ old.committed) × (v ≡ w)) → AreWellKept old w
+pub kept_after : {T E : Type 0} (r : Result T E) (old new : State) (w v : World) → OnOk r (AreWellKept new v) → new.in_transaction ≡ false → OnErr r ((new.now ≡ old.now) × (new.committed ≡ old.committed) × (v ≡ w)) → AreWellKept old w
     → AreWellKept new v
-kept_after (Ok x) old new w v good left kept = good
-kept_after (Err e) old new w v good left kept = record {
+kept_after (Ok x) old new w v good idle left kept = good
+kept_after (Err e) old new w v good idle left kept = record {
+  idle = idle;
   rests = left.0 ∙ kept.rests ∙ sym left.1;
   holds = subst (λ u. HoldWorld new.now u (calls_in new.now.trees) (batches_in new.now.trees)) (sym left.2) (subst (λ (db : Database). HoldWorld db w (calls_in db.trees) (batches_in db.trees)) (sym left.0) kept.holds);
 }

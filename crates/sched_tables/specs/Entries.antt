@@ -11,7 +11,7 @@ use Rattle.table_meaning.specs.declared.rows.StoredRow.{StoredRow}
 use Rattle.table_meaning.specs.declared.rows.StoredRow.TheVariants as stored
 use Rattle.table_meaning.specs.Worlds.{BatchText}
 use Rattle.sched_tables.specs.Commits.{LastCalls, Imports}
-use Rattle.sched_tables.specs.Kept.{calls_in, batches_in}
+use Rattle.table_meaning.specs.Kept.{calls_in, batches_in}
 
 abbrev pub row_of : Entry → Option StoredRow
 row_of (entry.Kept host k) = Some (stored.Kept (record { host_id = host; seqno = k.seqno; text = k.text; reply = k.reply }))

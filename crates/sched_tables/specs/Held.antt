@@ -1,9 +1,9 @@
 -- When tables stand for a world.
-use Rattle.std.specs.Prelude.{◌≡◌, ℕ, List, None, IsTrue}
+use Rattle.std.specs.Prelude.{◌≡◌, ℕ, false, List, None, IsTrue}
 use Rattle.sqlite.specs.State.{State, HasCleanDisk}
 use Rattle.sched_book.specs.declared.world.World.{World}
 use Rattle.table_meaning.specs.Worlds.{HoldWorld}
-use Rattle.sched_tables.specs.Kept.{calls_in, batches_in}
+use Rattle.table_meaning.specs.Kept.{calls_in, batches_in}
 
 -- the disk returned what was written, and the connection is open
 abbrev pub IsHonest : State → Type 0
@@ -11,6 +11,7 @@ IsHonest s = HasCleanDisk s × IsTrue s.is_open
 
 -- nothing waits for a commit, and the tables hold the world with what they keep
 pub record AreWellKept (s : State) (w : World) : Type 0 where
+  pub idle : s.in_transaction ≡ false
   pub rests : s.now ≡ s.committed
   pub holds : HoldWorld s.now w (calls_in s.now.trees) (batches_in s.now.trees)
 

@@ -1,4 +1,4 @@
 pub mod Commits
 pub mod Entries
 pub mod Held
-pub mod Kept
+pub mod Views

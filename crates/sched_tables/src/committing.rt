@@ -1,40 +1,64 @@
 //! Changes of the world and what is kept of a message, put into the tables at once.
 
-ghost use Rattle.std.specs.Prelude.{◌≡◌, OnOk, OnErr};
-ghost use Rattle.sqlite.specs.Held.{state};
+ghost use Rattle.std.specs.Prelude.{◌≡◌, false, IfOk, OnOk, OnErr};
 ghost use Rattle.sqlite.specs.State.{Survives};
 ghost use Rattle.sched_book.specs.Delta.{applied};
 ghost use Rattle.sched_tables.specs.Commits.{LeadsTo};
+ghost use Rattle.sched_tables.specs.Entries.{row_of};
 ghost use Rattle.sched_tables.specs.Held.{IsHonest};
+ghost use Rattle.sched_tables.specs.Views.{state_of, world_of};
 
 use crate::tables::Tables;
+use message_engine::Entry;
 use sched_book::{Delta, Unavailable};
 use sqlite::Alter;
-use table_meaning::rows::StoredRow;
+use std::alloc::Global;
+use table_meaning::rows::{StoredBatch, StoredCall, StoredRow};
 use table_rows::put_rows;
 use table_worlds::changed_rows;
+use texts::{Listed, Text};
+
+/// The row that an entry puts, where it puts one.
+fn row_of(alloc: Global, entry: &Entry) -> Result<Option<StoredRow>, Unavailable>
+    ensures { IfOk result (λ row. row ≡ row_of entry.now) }
+{
+    match entry {
+        Entry::Kept(host, kept) => Ok(Some(StoredRow::Kept(StoredCall {
+            host_id: *host,
+            seqno: kept.seqno,
+            text: kept.text.clone()?,
+            reply: kept.reply.clone()?,
+        }))),
+        Entry::Batch(kind, name, kept) => Ok(Some(StoredRow::Batch(StoredBatch {
+            kind: Text::copied(alloc, kind.name())?,
+            name: name.clone()?,
+            text: Listed::of(kept.text.as_slice().to_vec(alloc)?),
+            answer: kept.answer.clone()?,
+        }))),
+        Entry::Nothing => Ok(None),
+    }
+}
 
 impl<S: Alter> Tables<S> {
-    /// Makes these changes and puts one row more, in one transaction: where it is unavailable, neither is done.
-    pub(crate) fn commit_with(
-        &mut self,
-        delta: &Delta,
-        more: Option<StoredRow>,
-    ) -> Result<(), Unavailable>
-        ensures honest { IsHonest (state S.Store self.new.conn) → IsHonest (state S.Store self.old.conn) }
-        ensures world { OnOk result (self.new.desk ≡ applied self.old.desk delta.now) }
-        ensures rests { IsHonest (state S.Store self.new.conn) → OnOk result ((state S.Store self.new.conn).now ≡ (state S.Store self.new.conn).committed) }
-        ensures leads { IsHonest (state S.Store self.new.conn)
-            → OnOk result (LeadsTo self.old.desk delta.now more (state S.Store self.old.conn).now (state S.Store self.new.conn).now) }
-        ensures left { IsHonest (state S.Store self.new.conn) → OnErr result (
-            ((state S.Store self.new.conn).now ≡ (state S.Store self.old.conn).now) × ((state S.Store self.new.conn).committed ≡ (state S.Store self.old.conn).committed)
-            × (self.new.desk ≡ self.old.desk)) }
-        ensures crash { Survives (state S.Store self.old.conn) (state S.Store self.new.conn)
-            (λ trees. (db : _) × LeadsTo self.old.desk delta.now more (state S.Store self.old.conn).now db × (trees ≡ db.trees)) }
+    /// Makes these changes and keeps what the entry tells, in one transaction: where it is unavailable, neither is done. A
+    /// stop at any moment leaves what a stop could leave before, or the whole.
+    pub fn commit(&mut self, delta: &Delta, entry: &Entry) -> Result<(), Unavailable>
+        ensures honest { IsHonest (state_of S.Store self.new) → IsHonest (state_of S.Store self.old) }
+        ensures idle { (state_of S.Store self.old).in_transaction ≡ false → (state_of S.Store self.new).in_transaction ≡ false }
+        ensures world { OnOk result (world_of self.new ≡ applied (world_of self.old) delta.now) }
+        ensures rests { IsHonest (state_of S.Store self.new) → OnOk result ((state_of S.Store self.new).now ≡ (state_of S.Store self.new).committed) }
+        ensures leads { IsHonest (state_of S.Store self.new)
+            → OnOk result (LeadsTo (world_of self.old) delta.now (row_of entry.now) (state_of S.Store self.old).now (state_of S.Store self.new).now) }
+        ensures left { IsHonest (state_of S.Store self.new) → OnErr result (
+            ((state_of S.Store self.new).now ≡ (state_of S.Store self.old).now) × ((state_of S.Store self.new).committed ≡ (state_of S.Store self.old).committed)
+            × (world_of self.new ≡ world_of self.old)) }
+        ensures crash { Survives (state_of S.Store self.old) (state_of S.Store self.new)
+            (λ trees. (db : _) × LeadsTo (world_of self.old) delta.now (row_of entry.now) (state_of S.Store self.old).now db × (trees ≡ db.trees)) }
     {
+        let row = row_of(self.alloc, entry)?;
         let after = self.desk.with(delta)?;
         let mut rows = changed_rows(self.alloc, self.desk.as_world(), after.as_world())?;
-        rows.push_some(more)?;
+        rows.push_some(row)?;
         if put_rows(self.alloc, &mut self.conn, rows.as_slice()).is_err() {
             return Err(Unavailable);
         }

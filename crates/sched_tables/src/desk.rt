@@ -12,17 +12,17 @@ use texts::Listed;
 impl<S: Alter> Units for Tables<S> {
     ghost use Rattle.std.proofs.Common.{rules};
     ghost use Rattle.std.specs.Prelude.{◌≡◌};
-    ghost use Rattle.sqlite.specs.Held.{state};
     ghost use Rattle.table_meaning.specs.Reads.{Reads};
     ghost use Rattle.sched_tables.specs.Held.{IsHonest, AreWellKept};
+    ghost use Rattle.sched_tables.specs.Views.{state_of, world_of};
 
-    ghost world = { λ t. t.desk };
+    ghost world = { world_of };
 
-    ghost honest = { λ t. IsHonest (state S.Store t.conn) };
+    ghost honest = { λ t. IsHonest (state_of S.Store t) };
 
-    ghost well_kept = { λ t. AreWellKept (state S.Store t.conn) t.desk };
+    ghost well_kept = { λ t. AreWellKept (state_of S.Store t) (world_of t) };
 
-    ghost reads = { λ a b. Reads (state S.Store a.conn) (state S.Store b.conn) × (b.desk ≡ a.desk) };
+    ghost reads = { λ a b. Reads (state_of S.Store a) (state_of S.Store b) × (world_of b ≡ world_of a) };
 
     fn unit_by_name(&mut self, name: &str) -> Result<Option<u32>, Unavailable> {
         self.desk.unit_by_name(name)

@@ -8,4 +8,5 @@ mod opening;
 mod store;
 mod tables;
 
+pub use table_rows::OpenFault;
 pub use tables::Tables;

@@ -2,9 +2,14 @@
 
 ghost use Rattle.std.specs.Prelude.{◌≡◌, ◌≢◌, [], None, IfOk, IfErr};
 ghost use Rattle.sqlite.specs.Held.{state};
+ghost use Rattle.sqlite.specs.Steps.{over_memory};
+ghost use Rattle.sched_book.specs.Limits.{AreSettingsInLimits};
 ghost use Rattle.sched_book.specs.Step.{empty_world};
+ghost use Rattle.message_engine.specs.Arrivals.{StandsFor};
 ghost use Rattle.table_meaning.specs.Schema.{no_schema};
+ghost use Rattle.sched_tables.specs.Entries.{calls_of, batches_of};
 ghost use Rattle.sched_tables.specs.Held.{IsHonest, AreWellKept, KeepNothing};
+ghost use Rattle.sched_tables.specs.Views.{state_of, world_of};
 
 use crate::tables::Tables;
 use sched_book::{ListDesk, Settings};
@@ -15,15 +20,17 @@ use table_worlds::setting_rows;
 
 impl<S: Alter + Drop> Tables<S> {
     /// Makes the tables in a database that has none, with these settings and in one transaction: the world in which nothing
-    /// stands, of which nothing was heard.
+    /// stands, of which nothing was heard. They stand for the empty past.
     pub fn create(
         alloc: Global,
         mut conn: Connection<S>,
         settings: &Settings,
     ) -> Result<Tables<S>, OpenFault>
-        ensures world { IfOk result (λ t. t.desk ≡ empty_world settings.now) }
-        ensures held { IfOk result (λ t. IsHonest (state S.Store t.conn) → AreWellKept (state S.Store t.conn) t.desk) }
-        ensures nothing { IfOk result (λ t. IsHonest (state S.Store t.conn) → KeepNothing (state S.Store t.conn)) }
+        ensures world { IfOk result (λ t. world_of t ≡ empty_world settings.now) }
+        ensures held { IfOk result (λ t. IsHonest (state_of S.Store t) → AreWellKept (state_of S.Store t) (world_of t)) }
+        ensures nothing { IfOk result (λ t. IsHonest (state_of S.Store t) → KeepNothing (state_of S.Store t)) }
+        ensures stands { IfOk result (λ t. IsHonest (state_of S.Store t) → AreSettingsInLimits settings.now
+            → StandsFor (world_of t) (calls_of (state_of S.Store t).now.trees) (batches_of (state_of S.Store t).now.trees) []) }
         ensures taken { IfErr result (λ e. e ≡ OpenFault.NotTables → (state S.Store conn).now.schema ≢ no_schema) }
     {
         let desk = ListDesk::new(alloc, settings)?;
@@ -34,9 +41,13 @@ impl<S: Alter + Drop> Tables<S> {
 }
 
 impl Tables<MemStore> {
-    /// New tables in memory, with these settings.
+    /// New tables in memory, with these settings: they stand for the empty past.
     pub fn in_memory(alloc: Global, settings: &Settings) -> Result<Tables<MemStore>, OpenFault>
-        ensures world { IfOk result (λ t. t.desk ≡ empty_world settings.now) }
+        ensures world { IfOk result (λ t. world_of t ≡ empty_world settings.now) }
+        ensures held { IfOk result (λ t. IsHonest (state_of over_memory t) → AreWellKept (state_of over_memory t) (world_of t)) }
+        ensures nothing { IfOk result (λ t. IsHonest (state_of over_memory t) → KeepNothing (state_of over_memory t)) }
+        ensures stands { IfOk result (λ t. IsHonest (state_of over_memory t) → AreSettingsInLimits settings.now
+            → StandsFor (world_of t) (calls_of (state_of over_memory t).now.trees) (batches_of (state_of over_memory t).now.trees) []) }
     {
         let conn = Connection::open_in_memory(alloc)?;
         Tables::create(alloc, conn, settings)

@@ -1,8 +1,5 @@
 //! The tables are a store: a desk that keeps calls and imports, with one commit for all that a message changes.
 
-ghost use Rattle.std.specs.Prelude.{◌≡◌, IfOk};
-ghost use Rattle.sched_tables.specs.Entries.{row_of};
-
 use crate::tables::Tables;
 use message_engine::{Entry, Store};
 use pasts::{KeptBatch, Kind};
@@ -10,38 +7,16 @@ use reply_register::Kept;
 use sched_book::{Delta, Unavailable};
 use sqlite::Alter;
 use std::alloc::Global;
-use table_meaning::rows::{StoredBatch, StoredCall, StoredRow};
-use texts::{Listed, Text};
-
-/// The row that an entry puts, where it puts one.
-fn row_of(alloc: Global, entry: &Entry) -> Result<Option<StoredRow>, Unavailable>
-    ensures { IfOk result (λ row. row ≡ row_of entry.now) }
-{
-    match entry {
-        Entry::Kept(host, kept) => Ok(Some(StoredRow::Kept(StoredCall {
-            host_id: *host,
-            seqno: kept.seqno,
-            text: kept.text.clone()?,
-            reply: kept.reply.clone()?,
-        }))),
-        Entry::Batch(kind, name, kept) => Ok(Some(StoredRow::Batch(StoredBatch {
-            kind: Text::copied(alloc, kind.name())?,
-            name: name.clone()?,
-            text: Listed::of(kept.text.as_slice().to_vec(alloc)?),
-            answer: kept.answer.clone()?,
-        }))),
-        Entry::Nothing => Ok(None),
-    }
-}
+use texts::Listed;
 
 impl<S: Alter> Store for Tables<S> {
     ghost use Rattle.std.proofs.Common.{rules};
-    ghost use Rattle.sqlite.specs.Held.{state};
     ghost use Rattle.sched_tables.specs.Entries.{calls_of, batches_of};
+    ghost use Rattle.sched_tables.specs.Views.{state_of};
 
-    ghost calls = { λ t. calls_of (state S.Store t.conn).now.trees };
+    ghost calls = { λ t. calls_of (state_of S.Store t).now.trees };
 
-    ghost batches = { λ t. batches_of (state S.Store t.conn).now.trees };
+    ghost batches = { λ t. batches_of (state_of S.Store t).now.trees };
 
     fn kept(&mut self, alloc: Global, host: u32) -> Result<Listed<Kept>, Unavailable> {
         let call = self.last_call(alloc, host)?;
@@ -60,8 +35,7 @@ impl<S: Alter> Store for Tables<S> {
     }
 
     fn commit(&mut self, delta: &Delta, entry: &Entry) -> Result<(), Unavailable> {
-        let row = row_of(self.alloc, entry)?;
-        self.commit_with(delta, row)
+        Tables::commit(self, delta, entry)
     }
 
     ghost stays_calls = { λ a b h k l host. Prim.search rules };

@@ -1,4 +1,6 @@
 ghost use Rattle.std.specs.Prelude.{◌≡◌};
+ghost use Rattle.sqlite.specs.Held.{state};
+ghost use Rattle.sched_tables.specs.Views.{state_of};
 
 use sched_book::ListDesk;
 use sqlite::{Alter, Connection};
@@ -16,7 +18,7 @@ pub struct Tables<S: Alter> {
 impl<S: Alter> Tables<S> {
     /// Hands the connection back, with its tables as they are.
     pub fn into_connection(self) -> Connection<S>
-        ensures { result ≡ self.conn }
+        ensures { state S.Store result ≡ state_of S.Store self }
     {
         self.conn
     }

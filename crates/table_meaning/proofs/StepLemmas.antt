@@ -113,6 +113,7 @@ reads_none s = record {
   survives = survives_itself s;
   was_open = λ clean h. h;
   same = λ clean h rest. (refl, refl);
+  idle = λ h. h;
 }
 
 pub reads_on : (a b c : State) → Reads a b → Reads b c → Reads a c
@@ -125,12 +126,13 @@ reads_on a b c p q =
           let first = p.same (early clean) (q.was_open clean h) rest in
           let second = q.same clean h (first.0 ∙ rest ∙ sym first.1) in
           (second.0 ∙ first.0, second.1 ∙ first.1);
+      idle = λ h. q.idle (p.idle h);
     }
 
 -- a statement in a transaction that is then rolled back
 module _ {S : Type 0} (g : Ghosts S) (old mid end : Held S) (kept : HasCleanDisk (state g mid) → KeepsCommit (state g (record old { in_transaction = true })) (state g mid))
     (one : Survives (state g (record old { in_transaction = true })) (state g mid) (λ _. ⊥)) (back : HasCleanDisk (state g end) → IsRolledBack (state g mid) (state g end))
-    (two : Survives (state g mid) (state g end) (λ _. ⊥)) where
+    (two : Survives (state g mid) (state g end) (λ _. ⊥)) (ended : end.in_transaction ≡ false) where
   pub reads_back : Reads (state g old) (state g end)
   reads_back =
       let early = λ (clean : HasCleanDisk (state g end)). let h : HasCleanDisk (state g mid) = omega (arith, two.clean) in h in
@@ -141,6 +143,7 @@ module _ {S : Type 0} (g : Ghosts S) (old mid end : Held S) (kept : HasCleanDisk
             let undone = (back clean).undone h in
             let same = (kept (early clean)).committed ((back clean).was_open h) in
             (undone.0 ∙ same ∙ sym rest, undone.1 ∙ same);
+        idle = λ _. ended;
       }
 
 -- ---- tables made

@@ -1,6 +1,7 @@
 pub mod ByKey
 pub mod Formats
 pub mod Holding
+pub mod Kept
 pub mod Making
 pub mod Reads
 pub mod Rows

@@ -24,11 +24,12 @@ read_query tree places = record {
   offset = lit (Int (pos 0));
 }
 
--- Nothing was committed, a stop leaves nothing new, and at rest the connection shows what it showed.
+-- Nothing was committed, a stop leaves nothing new, and at rest the connection shows what it showed. No transaction is left open.
 pub record Reads (old new : State) : Type 0 where
   pub survives : Survives old new (λ _. ⊥)
   pub was_open : HasCleanDisk new → IsTrue new.is_open → IsTrue old.is_open
   pub same : HasCleanDisk new → IsTrue new.is_open → old.now ≡ old.committed → (new.now ≡ old.now) × (new.committed ≡ old.committed)
+  pub idle : old.in_transaction ≡ false → new.in_transaction ≡ false
 
 -- These are the rows that a text shows in a transaction.
 abbrev pub Shows : {S : Type 0} → Ghosts S → Held S → List ℕ → Row → List Row → Type 0

@@ -16,4 +16,4 @@ pub use keyed::{batch_of, kept_of};
 pub use opening::{OpenFault, in_memory, known};
 pub use put::put_rows;
 pub use read::{all_rows, rows_of};
-pub use typed::stored_rows_of;
+pub use typed::stored_rows;

@@ -1,21 +1,16 @@
 //! Whole tables as typed rows.
 
 ghost use Rattle.std.specs.Prelude.{◌≡◌, length, map, IfOk, IfErr};
-ghost use Rattle.sqlite.specs.Held.{state};
-ghost use Rattle.sqlite.specs.State.{HasCleanDisk};
 ghost use Rattle.table_meaning.specs.declared.rows.StoredRow.TheVariants as stored;
 ghost use Rattle.table_meaning.specs.declared.tables.TableName.TheVariants as named;
-ghost use Rattle.table_meaning.specs.Rows.{table_of, columns_of, rows_in};
+ghost use Rattle.table_meaning.specs.Rows.{table_of, columns_of};
 ghost use Rattle.table_meaning.specs.Formats.{kinds_of, AreOf, columns_in, IsStored, HasBadRow};
-ghost use Rattle.table_meaning.specs.Reads.{Reads};
-ghost use Rattle.table_meaning.specs.Holding.{AreKnown};
 
 use crate::fields::{
     flag, int, octets, optional_int, optional_text, optional_whole, setting_value, text, whole,
 };
 use crate::opening::OpenFault;
-use crate::read::rows_of;
-use sqlite::{Alter, Connection, Row};
+use sqlite::Row;
 use std::alloc::Global;
 use table_meaning::rows::{
     StoredAccount, StoredApp, StoredBatch, StoredCall, StoredHost, StoredInstance, StoredRow,
@@ -185,8 +180,8 @@ pub(crate) fn stored_row(alloc: Global, table: TableName, row: &Row) -> Result<S
     })
 }
 
-/// The rows with their types.
-fn stored_rows(
+/// The rows of a table with their types. BadRow where one has not the format of the table.
+pub fn stored_rows(
     alloc: Global,
     table: TableName,
     rows: &[Row],
@@ -199,20 +194,4 @@ fn stored_rows(
         all.push(stored_row(alloc, table, row)?)?;
     }
     Ok(all)
-}
-
-/// The rows of a table. The connection shows what it showed.
-pub fn stored_rows_of<S: Alter>(
-    alloc: Global,
-    conn: &mut Connection<S>,
-    table: TableName,
-) -> Result<Listed<StoredRow>, OpenFault>
-    ensures reads { Reads (state S.Store conn.old) (state S.Store conn.new) }
-    ensures rows { HasCleanDisk (state S.Store conn.new) → AreKnown (state S.Store conn.old).now
-        → IfOk result (λ rows. map columns_of rows ≡ rows_in (state S.Store conn.old).now.trees table) }
-    ensures bad { HasCleanDisk (state S.Store conn.new) → AreKnown (state S.Store conn.old).now
-        → IfErr result (λ e. e ≡ OpenFault.BadRow → HasBadRow table (rows_in (state S.Store conn.old).now.trees table)) }
-{
-    let rows = rows_of(conn, table)?;
-    stored_rows(alloc, table, rows.as_slice())
 }

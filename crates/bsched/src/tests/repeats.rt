@@ -3,10 +3,11 @@
 use super::PROJECT;
 use super::rows::{Row, lines_of};
 use crate::default_settings;
-use message_engine::{Arrival, ListStore, Post, run};
+use message_engine::{Arrival, Post, run};
 use pasts::Answer;
 use replay_lines::arrival_of;
 use rpc_records::fault_text;
+use sched_tables::Tables;
 use std::alloc::Global;
 use std::test::Fail;
 use texts::Text;
@@ -79,7 +80,7 @@ fn are_answered_again(
 fn is_answered_again(alloc: Global, row: &Row) -> Result<bool, Fail> {
     let mut settings = default_settings(alloc)?;
     settings.max_hosts = 5;
-    let mut store = ListStore::new(alloc, &settings)?;
+    let mut store = Tables::in_memory(alloc, &settings)?;
     let lines = format!(in alloc; "{PROJECT}{}", lines_of(alloc, row.1)?)?;
     let arrivals = arrivals_of(alloc, lines.as_str())?;
     let answers = run(alloc, &mut store, &arrivals)?;

@@ -13,7 +13,7 @@ returns-in_err-rows-clause-reads g c =
     let begun = c.transaction-tx.ensures.begun in
     let same : end ≡ c.conn-1.given.0 = search rules in
     subst (λ h. Reads (state g.S.Store old) (state g.S.Store h)) same
-    (reads_back g.S.Store old mid end (λ clean. kept_failed _ _ _ _ _ (rw begun at (c.in_err-rows.ensures.err clean))) (rw begun at c.query_all.ensures.survives) c.drop-tx.ensures.undone c.drop-tx.ensures.survives)
+    (reads_back g.S.Store old mid end (λ clean. kept_failed _ _ _ _ _ (rw begun at (c.in_err-rows.ensures.err clean))) (rw begun at c.query_all.ensures.survives) c.drop-tx.ensures.undone c.drop-tx.ensures.survives c.drop-tx.ensures.ended)
 
 pub returns-clause-reads : goal.returns-clause-reads
 returns-clause-reads g c =
@@ -23,7 +23,7 @@ returns-clause-reads g c =
     let begun = c.transaction-tx.ensures.begun in
     let same : end ≡ c.conn-2-1.given.0 = search rules in
     subst (λ h. Reads (state g.S.Store old) (state g.S.Store h)) same
-    (reads_back g.S.Store old mid end (λ clean. kept_shown _ _ _ _ _ refl (rw begun at (c.in_ok-rows.ensures.ok clean))) (rw begun at c.query_all.ensures.survives) c.rollback.ensures.undone c.rollback.ensures.survives)
+    (reads_back g.S.Store old mid end (λ clean. kept_shown _ _ _ _ _ refl (rw begun at (c.in_ok-rows.ensures.ok clean))) (rw begun at c.query_all.ensures.survives) c.rollback.ensures.undone c.rollback.ensures.survives c.rollback.ensures.ended)
 
 pub returns-clause-shown : goal.returns-clause-shown
 returns-clause-shown g c clean =

@@ -1,36 +1,35 @@
-use Rattle.std.proofs.Common.{◌≡◌}
-use Rattle.sqlite.specs.Held.{state}
+use Rattle.std.proofs.Common.{◌≡◌, refl}
 use Rattle.sched_book.specs.Delta.{applied}
-use Rattle.message_engine.specs.Stores.{IsCommitted}
 use Rattle.sched_tables.specs.Commits.{LeadsTo}
-use Rattle.sched_tables.specs.Entries.{calls_of, batches_of}
+use Rattle.sched_tables.specs.Entries.{row_of}
 use Rattle.sched_tables.specs.Held.{AreWellKept}
+use Rattle.sched_tables.specs.Views.{state_of, world_of}
 use Rattle.sched_tables.proofs.EntriesKept.{kept_then, committed}
 use Rattle.sched_tables.proofs.Leads.{all_ok, kept_after}
 use Rattle.sched_tables.proofs.store.TablesStore.commit.Goals as goal
 
 pub returns-clause-kept : goal.returns-clause-kept
 returns-clause-kept g c = λ honest kept.
-    let old = state g.S.Store c.args.self.now.conn in
-    let new = state g.S.Store c.commit_with.new.self.conn in
-    let w = c.args.self.now.desk in
-    let v = c.commit_with.new.self.desk in
+    let old = state_of g.S.Store c.args.self.now in
+    let new = state_of g.S.Store c.commit.new.self in
+    let w = world_of c.args.self.now in
+    let v = world_of c.commit.new.self in
     let cs = c.args.delta.now in
-    let row = c.in_ok-row.row in
-    kept_after c.commit_with.result old new w v
-    (all_ok c.commit_with.result (v ≡ applied w cs) (new.now ≡ new.committed) (LeadsTo w cs row old.now new.now) (AreWellKept new v)
-    c.commit_with.ensures.world (c.commit_with.ensures.rests honest) (c.commit_with.ensures.leads honest)
-    (λ after rests leads. kept_then old new w v cs c.args.entry.now row c.in_ok-row.ensures after kept rests leads))
-    (c.commit_with.ensures.left honest) kept
+    let row = row_of c.args.entry.now in
+    kept_after c.commit.result old new w v
+    (all_ok c.commit.result (v ≡ applied w cs) (new.now ≡ new.committed) (LeadsTo w cs row old.now new.now) (AreWellKept new v)
+    c.commit.ensures.world (c.commit.ensures.rests honest) (c.commit.ensures.leads honest)
+    (λ after rests leads. kept_then old new w v cs c.args.entry.now row refl after kept rests leads (c.commit.ensures.idle kept.idle)))
+    (c.commit.ensures.idle kept.idle) (c.commit.ensures.left honest) kept
 
 pub returns-clause-ok : goal.returns-clause-ok
 returns-clause-ok g c = λ honest kept.
-    let old = state g.S.Store c.args.self.now.conn in
-    let new = state g.S.Store c.commit_with.new.self.conn in
-    let w = c.args.self.now.desk in
-    let v = c.commit_with.new.self.desk in
+    let old = state_of g.S.Store c.args.self.now in
+    let new = state_of g.S.Store c.commit.new.self in
+    let w = world_of c.args.self.now in
+    let v = world_of c.commit.new.self in
     let cs = c.args.delta.now in
-    let row = c.in_ok-row.row in
-    all_ok c.commit_with.result (v ≡ applied w cs) (new.now ≡ new.committed) (LeadsTo w cs row old.now new.now) _
-    c.commit_with.ensures.world (c.commit_with.ensures.rests honest) (c.commit_with.ensures.leads honest)
-    (λ after rests leads fits. committed old new w v cs c.args.entry.now row c.in_ok-row.ensures after kept rests leads)
+    let row = row_of c.args.entry.now in
+    all_ok c.commit.result (v ≡ applied w cs) (new.now ≡ new.committed) (LeadsTo w cs row old.now new.now) _
+    c.commit.ensures.world (c.commit.ensures.rests honest) (c.commit.ensures.leads honest)
+    (λ after rests leads fits. committed old new w v cs c.args.entry.now row refl after kept rests leads)

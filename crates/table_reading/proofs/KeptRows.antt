@@ -1,0 +1,124 @@
+-- Rows that stand for a world hold it, with what is kept beside it.
+use Rattle.std.proofs.Common.{◌≡◌, ◌⊎◌, ℕ, Bool, true, false, ◌&&◌, List, [], ◌∷◌, map, Option, Some, None, option_map, refl, sym, ap, subst, ◌∙◌, inl, inr, true≢false, IsTrue}
+use Rattle.std.specs.List.{list_all}
+use Rattle.std.proofs.lemmas.Bool.{and_parts}
+use Rattle.sqlite.specs.Effect.{Database}
+use Rattle.sqlite_rules.specs.Lists.{Has}
+use Rattle.sqlite_trees.specs.Tree.{Trees}
+use Rattle.sqlite_value.specs.Order.{Row}
+use Rattle.sched_book.specs.declared.world.World.{World}
+use Rattle.table_meaning.specs.declared.rows.StoredRow.{StoredRow}
+use Rattle.table_meaning.specs.declared.rows.StoredRow.TheVariants as stored
+use Rattle.table_meaning.specs.declared.tables.TableName.TheVariants as name
+use Rattle.table_meaning.specs.Holding.{AreKnown}
+use Rattle.table_meaning.specs.Kept.{call_of, batch_of, calls_in, batches_in}
+use Rattle.table_meaning.specs.Rows.{RowKey, kept_key, batch_key, table_at, columns_of, key_of, rows_in, look_up}
+use Rattle.table_meaning.specs.Worlds.{contents_of, HoldWorld}
+use Rattle.table_meaning.proofs.RowsHeld.{held_row}
+use Rattle.table_worlds.proofs.RowsHold.{world_held}
+use Rattle.table_reading.specs.Reading.{AreAllRead, StandFor, is_call_of, is_import}
+use Rattle.table_reading.specs.declared.rows.AllRows.{AllRows}
+
+-- ---- what passes is of its table
+
+
+each_passes : {X : Type 0} (p : X → Bool) (xs : List X) (x : X) → list_all p xs ≡ true → Has xs x → p x ≡ true
+each_passes p [] x all has = absurd has
+each_passes p (y ∷ ys) x all (inl same) = ap p same ∙ (and_parts (p y) (list_all p ys) all).0
+each_passes p (y ∷ ys) x all (inr later) = each_passes p ys x (and_parts (p y) (list_all p ys) all).1 later
+
+call_table : (w : World) (r : StoredRow) → is_call_of w r ≡ true → table_at (key_of r) ≡ name.Kept
+call_table w (stored.Kept k) is = refl
+call_table w (stored.Setting r) is = absurd (true≢false (sym is))
+call_table w (stored.Account r) is = absurd (true≢false (sym is))
+call_table w (stored.App r) is = absurd (true≢false (sym is))
+call_table w (stored.Version r) is = absurd (true≢false (sym is))
+call_table w (stored.Unit r) is = absurd (true≢false (sym is))
+call_table w (stored.Host r) is = absurd (true≢false (sym is))
+call_table w (stored.Instance r) is = absurd (true≢false (sym is))
+call_table w (stored.Batch r) is = absurd (true≢false (sym is))
+
+import_table : (r : StoredRow) → is_import r ≡ true → table_at (key_of r) ≡ name.Batch
+import_table (stored.Batch b) is = refl
+import_table (stored.Setting r) is = absurd (true≢false (sym is))
+import_table (stored.Account r) is = absurd (true≢false (sym is))
+import_table (stored.App r) is = absurd (true≢false (sym is))
+import_table (stored.Version r) is = absurd (true≢false (sym is))
+import_table (stored.Unit r) is = absurd (true≢false (sym is))
+import_table (stored.Host r) is = absurd (true≢false (sym is))
+import_table (stored.Instance r) is = absurd (true≢false (sym is))
+import_table (stored.Kept r) is = absurd (true≢false (sym is))
+
+-- ---- a row at a key is what is kept there
+
+-- the row of a call, by what it shows
+abbrev call_row : ℕ → Row → StoredRow
+call_row id row = stored.Kept (record { host_id = id; seqno = (call_of row).seqno; text = (call_of row).text; reply = (call_of row).reply })
+
+abbrev import_row : List ℕ → List ℕ → Row → StoredRow
+import_row kind text row = stored.Batch (record { kind = kind; name = text; text = (batch_of row).0; answer = (batch_of row).1 })
+
+host_in : RowKey → ℕ
+host_in (kept_key id) = id
+host_in other = 0
+
+kind_in : RowKey → List ℕ
+kind_in (batch_key kind text) = kind
+kind_in other = []
+
+name_in : RowKey → List ℕ
+name_in (batch_key kind text) = text
+name_in other = []
+
+call_shown : (w : World) (id : ℕ) (s : StoredRow) → is_call_of w s ≡ true → key_of s ≡ kept_key id → columns_of s ≡ columns_of (call_row id (columns_of s))
+call_shown w id (stored.Kept k) is key = ap (λ i. columns_of (stored.Kept (record { host_id = i; seqno = k.seqno; text = k.text; reply = k.reply }))) (ap host_in key)
+call_shown w id (stored.Setting r) is key = absurd (true≢false (sym is))
+call_shown w id (stored.Account r) is key = absurd (true≢false (sym is))
+call_shown w id (stored.App r) is key = absurd (true≢false (sym is))
+call_shown w id (stored.Version r) is key = absurd (true≢false (sym is))
+call_shown w id (stored.Unit r) is key = absurd (true≢false (sym is))
+call_shown w id (stored.Host r) is key = absurd (true≢false (sym is))
+call_shown w id (stored.Instance r) is key = absurd (true≢false (sym is))
+call_shown w id (stored.Batch r) is key = absurd (true≢false (sym is))
+
+import_shown : (kind text : List ℕ) (s : StoredRow) → is_import s ≡ true → key_of s ≡ batch_key kind text → columns_of s ≡ columns_of (import_row kind text (columns_of s))
+import_shown kind text (stored.Batch b) is key =
+    ap (λ k. columns_of (stored.Batch (record { kind = k; name = b.name; text = b.text; answer = b.answer }))) (ap kind_in key)
+    ∙ ap (λ n. columns_of (stored.Batch (record { kind = kind; name = n; text = b.text; answer = b.answer }))) (ap name_in key)
+import_shown kind text (stored.Setting r) is key = absurd (true≢false (sym is))
+import_shown kind text (stored.Account r) is key = absurd (true≢false (sym is))
+import_shown kind text (stored.App r) is key = absurd (true≢false (sym is))
+import_shown kind text (stored.Version r) is key = absurd (true≢false (sym is))
+import_shown kind text (stored.Unit r) is key = absurd (true≢false (sym is))
+import_shown kind text (stored.Host r) is key = absurd (true≢false (sym is))
+import_shown kind text (stored.Instance r) is key = absurd (true≢false (sym is))
+import_shown kind text (stored.Kept r) is key = absurd (true≢false (sym is))
+
+module _ (trees : Trees) (w : World) where
+  calls_stand : (calls : List StoredRow) → map columns_of calls ≡ rows_in trees name.Kept → list_all (is_call_of w) calls ≡ true → (id : ℕ)
+      → look_up trees (kept_key id) ≡ option_map columns_of (contents_of w (calls_in trees) (batches_in trees) (kept_key id))
+  calls_stand calls read fit id = go (look_up trees (kept_key id)) refl
+    where
+      go : (o : Option Row) → look_up trees (kept_key id) ≡ o → o ≡ option_map columns_of (option_map (λ k. stored.Kept (record { host_id = id; seqno = k.seqno; text = k.text; reply = k.reply })) (option_map call_of o))
+      go None is = refl
+      go (Some row) is =
+          let s = held_row trees name.Kept calls read (λ r has. call_table w r (each_passes (is_call_of w) calls r fit has)) (kept_key id) refl row is in
+          let passes = each_passes (is_call_of w) calls s.0 fit s.1 in
+          subst (λ (r : Row). Some r ≡ Some (columns_of (call_row id r))) (sym s.2) (ap Some (call_shown w id s.0 passes s.3))
+
+  imports_stand : (batches : List StoredRow) → map columns_of batches ≡ rows_in trees name.Batch → list_all is_import batches ≡ true → (kind text : List ℕ)
+      → look_up trees (batch_key kind text) ≡ option_map columns_of (contents_of w (calls_in trees) (batches_in trees) (batch_key kind text))
+  imports_stand batches read fit kind text = go (look_up trees (batch_key kind text)) refl
+    where
+      go : (o : Option Row) → look_up trees (batch_key kind text) ≡ o → o ≡ option_map columns_of (option_map (λ b. stored.Batch (record { kind = kind; name = text; text = b.0; answer = b.1 })) (option_map batch_of o))
+      go None is = refl
+      go (Some row) is =
+          let s = held_row trees name.Batch batches read (λ r has. import_table r (each_passes is_import batches r fit has)) (batch_key kind text) refl row is in
+          let passes = each_passes is_import batches s.0 fit s.1 in
+          subst (λ (r : Row). Some r ≡ Some (columns_of (import_row kind text r))) (sym s.2) (ap Some (import_shown kind text s.0 passes s.3))
+
+pub held_by_rows : (db : Database) (w : World) (all : AllRows) → AreKnown db → AreAllRead db.trees all → StandFor w all → HoldWorld db w (calls_in db.trees) (batches_in db.trees)
+held_by_rows db w all known read stand = record {
+  known = known;
+  rows = world_held db.trees w all.world read.world stand.rows (calls_in db.trees) (batches_in db.trees) (calls_stand db.trees w all.calls read.calls stand.calls) (imports_stand db.trees w all.batches read.batches stand.batches);
+}

@@ -1,0 +1,84 @@
+-- What the rows of tables have to be for a world to be read from them.
+use Rattle.std.specs.Prelude.{◌≡◌, ℕ, Bool, false, ◌&&◌, nat_le, IsTrue, List, [], ◌∷◌, map, length, codes, is_some}
+use Rattle.std.specs.List.{list_all}
+use Rattle.sqlite.specs.State.{State, HasCleanDisk}
+use Rattle.sqlite_rules.specs.Lists.{Has}
+use Rattle.sqlite_trees.specs.Tree.{Trees}
+use Rattle.texts.specs.Words.{is_word}
+use Rattle.pasts.specs.Kinds.{kind_of}
+use Rattle.sched_book.specs.Places.{host_at}
+use Rattle.sched_book.specs.Sound.{Sound}
+use Rattle.sched_book.specs.declared.world.World.{World}
+use Rattle.table_meaning.specs.declared.rows.SettingValue.TheVariants.{Number}
+use Rattle.table_meaning.specs.declared.rows.StoredRow.{StoredRow}
+use Rattle.table_meaning.specs.declared.rows.StoredRow.TheVariants as stored
+use Rattle.table_meaning.specs.declared.tables.TableName.{TableName}
+use Rattle.table_meaning.specs.declared.tables.TableName.TheVariants as name
+use Rattle.table_meaning.specs.Formats.{HasBadRow}
+use Rattle.table_meaning.specs.Holding.{AreKnown}
+use Rattle.table_meaning.specs.Rows.{columns_of, rows_in}
+use Rattle.table_worlds.specs.RowsOf.{AreRowsOf}
+use Rattle.table_worlds.proofs.RowsHold.{AreRead}
+use Rattle.table_reading.specs.declared.rows.AllRows.{AllRows}
+
+-- the tables, in the order in which they are read
+abbrev pub all_tables : List TableName
+all_tables = name.Setting ∷ name.Account ∷ name.App ∷ name.Version ∷ name.Unit ∷ name.Host ∷ name.Instance ∷ name.Kept ∷ name.Batch ∷ []
+
+-- these are the rows of all tables
+pub record AreAllRead (trees : Trees) (all : AllRows) : Type 0 where
+  pub world : AreRead trees all.world
+  pub calls : map columns_of all.calls ≡ rows_in trees name.Kept
+  pub batches : map columns_of all.batches ≡ rows_in trees name.Batch
+
+-- the last number of a call
+abbrev pub last_seqno : ℕ
+last_seqno = 2147483647
+
+-- the longest text of an import, in bytes
+abbrev pub most_import_bytes : ℕ
+most_import_bytes = 1048576
+
+-- what is kept of a call: its host stands, and its number is in its range
+abbrev pub is_call_of : World → StoredRow → Bool
+is_call_of w (stored.Kept k) = is_some (host_at w k.host_id) && nat_le k.seqno last_seqno
+is_call_of w other = false
+
+-- what is kept of an import: of one of the four kinds, with a word for its name, and not too long
+abbrev pub is_import : StoredRow → Bool
+is_import (stored.Batch b) = is_some (kind_of b.kind) && (is_word b.name && nat_le (length b.text) most_import_bytes)
+is_import other = false
+
+-- These rows are those of a sound world, and of what may be kept beside it.
+pub record StandFor (w : World) (all : AllRows) : Type 0 where
+  pub sound : Sound w
+  pub rows : AreRowsOf w all.world
+  pub calls : IsTrue (list_all (is_call_of w) all.calls)
+  pub batches : IsTrue (list_all is_import all.batches)
+
+-- They are read from the tables, and stand for the world.
+abbrev pub ReadFrom : Trees → World → Type 0
+ReadFrom trees w = (all : AllRows) × AreAllRead trees all × StandFor w all
+
+-- They are read from the tables, and stand for no world.
+abbrev pub StandForNone : Trees → Type 0
+StandForNone trees = (all : AllRows) × AreAllRead trees all × ((w : World) → ¬ StandFor w all)
+
+-- some row of some table has not the format of that table
+abbrev pub HasBadTable : Trees → Type 0
+HasBadTable trees = (t : TableName) × HasBadRow t (rows_in trees t)
+
+-- the row of the settings that tells the schema
+abbrev pub schema_row : StoredRow
+schema_row = stored.Setting (record { name = codes "schema"; value = Number 1 })
+
+-- the settings were read, and no row of them tells this schema
+abbrev pub HasOtherSchema : Trees → Type 0
+HasOtherSchema trees = (all : AllRows) × AreAllRead trees all × ¬ Has all.world.settings schema_row
+
+-- the disk returned what was written, nothing waited for a commit, and the tables were the known ones
+pub record WereKnown (old new : State) : Type 0 where
+  pub clean : HasCleanDisk new
+  pub is_open : IsTrue new.is_open
+  pub rests : old.now ≡ old.committed
+  pub known : AreKnown old.now

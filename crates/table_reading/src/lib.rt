@@ -1,0 +1,7 @@
+//! The sound world that stored tables hold: read, and tested against all that it has to be.
+#![tactic(auto)]
+
+mod kept;
+mod rows;
+
+pub use rows::AllRows;
