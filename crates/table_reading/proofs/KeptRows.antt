@@ -71,6 +71,7 @@ name_in (batch_key kind text) = text
 name_in other = []
 
 call_shown : (w : World) (id : ℕ) (s : StoredRow) → is_call_of w s ≡ true → key_of s ≡ kept_key id → columns_of s ≡ columns_of (call_row id (columns_of s))
+unfolding host_in
 call_shown w id (stored.Kept k) is key = ap (λ i. columns_of (stored.Kept (record { host_id = i; seqno = k.seqno; text = k.text; reply = k.reply }))) (ap host_in key)
 call_shown w id (stored.Setting r) is key = absurd (true≢false (sym is))
 call_shown w id (stored.Account r) is key = absurd (true≢false (sym is))
@@ -82,6 +83,7 @@ call_shown w id (stored.Instance r) is key = absurd (true≢false (sym is))
 call_shown w id (stored.Batch r) is key = absurd (true≢false (sym is))
 
 import_shown : (kind text : List ℕ) (s : StoredRow) → is_import s ≡ true → key_of s ≡ batch_key kind text → columns_of s ≡ columns_of (import_row kind text (columns_of s))
+unfolding kind_in name_in
 import_shown kind text (stored.Batch b) is key =
     ap (λ k. columns_of (stored.Batch (record { kind = k; name = b.name; text = b.text; answer = b.answer }))) (ap kind_in key)
     ∙ ap (λ n. columns_of (stored.Batch (record { kind = kind; name = n; text = b.text; answer = b.answer }))) (ap name_in key)

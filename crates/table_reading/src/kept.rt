@@ -41,7 +41,7 @@ fn is_import(row: &StoredRow) -> bool
     match row {
         StoredRow::Batch(batch) => {
             Kind::of(batch.kind.as_str()).is_some()
-                && is_word(batch.name.as_bytes())
+                && is_word(batch.name.as_str().as_bytes())
                 && batch.text.len() <= MOST_IMPORT_BYTES
         }
         _ => false,
