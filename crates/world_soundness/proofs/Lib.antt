@@ -1,0 +1,2 @@
+pub mod InPairs
+pub mod KeysOnce

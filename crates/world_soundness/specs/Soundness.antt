@@ -1,0 +1,44 @@
+-- The parts of a sound world, each of which one function decides.
+use Rattle.std.specs.Prelude.{◌≢◌, ℕ, ◌+◌, ◌<◌, ◌≤◌, IsTrue, List, length, count_by, All, AllPairs, IfSome}
+use Rattle.sched_book.specs.Count.{is_judged, report_place}
+use Rattle.sched_book.specs.Imports.{same_version}
+use Rattle.sched_book.specs.Limits.{most_accounts, most_apps, most_versions, most_workunits, AreSettingsInLimits, IsAccountInLimits, IsAppInLimits, IsInstanceInLimits}
+use Rattle.sched_book.specs.Sound.{HaveOtherKeys, IsSoundHost, IsSoundVersion, IsBare, HasOwnerAmong, has_place}
+use Rattle.sched_book.specs.declared.instance.Instance.{Instance}
+use Rattle.sched_book.specs.declared.rows.HostRow.{HostRow}
+use Rattle.sched_book.specs.declared.world.World.{World}
+
+-- no table is longer than it may be
+pub record FitsItsTables (w : World) : Type 0 where
+  pub accounts : length w.accounts ≤ most_accounts
+  pub apps : length w.apps ≤ most_apps
+  pub versions : length w.versions ≤ most_versions
+  pub units : length w.units ≤ most_workunits
+  pub hosts : length w.hosts ≤ w.settings.max_hosts
+
+-- the settings and each row but the workunits are in range, and what a row refers to stands
+pub record AreRowsWell (w : World) : Type 0 where
+  pub settings : AreSettingsInLimits w.settings
+  pub accounts : All IsAccountInLimits w.accounts
+  pub apps : All IsAppInLimits w.apps
+  pub versions : All (IsSoundVersion w.apps) w.versions
+  pub hosts : All (IsSoundHost (length w.accounts) w.settings.daily_result_quota) w.hosts
+
+-- names, authenticators and keys stand once
+pub record StandKeysOnce (w : World) : Type 0 where
+  pub accounts : AllPairs (λ a b. a.authenticator ≢ b.authenticator) w.accounts
+  pub apps : AllPairs (λ a b. a.name ≢ b.name) w.apps
+  pub versions : AllPairs (λ a b. IsTrue (same_version a b) → ⊥) w.versions
+  pub units : AllPairs (λ a b. a.unit.name ≢ b.unit.name) w.units
+  pub hosts : AllPairs HaveOtherKeys w.hosts
+
+-- the places of the judged reports are 1 up to their count
+pub record ArePlacedInTurn (xs : List Instance) : Type 0 where
+  pub places : (n : ℕ) → n < count_by is_judged xs → IsTrue (has_place xs (n + 1))
+  pub in_range : All (λ x. IfSome (report_place x) (λ place. place ≤ count_by is_judged xs)) xs
+
+-- each instance is in range, was given to a host that stands, and is bare where nobody was given it
+pub record AreWellEach (hosts : List HostRow) (xs : List Instance) : Type 0 where
+  pub bare : All IsBare xs
+  pub owners : All (HasOwnerAmong hosts) xs
+  pub limits : All IsInstanceInLimits xs

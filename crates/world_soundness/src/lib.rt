@@ -1,0 +1,9 @@
+//! Whether a world is sound, tried on the whole of it: its values, names, references and workunits.
+#![tactic(auto)]
+
+mod in_limits;
+mod keyed;
+mod sound_units;
+mod soundness;
+
+pub use soundness::is_sound;
