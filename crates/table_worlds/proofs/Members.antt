@@ -1,5 +1,6 @@
 -- Members of lists, as loops meet them.
-use Rattle.std.proofs.Common.{◌≡◌, ◌⊎◌, ℕ, zero, suc, ◌+◌, ◌<◌, List, [], ◌∷◌, ◌++◌, length, take, drop, get_or, filter_map, Option, Some, None, Result, Ok, Err, IfOk, refl, sym, ap, subst, ◌∙◌, arith, inl, inr}
+use Rattle.std.proofs.Common.{◌≡◌, ◌≢◌, ◌⊎◌, Bool, true, false, true≢false, ℕ, zero, suc, ◌<◌, List, [], ◌∷◌, length, drop, get_or, filter_map, Option, Some, None, Result, Ok, Err, IfOk, refl, sym, ap, subst, ◌∙◌, arith, inl, inr}
+use Rattle.std.specs.Bool.{Decides}
 use Rattle.std.specs.Prelude.{slice_get, unwrap_or}
 use Rattle.std.specs.List.{cons_option}
 use Rattle.std.proofs.lemmas.Option.{none-some}
@@ -34,14 +35,36 @@ all_seen {X} P xs left none before = λ x has. elim (before x has) [
   | inr good ↦ good
 ]
 
--- a list that is made of what a function gives, one by one
-pub given_more : {X Y : Type 0} (f : X → Option Y) (xs : List X) (x : X) (y : Y) → f x ≡ Some y → filter_map f (xs ++ x ∷ []) ≡ filter_map f xs ++ y ∷ []
-given_more f [] x y is = ap (λ o. cons_option o []) is
-given_more {X} {Y} f (z ∷ xs) x y is = ap (cons_option (f z)) (given_more f xs x y is) ∙ go (f z)
-  where
-    go : (o : Option Y) → cons_option o (filter_map f xs ++ y ∷ []) ≡ cons_option o (filter_map f xs) ++ y ∷ []
-    go None = refl
-    go (Some v) = refl
+pub never : (P : Type 0) → (P → ⊥) → Decides false P
+never P not = (λ no. absurd (true≢false (sym no)), λ holds. absurd (not holds))
+
+-- one that fails is enough
+pub one_fails : {X : Type 0} (P : X → Type 0) (xs : List X) (x : X) (passes : Bool) → passes ≡ false → Decides passes (P x) → Has xs x → Decides false ((y : X) → Has xs y → P y)
+one_fails {X} P xs x passes fails is has = never ((y : X) → Has xs y → P y) (λ all. true≢false (sym (is.1 (all x has)) ∙ fails))
+
+-- what is left where a list is looked through for another member
+pub not_here : {X : Type 0} (xs left : List X) (x y : X) → (x ≢ y) → (Has xs x → Has (y ∷ left) x) → Has xs x → Has left x
+not_here xs left x y other before has = elim (before has) [ inl this ↦ absurd (other this) | inr later ↦ later ]
+
+pub found_here : {X : Type 0} (xs : List X) (x y : X) → x ≡ y → Has xs y → Decides true (Has xs x)
+found_here xs x y same has = (λ _. subst (Has xs) (sym same) has, λ _. refl)
+
+-- ---- rows that begin with what a function gives of each key in turn
+
+pub same_behind : {Y : Type 0} (o : Option Y) (xs ys : List Y) → cons_option o xs ≡ cons_option o ys → xs ≡ ys
+same_behind None xs ys same = same
+same_behind (Some v) xs ys same = ap (drop 1) same
+
+-- the rows are those of all keys just where the rows that are left are those of the keys that are left
+abbrev pub SameLeft : {X Y : Type 0} → (X → Option Y) → List Y → List Y → List X → List X → Type 0
+SameLeft f rows left keys more = (rows ≡ filter_map f keys → left ≡ filter_map f more) × (left ≡ filter_map f more → rows ≡ filter_map f keys)
+
+module _ {X Y : Type 0} (f : X → Option Y) (rows left : List Y) (keys more : List X) (x : X) where
+  pub one_behind : (behind : List Y) → left ≡ cons_option (f x) behind → SameLeft f rows left keys (x ∷ more) → SameLeft f rows behind keys more
+  one_behind behind is before = (λ same. same_behind (f x) behind (filter_map f more) (sym is ∙ before.0 same), λ same. before.1 (is ∙ ap (cons_option (f x)) same))
+
+  pub none_behind : ((behind : List Y) → left ≢ cons_option (f x) behind) → SameLeft f rows left keys (x ∷ more) → rows ≢ filter_map f keys
+  none_behind none before = λ same. none (filter_map f more) (before.0 same)
 
 pub if_ok : {T E : Type 0} (r : Result T E) (P Q : T → Type 0) → ((x : T) → P x → Q x) → IfOk r P → IfOk r Q
 if_ok (Ok x) P Q f is = f x is

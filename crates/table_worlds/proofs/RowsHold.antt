@@ -1,5 +1,5 @@
 -- Tables whose rows are those of a world hold the world.
-use Rattle.std.proofs.Common.{◌≡◌, ◌⊎◌, ℕ, Bool, true, false, ◌||◌, cond, List, [], ◌∷◌, map, length, Option, Some, None, option_map, refl, sym, ap, subst, ◌∙◌, inl, inr, true≢false, filter_map}
+use Rattle.std.proofs.Common.{◌≡◌, ◌⊎◌, ℕ, Bool, true, false, ◌||◌, List, [], ◌∷◌, map, length, Option, Some, None, option_map, refl, sym, ap, subst, ◌∙◌, inl, inr, true≢false, filter_map}
 use Rattle.std.specs.Prelude.{unwrap_or}
 use Rattle.std.specs.List.{AllByRecursion, list_any, range_with_len, cons_option}
 use Rattle.std.proofs.lemmas.Bool.{cases_Bool}
@@ -21,11 +21,11 @@ use Rattle.table_meaning.specs.Rows.{RowKey, setting_key, account_key, app_key, 
 use Rattle.table_meaning.specs.Worlds.{BatchText, setting_in, contents_of}
 use Rattle.table_meaning.proofs.Keys.{is_put, one_key}
 use Rattle.table_meaning.proofs.RowsHeld.{held_at, mapped, source}
-use Rattle.table_worlds.specs.declared.decoded.TableRows.{TableRows}
+use Rattle.table_worlds.specs.declared.matching.TableRows.{TableRows}
 use Rattle.table_worlds.specs.declared.keys.NumberedTable.{NumberedTable}
 use Rattle.table_worlds.specs.declared.keys.NumberedTable.TheVariants as table
 use Rattle.table_worlds.specs.declared.keys.WorldKey.{WorldKey}
-use Rattle.table_worlds.specs.declared.keys.WorldKey.TheVariants.{Account, App, Version, Unit, Host, Instance}
+use Rattle.table_worlds.specs.declared.keys.WorldKey.TheVariants.{Instance}
 use Rattle.table_worlds.specs.Keys.{row_key, row_in, keyed, numbered}
 use Rattle.table_worlds.specs.RowsOf.{setting_rows, HaveSame, AreRowsOf}
 use Rattle.table_worlds.proofs.KeysStand.{by_number, instance_listed, no_row, row_has_key}

@@ -1,5 +1,5 @@
 -- The keys of the rows that stand for a world, and the row at each. (The settings never change, and are not among them.)
-use Rattle.std.specs.Prelude.{ℕ, ◌+◌, List, [], ◌∷◌, ◌++◌, map, length, Option, None}
+use Rattle.std.specs.Prelude.{ℕ, List, ◌++◌, map, length, Option, None}
 use Rattle.std.specs.List.{range_with_len}
 use Rattle.sched_book.specs.Places.{places}
 use Rattle.sched_book.specs.declared.world.World.{World}

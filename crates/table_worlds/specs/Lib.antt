@@ -1,4 +1,5 @@
 pub mod Changes
 pub mod Keys
+pub mod PlacesSeen
 pub mod RowsOf
 pub mod Totals

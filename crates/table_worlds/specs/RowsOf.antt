@@ -7,7 +7,7 @@ use Rattle.sched_book.specs.declared.world.World.{World}
 use Rattle.table_meaning.specs.declared.rows.StoredRow.{StoredRow}
 use Rattle.table_meaning.specs.declared.rows.StoredRow.TheVariants as stored
 use Rattle.table_meaning.specs.Worlds.{setting_in}
-use Rattle.table_worlds.specs.declared.decoded.TableRows.{TableRows}
+use Rattle.table_worlds.specs.declared.matching.TableRows.{TableRows}
 use Rattle.table_worlds.specs.declared.keys.NumberedTable.TheVariants as table
 use Rattle.table_worlds.specs.declared.keys.WorldKey.TheVariants.{Instance}
 use Rattle.table_worlds.specs.Keys.{row_in, numbered}

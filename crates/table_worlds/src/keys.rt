@@ -56,7 +56,7 @@ pub(crate) fn number_of(index: usize) -> Result<u32, Unavailable>
 }
 
 /// Puts the keys of the first rows of a table behind others, so many as are counted.
-fn push_numbered(
+pub(crate) fn push_numbered(
     keys: &mut Listed<WorldKey>,
     table: NumberedTable,
     count: usize,

@@ -2,7 +2,6 @@
 #![tactic(auto)]
 
 mod changes;
-pub mod decoded;
 pub mod keys;
 pub mod matching;
 mod rows;
@@ -11,8 +10,8 @@ mod settings;
 pub mod totals;
 
 pub use changes::changed_rows;
-pub use decoded::TableRows;
 pub use keys::{WorldKey, keys_of};
+pub use matching::{TableRows, are_rows_of};
 pub use rows::row_at;
 pub use settings::setting_rows;
 pub use totals::{Total, totals_of};

@@ -1,26 +1,43 @@
 //! Whether rows that were read are those of a world.
 
-ghost use Rattle.std.specs.Prelude.{◌≡◌, Some, map, filter_map, IfOk, IsTrue};
+ghost use Rattle.std.specs.Prelude.{◌≡◌, ◌≢◌, ◌<◌, ◌+◌, ℕ, IsTrue, Some, filter_map, map, length, slice_get, IfOk, MatchOption};
+ghost use Rattle.std.specs.Bool.{Decides};
+ghost use Rattle.std.specs.List.{cons_option};
 ghost use Rattle.sqlite_rules.specs.Lists.{Has};
 ghost use Rattle.sched_book.specs.Places.{places};
 ghost use Rattle.sched_book.specs.declared.instance.Place.{Place as At};
-ghost use Rattle.table_worlds.specs.Keys.{row_in};
-ghost use Rattle.table_worlds.specs.RowsOf.{HaveSame};
-ghost use Rattle.table_worlds.specs.Totals.{totals_of};
+ghost use Rattle.table_meaning.specs.Rows.{instance_key};
+ghost use Rattle.table_worlds.specs.Keys.{numbered, row_in};
+ghost use Rattle.table_worlds.specs.RowsOf.{setting_rows as specified_settings, HaveSame, AreRowsOf};
+ghost use Rattle.table_worlds.specs.Totals.{totals_of as specified_totals};
 ghost use Rattle.table_worlds.specs.declared.keys.WorldKey.TheVariants as key;
+ghost use Rattle.table_worlds.specs.PlacesSeen.{HasKey, has_place};
 
-use crate::keys::WorldKey;
+use crate::keys::{NumberedTable, WorldKey, number_of, push_numbered};
 use crate::rows::row_at;
 use crate::sameness::same_row;
-use crate::totals::Total;
-use sched_book::{Place, Unavailable, World};
+use crate::settings::setting_rows;
+use crate::totals::{Total, totals_of};
+use sched_book::{Place, Settings, Unavailable, UnitBook, World};
 use std::alloc::Global;
 use table_meaning::rows::StoredRow;
-use texts::Memory;
+use texts::{Listed, Memory, SeenSet};
+
+/// The rows of the tables that hold a world, as they were read.
+#[derive(Drop)]
+pub struct TableRows {
+    pub settings: Listed<StoredRow>,
+    pub accounts: Listed<StoredRow>,
+    pub apps: Listed<StoredRow>,
+    pub versions: Listed<StoredRow>,
+    pub units: Listed<StoredRow>,
+    pub hosts: Listed<StoredRow>,
+    pub instances: Listed<StoredRow>,
+}
 
 /// Whether the row is among these.
 fn is_among(rows: &[StoredRow], row: &StoredRow) -> bool
-    ensures { IsTrue result → Has rows.now row.now }
+    ensures { Decides result (Has rows.now row.now) }
 {
     for other in rows {
         if same_row(row, other) {
@@ -32,7 +49,7 @@ fn is_among(rows: &[StoredRow], row: &StoredRow) -> bool
 
 /// Whether each of these rows is among the others.
 fn are_among(rows: &[StoredRow], others: &[StoredRow]) -> bool
-    ensures { IsTrue result → (r : _) → Has rows.now r → Has others.now r }
+    ensures { Decides result ((r : StoredRow) → Has rows.now r → Has others.now r) }
 {
     for row in rows {
         if !is_among(others, row) {
@@ -42,11 +59,68 @@ fn are_among(rows: &[StoredRow], others: &[StoredRow]) -> bool
     true
 }
 
-/// Whether the two lists have the same rows, in whatever order.
-pub fn have_same(rows: &[StoredRow], others: &[StoredRow]) -> bool
-    ensures { IsTrue result → HaveSame rows.now others.now }
+/// Whether these are the rows of the settings, in whatever order.
+fn are_setting_rows(alloc: Global, settings: &Settings, rows: &[StoredRow]) -> Result<bool, Memory>
+    ensures { IfOk result (λ same. Decides same (HaveSame rows.now (specified_settings settings.now))) }
 {
-    are_among(rows, others) && are_among(others, rows)
+    let own = setting_rows(alloc, settings)?;
+    Ok(are_among(rows, own.as_slice()) && are_among(own.as_slice(), rows))
+}
+
+/// The rows behind the one that the world has at a key, where they begin with it. Where it has none there, they are all of them.
+fn rows_behind<'a>(
+    alloc: Global,
+    world: &World,
+    totals: &[Total],
+    key: WorldKey,
+    rows: &'a [StoredRow],
+) -> Result<Option<&'a [StoredRow]>, Unavailable>
+    ensures { totals.now ≡ specified_totals world.now
+        → IfOk result (λ behind. MatchOption behind ((more : _) → rows.now ≢ cons_option (row_in world.now key) more) (λ more. rows.now ≡ cons_option (row_in world.now key) more.now)) }
+{
+    let Some(own) = row_at(alloc, world, totals, key)? else {
+        return Ok(Some(rows));
+    };
+    let [row, behind @ ..] = rows else {
+        return Ok(None);
+    };
+    Ok(same_row(&own, row).then_some(behind))
+}
+
+/// Whether these are the rows of the world at some keys, in their order.
+fn are_rows_at(
+    alloc: Global,
+    world: &World,
+    totals: &[Total],
+    keys: &[WorldKey],
+    rows: &[StoredRow],
+) -> Result<bool, Unavailable>
+    ensures { totals.now ≡ specified_totals world.now → IfOk result (λ same. Decides same (rows.now ≡ filter_map (row_in world.now) keys.now)) }
+{
+    let mut left = rows;
+    for key in keys {
+        match rows_behind(alloc, world, totals, *key, left)? {
+            None => return Ok(false),
+            Some(behind) => left = behind,
+        }
+    }
+    Ok(left.is_empty())
+}
+
+/// Whether these are the rows of a table whose rows are so many.
+fn are_table_rows(
+    alloc: Global,
+    world: &World,
+    totals: &[Total],
+    table: NumberedTable,
+    count: usize,
+    rows: &[StoredRow],
+) -> Result<bool, Unavailable>
+    ensures { totals.now ≡ specified_totals world.now → IfOk result (λ same. Decides same (rows.now ≡ filter_map (row_in world.now) (numbered table count))) }
+{
+    let mut keys = Listed::new(alloc);
+    push_numbered(&mut keys, table, count)?;
+    are_rows_at(alloc, world, totals, keys.as_slice(), rows)
 }
 
 /// Whether the row is that of the world at a key.
@@ -57,33 +131,12 @@ fn is_row_at(
     key: WorldKey,
     row: &StoredRow,
 ) -> Result<bool, Unavailable>
-    ensures { totals.now ≡ totals_of world.now → IfOk result (λ same. IsTrue same → row_in world.now key ≡ Some row.now) }
+    ensures { totals.now ≡ specified_totals world.now → IfOk result (λ same. Decides same (row_in world.now key ≡ Some row.now)) }
 {
     match row_at(alloc, world, totals, key)? {
         None => Ok(false),
         Some(own) => Ok(same_row(&own, row)),
     }
-}
-
-/// Whether these are the rows of the world at some keys, in their order.
-pub fn are_rows_at(
-    alloc: Global,
-    world: &World,
-    totals: &[Total],
-    keys: &[WorldKey],
-    rows: &[StoredRow],
-) -> Result<bool, Unavailable>
-    ensures { totals.now ≡ totals_of world.now → IfOk result (λ same. IsTrue same → rows.now ≡ filter_map (row_in world.now) keys.now) }
-{
-    if rows.len() != keys.len() {
-        return Ok(false);
-    }
-    for index in 0..rows.len() {
-        if !is_row_at(alloc, world, totals, keys[index], &rows[index])? {
-            return Ok(false);
-        }
-    }
-    Ok(true)
 }
 
 /// Whether the row is that of an instance of the world.
@@ -93,7 +146,7 @@ fn is_instance_row(
     totals: &[Total],
     row: &StoredRow,
 ) -> Result<bool, Unavailable>
-    ensures { totals.now ≡ totals_of world.now → IfOk result (λ same. IsTrue same → (p : At) × (row_in world.now (key.Instance p) ≡ Some row.now)) }
+    ensures { totals.now ≡ specified_totals world.now → IfOk result (λ same. Decides same ((p : At) × (row_in world.now (key.Instance p) ≡ Some row.now))) }
 {
     let StoredRow::Instance(instance) = row else {
         return Ok(false);
@@ -112,8 +165,8 @@ fn are_instance_rows(
     totals: &[Total],
     rows: &[StoredRow],
 ) -> Result<bool, Unavailable>
-    ensures { totals.now ≡ totals_of world.now
-        → IfOk result (λ same. IsTrue same → (r : _) → Has rows.now r → (p : At) × (row_in world.now (key.Instance p) ≡ Some r)) }
+    ensures { totals.now ≡ specified_totals world.now
+        → IfOk result (λ same. Decides same ((r : StoredRow) → Has rows.now r → (p : At) × (row_in world.now (key.Instance p) ≡ Some r))) }
 {
     for row in rows {
         if !is_instance_row(alloc, world, totals, row)? {
@@ -123,79 +176,120 @@ fn are_instance_rows(
     Ok(true)
 }
 
-/// The place of an instance's row, and the index of the row.
-fn placed(row: &StoredRow, index: usize) -> (u32, u32, usize) {
-    match row {
-        StoredRow::Instance(instance) => (instance.unit_id, instance.num, index),
-        _ => (0, 0, index),
-    }
-}
-
-/// The indexes of the rows of instances, by place. (Nothing rests on their order but that no row is missed.)
-fn order_of(alloc: Global, rows: &[StoredRow]) -> Result<Vec<(u32, u32, usize)>, Memory> {
-    let mut order = Vec::new(alloc);
-    for (index, row) in rows.iter().enumerate() {
-        order.push(placed(row, index))?;
-    }
-    order.sort_unstable();
-    Ok(order)
-}
-
-/// Whether the row of the world at a key is the row at an index.
-fn stands_at(
-    alloc: Global,
-    world: &World,
-    totals: &[Total],
-    key: WorldKey,
-    rows: &[StoredRow],
-    index: usize,
-) -> Result<bool, Unavailable>
-    ensures { totals.now ≡ totals_of world.now → IfOk result (λ same. IsTrue same → (r : _) → row_in world.now key ≡ Some r → Has rows.now r) }
+/// The places of the instances whose rows these are: the workunit, and the number in it.
+fn places_of(alloc: Global, rows: &[StoredRow]) -> Result<SeenSet<(u32, u32)>, Memory>
+    ensures { IfOk result (λ seen. (unit number : ℕ) → Decides (has_place seen unit number) (HasKey rows.now (instance_key unit number))) }
 {
-    if index < rows.len() {
-        is_row_at(alloc, world, totals, key, &rows[index])
-    } else {
-        Ok(false)
+    let mut places = SeenSet::new(alloc);
+    for row in rows {
+        if let StoredRow::Instance(instance) = row {
+            places.is_first((instance.unit_id, instance.num))?;
+        }
     }
+    Ok(places)
 }
 
-/// Whether the row of the world at each of these keys is among the rows: each is looked for where the order of places says.
-fn stand_among(
-    alloc: Global,
-    world: &World,
-    totals: &[Total],
-    keys: &[WorldKey],
-    rows: &[StoredRow],
-) -> Result<bool, Unavailable>
-    ensures { totals.now ≡ totals_of world.now
-        → IfOk result (λ same. IsTrue same → (k : _) (r : _) → Has keys.now k → row_in world.now k ≡ Some r → Has rows.now r) }
+/// Whether the places have each of the first so many numbers of a workunit.
+fn have_numbers(places: &SeenSet<(u32, u32)>, unit: u32, count: u32) -> bool
+    ensures { Decides result ((number : ℕ) → number < count → IsTrue (has_place places.now unit number)) }
 {
-    let order = order_of(alloc, rows)?;
-    if order.len() != keys.len() {
-        return Ok(false);
+    for number in 0..count {
+        if !places.has(&(unit, number)) {
+            return false;
+        }
     }
-    for index in 0..keys.len() {
-        let (_, _, at) = order[index];
-        if !stands_at(alloc, world, totals, keys[index], rows, at)? {
+    true
+}
+
+/// Whether the places have each instance of these workunits, of which the first has number 1.
+fn have_instances(places: &SeenSet<(u32, u32)>, books: &[UnitBook]) -> Result<bool, Unavailable>
+    ensures { IfOk result (λ all. Decides all ((index number : ℕ) (b : UnitBook) → slice_get books.now index ≡ Some b → number < length b.instances → IsTrue (has_place places.now (index + 1) number))) }
+{
+    for (index, book) in books.iter().enumerate() {
+        let count = u32::try_from(book.instances.len()).map_err(|_| Unavailable)?;
+        if !have_numbers(places, number_of(index)?, count) {
             return Ok(false);
         }
     }
     Ok(true)
 }
 
-/// Whether these are the rows of the world's instances, whose keys are these, in whatever order.
-pub fn are_instances(
+/// Whether these are the rows of the world's instances, in whatever order.
+fn are_instances(
     alloc: Global,
     world: &World,
     totals: &[Total],
-    keys: &[WorldKey],
     rows: &[StoredRow],
 ) -> Result<bool, Unavailable>
-    ensures { totals.now ≡ totals_of world.now → keys.now ≡ map key.Instance (places world.now)
-        → IfOk result (λ same. IsTrue same → HaveSame rows.now (filter_map (row_in world.now) (map key.Instance (places world.now)))) }
+    ensures { totals.now ≡ specified_totals world.now
+        → IfOk result (λ same. Decides same (HaveSame rows.now (filter_map (row_in world.now) (map key.Instance (places world.now))))) }
 {
     if !are_instance_rows(alloc, world, totals, rows)? {
         return Ok(false);
     }
-    stand_among(alloc, world, totals, keys, rows)
+    let places = places_of(alloc, rows)?;
+    have_instances(&places, world.units.as_slice())
+}
+
+/// Whether these are the rows of a world whose hosts have these totals.
+fn are_rows_counted(
+    alloc: Global,
+    world: &World,
+    totals: &[Total],
+    rows: &TableRows,
+) -> Result<bool, Unavailable>
+    ensures { totals.now ≡ specified_totals world.now → IfOk result (λ same. Decides same (AreRowsOf world.now rows.now)) }
+{
+    let settings = are_setting_rows(alloc, &world.settings, rows.settings.as_slice())?;
+    let accounts = are_table_rows(
+        alloc,
+        world,
+        totals,
+        NumberedTable::Account,
+        world.accounts.len(),
+        rows.accounts.as_slice(),
+    )?;
+    let apps = are_table_rows(
+        alloc,
+        world,
+        totals,
+        NumberedTable::App,
+        world.apps.len(),
+        rows.apps.as_slice(),
+    )?;
+    let versions = are_table_rows(
+        alloc,
+        world,
+        totals,
+        NumberedTable::Version,
+        world.versions.len(),
+        rows.versions.as_slice(),
+    )?;
+    let units = are_table_rows(
+        alloc,
+        world,
+        totals,
+        NumberedTable::Unit,
+        world.units.len(),
+        rows.units.as_slice(),
+    )?;
+    let hosts = are_table_rows(
+        alloc,
+        world,
+        totals,
+        NumberedTable::Host,
+        world.hosts.len(),
+        rows.hosts.as_slice(),
+    )?;
+    let instances = are_instances(alloc, world, totals, rows.instances.as_slice())?;
+    Ok(settings && accounts && apps && versions && units && hosts && instances)
+}
+
+/// Whether these are the rows of a world. It is unavailable where memory is wanting, or a number of the world is not one
+/// that a table can hold.
+pub fn are_rows_of(alloc: Global, world: &World, rows: &TableRows) -> Result<bool, Unavailable>
+    ensures { IfOk result (λ same. Decides same (AreRowsOf world.now rows.now)) }
+{
+    let totals = totals_of(alloc, world)?;
+    are_rows_counted(alloc, world, totals.as_slice(), rows)
 }

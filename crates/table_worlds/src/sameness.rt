@@ -1,20 +1,22 @@
 //! Whether two rows are one.
 
-ghost use Rattle.std.specs.Prelude.{◌≡◌, IsTrue};
+ghost use Rattle.std.specs.Prelude.{◌≡◌};
+ghost use Rattle.std.specs.Bool.{Decides};
 
 use table_meaning::rows::{
-    StoredAccount, StoredApp, StoredHost, StoredInstance, StoredRow, StoredUnit, StoredVersion,
+    SettingValue, StoredAccount, StoredApp, StoredBatch, StoredCall, StoredHost, StoredInstance,
+    StoredRow, StoredSetting, StoredUnit, StoredVersion,
 };
 use texts::Text;
 
 fn same_text(left: &Text, right: &Text) -> bool
-    ensures { IsTrue result → left.now ≡ right.now }
+    ensures { Decides result (left.now ≡ right.now) }
 {
     left.is(right.as_str())
 }
 
 fn same_output(left: &Option<Text>, right: &Option<Text>) -> bool
-    ensures { IsTrue result → left.now ≡ right.now }
+    ensures { Decides result (left.now ≡ right.now) }
 {
     match (left, right) {
         (None, None) => true,
@@ -23,20 +25,37 @@ fn same_output(left: &Option<Text>, right: &Option<Text>) -> bool
     }
 }
 
+fn same_value(left: &SettingValue, right: &SettingValue) -> bool
+    ensures { Decides result (left.now ≡ right.now) }
+{
+    match (left, right) {
+        (SettingValue::Number(left), SettingValue::Number(right)) => left == right,
+        (SettingValue::Word(left), SettingValue::Word(right)) => same_text(left, right),
+        (SettingValue::Number(_), SettingValue::Word(_))
+        | (SettingValue::Word(_), SettingValue::Number(_)) => false,
+    }
+}
+
+fn same_setting(left: &StoredSetting, right: &StoredSetting) -> bool
+    ensures { Decides result (left.now ≡ right.now) }
+{
+    same_text(&left.name, &right.name) && same_value(&left.value, &right.value)
+}
+
 fn same_account(left: &StoredAccount, right: &StoredAccount) -> bool
-    ensures { IsTrue result → left.now ≡ right.now }
+    ensures { Decides result (left.now ≡ right.now) }
 {
     left.id == right.id && same_text(&left.auth, &right.auth) && same_text(&left.name, &right.name)
 }
 
 fn same_app(left: &StoredApp, right: &StoredApp) -> bool
-    ensures { IsTrue result → left.now ≡ right.now }
+    ensures { Decides result (left.now ≡ right.now) }
 {
     left.id == right.id && same_text(&left.name, &right.name) && left.agreement == right.agreement
 }
 
 fn same_version(left: &StoredVersion, right: &StoredVersion) -> bool
-    ensures { IsTrue result → left.now ≡ right.now }
+    ensures { Decides result (left.now ≡ right.now) }
 {
     left.id == right.id
         && left.app_id == right.app_id
@@ -45,7 +64,7 @@ fn same_version(left: &StoredVersion, right: &StoredVersion) -> bool
 }
 
 fn same_unit(left: &StoredUnit, right: &StoredUnit) -> bool
-    ensures { IsTrue result → left.now ≡ right.now }
+    ensures { Decides result (left.now ≡ right.now) }
 {
     left.id == right.id
         && same_text(&left.name, &right.name)
@@ -64,7 +83,7 @@ fn same_unit(left: &StoredUnit, right: &StoredUnit) -> bool
 }
 
 fn same_host(left: &StoredHost, right: &StoredHost) -> bool
-    ensures { IsTrue result → left.now ≡ right.now }
+    ensures { Decides result (left.now ≡ right.now) }
 {
     left.id == right.id
         && left.account_id == right.account_id
@@ -80,14 +99,14 @@ fn same_host(left: &StoredHost, right: &StoredHost) -> bool
 
 /// Whether the two were given to one host, at one moment, with one deadline.
 fn same_owner(left: &StoredInstance, right: &StoredInstance) -> bool
-    ensures { IsTrue result → (left.now.host_id ≡ right.now.host_id) × (left.now.sent ≡ right.now.sent) × (left.now.deadline ≡ right.now.deadline) }
+    ensures { Decides result ((left.now.host_id ≡ right.now.host_id) × (left.now.sent ≡ right.now.sent) × (left.now.deadline ≡ right.now.deadline)) }
 {
     left.host_id == right.host_id && left.sent == right.sent && left.deadline == right.deadline
 }
 
 /// Whether one report stands of the two.
 fn same_report(left: &StoredInstance, right: &StoredInstance) -> bool
-    ensures { IsTrue result → (left.now.outcome ≡ right.now.outcome) × (left.now.output ≡ right.now.output) × (left.now.place ≡ right.now.place) }
+    ensures { Decides result ((left.now.outcome ≡ right.now.outcome) × (left.now.output ≡ right.now.output) × (left.now.place ≡ right.now.place)) }
 {
     left.outcome == right.outcome
         && same_output(&left.output, &right.output)
@@ -95,7 +114,7 @@ fn same_report(left: &StoredInstance, right: &StoredInstance) -> bool
 }
 
 fn same_instance(left: &StoredInstance, right: &StoredInstance) -> bool
-    ensures { IsTrue result → left.now ≡ right.now }
+    ensures { Decides result (left.now ≡ right.now) }
 {
     left.unit_id == right.unit_id
         && left.num == right.num
@@ -105,17 +124,38 @@ fn same_instance(left: &StoredInstance, right: &StoredInstance) -> bool
         && left.queued == right.queued
 }
 
-/// Whether two rows of a world are one. Rows of other tables are not compared.
+fn same_call(left: &StoredCall, right: &StoredCall) -> bool
+    ensures { Decides result (left.now ≡ right.now) }
+{
+    left.host_id == right.host_id
+        && left.seqno == right.seqno
+        && same_text(&left.text, &right.text)
+        && same_text(&left.reply, &right.reply)
+}
+
+fn same_batch(left: &StoredBatch, right: &StoredBatch) -> bool
+    ensures { Decides result (left.now ≡ right.now) }
+{
+    same_text(&left.kind, &right.kind)
+        && same_text(&left.name, &right.name)
+        && left.text.as_slice() == right.text.as_slice()
+        && same_text(&left.answer, &right.answer)
+}
+
+/// Whether two rows are one.
 pub(crate) fn same_row(left: &StoredRow, right: &StoredRow) -> bool
-    ensures { IsTrue result → left.now ≡ right.now }
+    ensures { Decides result (left.now ≡ right.now) }
 {
     match (left, right) {
+        (StoredRow::Setting(left), StoredRow::Setting(right)) => same_setting(left, right),
         (StoredRow::Account(left), StoredRow::Account(right)) => same_account(left, right),
         (StoredRow::App(left), StoredRow::App(right)) => same_app(left, right),
         (StoredRow::Version(left), StoredRow::Version(right)) => same_version(left, right),
         (StoredRow::Unit(left), StoredRow::Unit(right)) => same_unit(left, right),
         (StoredRow::Host(left), StoredRow::Host(right)) => same_host(left, right),
         (StoredRow::Instance(left), StoredRow::Instance(right)) => same_instance(left, right),
+        (StoredRow::Kept(left), StoredRow::Kept(right)) => same_call(left, right),
+        (StoredRow::Batch(left), StoredRow::Batch(right)) => same_batch(left, right),
         _ => false,
     }
 }

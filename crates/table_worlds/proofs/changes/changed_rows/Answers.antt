@@ -1,4 +1,4 @@
-use Rattle.std.proofs.Common.{rules, ◌≡◌, ◌∷◌, ◌+◌, drop, get_or, subst}
+use Rattle.std.proofs.Common.{rules, ◌+◌, drop, get_or, subst}
 use Rattle.std.proofs.lemmas.List.{drop_more, drop_all}
 use Rattle.table_worlds.specs.Changes.{IsChange}
 use Rattle.table_worlds.specs.Keys.{row_in}
