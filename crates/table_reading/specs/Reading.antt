@@ -17,8 +17,7 @@ use Rattle.table_meaning.specs.declared.tables.TableName.TheVariants as name
 use Rattle.table_meaning.specs.Formats.{HasBadRow}
 use Rattle.table_meaning.specs.Holding.{AreKnown}
 use Rattle.table_meaning.specs.Rows.{columns_of, rows_in}
-use Rattle.table_worlds.specs.RowsOf.{AreRowsOf}
-use Rattle.table_worlds.proofs.RowsHold.{AreRead}
+use Rattle.table_worlds.specs.RowsOf.{AreRowsOf, AreRead}
 use Rattle.table_reading.specs.declared.rows.AllRows.{AllRows}
 
 -- the tables, in the order in which they are read

@@ -27,7 +27,7 @@ use Rattle.table_worlds.specs.declared.keys.NumberedTable.TheVariants as table
 use Rattle.table_worlds.specs.declared.keys.WorldKey.{WorldKey}
 use Rattle.table_worlds.specs.declared.keys.WorldKey.TheVariants.{Instance}
 use Rattle.table_worlds.specs.Keys.{row_key, row_in, keyed, numbered}
-use Rattle.table_worlds.specs.RowsOf.{setting_rows, HaveSame, AreRowsOf}
+use Rattle.table_worlds.specs.RowsOf.{setting_rows, HaveSame, AreRowsOf, AreRead}
 use Rattle.table_worlds.proofs.KeysStand.{by_number, instance_listed, no_row, row_has_key}
 use Rattle.table_worlds.proofs.NewWorld.{each_stands, others_none}
 
@@ -139,16 +139,6 @@ module _ (s : Settings) where
       of_setting (Some v) r is = ap (λ o. key_of (unwrap_or o (stored.Setting (record { name = text; value = v })))) (sym is)
 
 -- ---- the whole world
-
--- the rows of each table of a world, as they were read
-pub record AreRead (trees : Trees) (rows : TableRows) : Type 0 where
-  pub settings : map columns_of rows.settings ≡ rows_in trees name.Setting
-  pub accounts : map columns_of rows.accounts ≡ rows_in trees name.Account
-  pub apps : map columns_of rows.apps ≡ rows_in trees name.App
-  pub versions : map columns_of rows.versions ≡ rows_in trees name.Version
-  pub units : map columns_of rows.units ≡ rows_in trees name.Unit
-  pub hosts : map columns_of rows.hosts ≡ rows_in trees name.Host
-  pub instances : map columns_of rows.instances ≡ rows_in trees name.Instance
 
 pub world_held : (trees : Trees) (w : World) (rows : TableRows) → AreRead trees rows → AreRowsOf w rows → (calls : ℕ → Option Call) (batches : List ℕ → List ℕ → Option BatchText)
     → ((id : ℕ) → look_up trees (kept_key id) ≡ option_map columns_of (contents_of w calls batches (kept_key id)))

@@ -1,11 +1,14 @@
 -- The rows of a world, a table each.
 use Rattle.std.specs.Prelude.{◌≡◌, ℕ, List, [], ◌∷◌, map, filter_map, length, codes, option_map}
 use Rattle.sqlite_rules.specs.Lists.{Has}
+use Rattle.sqlite_trees.specs.Tree.{Trees}
 use Rattle.sched_book.specs.Places.{places}
 use Rattle.sched_book.specs.declared.settings.Settings.{Settings}
 use Rattle.sched_book.specs.declared.world.World.{World}
 use Rattle.table_meaning.specs.declared.rows.StoredRow.{StoredRow}
 use Rattle.table_meaning.specs.declared.rows.StoredRow.TheVariants as stored
+use Rattle.table_meaning.specs.declared.tables.TableName.TheVariants as name
+use Rattle.table_meaning.specs.Rows.{columns_of, rows_in}
 use Rattle.table_meaning.specs.Worlds.{setting_in}
 use Rattle.table_worlds.specs.declared.matching.TableRows.{TableRows}
 use Rattle.table_worlds.specs.declared.keys.NumberedTable.TheVariants as table
@@ -41,3 +44,13 @@ pub record AreRowsOf (w : World) (rows : TableRows) : Type 0 where
   pub units : rows.units ≡ filter_map (row_in w) (numbered table.Unit (length w.units))
   pub hosts : rows.hosts ≡ filter_map (row_in w) (numbered table.Host (length w.hosts))
   pub instances : HaveSame rows.instances (filter_map (row_in w) (map Instance (places w)))
+
+-- the rows of each table of a world, as they were read
+pub record AreRead (trees : Trees) (rows : TableRows) : Type 0 where
+  pub settings : map columns_of rows.settings ≡ rows_in trees name.Setting
+  pub accounts : map columns_of rows.accounts ≡ rows_in trees name.Account
+  pub apps : map columns_of rows.apps ≡ rows_in trees name.App
+  pub versions : map columns_of rows.versions ≡ rows_in trees name.Version
+  pub units : map columns_of rows.units ≡ rows_in trees name.Unit
+  pub hosts : map columns_of rows.hosts ≡ rows_in trees name.Host
+  pub instances : map columns_of rows.instances ≡ rows_in trees name.Instance
