@@ -76,15 +76,8 @@ one_indexed rows i row old new here before says unit number =
 
 -- the key of an instance's row, tested
 abbrev at_key : ℕ → ℕ → RowKey → Bool
-at_key unit number (setting_key name) = false
-at_key unit number (account_key id) = false
-at_key unit number (app_key id) = false
-at_key unit number (version_key id) = false
-at_key unit number (unit_key id) = false
-at_key unit number (host_key id) = false
 at_key unit number (instance_key u n) = (u == unit) && (n == number)
-at_key unit number (kept_key id) = false
-at_key unit number (batch_key kind name) = false
+at_key unit number _ = false
 
 placed_by_key : (unit number : ℕ) (r : StoredRow) → is_placed unit number r ≡ at_key unit number (key_of r)
 placed_by_key unit number (stored.Setting s) = refl

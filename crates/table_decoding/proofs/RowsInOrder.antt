@@ -50,11 +50,11 @@ module _ {X Y : Type 0} (f : ℕ → X → Y) (xs : List X) (rows : List Y) (are
   item_at row here = let x = item_of f 1 xs i row (sym (ap (λ l. slice_get l i) are) ∙ here) in (x.0, nth_next xs i ∙ x.1, x.2)
 
   -- the items that the rows so far stand for, with one more
-  pub one_more : (row : Y) (items : List X) (item : X) → slice_get rows i ≡ Some row → items ≡ take i xs → ((x : X) → nth xs (i + 1) ≡ Some x → row ≡ f (i + 1) x → item ≡ x)
-      → items ++ item ∷ [] ≡ take (i + 1) xs
-  one_more row items item here so_far tells =
+  pub one_more : (row : Y) (items more : List X) (item : X) → slice_get rows i ≡ Some row → items ≡ take i xs → more ≡ items ++ item ∷ []
+      → ((x : X) → nth xs (i + 1) ≡ Some x → row ≡ f (i + 1) x → item ≡ x) → more ≡ take (i + 1) xs
+  one_more row items more item here so_far pushed tells =
       let x = item_at row here in
-      ap (λ l. l ++ item ∷ []) so_far ∙ ap (λ y. take i xs ++ y ∷ []) (tells x.0 x.1 x.2) ∙ sym (take_one_more xs i x.0 (sym (nth_next xs i) ∙ x.1))
+      pushed ∙ ap (λ l. l ++ item ∷ []) so_far ∙ ap (λ y. take i xs ++ y ∷ []) (tells x.0 x.1 x.2) ∙ sym (take_one_more xs i x.0 (sym (nth_next xs i) ∙ x.1))
 
   -- all of them
   pub all_items : length rows ≡ i → take i xs ≡ xs

@@ -36,25 +36,18 @@ schema_row = stored.Setting (record { name = codes "schema"; value = Number 1 })
 -- what a row says of the setting of a name
 abbrev pub told_of : List ℕ → StoredRow → Option SettingValue
 told_of name (stored.Setting s) = if bytes_eq s.name name then Some s.value else None
-told_of name (stored.Account a) = None
-told_of name (stored.App a) = None
-told_of name (stored.Version v) = None
-told_of name (stored.Unit u) = None
-told_of name (stored.Host h) = None
-told_of name (stored.Instance i) = None
-told_of name (stored.Kept k) = None
-told_of name (stored.Batch b) = None
+told_of name _ = None
 
 -- the row of a setting
 abbrev pub of_setting : List ℕ → SettingValue → StoredRow
 of_setting name value = stored.Setting (record { name = name; value = value })
 
--- a row tells this setting of the name, and none tells another
+-- a row tells this of the setting of the name, and none tells anything else
 pub record Tells (rows : List StoredRow) (name : List ℕ) (value : SettingValue) : Type 0 where
   pub this : Has rows (of_setting name value)
   pub alone : (r : StoredRow) (other : SettingValue) → Has rows r → told_of name r ≡ Some other → other ≡ value
 
--- the rows tell these settings, and no others
+-- the rows tell these settings, and none of them otherwise
 pub record TellAll (rows : List StoredRow) (s : Settings) : Type 0 where
   pub daily_result_quota : Tells rows (codes "daily_result_quota") (Number s.daily_result_quota)
   pub max_hosts : Tells rows (codes "max_hosts") (Number s.max_hosts)

@@ -14,15 +14,8 @@ use Rattle.table_worlds.specs.declared.keys.WorldKey.TheVariants.{Instance}
 
 -- it is the row of the instance of this number of the workunit of this place
 abbrev pub is_placed : ℕ → ℕ → StoredRow → Bool
-is_placed unit number (stored.Setting s) = false
-is_placed unit number (stored.Account a) = false
-is_placed unit number (stored.App a) = false
-is_placed unit number (stored.Version v) = false
-is_placed unit number (stored.Unit u) = false
-is_placed unit number (stored.Host h) = false
 is_placed unit number (stored.Instance i) = (i.unit_id == unit) && (i.num == number)
-is_placed unit number (stored.Kept k) = false
-is_placed unit number (stored.Batch b) = false
+is_placed unit number _ = false
 
 -- by the workunit, then by the number
 abbrev pub place_cmp : ℕ × ℕ → ℕ × ℕ → Ordering
@@ -32,7 +25,7 @@ place_cmp p q = ordering_then (nat_cmp p.0 q.0) (nat_cmp p.1 q.1)
 abbrev pub index_at : BTreeMap (ℕ × ℕ) ℕ → ℕ → ℕ → Option ℕ
 index_at indexes unit number = tree.get place_cmp indexes (unit, number)
 
--- of each place the index of a row of it is kept, where one of the first so many rows is of it
+-- The index that is kept of a place is that of a row of it; where none is kept, none of the first so many rows is of it.
 abbrev pub AreIndexed : List StoredRow → ℕ → BTreeMap (ℕ × ℕ) ℕ → Type 0
 AreIndexed rows count indexes =
     (unit number : ℕ) → MatchOption (index_at indexes unit number)

@@ -1,9 +1,9 @@
 //! The world that rows of the tables stand for.
 
-ghost use Rattle.std.specs.Prelude.{◌≡◌, IfOk, IfErr};
+ghost use Rattle.std.specs.Prelude.{◌≡◌, Err, IfOk, IfErr};
 ghost use Rattle.sqlite_rules.specs.Lists.{Has};
 ghost use Rattle.sched_book.specs.Sound.{Sound};
-ghost use Rattle.sched_book.specs.declared.world.World.{World as OfWorld};
+ghost use Rattle.sched_book.specs.declared.world.World.{World};
 ghost use Rattle.table_worlds.specs.RowsOf.{AreRowsOf};
 ghost use Rattle.table_decoding.specs.Decoding.{Gives, schema_row};
 ghost use Rattle.table_decoding.specs.declared.fault.DecodeFault.TheVariants as fault;
@@ -18,7 +18,7 @@ use table_worlds::TableRows;
 
 /// The world of these rows, where one of them tells the schema.
 fn world_of(alloc: Global, rows: &TableRows) -> Result<World, RowFault>
-    ensures { (w : OfWorld) → Sound w → AreRowsOf w rows.now → Gives result w }
+    ensures { (w : World) → Sound w → AreRowsOf w rows.now → Gives result w }
 {
     let settings = settings(rows.settings.as_slice())?;
     let accounts = accounts(alloc, rows.accounts.as_slice())?;
@@ -45,8 +45,9 @@ fn world_of(alloc: Global, rows: &TableRows) -> Result<World, RowFault>
 ///
 /// Nothing is promised of other rows: they may be told as some world, or refused.
 pub fn decoded_world(alloc: Global, rows: &TableRows) -> Result<World, DecodeFault>
-    ensures decoded { (w : OfWorld) → Sound w → AreRowsOf w rows.now → IfOk result (λ d. d ≡ w) }
-    ensures refused { (w : OfWorld) → Sound w → AreRowsOf w rows.now → IfErr result (λ e. e ≡ fault.Unavailable) }
+    ensures decoded { (w : World) → Sound w → AreRowsOf w rows.now → IfOk result (λ d. d ≡ w) }
+    ensures refused { (w : World) → Sound w → AreRowsOf w rows.now → IfErr result (λ e. e ≡ fault.Unavailable) }
+    ensures no_schema { ¬ Has rows.now.settings schema_row → result ≡ Err fault.NotTables }
     ensures other_schema { IfErr result (λ e. e ≡ fault.NotTables → ¬ Has rows.now.settings schema_row) }
 {
     if !tells_schema(rows.settings.as_slice()) {

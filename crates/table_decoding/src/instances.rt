@@ -1,15 +1,15 @@
 //! The instances of a workunit, from their rows.
 
-ghost use Rattle.std.specs.Prelude.{◌≡◌, ◌≤◌, ℕ, pos, if◌then◌else◌, length, option_map, option_and_then, All, Some, Ok, IfOk, OnOk, IfSome};
+ghost use Rattle.std.specs.Prelude.{◌≡◌, ◌≤◌, ℕ, pos, Bool, Option, if◌then◌else◌, length, option_map, option_and_then, All, Some, Ok, IfOk, OnOk, IfSome};
 ghost use Rattle.std.specs.Option.{option_copied};
 ghost use Rattle.sched_book.specs.Limits.{last_moment, most_instances, IsInstanceInLimits};
 ghost use Rattle.sched_book.specs.Places.{unit_at};
-ghost use Rattle.sched_book.specs.declared.instance.Instance.{Instance as OfInstance};
-ghost use Rattle.sched_book.specs.declared.instance.Lapse.{Lapse as OfLapse};
-ghost use Rattle.sched_book.specs.declared.instance.Outcome.{Outcome as OfOutcome};
-ghost use Rattle.sched_book.specs.declared.instance.Owner.{Owner as OfOwner};
-ghost use Rattle.sched_book.specs.declared.instance.UnitBook.{UnitBook as OfUnit};
-ghost use Rattle.sched_book.specs.declared.world.World.{World as OfWorld};
+ghost use Rattle.sched_book.specs.declared.instance.Instance.{Instance};
+ghost use Rattle.sched_book.specs.declared.instance.Lapse.{Lapse};
+ghost use Rattle.sched_book.specs.declared.instance.Outcome.{Outcome};
+ghost use Rattle.sched_book.specs.declared.instance.Owner.{Owner};
+ghost use Rattle.sched_book.specs.declared.instance.UnitBook.{UnitBook};
+ghost use Rattle.sched_book.specs.declared.world.World.{World};
 ghost use Rattle.table_meaning.specs.Worlds.{lapse_code, instance_row};
 ghost use Rattle.table_meaning.specs.declared.rows.StoredRow.TheVariants as stored;
 ghost use Rattle.table_worlds.specs.Keys.{row_in};
@@ -39,8 +39,8 @@ fn moment(written: i64) -> Result<Moment, RowFault>
 
 /// To which host the instance of a row was given.
 fn owner(row: &StoredInstance) -> Result<Option<Owner>, RowFault>
-    ensures { (o : _) → IfSome o (λ (o : OfOwner). o.sent ≤ last_moment) → row.now.host_id ≡ option_map (λ (o : OfOwner). o.host) o
-        → row.now.sent ≡ option_map (λ (o : OfOwner). pos o.sent) o → row.now.deadline ≡ option_map (λ (o : OfOwner). pos o.deadline) o → result ≡ Ok o }
+    ensures { (o : Option Owner) → IfSome o (λ (o : Owner). o.sent ≤ last_moment) → row.now.host_id ≡ option_map (λ (o : Owner). o.host) o
+        → row.now.sent ≡ option_map (λ (o : Owner). pos o.sent) o → row.now.deadline ≡ option_map (λ (o : Owner). pos o.deadline) o → result ≡ Ok o }
 {
     match (row.host_id, row.sent, row.deadline) {
         (None, None, None) => Ok(None),
@@ -55,7 +55,7 @@ fn owner(row: &StoredInstance) -> Result<Option<Owner>, RowFault>
 
 /// The lapse of a code.
 fn lapse(code: u32) -> Result<Option<Lapse>, RowFault>
-    ensures { (l : _) → code ≡ lapse_code l → result ≡ Ok l }
+    ensures { (l : Option Lapse) → code ≡ lapse_code l → result ≡ Ok l }
 {
     match code {
         0 => Ok(None),
@@ -67,7 +67,7 @@ fn lapse(code: u32) -> Result<Option<Lapse>, RowFault>
 
 /// Whether an outcome of this code is a success.
 fn is_success(code: u32) -> Result<bool, RowFault>
-    ensures { (success : _) → code ≡ (if success then 1 else 3) → result ≡ Ok success }
+    ensures { (success : Bool) → code ≡ (if success then 1 else 3) → result ≡ Ok success }
 {
     match code {
         1 => Ok(true),
@@ -78,8 +78,8 @@ fn is_success(code: u32) -> Result<bool, RowFault>
 
 /// What was reported of the instance of a row.
 fn report(row: &StoredInstance) -> Result<Option<Outcome>, RowFault>
-    ensures { (o : _) → row.now.outcome ≡ option_map (λ (r : OfOutcome). if r.success then 1 else 3) o
-        → row.now.output ≡ option_map (λ (r : OfOutcome). r.output) o → row.now.place ≡ option_and_then (λ (r : OfOutcome). r.place) o → Gives result o }
+    ensures { (o : Option Outcome) → row.now.outcome ≡ option_map (λ (r : Outcome). if r.success then 1 else 3) o
+        → row.now.output ≡ option_map (λ (r : Outcome). r.output) o → row.now.place ≡ option_and_then (λ (r : Outcome). r.place) o → Gives result o }
 {
     match (row.outcome, &row.output) {
         (None, None) => Ok(None),
@@ -94,7 +94,7 @@ fn report(row: &StoredInstance) -> Result<Option<Outcome>, RowFault>
 
 /// The instance of a row.
 fn instance(row: &StoredRow) -> Result<Instance, RowFault>
-    ensures { (w : OfWorld) (b : OfUnit) (unit number : ℕ) (x : OfInstance) → IsInstanceInLimits x
+    ensures { (w : World) (b : UnitBook) (unit number : ℕ) (x : Instance) → IsInstanceInLimits x
         → row.now ≡ stored.Instance (instance_row w b unit number x) → Gives result x }
 {
     let StoredRow::Instance(row) = row else {
@@ -107,8 +107,8 @@ fn instance(row: &StoredRow) -> Result<Instance, RowFault>
     })
 }
 
-/// Notes the index of an instance's row by its place. A row of another table is passed over.
-fn note(indexes: &mut Indexes, row: &StoredRow, index: usize) -> Result<(), Memory>
+/// Keeps the index of an instance's row by its place. A row of another table is passed over.
+fn keep_index(indexes: &mut Indexes, row: &StoredRow, index: usize) -> Result<(), Memory>
     ensures { OnOk result ((unit number : ℕ) → index_at indexes.new unit number ≡ if is_placed unit number row.now then Some index else index_at indexes.old unit number) }
 {
     if let StoredRow::Instance(instance) = row {
@@ -123,7 +123,7 @@ pub(crate) fn indexes_of(alloc: Global, rows: &[StoredRow]) -> Result<Indexes, M
 {
     let mut indexes = BTreeMap::new(alloc);
     for (index, row) in rows.iter().enumerate() {
-        note(&mut indexes, row, index)?;
+        keep_index(&mut indexes, row, index)?;
     }
     Ok(indexes)
 }
@@ -135,20 +135,20 @@ fn row_at<'a>(
     unit: u32,
     number: u32,
 ) -> Option<&'a StoredRow>
-    ensures { (w : OfWorld) → HaveSame rows.now (instance_rows w) → AreIndexed rows.now (length rows.now) indexes.now
+    ensures { (w : World) → HaveSame rows.now (instance_rows w) → AreIndexed rows.now (length rows.now) indexes.now
         → option_copied result ≡ row_in w (key.Instance (record { unit = unit; number = number })) }
 {
     rows.get(*indexes.get(&(unit, number))?)
 }
 
-/// The instances of a workunit, in the order of their numbers.
+/// The instances of a workunit, in the order of their numbers. It is refused where it has more than it may have.
 pub(crate) fn instances_of(
     alloc: Global,
     rows: &[StoredRow],
     indexes: &Indexes,
     unit: u32,
 ) -> Result<Listed<Instance>, RowFault>
-    ensures { (w : OfWorld) (b : OfUnit) → HaveSame rows.now (instance_rows w) → AreIndexed rows.now (length rows.now) indexes.now
+    ensures { (w : World) (b : UnitBook) → HaveSame rows.now (instance_rows w) → AreIndexed rows.now (length rows.now) indexes.now
         → unit_at w unit ≡ Some b → length b.instances ≤ most_instances → All IsInstanceInLimits b.instances → Gives result b.instances }
 {
     let mut instances = Listed::new(alloc);

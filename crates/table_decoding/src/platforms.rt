@@ -1,18 +1,19 @@
-//! The platforms of a host.
+//! The platforms of a host, as one text.
 
-ghost use Rattle.std.specs.Prelude.{◌≡◌, ◌==◌, map, IfOk};
-ghost use Rattle.std.specs.List.{slice_split};
+ghost use Rattle.std.specs.Prelude.{◌≡◌, ℕ, List, IfOk};
+ghost use Rattle.table_meaning.specs.Worlds.{joined};
+ghost use Rattle.table_decoding.specs.Decoding.{ArePlatforms};
 
 use std::alloc::Global;
 use texts::{Listed, Memory, Text};
 
-/// The parts of a text between its commas.
-pub(crate) fn comma_parts(alloc: Global, text: &str) -> Result<Listed<Text>, Memory>
-    ensures { IfOk result (λ parts. parts ≡ slice_split (λ b. b == 44) text.now) }
+/// The platforms of a text, in which commas stand between them.
+pub(crate) fn platforms(alloc: Global, text: &str) -> Result<Listed<Text>, Memory>
+    ensures { (words : List (List ℕ)) → ArePlatforms words → text.now ≡ joined words → IfOk result (λ platforms. platforms ≡ words) }
 {
-    let mut parts = Listed::new(alloc);
-    for part in text.split(',') {
-        parts.push(Text::copied(alloc, part)?)?;
+    let mut platforms = Listed::new(alloc);
+    for word in text.split(',') {
+        platforms.push(Text::copied(alloc, word)?)?;
     }
-    Ok(parts)
+    Ok(platforms)
 }

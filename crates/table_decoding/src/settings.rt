@@ -3,8 +3,8 @@
 ghost use Rattle.std.specs.Prelude.{◌≡◌, ◌↔◌, ℕ, Bool, List, if◌then◌else◌, Some, Ok, IsTrue};
 ghost use Rattle.std.specs.Option.{option_copied};
 ghost use Rattle.sqlite_rules.specs.Lists.{Has};
-ghost use Rattle.sched_book.specs.declared.settings.Settings.{Settings as These};
-ghost use Rattle.table_meaning.specs.declared.rows.SettingValue.{SettingValue as Value};
+ghost use Rattle.sched_book.specs.declared.settings.Settings.{Settings};
+ghost use Rattle.table_meaning.specs.declared.rows.SettingValue.{SettingValue};
 ghost use Rattle.table_meaning.specs.declared.rows.SettingValue.TheVariants as value;
 ghost use Rattle.table_decoding.specs.Decoding.{Gives, Tells, TellAll, schema_row, told_of};
 
@@ -49,7 +49,7 @@ fn told_of<'a>(row: &'a StoredRow, name: &str) -> Option<&'a SettingValue>
 
 /// What the first row that speaks of the setting of this name says of it.
 fn value_of<'a>(rows: &'a [StoredRow], name: &str) -> Option<&'a SettingValue>
-    ensures { (v : Value) → Tells rows.now name.now v → option_copied result ≡ Some v }
+    ensures { (v : SettingValue) → Tells rows.now name.now v → option_copied result ≡ Some v }
 {
     for row in rows {
         if let Some(value) = told_of(row, name) {
@@ -92,7 +92,7 @@ fn flag(rows: &[StoredRow], name: &str) -> Result<bool, RowFault>
 
 /// The settings that these rows tell.
 pub(crate) fn settings(rows: &[StoredRow]) -> Result<Settings, RowFault>
-    ensures { (s : These) → TellAll rows.now s → Gives result s }
+    ensures { (s : Settings) → TellAll rows.now s → Gives result s }
 {
     Ok(Settings {
         daily_result_quota: number(rows, "daily_result_quota")?,

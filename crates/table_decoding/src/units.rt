@@ -5,8 +5,8 @@ ghost use Rattle.sched_book.specs.Given.{map_from};
 ghost use Rattle.sched_book.specs.Imports.{has_app};
 ghost use Rattle.sched_book.specs.Places.{unit_at};
 ghost use Rattle.sched_book.specs.Sound.{IsSoundUnit};
-ghost use Rattle.sched_book.specs.declared.instance.UnitBook.{UnitBook as OfUnit};
-ghost use Rattle.sched_book.specs.declared.world.World.{World as OfWorld};
+ghost use Rattle.sched_book.specs.declared.instance.UnitBook.{UnitBook};
+ghost use Rattle.sched_book.specs.declared.world.World.{World};
 ghost use Rattle.table_meaning.specs.Worlds.{unit_row};
 ghost use Rattle.table_worlds.specs.RowsOf.{HaveSame};
 ghost use Rattle.table_decoding.specs.Decoding.{Gives, of_unit};
@@ -23,7 +23,7 @@ use texts::Listed;
 
 /// The workunit of a row, beside the applications.
 fn workunit(apps: &[App], row: &StoredUnit) -> Result<Workunit, RowFault>
-    ensures { (w : OfWorld) (id : ℕ) (b : OfUnit) → apps.now ≡ w.apps → IsTrue (has_app w.apps b.unit.app) → row.now ≡ unit_row w id b → Gives result b.unit }
+    ensures { (w : World) (id : ℕ) (b : UnitBook) → apps.now ≡ w.apps → IsTrue (has_app w.apps b.unit.app) → row.now ≡ unit_row w id b → Gives result b.unit }
 {
     Ok(Workunit {
         min_quorum: row.min_quorum,
@@ -49,7 +49,7 @@ fn book(
     indexes: &Indexes,
     row: &StoredRow,
 ) -> Result<UnitBook, RowFault>
-    ensures { (w : OfWorld) (id : ℕ) (b : OfUnit) → apps.now ≡ w.apps → HaveSame instances.now (instance_rows w) → AreIndexed instances.now (length instances.now) indexes.now
+    ensures { (w : World) (id : ℕ) (b : UnitBook) → apps.now ≡ w.apps → HaveSame instances.now (instance_rows w) → AreIndexed instances.now (length instances.now) indexes.now
         → IsSoundUnit w.hosts w.apps b → unit_at w id ≡ Some b → row.now ≡ of_unit w id b → Gives result b }
 {
     let StoredRow::Unit(row) = row else {
@@ -68,7 +68,7 @@ pub(crate) fn units(
     rows: &[StoredRow],
     instances: &[StoredRow],
 ) -> Result<Listed<UnitBook>, RowFault>
-    ensures { (w : OfWorld) → apps.now ≡ w.apps → HaveSame instances.now (instance_rows w) → All (IsSoundUnit w.hosts w.apps) w.units
+    ensures { (w : World) → apps.now ≡ w.apps → HaveSame instances.now (instance_rows w) → All (IsSoundUnit w.hosts w.apps) w.units
         → rows.now ≡ map_from 1 (of_unit w) w.units → Gives result w.units }
 {
     let indexes = indexes_of(alloc, instances)?;

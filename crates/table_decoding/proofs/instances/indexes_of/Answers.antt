@@ -8,4 +8,4 @@ loop-index-preserved c =
     let rows = c.args.rows.now in
     let i = c.loop-index.index in
     let row = c.index-rows-index.result in
-    one_indexed rows i row c.loop-index.indexes c.note.new.indexes (slice_get_read rows _ i row refl c.loop-index-test.true c.index-rows-index.is) c.loop-index.invariant c.in_ok-note.ensures
+    one_indexed rows i row c.loop-index.indexes c.keep_index.new.indexes (slice_get_read rows _ i row refl c.loop-index-test.true c.index-rows-index.is) c.loop-index.invariant c.in_ok-keep_index.ensures

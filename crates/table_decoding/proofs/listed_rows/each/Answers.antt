@@ -14,9 +14,8 @@ loop-row-preserved g c = λ place xs tells are.
     let i = c.loop-row.row-index in
     let row = c.row-item.result in
     let item = c.in_ok-told.field-0 in
-    c.in_ok-push.ensures.ok
-    ∙ one_more place xs rows are i row c.loop-row.items item (slice_get_read rows _ i row refl c.loop-row-test.true c.row-item.is) (c.loop-row.invariant place xs tells are)
-    (λ x here is. tells (i + 1) x (Ok item) here (called_at g.F.Fn c.args.told _ (place (i + 1) x) (Ok item) c.in_ok-told.ensures is))
+    one_more place xs rows are i row c.loop-row.items c.push.new.self item (slice_get_read rows _ i row refl c.loop-row-test.true c.row-item.is) (c.loop-row.invariant place xs tells are)
+    c.in_ok-push.ensures.ok (λ x here is. tells (i + 1) x (Ok item) here (called_at g.F.Fn c.args.told _ (place (i + 1) x) (Ok item) c.in_ok-told.ensures is))
 
 pub returns : goal.returns
 returns g c = λ place xs tells are. c.loop-row.invariant place xs tells are ∙ all_items place xs c.args.rows.now are c.loop-row.row-index (omega arith)

@@ -1,7 +1,7 @@
 use Rattle.std.proofs.Common.{cond, Some, sym, ap, ◌∙◌}
 use Rattle.table_decoding.specs.Placed.{index_at, is_placed}
 use Rattle.table_decoding.proofs.InstancesPlaced.{level_place}
-use Rattle.table_decoding.proofs.instances.note.Goals as goal
+use Rattle.table_decoding.proofs.instances.keep_index.Goals as goal
 
 pub returns-in_ok-insert : goal.returns-in_ok-insert
 returns-in_ok-insert c = λ unit number.
