@@ -1,0 +1,7 @@
+pub mod AppsPlaced
+pub mod InstancesPlaced
+pub mod JoinedWords
+pub mod Refusals
+pub mod RowsInOrder
+pub mod SettingsTold
+pub mod WorldDecoded

@@ -1,0 +1,23 @@
+-- What is passed on, and what can't be.
+use Rattle.std.proofs.Common.{◌≡◌, Ok, Err, ◌∙◌}
+use Rattle.std.specs.declared.result.Result.{Result}
+use Rattle.std.specs.Result.{IsErrAnd}
+use Rattle.table_meaning.specs.declared.rows.StoredUnit.{StoredUnit}
+use Rattle.table_meaning.specs.declared.rows.StoredRow.TheVariants as stored
+use Rattle.table_decoding.specs.declared.fault.RowFault.{RowFault}
+use Rattle.table_decoding.specs.declared.fault.RowFault.TheVariants.{Unavailable}
+use Rattle.table_decoding.specs.Decoding.{Gives}
+
+-- where one call is unavailable, and what it answers is passed on, nothing else is given
+pub passed_on : {A : Type 0} (r : Result A RowFault) (x : A) (e : RowFault) → IsErrAnd r (λ why. why ≡ e) → e ≡ Unavailable → Gives r x
+passed_on (Ok y) x e is unavailable = absurd is
+passed_on (Err why) x e is unavailable = is ∙ unavailable
+
+pub not_refused : {A : Type 0} (e : RowFault) (x : A) → ◌≡◌ {A = Result A RowFault} (Err e) (Ok x) → ⊥
+not_refused e x is = cc
+
+pub same_given : {A : Type 0} (x y : A) → ◌≡◌ {A = Result A RowFault} (Ok x) (Ok y) → x ≡ y
+same_given x y is = cc
+
+pub same_unit_row : (x y : StoredUnit) → stored.Unit x ≡ stored.Unit y → x ≡ y
+same_unit_row x y is = cc

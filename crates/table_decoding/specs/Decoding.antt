@@ -1,0 +1,79 @@
+-- What is said of rows that are decoded.
+use Rattle.std.specs.Prelude.{◌≡◌, ◌≤◌, ℕ, List, length, codes, All, Option, Some, None, if◌then◌else◌, Result, MatchResult}
+use Rattle.std.specs.Str.{bytes_eq}
+use Rattle.sqlite_rules.specs.Lists.{Has}
+use Rattle.rpc_records.specs.Ranges.{IsWord}
+use Rattle.sched_book.specs.declared.rows.Account.{Account}
+use Rattle.sched_book.specs.declared.rows.App.{App}
+use Rattle.sched_book.specs.declared.rows.HostRow.{HostRow}
+use Rattle.sched_book.specs.declared.rows.Version.{Version}
+use Rattle.sched_book.specs.declared.instance.UnitBook.{UnitBook}
+use Rattle.sched_book.specs.declared.settings.Settings.{Settings}
+use Rattle.sched_book.specs.declared.world.World.{World}
+use Rattle.table_meaning.specs.declared.rows.SettingValue.{SettingValue}
+use Rattle.table_meaning.specs.declared.rows.SettingValue.TheVariants.{Number, Word}
+use Rattle.table_meaning.specs.declared.rows.StoredRow.{StoredRow}
+use Rattle.table_meaning.specs.declared.rows.StoredRow.TheVariants as stored
+use Rattle.table_meaning.specs.Worlds.{account_row, app_row, version_row, unit_row, host_row}
+use Rattle.table_decoding.specs.declared.fault.DecodeFault.{DecodeFault}
+use Rattle.table_decoding.specs.declared.fault.DecodeFault.TheVariants as decode
+use Rattle.table_decoding.specs.declared.fault.RowFault.{RowFault}
+use Rattle.table_decoding.specs.declared.fault.RowFault.TheVariants.{BadRow, Unavailable}
+
+-- just this is given, or memory was wanting
+abbrev pub Gives : {A : Type 0} → Result A RowFault → A → Type 0
+Gives result x = MatchResult result (λ d. d ≡ x) (λ e. e ≡ Unavailable)
+
+-- a fault of a row, as one of the tables
+abbrev pub fault_of : RowFault → DecodeFault
+fault_of BadRow = decode.BadRow
+fault_of Unavailable = decode.Unavailable
+
+-- the row that tells the schema of the stored tables
+abbrev pub schema_row : StoredRow
+schema_row = stored.Setting (record { name = codes "schema"; value = Number 1 })
+
+-- what a row says of the setting of a name
+abbrev pub told_of : List ℕ → StoredRow → Option SettingValue
+told_of name (stored.Setting s) = if bytes_eq s.name name then Some s.value else None
+told_of name _ = None
+
+-- the row of a setting
+abbrev pub of_setting : List ℕ → SettingValue → StoredRow
+of_setting name value = stored.Setting (record { name = name; value = value })
+
+-- a row tells this of the setting of the name, and none tells anything else
+pub record Tells (rows : List StoredRow) (name : List ℕ) (value : SettingValue) : Type 0 where
+  pub this : Has rows (of_setting name value)
+  pub alone : (r : StoredRow) (other : SettingValue) → Has rows r → told_of name r ≡ Some other → other ≡ value
+
+-- the rows tell these settings, and none of them otherwise
+pub record TellAll (rows : List StoredRow) (s : Settings) : Type 0 where
+  pub daily_result_quota : Tells rows (codes "daily_result_quota") (Number s.daily_result_quota)
+  pub max_hosts : Tells rows (codes "max_hosts") (Number s.max_hosts)
+  pub max_wus_in_progress : Tells rows (codes "max_wus_in_progress") (Number s.max_wus_in_progress)
+  pub max_wus_to_send : Tells rows (codes "max_wus_to_send") (Number s.max_wus_to_send)
+  pub request_delay : Tells rows (codes "request_delay") (Number s.request_delay)
+  pub resend_lost_results : Tells rows (codes "resend_lost_results") (Number (if s.resend_lost_results then 1 else 0))
+  pub operator_key : Tells rows (codes "operator_key") (Word s.operator_key)
+
+-- the rows by which accounts, applications, versions, workunits and hosts are told
+abbrev pub of_account : ℕ → Account → StoredRow
+of_account id a = stored.Account (account_row id a)
+
+abbrev pub of_app : ℕ → App → StoredRow
+of_app id a = stored.App (app_row id a)
+
+abbrev pub of_version : World → ℕ → Version → StoredRow
+of_version w id v = stored.Version (version_row w id v)
+
+abbrev pub of_unit : World → ℕ → UnitBook → StoredRow
+of_unit w id b = stored.Unit (unit_row w id b)
+
+-- a host that holds so many instances, with so much credit
+abbrev pub of_host : (ℕ → ℕ) → (ℕ → ℕ) → ℕ → HostRow → StoredRow
+of_host held credit id h = stored.Host (host_row (held id) (credit id) id h)
+
+-- some platforms, each a word
+abbrev pub ArePlatforms : List (List ℕ) → Type 0
+ArePlatforms words = (1 ≤ length words) × All IsWord words

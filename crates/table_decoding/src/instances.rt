@@ -1,0 +1,162 @@
+//! The instances of a workunit, from their rows.
+
+ghost use Rattle.std.specs.Prelude.{◌≡◌, ◌≤◌, ℕ, pos, Bool, Option, if◌then◌else◌, length, option_map, option_and_then, All, Some, Ok, IfOk, OnOk, IfSome};
+ghost use Rattle.std.specs.Option.{option_copied};
+ghost use Rattle.sched_book.specs.Limits.{last_moment, most_instances, IsInstanceInLimits};
+ghost use Rattle.sched_book.specs.Places.{unit_at};
+ghost use Rattle.sched_book.specs.declared.instance.Instance.{Instance};
+ghost use Rattle.sched_book.specs.declared.instance.Lapse.{Lapse};
+ghost use Rattle.sched_book.specs.declared.instance.Outcome.{Outcome};
+ghost use Rattle.sched_book.specs.declared.instance.Owner.{Owner};
+ghost use Rattle.sched_book.specs.declared.instance.UnitBook.{UnitBook};
+ghost use Rattle.sched_book.specs.declared.world.World.{World};
+ghost use Rattle.table_meaning.specs.Worlds.{lapse_code, instance_row};
+ghost use Rattle.table_meaning.specs.declared.rows.StoredRow.TheVariants as stored;
+ghost use Rattle.table_worlds.specs.Keys.{row_in};
+ghost use Rattle.table_worlds.specs.RowsOf.{HaveSame};
+ghost use Rattle.table_worlds.specs.declared.keys.WorldKey.TheVariants as key;
+ghost use Rattle.table_decoding.specs.Decoding.{Gives};
+ghost use Rattle.table_decoding.specs.Placed.{AreIndexed, index_at, is_placed, instance_rows};
+
+use crate::fault::RowFault;
+use crate::rows::amount;
+use sched_book::limits::MOST_INSTANCES;
+use sched_book::{Instance, Lapse, Moment, Outcome, Owner};
+use std::alloc::Global;
+use std::collections::BTreeMap;
+use table_meaning::rows::{StoredInstance, StoredRow};
+use texts::{Listed, Memory};
+
+/// The indexes of the rows of instances, by workunit and number.
+pub(crate) type Indexes = BTreeMap<(u32, u32), usize>;
+
+/// The moment that a table writes.
+fn moment(written: i64) -> Result<Moment, RowFault>
+    ensures { (n : ℕ) → n ≤ last_moment → written ≡ pos n → result ≡ Ok n }
+{
+    Moment::new(amount(written)?).ok_or(RowFault::BadRow)
+}
+
+/// To which host the instance of a row was given.
+fn owner(row: &StoredInstance) -> Result<Option<Owner>, RowFault>
+    ensures { (o : Option Owner) → IfSome o (λ (o : Owner). o.sent ≤ last_moment) → row.now.host_id ≡ option_map (λ (o : Owner). o.host) o
+        → row.now.sent ≡ option_map (λ (o : Owner). pos o.sent) o → row.now.deadline ≡ option_map (λ (o : Owner). pos o.deadline) o → result ≡ Ok o }
+{
+    match (row.host_id, row.sent, row.deadline) {
+        (None, None, None) => Ok(None),
+        (Some(host), Some(sent), Some(deadline)) => Ok(Some(Owner {
+            host,
+            sent: moment(sent)?,
+            deadline: amount(deadline)?,
+        })),
+        _ => Err(RowFault::BadRow),
+    }
+}
+
+/// The lapse of a code.
+fn lapse(code: u32) -> Result<Option<Lapse>, RowFault>
+    ensures { (l : Option Lapse) → code ≡ lapse_code l → result ≡ Ok l }
+{
+    match code {
+        0 => Ok(None),
+        1 => Ok(Some(Lapse::Late)),
+        2 => Ok(Some(Lapse::Dropped)),
+        _ => Err(RowFault::BadRow),
+    }
+}
+
+/// Whether an outcome of this code is a success.
+fn is_success(code: u32) -> Result<bool, RowFault>
+    ensures { (success : Bool) → code ≡ (if success then 1 else 3) → result ≡ Ok success }
+{
+    match code {
+        1 => Ok(true),
+        3 => Ok(false),
+        _ => Err(RowFault::BadRow),
+    }
+}
+
+/// What was reported of the instance of a row.
+fn report(row: &StoredInstance) -> Result<Option<Outcome>, RowFault>
+    ensures { (o : Option Outcome) → row.now.outcome ≡ option_map (λ (r : Outcome). if r.success then 1 else 3) o
+        → row.now.output ≡ option_map (λ (r : Outcome). r.output) o → row.now.place ≡ option_and_then (λ (r : Outcome). r.place) o → Gives result o }
+{
+    match (row.outcome, &row.output) {
+        (None, None) => Ok(None),
+        (Some(code), Some(output)) => Ok(Some(Outcome {
+            success: is_success(code)?,
+            output: output.clone()?,
+            place: row.place,
+        })),
+        _ => Err(RowFault::BadRow),
+    }
+}
+
+/// The instance of a row.
+fn instance(row: &StoredRow) -> Result<Instance, RowFault>
+    ensures { (w : World) (b : UnitBook) (unit number : ℕ) (x : Instance) → IsInstanceInLimits x
+        → row.now ≡ stored.Instance (instance_row w b unit number x) → Gives result x }
+{
+    let StoredRow::Instance(row) = row else {
+        return Err(RowFault::BadRow);
+    };
+    Ok(Instance {
+        owner: owner(row)?,
+        lapse: lapse(row.lapse)?,
+        report: report(row)?,
+    })
+}
+
+/// Keeps the index of an instance's row by its place. A row of another table is passed over.
+fn keep_index(indexes: &mut Indexes, row: &StoredRow, index: usize) -> Result<(), Memory>
+    ensures { OnOk result ((unit number : ℕ) → index_at indexes.new unit number ≡ if is_placed unit number row.now then Some index else index_at indexes.old unit number) }
+{
+    if let StoredRow::Instance(instance) = row {
+        indexes.insert((instance.unit_id, instance.num), index)?;
+    }
+    Ok(())
+}
+
+/// The indexes of these rows by the places of their instances.
+pub(crate) fn indexes_of(alloc: Global, rows: &[StoredRow]) -> Result<Indexes, Memory>
+    ensures { IfOk result (λ indexes. AreIndexed rows.now (length rows.now) indexes) }
+{
+    let mut indexes = BTreeMap::new(alloc);
+    for (index, row) in rows.iter().enumerate() {
+        keep_index(&mut indexes, row, index)?;
+    }
+    Ok(indexes)
+}
+
+/// The row of the instance of a workunit that has this number.
+fn row_at<'a>(
+    rows: &'a [StoredRow],
+    indexes: &Indexes,
+    unit: u32,
+    number: u32,
+) -> Option<&'a StoredRow>
+    ensures { (w : World) → HaveSame rows.now (instance_rows w) → AreIndexed rows.now (length rows.now) indexes.now
+        → option_copied result ≡ row_in w (key.Instance (record { unit = unit; number = number })) }
+{
+    rows.get(*indexes.get(&(unit, number))?)
+}
+
+/// The instances of a workunit, in the order of their numbers. It is refused where it has more than it may have.
+pub(crate) fn instances_of(
+    alloc: Global,
+    rows: &[StoredRow],
+    indexes: &Indexes,
+    unit: u32,
+) -> Result<Listed<Instance>, RowFault>
+    ensures { (w : World) (b : UnitBook) → HaveSame rows.now (instance_rows w) → AreIndexed rows.now (length rows.now) indexes.now
+        → unit_at w unit ≡ Some b → length b.instances ≤ most_instances → All IsInstanceInLimits b.instances → Gives result b.instances }
+{
+    let mut instances = Listed::new(alloc);
+    for number in 0..=MOST_INSTANCES as u32 {
+        match row_at(rows, indexes, unit, number) {
+            None => return Ok(instances),
+            Some(row) => instances.push(instance(row)?)?,
+        }
+    }
+    Err(RowFault::BadRow)
+}

@@ -1,0 +1,14 @@
+//! The world that rows of the stored tables stand for.
+#![tactic(auto)]
+
+mod decoded;
+mod fault;
+mod instances;
+mod listed_rows;
+mod platforms;
+mod rows;
+mod settings;
+mod units;
+
+pub use decoded::decoded_world;
+pub use fault::DecodeFault;

@@ -1,0 +1,19 @@
+//! The platforms of a host, as one text.
+
+ghost use Rattle.std.specs.Prelude.{◌≡◌, ℕ, List, IfOk};
+ghost use Rattle.table_meaning.specs.Worlds.{joined};
+ghost use Rattle.table_decoding.specs.Decoding.{ArePlatforms};
+
+use std::alloc::Global;
+use texts::{Listed, Memory, Text};
+
+/// The platforms of a text, in which commas stand between them.
+pub(crate) fn platforms(alloc: Global, text: &str) -> Result<Listed<Text>, Memory>
+    ensures { (words : List (List ℕ)) → ArePlatforms words → text.now ≡ joined words → IfOk result (λ platforms. platforms ≡ words) }
+{
+    let mut platforms = Listed::new(alloc);
+    for word in text.split(',') {
+        platforms.push(Text::copied(alloc, word)?)?;
+    }
+    Ok(platforms)
+}

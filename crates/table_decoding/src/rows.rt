@@ -1,0 +1,139 @@
+//! Accounts, applications, versions and hosts, each from its row.
+
+ghost use Rattle.std.specs.Prelude.{◌≡◌, ℕ, pos, List, All, IsTrue, Ok};
+ghost use Rattle.sched_book.specs.Given.{map_from};
+ghost use Rattle.sched_book.specs.Imports.{has_app};
+ghost use Rattle.sched_book.specs.Sound.{IsSoundVersion};
+ghost use Rattle.sched_book.specs.declared.rows.Account.{Account};
+ghost use Rattle.sched_book.specs.declared.rows.Agreement.{Agreement};
+ghost use Rattle.sched_book.specs.declared.rows.App.{App};
+ghost use Rattle.sched_book.specs.declared.rows.HostRow.{HostRow};
+ghost use Rattle.sched_book.specs.declared.rows.Version.{Version};
+ghost use Rattle.sched_book.specs.declared.world.World.{World};
+ghost use Rattle.table_meaning.specs.Worlds.{agreement_limit, app_place};
+ghost use Rattle.table_decoding.specs.Decoding.{Gives, ArePlatforms, of_account, of_app, of_version, of_host};
+
+use crate::fault::RowFault;
+use crate::listed_rows::each;
+use crate::platforms::platforms;
+use sched_book::{Account, Agreement, App, HostRow, Version, nth};
+use std::alloc::Global;
+use table_meaning::rows::StoredRow;
+use texts::{Listed, Text};
+
+/// The number that a table writes, which is negative in no world's row.
+pub(crate) fn amount(written: i64) -> Result<u64, RowFault>
+    ensures { (n : ℕ) → written ≡ pos n → result ≡ Ok n }
+{
+    u64::try_from(written).map_err(|_| RowFault::BadRow)
+}
+
+/// The account of a row.
+fn account(row: &StoredRow) -> Result<Account, RowFault>
+    ensures { (id : ℕ) (a : Account) → row.now ≡ of_account id a → Gives result a }
+{
+    let StoredRow::Account(row) = row else {
+        return Err(RowFault::BadRow);
+    };
+    Ok(Account {
+        authenticator: row.auth.clone()?,
+        name: row.name.clone()?,
+    })
+}
+
+/// The accounts of these rows.
+pub(crate) fn accounts(alloc: Global, rows: &[StoredRow]) -> Result<Listed<Account>, RowFault>
+    ensures { (xs : List Account) → rows.now ≡ map_from 1 of_account xs → Gives result xs }
+{
+    each(alloc, rows, account)
+}
+
+/// How outputs are compared that may be so far apart, or have to be equal where it is none.
+fn agreement(limit: Option<u32>) -> Agreement
+    ensures { (a : Agreement) → limit ≡ agreement_limit a → result ≡ a }
+{
+    match limit {
+        None => Agreement::Exact,
+        Some(distance) => Agreement::Within(distance),
+    }
+}
+
+/// The application of a row.
+fn app(row: &StoredRow) -> Result<App, RowFault>
+    ensures { (id : ℕ) (a : App) → row.now ≡ of_app id a → Gives result a }
+{
+    let StoredRow::App(row) = row else {
+        return Err(RowFault::BadRow);
+    };
+    Ok(App {
+        name: row.name.clone()?,
+        agreement: agreement(row.agreement),
+    })
+}
+
+/// The applications of these rows.
+pub(crate) fn apps(alloc: Global, rows: &[StoredRow]) -> Result<Listed<App>, RowFault>
+    ensures { (xs : List App) → rows.now ≡ map_from 1 of_app xs → Gives result xs }
+{
+    each(alloc, rows, app)
+}
+
+/// The name of the application at a place.
+pub(crate) fn app_name(apps: &[App], place: u32) -> Result<Text, RowFault>
+    ensures { (w : World) (name : List ℕ) → apps.now ≡ w.apps → IsTrue (has_app w.apps name) → place ≡ app_place w name → Gives result name }
+{
+    match nth(apps, place) {
+        None => Err(RowFault::BadRow),
+        Some(app) => Ok(app.name.clone()?),
+    }
+}
+
+/// The version of a row, beside the applications.
+fn version(apps: &[App], row: &StoredRow) -> Result<Version, RowFault>
+    ensures { (w : World) (id : ℕ) (v : Version) → apps.now ≡ w.apps → IsTrue (has_app w.apps v.app) → row.now ≡ of_version w id v → Gives result v }
+{
+    let StoredRow::Version(row) = row else {
+        return Err(RowFault::BadRow);
+    };
+    Ok(Version {
+        app: app_name(apps, row.app_id)?,
+        platform: row.platform.clone()?,
+        version_num: row.num,
+    })
+}
+
+/// The versions of these rows, beside the applications.
+pub(crate) fn versions(
+    alloc: Global,
+    apps: &[App],
+    rows: &[StoredRow],
+) -> Result<Listed<Version>, RowFault>
+    ensures { (w : World) → apps.now ≡ w.apps → All (IsSoundVersion w.apps) w.versions → rows.now ≡ map_from 1 (of_version w) w.versions → Gives result w.versions }
+{
+    each(alloc, rows, |row| version(apps, row))
+}
+
+/// The host of a row.
+fn host(alloc: Global, row: &StoredRow) -> Result<HostRow, RowFault>
+    ensures { (held credit : ℕ → ℕ) (id : ℕ) (h : HostRow) → ArePlatforms h.platforms → row.now ≡ of_host held credit id h → Gives result h }
+{
+    let StoredRow::Host(row) = row else {
+        return Err(RowFault::BadRow);
+    };
+    Ok(HostRow {
+        account: row.account_id,
+        cpid: row.cpid.clone()?,
+        p_fpops: amount(row.fpops)?,
+        m_nbytes: amount(row.memory)?,
+        d_free: amount(row.disk)?,
+        platforms: platforms(alloc, row.platforms.as_str())?,
+        quota: row.quota,
+    })
+}
+
+/// The hosts of these rows.
+pub(crate) fn hosts(alloc: Global, rows: &[StoredRow]) -> Result<Listed<HostRow>, RowFault>
+    ensures { (held credit : ℕ → ℕ) (xs : List HostRow) → All (λ (h : HostRow). ArePlatforms h.platforms) xs → rows.now ≡ map_from 1 (of_host held credit) xs → Gives result xs }
+{
+    each(alloc, rows, |row| host(alloc, row))
+}
