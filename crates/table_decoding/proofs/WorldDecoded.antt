@@ -9,7 +9,7 @@ use Rattle.sched_book.specs.declared.rows.HostRow.{HostRow}
 use Rattle.sched_book.specs.declared.world.World.{World}
 use Rattle.std.specs.Prelude.{length}
 use Rattle.table_meaning.specs.declared.rows.StoredRow.{StoredRow}
-use Rattle.table_worlds.specs.declared.decoded.TableRows.{TableRows}
+use Rattle.table_worlds.specs.declared.matching.TableRows.{TableRows}
 use Rattle.table_worlds.specs.RowsOf.{AreRowsOf, HaveSame}
 use Rattle.table_decoding.specs.Decoding.{TellAll, ArePlatforms, of_account, of_app, of_version, of_unit, of_host}
 use Rattle.table_decoding.specs.Placed.{instance_rows}

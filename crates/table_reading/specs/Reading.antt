@@ -1,5 +1,5 @@
 -- What the rows of tables have to be for a world to be read from them.
-use Rattle.std.specs.Prelude.{◌≡◌, ℕ, Bool, false, ◌&&◌, nat_le, IsTrue, List, [], ◌∷◌, map, length, codes, is_some}
+use Rattle.std.specs.Prelude.{◌≡◌, ℕ, Bool, false, ◌&&◌, nat_le, IsTrue, List, [], ◌∷◌, map, length, is_some}
 use Rattle.std.specs.List.{list_all}
 use Rattle.sqlite.specs.State.{State, HasCleanDisk}
 use Rattle.sqlite_rules.specs.Lists.{Has}
@@ -9,7 +9,6 @@ use Rattle.pasts.specs.Kinds.{kind_of}
 use Rattle.sched_book.specs.Places.{host_at}
 use Rattle.sched_book.specs.Sound.{Sound}
 use Rattle.sched_book.specs.declared.world.World.{World}
-use Rattle.table_meaning.specs.declared.rows.SettingValue.TheVariants.{Number}
 use Rattle.table_meaning.specs.declared.rows.StoredRow.{StoredRow}
 use Rattle.table_meaning.specs.declared.rows.StoredRow.TheVariants as stored
 use Rattle.table_meaning.specs.declared.tables.TableName.{TableName}
@@ -17,6 +16,7 @@ use Rattle.table_meaning.specs.declared.tables.TableName.TheVariants as name
 use Rattle.table_meaning.specs.Formats.{HasBadRow}
 use Rattle.table_meaning.specs.Holding.{AreKnown}
 use Rattle.table_meaning.specs.Rows.{columns_of, rows_in}
+use Rattle.table_decoding.specs.Decoding.{schema_row}
 use Rattle.table_worlds.specs.RowsOf.{AreRowsOf, AreRead}
 use Rattle.table_reading.specs.declared.rows.AllRows.{AllRows}
 
@@ -66,10 +66,6 @@ StandForNone trees = (all : AllRows) × AreAllRead trees all × ((w : World) →
 -- some row of some table has not the format of that table
 abbrev pub HasBadTable : Trees → Type 0
 HasBadTable trees = (t : TableName) × HasBadRow t (rows_in trees t)
-
--- the row of the settings that tells the schema
-abbrev pub schema_row : StoredRow
-schema_row = stored.Setting (record { name = codes "schema"; value = Number 1 })
 
 -- the settings were read, and no row of them tells this schema
 abbrev pub HasOtherSchema : Trees → Type 0

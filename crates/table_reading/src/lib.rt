@@ -3,5 +3,7 @@
 
 mod kept;
 mod rows;
+mod world;
 
 pub use rows::AllRows;
+pub use world::stored_world;

@@ -13,6 +13,7 @@ ghost use Rattle.table_meaning.specs.Holding.{AreKnown};
 
 use crate::alike::Alike;
 use crate::definitions::create;
+use sched_book::Unavailable;
 use sqlite::{Alter, Connection, Error, MemStore};
 use sqlite_schema::schema::Schema;
 use std::alloc::{AllocError, Global};
@@ -47,6 +48,17 @@ impl From<AllocError> for OpenFault {
     ghost from_gives = { λ _ e. e ≡ Unavailable };
 
     fn from(_: AllocError) -> OpenFault {
+        OpenFault::Unavailable
+    }
+}
+
+impl From<Unavailable> for OpenFault {
+    ghost use Rattle.std.specs.Prelude.{◌≡◌};
+    ghost use Rattle.table_rows.specs.declared.opening.OpenFault.TheVariants.{Unavailable};
+
+    ghost from_gives = { λ _ e. e ≡ Unavailable };
+
+    fn from(_: Unavailable) -> OpenFault {
         OpenFault::Unavailable
     }
 }

@@ -1,0 +1,75 @@
+//! The sound world that rows stand for.
+
+ghost use Rattle.std.specs.Prelude.{◌≡◌, ◌⊎◌, IfOk, IfErr};
+ghost use Rattle.sqlite.specs.Held.{state};
+ghost use Rattle.sqlite_rules.specs.Lists.{Has};
+ghost use Rattle.sched_book.specs.Sound.{Sound};
+ghost use Rattle.sched_book.specs.declared.world.World.{World as Known};
+ghost use Rattle.table_meaning.specs.Kept.{calls_in, batches_in};
+ghost use Rattle.table_meaning.specs.Reads.{Reads};
+ghost use Rattle.table_meaning.specs.Worlds.{HoldWorld};
+ghost use Rattle.table_worlds.specs.RowsOf.{AreRowsOf};
+ghost use Rattle.table_decoding.specs.Decoding.{schema_row};
+ghost use Rattle.table_reading.specs.Reading.{WereKnown, ReadFrom, StandForNone, HasBadTable, HasOtherSchema};
+
+use crate::kept::{are_calls_of, are_imports};
+use crate::rows::read_all;
+use sched_book::World;
+use sqlite::{Alter, Connection};
+use std::alloc::Global;
+use table_decoding::{DecodeFault, decoded_world};
+use table_rows::OpenFault;
+use table_worlds::{TableRows, are_rows_of};
+use world_soundness::is_sound;
+
+/// The sound world whose rows these are; there is one at most.
+fn sound_world(alloc: Global, rows: &TableRows) -> Result<World, OpenFault>
+    ensures sound { IfOk result Sound }
+    ensures rows { IfOk result (λ w. AreRowsOf w rows.now) }
+    ensures one { IfOk result (λ w. (other : Known) → Sound other → AreRowsOf other rows.now → w ≡ other) }
+    ensures other_schema { IfErr result (λ e. e ≡ OpenFault.NotTables → ¬ Has rows.now.settings schema_row) }
+    ensures bad { IfErr result (λ e. e ≡ OpenFault.BadRow → (w : Known) → Sound w → ¬ AreRowsOf w rows.now) }
+{
+    let world = match decoded_world(alloc, rows) {
+        Ok(world) => world,
+        Err(DecodeFault::NotTables) => return Err(OpenFault::NotTables),
+        Err(DecodeFault::BadRow) => return Err(OpenFault::BadRow),
+        Err(DecodeFault::Unavailable) => return Err(OpenFault::Unavailable),
+    };
+    if !are_rows_of(alloc, &world, rows)? {
+        return Err(OpenFault::BadRow);
+    }
+    if !is_sound(alloc, &world)? {
+        return Err(OpenFault::BadRow);
+    }
+    Ok(world)
+}
+
+/// The sound world that the tables of a connection hold, if their schema is the known one. `NotTables` where no setting
+/// tells this schema; `BadRow` where a row has not the format of its table, or the rows stand for no sound world: a value
+/// is out of its range, a reference leads to nothing, a number is left out, or what is counted of other rows is off. The
+/// connection shows what it showed.
+pub fn stored_world<S: Alter>(
+    alloc: Global,
+    conn: &mut Connection<S>,
+) -> Result<World, OpenFault>
+    ensures reads { Reads (state S.Store conn.old) (state S.Store conn.new) }
+    ensures sound { IfOk result Sound }
+    ensures stands { WereKnown (state S.Store conn.old) (state S.Store conn.new) → IfOk result (ReadFrom (state S.Store conn.old).now.trees) }
+    ensures held { WereKnown (state S.Store conn.old) (state S.Store conn.new)
+        → IfOk result (λ w. HoldWorld (state S.Store conn.old).now w (calls_in (state S.Store conn.old).now.trees) (batches_in (state S.Store conn.old).now.trees)) }
+    ensures other_schema { WereKnown (state S.Store conn.old) (state S.Store conn.new)
+        → IfErr result (λ e. e ≡ OpenFault.NotTables → HasOtherSchema (state S.Store conn.old).now.trees) }
+    ensures bad { WereKnown (state S.Store conn.old) (state S.Store conn.new)
+        → IfErr result (λ e. e ≡ OpenFault.BadRow → HasBadTable (state S.Store conn.old).now.trees ⊎ StandForNone (state S.Store conn.old).now.trees) }
+{
+    let rows = read_all(alloc, conn)?;
+    let world = sound_world(alloc, &rows.world)?;
+    if !are_calls_of(&world, rows.calls.as_slice()) {
+        return Err(OpenFault::BadRow);
+    }
+    if !are_imports(rows.batches.as_slice()) {
+        return Err(OpenFault::BadRow);
+    }
+    Ok(world)
+}
