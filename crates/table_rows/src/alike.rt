@@ -2,7 +2,9 @@
 //!
 //! The stored tables have no default, no CHECK and no view. So these are not compared: a schema that has one is like no other.
 
-ghost use Rattle.std.specs.Prelude.{◌≡◌, [], IsTrue};
+ghost use Rattle.std.specs.Prelude.{◌≡◌, ⊤};
+ghost use Rattle.std.specs.Bool.{Decides};
+ghost use Rattle.table_rows.specs.Plain.{Each, HasNoDefault, IsBare, IsPlainTable, IsPlain};
 
 use sqlite_items::Items;
 use sqlite_schema::schema::{Column, Index, Reference, Schema, Table};
@@ -10,13 +12,17 @@ use sqlite_value::keys::Order;
 use sqlite_value::value::{Bytes, Value};
 
 pub trait Alike {
-    /// Whether it says what the other says.
+    /// It has none of what is not compared.
+    ghost is_plain: { Self → Type 0 };
+
+    /// Whether the two are equal, and plain.
     fn is_alike(&self, other: &Self) -> bool
-        ensures { IsTrue result → self.now ≡ other.now };
+        ensures { Decides result ((self.now ≡ other.now) × Self.is_plain other.now) };
 }
 
+/// Whether the two lists are equal, and each item is plain.
 fn are_alike<T: Alike>(first: &[T], second: &[T]) -> bool
-    ensures { IsTrue result → first.now ≡ second.now }
+    ensures { Decides result ((first.now ≡ second.now) × Each T.is_plain second.now) }
 {
     if first.len() != second.len() {
         return false;
@@ -30,30 +36,40 @@ fn are_alike<T: Alike>(first: &[T], second: &[T]) -> bool
 }
 
 impl Alike for usize {
+    ghost is_plain = { λ _. ⊤ };
+
     fn is_alike(&self, other: &usize) -> bool {
         *self == *other
     }
 }
 
 impl Alike for Order {
+    ghost is_plain = { λ _. ⊤ };
+
     fn is_alike(&self, other: &Order) -> bool {
         self.digits == other.digits
     }
 }
 
 impl Alike for Bytes {
+    ghost is_plain = { λ _. ⊤ };
+
     fn is_alike(&self, other: &Bytes) -> bool {
         self.as_slice() == other.as_slice()
     }
 }
 
 impl<T: Alike> Alike for Items<T> {
+    ghost is_plain = { Each T.is_plain };
+
     fn is_alike(&self, other: &Items<T>) -> bool {
         are_alike(self.as_slice(), other.as_slice())
     }
 }
 
 impl Alike for Column {
+    ghost is_plain = { HasNoDefault };
+
     fn is_alike(&self, other: &Column) -> bool {
         self.name.is_alike(&other.name)
             && self.kind == other.kind
@@ -66,6 +82,8 @@ impl Alike for Column {
 }
 
 impl Alike for Reference {
+    ghost is_plain = { λ _. ⊤ };
+
     fn is_alike(&self, other: &Reference) -> bool {
         self.columns.is_alike(&other.columns)
             && self.parent.is_alike(&other.parent)
@@ -77,6 +95,8 @@ impl Alike for Reference {
 }
 
 impl Alike for Index {
+    ghost is_plain = { λ _. ⊤ };
+
     fn is_alike(&self, other: &Index) -> bool {
         self.name.is_alike(&other.name)
             && self.tree == other.tree
@@ -89,16 +109,18 @@ impl Alike for Index {
 
 /// Whether the table has no CHECK, and no default that is computed.
 fn is_bare(table: &Table) -> bool
-    ensures { IsTrue result → (table.now.checks ≡ []) × (table.now.computed ≡ []) × (table.now.stamps.places ≡ []) × (table.now.stamps.terms ≡ []) × (table.now.stamps.formats ≡ []) }
+    ensures { Decides result (IsBare table.now) }
 {
-    table.checks.roots.as_slice().is_empty()
-        && table.computed.as_slice().is_empty()
-        && table.stamps.places.as_slice().is_empty()
-        && table.stamps.terms.roots.as_slice().is_empty()
-        && table.stamps.formats.as_slice().is_empty()
+    table.checks.roots.is_empty()
+        && table.computed.is_empty()
+        && table.stamps.places.is_empty()
+        && table.stamps.terms.roots.is_empty()
+        && table.stamps.formats.is_empty()
 }
 
 impl Alike for Table {
+    ghost is_plain = { IsPlainTable };
+
     fn is_alike(&self, other: &Table) -> bool {
         is_bare(self)
             && is_bare(other)
@@ -115,9 +137,11 @@ impl Alike for Table {
 }
 
 impl Alike for Schema {
+    ghost is_plain = { IsPlain };
+
     fn is_alike(&self, other: &Schema) -> bool {
-        self.views.as_slice().is_empty()
-            && other.views.as_slice().is_empty()
+        self.views.is_empty()
+            && other.views.is_empty()
             && self.tables.is_alike(&other.tables)
             && self.indexes.is_alike(&other.indexes)
     }

@@ -13,7 +13,7 @@ pub mod values;
 
 pub use definitions::create;
 pub use keyed::{batch_of, kept_of};
-pub use opening::{OpenFault, in_memory, known};
+pub use opening::{OpenFault, Refused, in_memory, known};
 pub use put::put_rows;
 pub use read::{all_rows, rows_of};
 pub use typed::stored_rows;

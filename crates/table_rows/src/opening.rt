@@ -1,15 +1,16 @@
 //! Connections whose tables are the known ones.
 
-ghost use Rattle.std.specs.Prelude.{◌≡◌, IfOk, IfSome};
+ghost use Rattle.std.specs.Prelude.{◌≡◌, ◌≢◌, IfOk, IfErr, IfSome};
 ghost use Rattle.std.specs.List.{AllByRecursion};
 ghost use Rattle.sqlite_trees.specs.declared.store.Shape.TheVariants.{Table as TableTree};
 ghost use Rattle.sqlite_trees.specs.View.{IsShaped};
-ghost use Rattle.sqlite.specs.Held.{state};
+ghost use Rattle.sqlite.specs.Held.{Held, state};
 ghost use Rattle.sqlite.specs.Steps.{over_memory};
 ghost use Rattle.sqlite.specs.State.{HasCleanDisk, IsLive, Opens};
 ghost use Rattle.table_meaning.specs.Schema.{stored_schema};
 ghost use Rattle.table_meaning.specs.Steps.{HoldJust};
 ghost use Rattle.table_meaning.specs.Holding.{AreKnown};
+ghost use Rattle.table_rows.specs.declared.opening.Refused.TheVariants as refused;
 
 use crate::alike::Alike;
 use crate::definitions::create;
@@ -19,7 +20,7 @@ use sqlite_schema::schema::Schema;
 use std::alloc::{AllocError, Global};
 use table_meaning::rows::StoredRow;
 
-/// Why a connection is not taken.
+/// Why tables are not taken.
 #[derive(Clone, Copy, Debug)]
 pub enum OpenFault {
     /// Its tables are not the stored ones.
@@ -82,13 +83,37 @@ pub fn wanted_schema(alloc: Global) -> Result<Schema, OpenFault>
     Ok(schema)
 }
 
+/// Why a connection is not taken.
+#[derive(Drop)]
+pub enum Refused<S: Alter> {
+    /// Its tables are not the stored ones. The connection is opened anew.
+    NotTables(Connection<S>),
+    /// Memory or the disk failed.
+    Unavailable,
+}
+
+impl<S: Alter + Drop> From<Refused<S>> for OpenFault {
+    ghost use Rattle.std.specs.Prelude.{◌≡◌};
+    ghost use Rattle.table_rows.specs.Refusing.{fault_of};
+
+    ghost from_gives = { λ refused e. e ≡ fault_of refused };
+
+    fn from(refused: Refused<S>) -> OpenFault {
+        match refused {
+            Refused::NotTables(_) => OpenFault::NotTables,
+            Refused::Unavailable => OpenFault::Unavailable,
+        }
+    }
+}
+
 /// The connection opened anew over its store, if that is open: what was not committed is gone, and the numbers of each table's rows rise.
 fn reopened<S: Alter + Drop>(alloc: Global, conn: Connection<S>) -> Option<Connection<S>>
     ensures opens { IfSome result (λ c. HasCleanDisk (state S.Store c) → Opens (state S.Store c) × IsLive (state S.Store c)) }
     ensures ordered { IfSome result (λ c. HasCleanDisk (state S.Store c)
         → AllByRecursion (λ t. IsShaped TableTree ((state S.Store c).now.trees t.tree)) (state S.Store c).now.schema.tables) }
-    ensures same { IfSome result (λ c. HasCleanDisk (state S.Store c) → (state S.Store c).now.trees ≡ (state S.Store conn).committed.trees) }
+    ensures same { IfSome result (λ c. HasCleanDisk (state S.Store c) → (state S.Store c).now ≡ (state S.Store conn).committed) }
 {
+    let _schema = conn.schema();
     let store = conn.into_store();
     if store.is_broken() {
         return None;
@@ -99,21 +124,25 @@ fn reopened<S: Alter + Drop>(alloc: Global, conn: Connection<S>) -> Option<Conne
     Some(conn)
 }
 
-/// The connection, if its tables are the stored ones: then it is at rest, with what was last committed.
+/// The connection, if its tables are the stored ones: then it is at rest, with what was last committed. Where they are
+/// others it is given back in the refusal.
 pub fn known<S: Alter + Drop>(
     alloc: Global,
     conn: Connection<S>,
-) -> Result<Connection<S>, OpenFault>
+) -> Result<Connection<S>, Refused<S>>
     ensures known { IfOk result (λ c. HasCleanDisk (state S.Store c) → AreKnown (state S.Store c).now) }
     ensures opens { IfOk result (λ c. HasCleanDisk (state S.Store c) → Opens (state S.Store c)) }
-    ensures same { IfOk result (λ c. HasCleanDisk (state S.Store c) → (state S.Store c).now.trees ≡ (state S.Store conn).committed.trees) }
+    ensures same { IfOk result (λ c. HasCleanDisk (state S.Store c) → (state S.Store c).now ≡ (state S.Store conn).committed) }
+    ensures other { IfErr result (λ e. (c : Held S) → e ≡ refused.NotTables c → HasCleanDisk (state S.Store c) → (state S.Store conn).committed.schema ≢ stored_schema) }
 {
-    let wanted = wanted_schema(alloc)?;
+    let Ok(wanted) = wanted_schema(alloc) else {
+        return Err(Refused::Unavailable);
+    };
     let Some(conn) = reopened(alloc, conn) else {
-        return Err(OpenFault::Unavailable);
+        return Err(Refused::Unavailable);
     };
     if !conn.schema().is_alike(&wanted) {
-        return Err(OpenFault::NotTables);
+        return Err(Refused::NotTables(conn));
     }
     Ok(conn)
 }

@@ -22,7 +22,7 @@ use Rattle.table_worlds.specs.declared.keys.WorldKey.TheVariants.{Instance}
 use Rattle.table_worlds.specs.Keys.{row_in}
 use Rattle.table_worlds.specs.PlacesSeen.{HasKey}
 use Rattle.table_worlds.specs.RowsOf.{HaveSame}
-use Rattle.table_worlds.proofs.KeysStand.{instance_listed, row_has_key}
+use Rattle.table_worlds.proofs.KeysStand.{has_first, has_later, instance_listed, row_has_key}
 use Rattle.table_worlds.proofs.RowsHold.{kept_by, given_by}
 
 -- ---- the place of an instance's row
@@ -73,15 +73,6 @@ module _ (w : World) where
 
 -- ---- rows that came by
 
-has_front : (xs : List StoredRow) (y r : StoredRow) → Has xs r → Has (xs ++ y ∷ []) r
-has_front [] y r has = absurd has
-has_front (x ∷ xs) y r (inl this) = inl this
-has_front (x ∷ xs) y r (inr later) = inr (has_front xs y r later)
-
-has_last : (xs : List StoredRow) (y : StoredRow) → Has (xs ++ y ∷ []) y
-has_last [] y = inl refl
-has_last (x ∷ xs) y = inr (has_last xs y)
-
 in_front : (xs : List StoredRow) (y r : StoredRow) → Has (xs ++ y ∷ []) r → Has xs r ⊎ (r ≡ y)
 in_front [] y r (inl this) = inr this
 in_front [] y r (inr later) = absurd later
@@ -104,9 +95,9 @@ module _ (seen : ℕ → ℕ → Bool) (rows : List StoredRow) (before : AreSeen
       at unit number (inl here) =
           let parts = and_parts (unit == i.unit_id) (number == i.num) here in
           let key : key_of (stored.Instance i) ≡ instance_key unit number = ap₂ instance_key (sym ((Decides-eqb unit i.unit_id).0 parts.0)) (sym ((Decides-eqb number i.num).0 parts.1)) in
-          (λ _. (stored.Instance i, has_last rows (stored.Instance i), key), λ _. is unit number ∙ or_left _ (seen unit number) here)
+          (λ _. (stored.Instance i, has_later rows (stored.Instance i ∷ []) (stored.Instance i) (inl refl), key), λ _. is unit number ∙ or_left _ (seen unit number) here)
       at unit number (inr other) = (
-        λ came. let had = (before unit number).0 (sym (ap (λ b. b || seen unit number) other) ∙ sym (is unit number) ∙ came) in (had.0, has_front rows (stored.Instance i) had.0 had.1, had.2),
+        λ came. let had = (before unit number).0 (sym (ap (λ b. b || seen unit number) other) ∙ sym (is unit number) ∙ came) in (had.0, has_first rows (stored.Instance i ∷ []) had.0 had.1, had.2),
         λ has. elim (in_front rows (stored.Instance i) has.0 has.1) [
           | inl had ↦ is unit number ∙ or_right _ (seen unit number) ((before unit number).1 (has.0, had, has.2))
           | inr this ↦
@@ -117,7 +108,7 @@ module _ (seen : ℕ → ℕ → Bool) (rows : List StoredRow) (before : AreSeen
 
   pub other_more : (r : StoredRow) → ((i : StoredInstance) → r ≢ stored.Instance i) → AreSeen seen (rows ++ r ∷ [])
   other_more r other = λ unit number. (
-    λ came. let had = (before unit number).0 came in (had.0, has_front rows r had.0 had.1, had.2),
+    λ came. let had = (before unit number).0 came in (had.0, has_first rows (r ∷ []) had.0 had.1, had.2),
     λ has. elim (in_front rows r has.0 has.1) [
       | inl had ↦ (before unit number).1 (has.0, had, has.2)
       | inr this ↦ let it = is_instance r unit number (sym (ap key_of this) ∙ has.2) in absurd (other it.0 it.1)

@@ -22,12 +22,12 @@ use Rattle.table_worlds.specs.Keys.{row_key, row_in, keyed, numbered, keys_in}
 
 -- ---- members of lists put together
 
-has_first : {X : Type 0} (xs ys : List X) (x : X) → Has xs x → Has (xs ++ ys) x
+pub has_first : {X : Type 0} (xs ys : List X) (x : X) → Has xs x → Has (xs ++ ys) x
 has_first [] ys x has = absurd has
 has_first (y ∷ xs) ys x (inl same) = inl same
 has_first (y ∷ xs) ys x (inr more) = inr (has_first xs ys x more)
 
-has_later : {X : Type 0} (xs ys : List X) (x : X) → Has ys x → Has (xs ++ ys) x
+pub has_later : {X : Type 0} (xs ys : List X) (x : X) → Has ys x → Has (xs ++ ys) x
 has_later [] ys x has = has
 has_later (y ∷ xs) ys x has = inr (has_later xs ys x has)
 

@@ -1,15 +1,8 @@
 -- Members of lists, as loops meet them.
-use Rattle.std.proofs.Common.{◌≡◌, ◌≢◌, ◌⊎◌, Bool, true, false, true≢false, ℕ, zero, suc, ◌<◌, List, [], ◌∷◌, length, drop, get_or, filter_map, Option, Some, None, Result, Ok, Err, IfOk, refl, sym, ap, subst, ◌∙◌, arith, inl, inr}
+use Rattle.std.proofs.Common.{◌≡◌, ◌≢◌, ◌⊎◌, Bool, true, false, true≢false, ℕ, zero, suc, ◌<◌, List, [], ◌∷◌, length, get_or, filter_map, Option, Result, Ok, Err, IfOk, refl, sym, subst, ◌∙◌, arith, inl, inr}
 use Rattle.std.specs.Bool.{Decides}
-use Rattle.std.specs.Prelude.{slice_get, unwrap_or}
 use Rattle.std.specs.List.{cons_option}
-use Rattle.std.proofs.lemmas.Option.{none-some}
 use Rattle.sqlite_rules.specs.Lists.{Has}
-
-pub has_got : {X : Type 0} (xs : List X) (i : ℕ) (x : X) → slice_get xs i ≡ Some x → Has xs x
-has_got [] i x is = absurd (none-some x is)
-has_got (y ∷ xs) zero x is = inl (sym (ap (λ o. unwrap_or o x) is))
-has_got (y ∷ xs) (suc i) x is = inr (has_got xs i x is)
 
 pub has_get_or : {X : Type 0} (xs : List X) (i : ℕ) (d : X) → i < length xs → Has xs (get_or xs i d)
 has_get_or [] i d within = absurd (omega (arith, within))
@@ -20,21 +13,6 @@ has_get_or (y ∷ xs) (suc i) d within = inr (has_get_or xs i d (omega (arith, w
 abbrev pub LeftOr : {X : Type 0} → (X → Type 0) → List X → List X → Type 0
 LeftOr {X} P xs left = (x : X) → Has xs x → Has left x ⊎ P x
 
-pub none_seen : {X : Type 0} (P : X → Type 0) (xs : List X) → LeftOr P xs xs
-none_seen P xs x has = inl has
-
-pub one_seen : {X : Type 0} (P : X → Type 0) (xs left : List X) (y : X) → LeftOr P xs (y ∷ left) → P y → LeftOr P xs left
-one_seen P xs left y before passes = λ x has. elim (before x has) [
-  | inl here ↦ elim here [ inl this ↦ inr (subst P (sym this) passes) | inr later ↦ inl later ]
-  | inr good ↦ inr good
-]
-
-pub all_seen : {X : Type 0} (P : X → Type 0) (xs left : List X) → left ≡ [] → LeftOr P xs left → (x : X) → Has xs x → P x
-all_seen {X} P xs left none before = λ x has. elim (before x has) [
-  | inl here ↦ absurd (subst (λ (l : List X). Has l x) none here)
-  | inr good ↦ good
-]
-
 pub never : (P : Type 0) → (P → ⊥) → Decides false P
 never P not = (λ no. absurd (true≢false (sym no)), λ holds. absurd (not holds))
 
@@ -42,27 +20,16 @@ never P not = (λ no. absurd (true≢false (sym no)), λ holds. absurd (not hold
 pub one_fails : {X : Type 0} (P : X → Type 0) (xs : List X) (x : X) (passes : Bool) → passes ≡ false → Decides passes (P x) → Has xs x → Decides false ((y : X) → Has xs y → P y)
 one_fails {X} P xs x passes fails is has = never ((y : X) → Has xs y → P y) (λ all. true≢false (sym (is.1 (all x has)) ∙ fails))
 
--- what is left where a list is looked through for another member
-pub not_here : {X : Type 0} (xs left : List X) (x y : X) → (x ≢ y) → (Has xs x → Has (y ∷ left) x) → Has xs x → Has left x
-not_here xs left x y other before has = elim (before has) [ inl this ↦ absurd (other this) | inr later ↦ later ]
-
 pub found_here : {X : Type 0} (xs : List X) (x y : X) → x ≡ y → Has xs y → Decides true (Has xs x)
 found_here xs x y same has = (λ _. subst (Has xs) (sym same) has, λ _. refl)
 
 -- ---- rows that begin with what a function gives of each key in turn
-
-pub same_behind : {Y : Type 0} (o : Option Y) (xs ys : List Y) → cons_option o xs ≡ cons_option o ys → xs ≡ ys
-same_behind None xs ys same = same
-same_behind (Some v) xs ys same = ap (drop 1) same
 
 -- the rows are those of all keys just where the rows that are left are those of the keys that are left
 abbrev pub SameLeft : {X Y : Type 0} → (X → Option Y) → List Y → List Y → List X → List X → Type 0
 SameLeft f rows left keys more = (rows ≡ filter_map f keys → left ≡ filter_map f more) × (left ≡ filter_map f more → rows ≡ filter_map f keys)
 
 module _ {X Y : Type 0} (f : X → Option Y) (rows left : List Y) (keys more : List X) (x : X) where
-  pub one_behind : (behind : List Y) → left ≡ cons_option (f x) behind → SameLeft f rows left keys (x ∷ more) → SameLeft f rows behind keys more
-  one_behind behind is before = (λ same. same_behind (f x) behind (filter_map f more) (sym is ∙ before.0 same), λ same. before.1 (is ∙ ap (cons_option (f x)) same))
-
   pub none_behind : ((behind : List Y) → left ≢ cons_option (f x) behind) → SameLeft f rows left keys (x ∷ more) → rows ≢ filter_map f keys
   none_behind none before = λ same. none (filter_map f more) (before.0 same)
 

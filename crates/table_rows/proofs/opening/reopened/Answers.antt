@@ -3,6 +3,7 @@ use Rattle.std.proofs.lemmas.Bool.{both_ways, true_from_ne_false}
 use Rattle.sqlite_trees.specs.View.{IsClean}
 use Rattle.sqlite.specs.Held.{state}
 use Rattle.table_meaning.proofs.Knowing.{tables_rise}
+use Rattle.table_rows.proofs.Reopening.{one_database}
 use Rattle.table_rows.proofs.opening.reopened.Goals as goal
 
 pub returns-clause-ordered : goal.returns-clause-ordered
@@ -18,8 +19,11 @@ returns-clause-ordered g c clean =
 pub returns-clause-same : goal.returns-clause-same
 returns-clause-same g c clean =
     let store = c.into_store-store.result in
+    let opened = c.in-Ok.ensures.opens clean in
     let early : IsClean (g.S.Store.view store) = omega (arith, c.in-Ok.ensures.clean) in
     let whole = c.is_broken.ensures early in
     let unbroken : (g.S.Store.view store).is_broken ≡ false = search rules in
     let is_open : IsTrue (g.S.Store.view store).is_open = true_from_ne_false _ (λ shut. both_ways _ unbroken (g.met.S.Store.broken_if_shut store shut)) in
-    c.in-Ok.ensures.trees clean ∙ (c.into_store-store.ensures.undone.undone is_open).0
+    let was_open = (c.into_store-store.ensures.undone.kept early).was_open is_open in
+    let trees = c.in-Ok.ensures.trees clean ∙ (c.into_store-store.ensures.undone.undone is_open).0 in
+    one_database (state g.S.Store c.in-Ok.conn).now (state g.S.Store c.args.conn).committed trees (opened.1 opened.0.is_open).0 (c.schema-schema.ensures.live was_open).1

@@ -1,0 +1,3 @@
+pub mod Alikes
+pub mod PlainSchema
+pub mod Reopening
