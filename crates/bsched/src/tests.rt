@@ -9,6 +9,7 @@ mod refusals;
 mod repeats;
 mod rows;
 mod spellings;
+mod stored;
 mod worked;
 
 use crate::default_settings;
@@ -36,11 +37,7 @@ fn replayed_over<S: Store>(
 
 /// What a replay of these lines prints over tables with these settings, and how it ends; it fails where the plain lists
 /// print anything else.
-fn replayed_by(
-    alloc: Global,
-    settings: &Settings,
-    lines: &[u8],
-) -> Result<(Vec<u8>, Ended), Fail> {
+fn replayed_by(alloc: Global, settings: &Settings, lines: &[u8]) -> Result<(Vec<u8>, Ended), Fail> {
     let mut lists = ListStore::new(alloc, settings)?;
     let mut tables = Tables::in_memory(alloc, settings)?;
     let by_lists = replayed_over(alloc, &mut lists, lines)?;

@@ -1,3 +1,4 @@
 pub mod EntriesKept
 pub mod Leads
 pub mod NewTables
+pub mod Opened

@@ -1,12 +1,14 @@
-//! Tables made anew.
+//! Tables made anew, and tables opened that were made before.
 
 ghost use Rattle.std.specs.Prelude.{◌≡◌, ◌≢◌, [], None, IfOk, IfErr};
 ghost use Rattle.sqlite.specs.Held.{state};
 ghost use Rattle.sqlite.specs.Steps.{over_memory};
 ghost use Rattle.sched_book.specs.Limits.{AreSettingsInLimits};
+ghost use Rattle.sched_book.specs.Sound.{Sound};
 ghost use Rattle.sched_book.specs.Step.{empty_world};
 ghost use Rattle.message_engine.specs.Arrivals.{StandsFor};
 ghost use Rattle.table_meaning.specs.Schema.{no_schema};
+ghost use Rattle.table_reading.specs.Reading.{ReadFrom};
 ghost use Rattle.sched_tables.specs.Entries.{calls_of, batches_of};
 ghost use Rattle.sched_tables.specs.Held.{IsHonest, AreWellKept, KeepNothing};
 ghost use Rattle.sched_tables.specs.Views.{state_of, world_of};
@@ -15,7 +17,8 @@ use crate::tables::Tables;
 use sched_book::{ListDesk, Settings};
 use sqlite::{Alter, Connection, MemStore};
 use std::alloc::Global;
-use table_rows::{OpenFault, create};
+use table_reading::stored_world;
+use table_rows::{OpenFault, create, known};
 use table_worlds::setting_rows;
 
 impl<S: Alter + Drop> Tables<S> {
@@ -36,6 +39,22 @@ impl<S: Alter + Drop> Tables<S> {
         let desk = ListDesk::new(alloc, settings)?;
         let rows = setting_rows(alloc, settings)?;
         create(alloc, &mut conn, rows.as_slice())?;
+        Ok(Tables { alloc, conn, desk })
+    }
+    /// Opens the tables of a database that were made before.
+    ///
+    /// `NotTables` where the schema is not that of the stored tables, or no setting tells it; `BadRow` where the rows are
+    /// not those of a sound world with what may be kept beside it, as [`table_reading::stored_world`] says. A connection
+    /// that is refused is dropped, with its file as it was.
+    pub fn open(alloc: Global, conn: Connection<S>) -> Result<Tables<S>, OpenFault>
+        ensures sound { IfOk result (λ t. Sound (world_of t)) }
+        ensures held { IfOk result (λ t. IsHonest (state_of S.Store t) → AreWellKept (state_of S.Store t) (world_of t)) }
+        ensures same { IfOk result (λ t. IsHonest (state_of S.Store t) → (state_of S.Store t).now ≡ (state S.Store conn).committed) }
+        ensures rows { IfOk result (λ t. IsHonest (state_of S.Store t) → ReadFrom (state_of S.Store t).now.trees (world_of t)) }
+    {
+        let mut conn = known(alloc, conn)?;
+        let world = stored_world(alloc, &mut conn)?;
+        let desk = ListDesk::of(alloc, world)?;
         Ok(Tables { alloc, conn, desk })
     }
 }

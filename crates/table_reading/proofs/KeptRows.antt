@@ -21,7 +21,6 @@ use Rattle.table_reading.specs.declared.rows.AllRows.{AllRows}
 
 -- ---- what passes is of its table
 
-
 each_passes : {X : Type 0} (p : X → Bool) (xs : List X) (x : X) → list_all p xs ≡ true → Has xs x → p x ≡ true
 each_passes p [] x all has = absurd has
 each_passes p (y ∷ ys) x all (inl same) = ap p same ∙ (and_parts (p y) (list_all p ys) all).0

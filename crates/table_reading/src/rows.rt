@@ -44,7 +44,18 @@ fn typed_rows(alloc: Global, tables: &[Vec<Row>]) -> Result<AllRows, OpenFault>
     ensures rows { (trees : Trees) → map (λ rows. rows.items) tables.now ≡ map (rows_in trees) all_tables → IfOk result (AreAllRead trees) }
     ensures bad { (trees : Trees) → map (λ rows. rows.items) tables.now ≡ map (rows_in trees) all_tables → IfErr result (λ e. e ≡ OpenFault.BadRow → HasBadTable trees) }
 {
-    let [settings, accounts, apps, versions, units, hosts, instances, calls, batches] = tables else {
+    let [
+        settings,
+        accounts,
+        apps,
+        versions,
+        units,
+        hosts,
+        instances,
+        calls,
+        batches,
+    ] = tables
+    else {
         return Err(OpenFault::Unavailable);
     };
     Ok(AllRows {

@@ -49,10 +49,7 @@ fn sound_world(alloc: Global, rows: &TableRows) -> Result<World, OpenFault>
 /// tells this schema; `BadRow` where a row has not the format of its table, or the rows stand for no sound world: a value
 /// is out of its range, a reference leads to nothing, a number is left out, or what is counted of other rows is off. The
 /// connection shows what it showed.
-pub fn stored_world<S: Alter>(
-    alloc: Global,
-    conn: &mut Connection<S>,
-) -> Result<World, OpenFault>
+pub fn stored_world<S: Alter>(alloc: Global, conn: &mut Connection<S>) -> Result<World, OpenFault>
     ensures reads { Reads (state S.Store conn.old) (state S.Store conn.new) }
     ensures sound { IfOk result Sound }
     ensures stands { WereKnown (state S.Store conn.old) (state S.Store conn.new) → IfOk result (ReadFrom (state S.Store conn.old).now.trees) }
@@ -63,7 +60,11 @@ pub fn stored_world<S: Alter>(
     ensures bad { WereKnown (state S.Store conn.old) (state S.Store conn.new)
         → IfErr result (λ e. e ≡ OpenFault.BadRow → HasBadTable (state S.Store conn.old).now.trees ⊎ StandForNone (state S.Store conn.old).now.trees) }
 {
-    let rows = read_all(alloc, conn)?;
+    let rows = match read_all(alloc, conn) {
+        Ok(rows) => rows,
+        Err(OpenFault::BadRow) => return Err(OpenFault::BadRow),
+        Err(_) => return Err(OpenFault::Unavailable),
+    };
     let world = sound_world(alloc, &rows.world)?;
     if !are_calls_of(&world, rows.calls.as_slice()) {
         return Err(OpenFault::BadRow);

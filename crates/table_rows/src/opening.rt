@@ -21,7 +21,7 @@ use std::alloc::{AllocError, Global};
 use table_meaning::rows::StoredRow;
 
 /// Why tables are not taken.
-#[derive(Clone, Copy, Debug)]
+#[derive(Clone, Copy, Debug, PartialEq, Eq)]
 pub enum OpenFault {
     /// Its tables are not the stored ones.
     NotTables,

@@ -1,8 +1,15 @@
 -- Members of lists, as loops meet them.
-use Rattle.std.proofs.Common.{◌≡◌, ◌≢◌, ◌⊎◌, Bool, true, false, true≢false, ℕ, zero, suc, ◌<◌, List, [], ◌∷◌, length, get_or, filter_map, Option, Result, Ok, Err, IfOk, refl, sym, subst, ◌∙◌, arith, inl, inr}
+use Rattle.std.proofs.Common.{◌≡◌, ◌≢◌, ◌⊎◌, Bool, true, false, true≢false, ℕ, zero, suc, ◌<◌, List, [], ◌∷◌, length, get_or, filter_map, Option, Some, Result, Ok, Err, IfOk, refl, sym, ap, subst, ◌∙◌, arith, inl, inr}
 use Rattle.std.specs.Bool.{Decides}
+use Rattle.std.specs.Prelude.{slice_get, unwrap_or}
 use Rattle.std.specs.List.{cons_option}
+use Rattle.std.proofs.lemmas.Option.{none-some}
 use Rattle.sqlite_rules.specs.Lists.{Has}
+
+pub has_got : {X : Type 0} (xs : List X) (i : ℕ) (x : X) → slice_get xs i ≡ Some x → Has xs x
+has_got [] i x is = absurd (none-some x is)
+has_got (y ∷ xs) zero x is = inl (sym (ap (λ o. unwrap_or o x) is))
+has_got (y ∷ xs) (suc i) x is = inr (has_got xs i x is)
 
 pub has_get_or : {X : Type 0} (xs : List X) (i : ℕ) (d : X) → i < length xs → Has xs (get_or xs i d)
 has_get_or [] i d within = absurd (omega (arith, within))
@@ -12,6 +19,12 @@ has_get_or (y ∷ xs) (suc i) d within = inr (has_get_or xs i d (omega (arith, w
 -- each member is one of those that are left to look at, or passes
 abbrev pub LeftOr : {X : Type 0} → (X → Type 0) → List X → List X → Type 0
 LeftOr {X} P xs left = (x : X) → Has xs x → Has left x ⊎ P x
+
+pub all_seen : {X : Type 0} (P : X → Type 0) (xs left : List X) → left ≡ [] → LeftOr P xs left → (x : X) → Has xs x → P x
+all_seen {X} P xs left none before = λ x has. elim (before x has) [
+  | inl here ↦ absurd (subst (λ (l : List X). Has l x) none here)
+  | inr good ↦ good
+]
 
 pub never : (P : Type 0) → (P → ⊥) → Decides false P
 never P not = (λ no. absurd (true≢false (sym no)), λ holds. absurd (not holds))

@@ -24,5 +24,5 @@ pub returns-clause-stands : goal.returns-clause-stands
 returns-clause-stands g c = λ honest limits.
     let new = state g.S.Store c.create.new.conn in
     let nothing = new_nothing c.args.settings.now new (c.in_ok-create.ensures.rest honest.0)
-        (subst (HoldJust new.committed) (c.as_slice.ensures ∙ c.in_ok-rows.ensures) (c.in_ok-create.ensures.made honest.0)) in
+    (subst (HoldJust new.committed) (c.as_slice.ensures ∙ c.in_ok-rows.ensures) (c.in_ok-create.ensures.made honest.0)) in
     begun c.args.settings.now c.in_ok-desk.desk (calls_of new.now.trees) (batches_of new.now.trees) c.in_ok-desk.ensures (λ kind batch. ap (option_map kept_batch) (nothing.batches (kind_name kind) batch)) limits

@@ -1,0 +1,36 @@
+use Rattle.std.proofs.Common.{◌≡◌, sym, subst, ◌∙◌}
+use Rattle.sqlite.specs.Held.{state}
+use Rattle.sched_book.specs.declared.world.World.{World}
+use Rattle.table_reading.specs.Reading.{ReadFrom}
+use Rattle.sched_tables.specs.Held.{AreWellKept}
+use Rattle.sched_tables.proofs.Opened.{early, was_known, shows_the_same, opened_kept, opened_rows}
+use Rattle.sched_tables.proofs.tables.Tables.open.Goals as goal
+
+pub returns-clause-held : goal.returns-clause-held
+returns-clause-held g c = λ honest.
+    let taken = state g.S.Store c.in_ok-conn.conn in
+    let read = state g.S.Store c.stored_world.new.conn in
+    let opens = c.in_ok-conn.ensures.opens in
+    let known = c.in_ok-conn.ensures.known in
+    let reads = c.stored_world.ensures.reads in
+    subst (AreWellKept read) (sym c.in_ok-desk.ensures)
+    (opened_kept taken read opens known reads honest c.in_ok-world.world (c.in_ok-world.ensures.held (was_known taken read opens known reads honest)))
+
+pub returns-clause-same : goal.returns-clause-same
+returns-clause-same g c = λ honest.
+    let taken = state g.S.Store c.in_ok-conn.conn in
+    let read = state g.S.Store c.stored_world.new.conn in
+    let opens = c.in_ok-conn.ensures.opens in
+    let known = c.in_ok-conn.ensures.known in
+    let reads = c.stored_world.ensures.reads in
+    shows_the_same taken read opens known reads honest ∙ c.in_ok-conn.ensures.same (early taken read opens known reads honest)
+
+pub returns-clause-rows : goal.returns-clause-rows
+returns-clause-rows g c = λ honest.
+    let taken = state g.S.Store c.in_ok-conn.conn in
+    let read = state g.S.Store c.stored_world.new.conn in
+    let opens = c.in_ok-conn.ensures.opens in
+    let known = c.in_ok-conn.ensures.known in
+    let reads = c.stored_world.ensures.reads in
+    subst (ReadFrom read.now.trees) (sym c.in_ok-desk.ensures)
+    (opened_rows taken read opens known reads honest c.in_ok-world.world (c.in_ok-world.ensures.stands (was_known taken read opens known reads honest)))
