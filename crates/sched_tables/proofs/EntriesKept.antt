@@ -1,6 +1,5 @@
 -- A commit keeps its entry, and all else as it was.
 use Rattle.std.proofs.Common.{◌≡◌, ℕ, Bool, true, false, ◌&&◌, ◌||◌, cond, eqb, List, [], ◌∷◌, Option, Some, None, option_map, option_to_list, refl, sym, ap, ap₂, subst, ◌∙◌, true≢false}
-use Rattle.std.specs.Prelude.{◌==◌, take}
 use Rattle.std.specs.Str.{bytes_eq}
 use Rattle.std.specs.List.{cons_option}
 use Rattle.std.proofs.lemmas.Bool.{eq-eqb, eqb-true}
@@ -11,7 +10,6 @@ use Rattle.message_engine.specs.Stores.{calls_with, batches_with, IsCommitted}
 use Rattle.message_engine.specs.declared.entry.Entry.{Entry}
 use Rattle.message_engine.specs.declared.entry.Entry.TheVariants as entry
 use Rattle.pasts.specs.Kinds.{kind_name}
-use Rattle.pasts.specs.declared.batch.KeptBatch.{KeptBatch}
 use Rattle.pasts.specs.declared.kind.Kind.{Kind}
 use Rattle.reply_register.specs.declared.kept.Kept.{Kept}
 use Rattle.sched_book.specs.Delta.{applied}
@@ -20,8 +18,7 @@ use Rattle.sched_book.specs.declared.world.World.{World}
 use Rattle.table_meaning.specs.declared.rows.StoredRow.{StoredRow}
 use Rattle.table_meaning.specs.declared.rows.StoredRow.TheVariants as stored
 use Rattle.table_meaning.specs.Rows.{RowKey, kept_key, batch_key, columns_of, same_key}
-use Rattle.table_meaning.specs.Holding.{Hold}
-use Rattle.table_meaning.specs.Worlds.{BatchText, contents_of, HoldWorld}
+use Rattle.table_meaning.specs.Worlds.{BatchText, HoldWorld}
 use Rattle.table_meaning.proofs.Keys.{key_itself}
 use Rattle.sched_tables.specs.Commits.{LastCalls, Imports, Keeps, LeadsTo}
 use Rattle.sched_tables.specs.Entries.{row_of, last_calls_with, imports_with, kept_batch, calls_of, batches_of}

@@ -12,7 +12,7 @@ use Rattle.sched_tables.specs.Held.{IsHonest, AreWellKept}
 
 -- a connection as it was taken, and as a reading left it
 module _ (taken read : State) (opens : HasCleanDisk taken → Opens taken) (known : HasCleanDisk taken → AreKnown taken.now) (reads : Reads taken read) (honest : IsHonest read) where
-  abbrev early : HasCleanDisk taken
+  abbrev pub early : HasCleanDisk taken
   early = omega (arith, reads.survives.clean, honest.0)
 
   pub was_known : WereKnown taken read

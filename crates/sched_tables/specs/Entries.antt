@@ -1,5 +1,5 @@
 -- What an entry puts into the tables, and what they keep then.
-use Rattle.std.specs.Prelude.{ℕ, ◌&&◌, ◌==◌, if◌then◌else◌, List, Option, Some, None, option_map, option_to_list}
+use Rattle.std.specs.Prelude.{◌&&◌, ◌==◌, if◌then◌else◌, Option, Some, None, option_map, option_to_list}
 use Rattle.std.specs.Str.{bytes_eq}
 use Rattle.sqlite_trees.specs.Tree.{Trees}
 use Rattle.message_engine.specs.Stores.{Calls, Batches}

@@ -1,5 +1,6 @@
 ghost use Rattle.std.specs.Prelude.{◌≡◌};
 ghost use Rattle.sqlite.specs.Held.{state};
+ghost use Rattle.sched_tables.specs.Held.{IsHonest};
 ghost use Rattle.sched_tables.specs.Views.{state_of};
 
 use sched_book::ListDesk;
@@ -18,7 +19,8 @@ pub struct Tables<S: Alter> {
 impl<S: Alter> Tables<S> {
     /// Hands the connection back, with its tables as they are.
     pub fn into_connection(self) -> Connection<S>
-        ensures { state S.Store result ≡ state_of S.Store self }
+        ensures same { ((state S.Store result).now ≡ (state_of S.Store self).now) × ((state S.Store result).committed ≡ (state_of S.Store self).committed) }
+        ensures honest { IsHonest (state_of S.Store self) → IsHonest (state S.Store result) }
     {
         self.conn
     }

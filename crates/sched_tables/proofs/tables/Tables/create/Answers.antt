@@ -1,7 +1,6 @@
-use Rattle.std.proofs.Common.{◌≡◌, ap, option_map, subst, ◌∙◌}
+use Rattle.std.proofs.Common.{ap, option_map, subst, ◌∙◌}
 use Rattle.sqlite.specs.Held.{state}
 use Rattle.table_meaning.specs.Steps.{HoldJust}
-use Rattle.table_worlds.specs.RowsOf.{setting_rows}
 use Rattle.pasts.specs.Kinds.{kind_name}
 use Rattle.message_engine.proofs.Begun.{begun}
 use Rattle.sched_tables.specs.Entries.{kept_batch, calls_of, batches_of}

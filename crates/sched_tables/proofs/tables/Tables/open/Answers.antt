@@ -1,6 +1,5 @@
-use Rattle.std.proofs.Common.{◌≡◌, sym, subst, ◌∙◌}
+use Rattle.std.proofs.Common.{sym, subst, ◌∙◌}
 use Rattle.sqlite.specs.Held.{state}
-use Rattle.sched_book.specs.declared.world.World.{World}
 use Rattle.table_reading.specs.Reading.{ReadFrom}
 use Rattle.sched_tables.specs.Held.{AreWellKept}
 use Rattle.sched_tables.proofs.Opened.{early, was_known, shows_the_same, opened_kept, opened_rows}
