@@ -4,3 +4,4 @@ pub mod FromTheFront
 pub mod TakenNames
 pub mod TextRecords
 pub mod InOrder
+pub mod OnlySettings
