@@ -5,3 +5,4 @@ pub mod TakenNames
 pub mod TextRecords
 pub mod InOrder
 pub mod OnlySettings
+pub mod OneSettings

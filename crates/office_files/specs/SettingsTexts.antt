@@ -28,6 +28,10 @@ is_setting key =
 abbrev pub HasOnlySettings : Members → Type 0
 HasOnlySettings table = (key : List ℕ) → IsSome (get_member key table) → IsTrue (is_setting key)
 
+-- a table has this number at a key, and it is in a range
+abbrev pub IsNumberAt : List ℕ → ℕ → ℕ → Members → ℕ → Type 0
+IsNumberAt key least most table n = (integer_at key table ≡ Some (pos n)) × (least ≤ n) × (n ≤ most)
+
 -- a table has this word for the operator, of enough bytes
 pub record IsOperatorKey (table : Members) (key : List ℕ) : Type 0 where
   pub told : string_at (codes "operator_key") table ≡ Some key
@@ -49,3 +53,7 @@ pub record AreSettingsOf (table : Members) (s : Settings) : Type 0 where
 -- a text tells these settings: as TOML it is a table of them
 abbrev pub TellsSettings : List ℕ → Settings → Type 0
 TellsSettings text s = (table : Members) × (parse_document text ≡ Some table) × AreSettingsOf table s
+
+-- a text tells no two settings
+abbrev pub TextsTellOneSettings : Type 0
+TextsTellOneSettings = (text : List ℕ) (s t : Settings) → TellsSettings text s → TellsSettings text t → s ≡ t

@@ -1,6 +1,6 @@
 //! The settings of a project, read from a TOML text.
 
-ghost use Rattle.std.specs.Prelude.{◌≡◌, ◌≤◌, ◌↔◌, ℕ, pos, Some, Ok, option_map, IfOk, IfErr, List};
+ghost use Rattle.std.specs.Prelude.{◌≡◌, ℕ, Ok, option_map, IfOk, IfErr, List};
 ghost use Rattle.std.specs.List.{list_all};
 ghost use Rattle.std.specs.String.{string_bytes};
 ghost use Rattle.std.specs.BTreeMap.{keys};
@@ -64,75 +64,15 @@ impl From<toml::de::Error> for SettingsFault {
     }
 }
 
-/// The integer at a key.
-fn integer_at(table: &Table, key: &str) -> Option<i64>
-    ensures { result ≡ spec.integer_at key.now (table_view table.now) }
+/// The settings that a TOML text tells: a table of just the seven keys, each with a value of its kind and in its range.
+/// A text that tells none is [`SettingsFault::Bad`].
+pub fn settings_of(alloc: Global, text: &str) -> Result<Settings, SettingsFault>
+    ensures ok { IfOk result (spec.TellsSettings text.now) }
+    ensures range { IfOk result AreSettingsInLimits }
+    ensures bad { IfErr result (λ e. e ≡ SettingsFault.Bad → (s : Settings) → ¬ spec.TellsSettings text.now s) }
 {
-    table.get(key)?.as_integer()
-}
-
-/// The string at a key.
-fn string_at<'a>(table: &'a Table, key: &str) -> Option<&'a str>
-    ensures { option_map (λ text. text.now) result ≡ spec.string_at key.now (table_view table.now) }
-{
-    table.get(key)?.as_str()
-}
-
-/// The boolean at a key.
-fn boolean_at(table: &Table, key: &str) -> Option<bool>
-    ensures { result ≡ spec.boolean_at key.now (table_view table.now) }
-{
-    table.get(key)?.as_bool()
-}
-
-/// The number from `least` to `most` at a key.
-fn number_at(table: &Table, key: &str, least: u32, most: u32) -> Result<u32, SettingsFault>
-    ensures told { IfOk result (λ n. (spec.integer_at key.now (table_view table.now) ≡ Some (pos n)) × (least ≤ n) × (n ≤ most)) }
-    ensures all { (n : ℕ) → spec.integer_at key.now (table_view table.now) ≡ Some (pos n) → least ≤ n → n ≤ most → result ≡ Ok n }
-{
-    let Some(number) = integer_at(table, key) else {
-        return Err(SettingsFault::Bad);
-    };
-    match u32::try_from(number) {
-        Ok(number) if least <= number && number <= most => Ok(number),
-        _ => Err(SettingsFault::Bad),
-    }
-}
-
-/// Whether the key is that of a setting.
-fn is_setting(key: &str) -> bool
-    ensures { result ≡ spec.is_setting key.now }
-{
-    matches!(
-        key,
-        "daily_result_quota"
-            | "max_hosts"
-            | "max_wus_in_progress"
-            | "max_wus_to_send"
-            | "operator_key"
-            | "request_delay"
-            | "resend_lost_results"
-    )
-}
-
-/// Whether a table has no key but those of settings.
-fn has_only_settings(table: &Table) -> bool
-    ensures { result ≡ list_all (λ key. spec.is_setting (string_bytes key)) (keys table.now) }
-{
-    table.keys().all(|key| is_setting(key.as_str()))
-}
-
-/// The operator's word.
-fn operator_key(alloc: Global, table: &Table) -> Result<Text, SettingsFault>
-    ensures told { IfOk result (spec.IsOperatorKey (table_view table.now)) }
-    ensures bad { IfErr result (λ e. e ≡ SettingsFault.Bad → (key : List ℕ) → ¬ spec.IsOperatorKey (table_view table.now) key) }
-{
-    match string_at(table, "operator_key") {
-        Some(key) if LEAST_KEY_BYTES <= key.len() && is_word(key.as_bytes()) => {
-            Ok(Text::copied(alloc, key)?)
-        }
-        _ => Err(SettingsFault::Bad),
-    }
+    let table = toml::table_from_str(alloc, text)?;
+    settings_in(alloc, &table)
 }
 
 /// The settings of a table.
@@ -154,12 +94,73 @@ fn settings_in(alloc: Global, table: &Table) -> Result<Settings, SettingsFault>
     })
 }
 
-/// The settings that a TOML text tells: a table of just the seven keys, each with a value of its kind and in its range.
-pub fn settings_of(alloc: Global, text: &str) -> Result<Settings, SettingsFault>
-    ensures ok { IfOk result (spec.TellsSettings text.now) }
-    ensures range { IfOk result AreSettingsInLimits }
-    ensures bad { IfErr result (λ e. e ≡ SettingsFault.Bad → (s : Settings) → ¬ spec.TellsSettings text.now s) }
+/// The operator's word.
+fn operator_key(alloc: Global, table: &Table) -> Result<Text, SettingsFault>
+    ensures told { IfOk result (spec.IsOperatorKey (table_view table.now)) }
+    ensures bad { IfErr result (λ e. e ≡ SettingsFault.Bad → (key : List ℕ) → ¬ spec.IsOperatorKey (table_view table.now) key) }
 {
-    let table = toml::table_from_str(alloc, text)?;
-    settings_in(alloc, &table)
+    match string_at(table, "operator_key") {
+        Some(key) if LEAST_KEY_BYTES <= key.len() && is_word(key.as_bytes()) => {
+            Ok(Text::copied(alloc, key)?)
+        }
+        _ => Err(SettingsFault::Bad),
+    }
+}
+
+/// Whether a table has no key but those of settings.
+fn has_only_settings(table: &Table) -> bool
+    ensures { result ≡ list_all (λ key. spec.is_setting (string_bytes key)) (keys table.now) }
+{
+    table.keys().all(|key| is_setting(key.as_str()))
+}
+
+/// Whether the key is that of a setting.
+fn is_setting(key: &str) -> bool
+    ensures { result ≡ spec.is_setting key.now }
+{
+    matches!(
+        key,
+        "daily_result_quota"
+            | "max_hosts"
+            | "max_wus_in_progress"
+            | "max_wus_to_send"
+            | "operator_key"
+            | "request_delay"
+            | "resend_lost_results"
+    )
+}
+
+/// The number from `least` to `most` at a key.
+fn number_at(table: &Table, key: &str, least: u32, most: u32) -> Result<u32, SettingsFault>
+    ensures told { IfOk result (spec.IsNumberAt key.now least most (table_view table.now)) }
+    ensures all { (n : ℕ) → spec.IsNumberAt key.now least most (table_view table.now) n → result ≡ Ok n }
+{
+    let Some(number) = integer_at(table, key) else {
+        return Err(SettingsFault::Bad);
+    };
+    match u32::try_from(number) {
+        Ok(number) if least <= number && number <= most => Ok(number),
+        _ => Err(SettingsFault::Bad),
+    }
+}
+
+/// The integer at a key.
+fn integer_at(table: &Table, key: &str) -> Option<i64>
+    ensures { result ≡ spec.integer_at key.now (table_view table.now) }
+{
+    table.get(key)?.as_integer()
+}
+
+/// The string at a key.
+fn string_at<'a>(table: &'a Table, key: &str) -> Option<&'a str>
+    ensures { option_map (λ text. text.now) result ≡ spec.string_at key.now (table_view table.now) }
+{
+    table.get(key)?.as_str()
+}
+
+/// The boolean at a key.
+fn boolean_at(table: &Table, key: &str) -> Option<bool>
+    ensures { result ≡ spec.boolean_at key.now (table_view table.now) }
+{
+    table.get(key)?.as_bool()
 }
