@@ -1,6 +1,6 @@
 -- That a table has no key but those of settings, told by its keys in turn.
-use Rattle.std.proofs.Common.{◌≡◌, ◌↔◌, ◌&&◌, Bool, true, false, ℕ, List, [], ◌∷◌, Option, Some, None, IsSome, IsTrue, String, Global, Ordering, Less, Equal, Greater, nat_cmp, string_bytes, refl, subst, sym}
-use Rattle.std.proofs.lemmas.Bool.{and_parts, false≢true}
+use Rattle.std.proofs.Common.{◌≡◌, ◌↔◌, Bool, List, [], ◌∷◌, Option, Some, IsSome, IsTrue, String, Global, Ordering, Less, Equal, Greater, nat_cmp, string_bytes, refl, subst, sym}
+use Rattle.std.proofs.lemmas.Bool.{and_parts, and_from, false≢true}
 use Rattle.std.proofs.lemmas.Cmp.{nat_list_cmp_total}
 use Rattle.std.proofs.lemmas.Map.Lookups.{exact_bytes}
 use Rattle.std.specs.Cmp.{tied_itself}
@@ -39,13 +39,10 @@ keys_are_settings (e ∷ es) all key found =
     (λ same. subst (λ k. IsTrue (is_setting k)) (sym (exact_bytes key (string_bytes e.0) same)) first)
     (keys_are_settings es others key)
 
-both : (a b : Bool) → a ≡ true → b ≡ true → (a && b) ≡ true
-both a b x y = rw (x, y)
-
 settings_are_keys : (es : List Entry) → HasOnlySettings (members_view es) → IsTrue (all_settings (keys_of es))
 settings_are_keys [] only = refl
 settings_are_keys (e ∷ es) only =
-    both (is_setting (string_bytes e.0)) (all_settings (keys_of es))
+    and_from (is_setting (string_bytes e.0)) (all_settings (keys_of es))
     (only (string_bytes e.0) (rw (tied_itself nat_list_cmp_total (string_bytes e.0))))
     (settings_are_keys es (λ key found. only key (found_later (slice_cmp nat_cmp key (string_bytes e.0)) (view e.1) (get_member key (members_view es)) found)))
 

@@ -1,4 +1,4 @@
-use Rattle.std.proofs.Common.{rules, ◌≡◌}
+use Rattle.std.proofs.Common.{rules}
 use Rattle.toml.proofs.Views.{table_get}
 use Rattle.office_files.proofs.settings.string_at.Goals as goal
 
