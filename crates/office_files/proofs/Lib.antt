@@ -4,3 +4,5 @@ pub mod FromTheFront
 pub mod TakenNames
 pub mod TextRecords
 pub mod InOrder
+pub mod OnlySettings
+pub mod OneSettings

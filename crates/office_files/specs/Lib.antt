@@ -6,3 +6,4 @@ pub mod Keys
 pub mod KeyLaws
 pub mod Checking
 pub mod Laws
+pub mod SettingsTexts

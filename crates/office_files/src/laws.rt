@@ -1,6 +1,7 @@
 //! Laws of the definitions. Each function does nothing; its contract is the law.
 
 ghost use Rattle.office_files.specs.Laws.{TextHasOneList, ImportsReadInOrder};
+ghost use Rattle.office_files.specs.SettingsTexts.{TextsTellOneSettings};
 
 /// A text of comma-separated values has exactly one list of records.
 pub fn a_text_has_one_list_of_records()
@@ -10,4 +11,9 @@ pub fn a_text_has_one_list_of_records()
 /// Under a good header, rows are told where every record is one, in order; and else the first record that is none.
 pub fn the_first_faulty_row_is_told()
     ensures { ImportsReadInOrder }
+{}
+
+/// A TOML text tells no two settings.
+pub fn a_text_tells_one_settings()
+    ensures { TextsTellOneSettings }
 {}

@@ -1,4 +1,4 @@
-//! The files of a project's office: imports by CSV.
+//! The files of a project's office: imports by CSV, and settings by TOML.
 //!
 //! An operator brings accounts, applications, versions and workunits as texts of comma-separated values (RFC 4180),
 //! one kind a text. [`read_accounts`], [`read_apps`], [`read_versions`] and [`read_workunits`] read them, and
@@ -23,6 +23,19 @@
 //! | | `rsc_fpops_est` | 1 to 10^18 operations |
 //! | | `rsc_memory_bound`, `rsc_disk_bound` | 0 to 10^18 bytes |
 //! | | `credit` | 0 to 100,000,000 millicredits |
+//!
+//! When the tables of a project are made, its settings are a TOML text, which [`settings_of`] reads: a table of just
+//! these keys, all of them, in any order.
+//!
+//! | Key | What it holds |
+//! |---|---|
+//! | `daily_result_quota` | 1 to 1,000,000 |
+//! | `max_hosts` | 1 to 100,000 |
+//! | `max_wus_in_progress` | 1 to 1,000 |
+//! | `max_wus_to_send` | 1 to 100 |
+//! | `operator_key` | a word of at least 8 bytes, as a string |
+//! | `request_delay` | 0 to 2,592,000 seconds |
+//! | `resend_lost_results` | `true` or `false` |
 #![tactic(auto)]
 
 pub mod checks;
@@ -33,8 +46,10 @@ mod kinds;
 pub mod laws;
 mod named;
 pub mod readers;
+pub mod settings;
 mod texts_of_csv;
 
 pub use checks::check_rows;
 pub use fault::RowsFault;
 pub use readers::{read_accounts, read_apps, read_versions, read_workunits};
+pub use settings::{SettingsFault, settings_of};
