@@ -1,6 +1,9 @@
 pub mod CountTexts
+pub mod CivilTexts
 pub mod LookUps
 pub mod FromTheFront
 pub mod TakenNames
 pub mod TextRecords
 pub mod InOrder
+pub mod StatementLines
+pub mod StatementTexts

@@ -6,3 +6,6 @@ pub mod Keys
 pub mod KeyLaws
 pub mod Checking
 pub mod Laws
+pub mod Civil
+pub mod Rows
+pub mod Statements

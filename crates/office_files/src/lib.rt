@@ -33,6 +33,7 @@ mod kinds;
 pub mod laws;
 mod named;
 pub mod readers;
+pub mod statement;
 mod texts_of_csv;
 
 pub use checks::check_rows;
