@@ -7,3 +7,4 @@ pub mod TextRecords
 pub mod InOrder
 pub mod StatementLines
 pub mod StatementTexts
+pub mod WholeStatements

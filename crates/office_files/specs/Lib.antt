@@ -9,3 +9,4 @@ pub mod Laws
 pub mod Civil
 pub mod Rows
 pub mod Statements
+pub mod StatementLaws

@@ -1,6 +1,7 @@
 //! Laws of the definitions. Each function does nothing; its contract is the law.
 
 ghost use Rattle.office_files.specs.Laws.{TextHasOneList, ImportsReadInOrder};
+ghost use Rattle.office_files.specs.StatementLaws.{StatementsAreWhole, CivilTextsAreDates};
 
 /// A text of comma-separated values has exactly one list of records.
 pub fn a_text_has_one_list_of_records()
@@ -10,4 +11,14 @@ pub fn a_text_has_one_list_of_records()
 /// Under a good header, rows are told where every record is one, in order; and else the first record that is none.
 pub fn the_first_faulty_row_is_told()
     ensures { ImportsReadInOrder }
+{}
+
+/// A statement has a line for each instance that the host was given, and its last line has the host's credit.
+pub fn statements_are_whole()
+    ensures { StatementsAreWhole }
+{}
+
+/// The civil text of a moment is that of the date and time that `jiff` tells of it.
+pub fn civil_texts_are_dates()
+    ensures { CivilTextsAreDates }
 {}

@@ -1,4 +1,4 @@
-//! The files of a project's office: imports by CSV.
+//! The files of a project's office: imports and statements by CSV.
 //!
 //! An operator brings accounts, applications, versions and workunits as texts of comma-separated values (RFC 4180),
 //! one kind a text. [`read_accounts`], [`read_apps`], [`read_versions`] and [`read_workunits`] read them, and
@@ -23,6 +23,8 @@
 //! | | `rsc_fpops_est` | 1 to 10^18 operations |
 //! | | `rsc_memory_bound`, `rsc_disk_bound` | 0 to 10^18 bytes |
 //! | | `credit` | 0 to 100,000,000 millicredits |
+//!
+//! [`host_statement`] tells what became of each instance that a host was given; [`statement`] has its format.
 #![tactic(auto)]
 
 pub mod checks;
@@ -39,3 +41,4 @@ mod texts_of_csv;
 pub use checks::check_rows;
 pub use fault::RowsFault;
 pub use readers::{read_accounts, read_apps, read_versions, read_workunits};
+pub use statement::host_statement;

@@ -1,9 +1,8 @@
 //! The civil date and time of a moment.
 
-ghost use Rattle.std.specs.Prelude.{◌≡◌, ◌*◌, ◌++◌, ◌∷◌, pos, IfOk, IfSome};
+ghost use Rattle.std.specs.Prelude.{◌≡◌, ◌*◌, ◌++◌, ◌∷◌, None, pos, IfOk, IfSome};
 ghost use Rattle.jiff.specs.Words.{civil_nanos, date_text, time_text};
 ghost use Rattle.office_files.specs.Civil as spec;
-ghost use Rattle.std.specs.Prelude.{None};
 
 use jiff::Timestamp;
 use jiff::civil::DateTime;
@@ -28,6 +27,7 @@ fn civil_of(moment: u64) -> Option<DateTime>
     }
 }
 
+/// The text of a date and time of a whole second.
 fn text_of(alloc: Global, civil: DateTime) -> Result<Text, Memory>
     ensures { IfOk result (λ text. text ≡ date_text civil.date ++ 32 ∷ time_text None civil.time) }
 {
@@ -37,7 +37,7 @@ fn text_of(alloc: Global, civil: DateTime) -> Result<Text, Memory>
 
 /// The civil date and time of a moment, in UTC, as `2024-06-19 17:30:05`. A moment past [`LAST_SECOND`] is refused.
 #[tactic(auto, using(crate::proofs::CivilTexts::text_is))]
-pub(crate) fn civil_text(alloc: Global, moment: u64) -> Result<Text, Unavailable>
+pub(super) fn civil_text(alloc: Global, moment: u64) -> Result<Text, Unavailable>
     ensures { IfOk result (λ text. text ≡ spec.civil_text moment) }
 {
     match civil_of(moment) {
