@@ -1,6 +1,6 @@
 //! The civil date and time of a moment.
 
-ghost use Rattle.std.specs.Prelude.{◌≡◌, ◌*◌, ◌++◌, ◌∷◌, None, pos, IfOk, IfSome};
+ghost use Rattle.std.specs.Prelude.{◌≡◌, ◌<◌, ◌*◌, ◌++◌, ◌∷◌, None, pos, IfNone, IfOk, IfSome};
 ghost use Rattle.jiff.specs.Words.{civil_nanos, date_text, time_text};
 ghost use Rattle.office_files.specs.Civil as spec;
 
@@ -16,7 +16,8 @@ const LAST_SECOND: u64 = 253_402_207_200;
 
 /// What a clock in UTC shows at a moment, in seconds since 1970-01-01T00:00:00Z, up to [`LAST_SECOND`].
 fn civil_of(moment: u64) -> Option<DateTime>
-    ensures { IfSome result (λ civil. civil_nanos civil ≡ pos (moment * 1_000_000_000)) }
+    ensures told { IfSome result (λ civil. civil_nanos civil ≡ pos (moment * 1_000_000_000)) }
+    ensures late { IfNone result (LAST_SECOND < moment) }
 {
     if moment > LAST_SECOND {
         return None;

@@ -1,6 +1,7 @@
 //! The text of a statement, by `csv`.
 
-ghost use Rattle.std.specs.Prelude.{◌≡◌, ◌++◌, ℕ, List, [], IfOk, IfSome, OnOk, decimal, map};
+ghost use Rattle.std.specs.Prelude.{◌≡◌, ◌<◌, ◌^◌, ◌++◌, ℕ, List, [], IfOk, OnOk, decimal, map};
+ghost use Rattle.std.specs.Option.{SomeIff};
 ghost use Rattle.std.specs.List.{flat_map};
 ghost use Rattle.csv.specs.Writing.{default_writer, row_text};
 ghost use Rattle.office_files.specs.Rows.{HasWritten};
@@ -129,7 +130,7 @@ fn write_total<W: Write + Drop>(
 
 /// The millicredits of all lines together, unless they are past what fits.
 fn total_credit(lines: &[Line]) -> Option<u64>
-    ensures { IfSome result (λ credit. credit ≡ spec.total_credit lines.now) }
+    ensures { SomeIff result (spec.total_credit lines.now < 2 ^ 64) (spec.total_credit lines.now) }
 {
     let mut credit: u64 = 0;
     for line in lines {

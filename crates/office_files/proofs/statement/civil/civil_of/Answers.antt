@@ -6,8 +6,8 @@ use Rattle.jiff.proofs.SpanFacts.{signed_arith}
 use Rattle.jiff.proofs.ZoneFacts.{shows-UTC}
 use Rattle.office_files.proofs.statement.civil.civil_of.Goals as goal
 
-pub returns-in-Ok : goal.returns-in-Ok
-returns-in-Ok c =
+pub returns-in-Ok-clause-told : goal.returns-in-Ok-clause-told
+returns-in-Ok-clause-told c =
     let shown = shows-UTC (plain_zoned c.to_zoned.result) (c.to_zoned.ensures.zone ∙ refl) in
     let second : to_z w64 c.args.moment ≡ pos c.args.moment = to_z_pos w64 c.args.moment (omega arith) in
     let instant = rw second at c.in-Ok.ensures.value in

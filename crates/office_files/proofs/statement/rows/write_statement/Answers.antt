@@ -12,5 +12,5 @@ returns g c = λ start.
     let headed = c.in_ok-write_header.ensures [] start in
     let lined = c.in_ok-write_lines.ensures (row_text default_writer header) headed in
     subst (λ credit. OnOk c.write_total.result (HasWritten g.W.Write.contents c.write_total.new.writer (row_text default_writer header ++ flat_map line_text c.args.lines.now ++ row_text default_writer (total_fields credit))))
-    c.in-Some.ensures
+    c.in-Some.ensures.1
     (c.write_total.ensures (row_text default_writer header ++ flat_map line_text c.args.lines.now) lined)
