@@ -8,3 +8,4 @@ pub mod InOrder
 pub mod StatementLines
 pub mod StatementTexts
 pub mod WholeStatements
+pub mod LineMoments

@@ -14,7 +14,7 @@ use Rattle.sched_book.specs.declared.world.World.{World}
 use Rattle.office_files.specs.Statements.{line_in, line_at, lines_at}
 use Rattle.office_files.specs.declared.statement.line.Line.{Line}
 
-same_item : {X : Type 0} (x y : X) → Some x ≡ Some y → x ≡ y
+pub same_item : {X : Type 0} (x y : X) → Some x ≡ Some y → x ≡ y
 same_item x y e = cc
 
 found_by : (w : World) (o : Option UnitBook) (number : ℕ) (unit : Workunit) (a : Agreement) → option_map (λ (b : UnitBook). b.unit) o ≡ Some unit → option_map (agreement_of w) o ≡ Some a

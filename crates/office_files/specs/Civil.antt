@@ -46,3 +46,7 @@ time_of second = time_by (second / 3600) (second / 60 % 60) (second % 60)
 -- `2024-06-19 17:30:05`, of a moment in seconds since 1970-01-01T00:00:00Z
 unfoldable pub civil_text : ℕ → List ℕ
 civil_text moment = date_of (moment / 86400) ++ 32 ∷ time_of (moment % 86400)
+
+-- the last second of which such a text is told, late in the year 9999
+abbrev pub last_civil : ℕ
+last_civil = 253402207200

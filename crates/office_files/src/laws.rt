@@ -1,7 +1,7 @@
 //! Laws of the definitions. Each function does nothing; its contract is the law.
 
 ghost use Rattle.office_files.specs.Laws.{TextHasOneList, ImportsReadInOrder};
-ghost use Rattle.office_files.specs.StatementLaws.{StatementsAreWhole, CivilTextsAreDates};
+ghost use Rattle.office_files.specs.StatementLaws.{StatementsAreWhole, MomentsHaveTexts, CivilTextsAreDates};
 
 /// A text of comma-separated values has exactly one list of records.
 pub fn a_text_has_one_list_of_records()
@@ -16,6 +16,11 @@ pub fn the_first_faulty_row_is_told()
 /// A statement has a line for each instance that the host was given, and its last line has the host's credit.
 pub fn statements_are_whole()
     ensures { StatementsAreWhole }
+{}
+
+/// Each moment in a statement of a sound world has a text.
+pub fn moments_have_texts()
+    ensures { MomentsHaveTexts }
 {}
 
 /// The civil text of a moment is that of the date and time that `jiff` tells of it.

@@ -17,7 +17,7 @@ const LAST_SECOND: u64 = 253_402_207_200;
 /// What a clock in UTC shows at a moment, in seconds since 1970-01-01T00:00:00Z, up to [`LAST_SECOND`].
 fn civil_of(moment: u64) -> Option<DateTime>
     ensures told { IfSome result (λ civil. civil_nanos civil ≡ pos (moment * 1_000_000_000)) }
-    ensures late { IfNone result (LAST_SECOND < moment) }
+    ensures late { IfNone result (spec.last_civil < moment) }
 {
     if moment > LAST_SECOND {
         return None;
