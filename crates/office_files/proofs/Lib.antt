@@ -1,4 +1,5 @@
 pub mod CountTexts
+pub mod CivilTexts
 pub mod LookUps
 pub mod FromTheFront
 pub mod TakenNames
@@ -6,3 +7,7 @@ pub mod TextRecords
 pub mod InOrder
 pub mod OnlySettings
 pub mod OneSettings
+pub mod StatementLines
+pub mod StatementTexts
+pub mod WholeStatements
+pub mod LineMoments

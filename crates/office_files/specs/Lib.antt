@@ -7,3 +7,7 @@ pub mod KeyLaws
 pub mod Checking
 pub mod Laws
 pub mod SettingsTexts
+pub mod Civil
+pub mod Rows
+pub mod Statements
+pub mod StatementLaws

@@ -1,4 +1,4 @@
-//! The files of a project's office: imports by CSV, and settings by TOML.
+//! The files of a project's office: imports and statements by CSV, and settings by TOML.
 //!
 //! An operator brings accounts, applications, versions and workunits as texts of comma-separated values (RFC 4180),
 //! one kind a text. [`read_accounts`], [`read_apps`], [`read_versions`] and [`read_workunits`] read them, and
@@ -36,6 +36,8 @@
 //! | `operator_key` | a word of at least 8 bytes, as a string |
 //! | `request_delay` | 0 to 2,592,000 seconds |
 //! | `resend_lost_results` | `true` or `false` |
+//!
+//! [`host_statement`] tells what became of each instance that a host was given; [`statement`] has its format.
 #![tactic(auto)]
 
 pub mod checks;
@@ -47,9 +49,11 @@ pub mod laws;
 mod named;
 pub mod readers;
 pub mod settings;
+pub mod statement;
 mod texts_of_csv;
 
 pub use checks::check_rows;
 pub use fault::RowsFault;
 pub use readers::{read_accounts, read_apps, read_versions, read_workunits};
 pub use settings::{SettingsFault, settings_of};
+pub use statement::host_statement;

@@ -1,0 +1,93 @@
+//! The lines of a host's statement, from a desk.
+
+ghost use Rattle.std.specs.Prelude.{◌≡◌, ◌≤◌, length, IfOk};
+ghost use Rattle.sched_book.specs.Limits.{most_instances};
+ghost use Rattle.sched_book.specs.Trusted.{Trusted};
+ghost use Rattle.office_files.specs.Statements as spec;
+
+use super::line::Line;
+use super::states;
+use sched_book::count::verdict;
+use sched_book::{Agreement, Desk, Instance, Place, Unavailable, Verdict, Workunit, instance_name};
+use std::alloc::Global;
+use texts::{Listed, Memory};
+
+/// The line of the instance of this number, by the verdict on it.
+fn line_by(
+    alloc: Global,
+    verdict: Option<Verdict>,
+    unit: &Workunit,
+    number: u32,
+    instance: &Instance,
+) -> Result<Line, Memory>
+    ensures { IfOk result (λ line. line ≡ spec.line_by verdict unit.now number instance.now) }
+{
+    Ok(Line {
+        result: instance_name(alloc, unit.name.as_str(), number)?,
+        app: unit.app.clone()?,
+        sent: states::sent(&instance.owner),
+        deadline: states::deadline(&instance.owner),
+        server_state: states::server_state(instance),
+        outcome: states::outcome(instance),
+        validate_state: states::validate_state(verdict, instance),
+        credit: states::credit(verdict, unit),
+    })
+}
+
+/// The line of the instance of this number, where the workunit has it.
+fn line_in(
+    alloc: Global,
+    agreement: &Agreement,
+    unit: &Workunit,
+    instances: &[Instance],
+    number: u32,
+) -> Result<Option<Line>, Memory>
+    requires { length instances.now ≤ most_instances }
+    ensures { IfOk result (λ line. line ≡ spec.line_in agreement.now unit.now instances.now number) }
+{
+    match instances.get(number as usize) {
+        None => Ok(None),
+        Some(instance) => {
+            let verdict = verdict(agreement, unit, instances, instance);
+            Ok(Some(line_by(alloc, verdict, unit, number, instance)?))
+        }
+    }
+}
+
+/// The line of the instance at this place, where one stands.
+fn line_at<D: Desk>(alloc: Global, desk: &mut D, place: Place) -> Result<Option<Line>, Unavailable>
+    ensures reads { D.reads desk.old desk.new }
+    ensures answer { Trusted D.Units desk.old desk.new (
+        IfOk result (λ line. line ≡ spec.line_at (D.world desk.old) place)) }
+{
+    let unit = desk.unit(alloc, place.unit)?;
+    let agreement = desk.agreement_of(alloc, place.unit)?;
+    let instances = desk.instances_of(alloc, place.unit)?;
+    match (unit, agreement) {
+        (Some(unit), Some(agreement)) => Ok(line_in(
+            alloc,
+            &agreement,
+            &unit,
+            instances.as_slice(),
+            place.number,
+        )?),
+        _ => Ok(None),
+    }
+}
+
+/// The lines of the instances at these places, in order.
+pub(super) fn lines_at<D: Desk>(
+    alloc: Global,
+    desk: &mut D,
+    places: &[Place],
+) -> Result<Listed<Line>, Unavailable>
+    ensures reads { D.reads desk.old desk.new }
+    ensures answer { Trusted D.Units desk.old desk.new (
+        IfOk result (λ lines. lines ≡ spec.lines_at (D.world desk.old) places.now)) }
+{
+    let mut lines = Listed::new(alloc);
+    for place in places {
+        lines.push_some(line_at(alloc, desk, *place)?)?;
+    }
+    Ok(lines)
+}
