@@ -1,11 +1,10 @@
-//! Tables that are closed and opened again, and tables that are spoiled.
+//! Tables that are spoiled.
 
-use super::{CALL_START, PROJECT, replayed_by, replayed_over};
+use super::{CALL_START, PROJECT, replayed_over};
 use crate::default_settings;
 use replay_lines::Ended;
 use sched_tables::{OpenFault, Tables};
-use sqlite::{Alter, Connection, Error, FileStore, MemStore, Options};
-use sqlite_disk::{Files, Memory};
+use sqlite::{Alter, Connection, Error, MemStore};
 use std::alloc::Global;
 use std::test::Fail;
 
@@ -113,45 +112,6 @@ fn first_taken(
     Ok(None)
 }
 
-/// The connection over these files.
-fn connected(alloc: Global, files: Files<Memory>) -> Result<Connection<FileStore<Memory>>, Fail> {
-    if !files.may_be_used() {
-        return Err(Fail::new("a file that failed"));
-    }
-    match Connection::open_files(alloc, files, Options::new(1)) {
-        Ok(conn) => Ok(conn),
-        Err(_) => Err(Fail::new("files that are not opened")),
-    }
-}
-
-/// What is printed where the tables are made in files, closed behind so many lines, and opened again for the others.
-fn printed_over_files(alloc: Global, lines: &str, count: usize) -> Result<Vec<u8>, Fail> {
-    let mut before = String::new(alloc);
-    let mut behind = String::new(alloc);
-    for (index, line) in lines.lines().enumerate() {
-        let part = if index < count {
-            &mut before
-        } else {
-            &mut behind
-        };
-        part.push_str(line)?;
-        part.push_str("\n")?;
-    }
-    let files = Files {
-        log: Memory::new(alloc),
-        db: Memory::new(alloc),
-    };
-    let mut tables = Tables::create(alloc, connected(alloc, files)?, &default_settings(alloc)?)?;
-    let (mut printed, _) = replayed_over(alloc, &mut tables, before.as_bytes())?;
-    let Ok(files) = tables.into_connection().close_files() else {
-        return Err(Fail::new("files that are not closed"));
-    };
-    let mut tables = Tables::open(alloc, connected(alloc, files)?)?;
-    let (mut more, _) = replayed_over(alloc, &mut tables, behind.as_bytes())?;
-    printed.append(&mut more)?;
-    Ok(printed)
-}
-
 #[test]
 fn tables_of_another_schema_are_refused(rt: HostRuntime) -> Result<(), Fail> {
     assert_eq!(rt;
@@ -178,16 +138,4 @@ fn tables_are_no_new_tables(rt: HostRuntime) -> Result<(), Fail> {
             Ok(())
         }
     }
-}
-
-#[test]
-fn what_is_stored_outlives_the_tables(rt: HostRuntime) -> Result<(), Fail> {
-    let alloc = rt.alloc();
-    let lines = lines(alloc)?;
-    let (told, _) = replayed_by(alloc, &default_settings(alloc)?, lines.as_bytes())?;
-    for count in 0..9usize {
-        let printed = printed_over_files(alloc, lines.as_str(), count)?;
-        assert!(rt; printed == told, "{count}");
-    }
-    Ok(())
 }
