@@ -1,0 +1,16 @@
+-- What a message is answered with.
+use Rattle.std.specs.Prelude.{ℕ, List}
+use Rattle.rpc_records.specs.declared.fault.Fault.TheVariants as fault
+use Rattle.http_responses.specs.Responses.{refusal_response, response_text}
+use Rattle.http_responses.specs.declared.answer.Answer.{Answer}
+use Rattle.http_responses.specs.declared.answer.Answer.TheVariants as answer
+use Rattle.http_responses.specs.declared.response.Response.{Response}
+
+-- The response that an answer is: want of memory is told as any other refusal.
+abbrev pub response_of : Answer → Response
+response_of answer.Unavailable = refusal_response fault.Unavailable
+response_of (answer.Response response) = response
+
+-- All bytes of an answer.
+abbrev pub answer_bytes : Answer → List ℕ
+answer_bytes answer = response_text (response_of answer)

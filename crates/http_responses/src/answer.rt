@@ -1,0 +1,64 @@
+ghost use Rattle.std.specs.Prelude.{◌≡◌};
+ghost use Rattle.http_responses.specs.Responses.{head_of};
+ghost use Rattle.http_responses.specs.Answers.{response_of};
+
+use crate::head::{Head, head_of_size};
+use crate::media::Media;
+use crate::response::Response;
+use http::StatusCode;
+use rpc_records::unavailable_text;
+
+/// What a message is answered with.
+#[derive(Drop)]
+pub enum Answer {
+    /// Memory, size or disk is wanting. The response that tells it takes no memory.
+    Unavailable,
+    Response(Response),
+}
+
+impl Answer {
+    /// The status code of its response.
+    pub fn status(&self) -> u16
+        ensures { result ≡ (response_of self.now).status }
+    {
+        match self {
+            Answer::Unavailable => StatusCode::SERVICE_UNAVAILABLE.as_u16(),
+            Answer::Response(response) => response.status.as_u16(),
+        }
+    }
+
+    /// What the body of its response is written in.
+    pub fn media(&self) -> Media
+        ensures { result ≡ (response_of self.now).media }
+    {
+        match self {
+            Answer::Unavailable => Media::Json,
+            Answer::Response(response) => response.media,
+        }
+    }
+
+    /// All that stands before the body of its response.
+    pub fn head(&self) -> Head
+        ensures { result.bytes ≡ head_of (response_of self.now) }
+    {
+        match self {
+            Answer::Unavailable => head_of_size(
+                StatusCode::SERVICE_UNAVAILABLE,
+                None,
+                Media::Json,
+                unavailable_text().len(),
+            ),
+            Answer::Response(response) => response.head(),
+        }
+    }
+
+    /// The body of its response.
+    pub fn body(&self) -> &str
+        ensures { result.now ≡ (response_of self.now).body }
+    {
+        match self {
+            Answer::Unavailable => unavailable_text(),
+            Answer::Response(response) => response.body.as_str(),
+        }
+    }
+}
