@@ -24,7 +24,7 @@ status_line status = codes "HTTP/1.1 " ++ (code_digits status ++ (codes " " ++ (
 unfoldable pub field_line : (name value : List ℕ) → List ℕ
 field_line name value = name ++ (codes ": " ++ (value ++ codes "\r\n"))
 
--- What a body is written in. (RFC 8259, section 11, and RFC 7111, section 5.1.)
+-- What a body is written in. (RFC 8259, section 11, and RFC 4180, section 3.)
 abbrev pub media_type : Media → List ℕ
 media_type Json = codes "application/json"
 media_type Csv = codes "text/csv"

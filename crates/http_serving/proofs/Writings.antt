@@ -1,0 +1,50 @@
+-- Bytes that go out in several writes.
+use Rattle.std.proofs.Common.{◌≡◌, ℕ, ◌+◌, List, [], ◌++◌, take, drop, sym, ap, ap₂, ◌∙◌, subst, append-nil, append_assoc, take-append-drop}
+use Rattle.std.proofs.KnownBytes.{Appends-trans, Appends-kept}
+use Rattle.std.proofs.Math.Seq.{take-add}
+use Rattle.std.specs.Io.KnownBytes.{Appends, Keeps}
+use Rattle.std.specs.Prelude.{Option, Result, Ok, Err, OnOk, OnErr}
+use Rattle.http_responses.specs.Answers.{answer_bytes, response_of}
+use Rattle.http_responses.specs.Responses.{head_of, response_text}
+use Rattle.http_responses.specs.declared.answer.Answer.{Answer}
+use Rattle.http_serving.specs.Streams.{WentOut}
+
+pub OnOk-map : {A E P Q : Type 0} (r : Result A E) → (P → Q) → OnOk r P → OnOk r Q
+OnOk-map (Ok x) f p = f p
+OnOk-map (Err e) f p = tt
+
+pub OnErr-map : {A E P Q : Type 0} (r : Result A E) → (P → Q) → OnErr r P → OnErr r Q
+OnErr-map (Ok x) f p = tt
+OnErr-map (Err e) f p = f p
+
+-- one write more
+pub Appends-more : (a b c : Option (List ℕ)) (bytes : List ℕ) (n m : ℕ)
+    → Appends a b (take n bytes) → Appends b c (take m (drop n bytes)) → Appends a c (take (n + m) bytes)
+Appends-more a b c bytes n m first next =
+    subst (Appends a c) (sym (take-add n m bytes)) (Appends-trans a b c (take n bytes) (take m (drop n bytes)) first next)
+
+-- a write that took nothing
+pub WentOut-front : (a b c : Option (List ℕ)) (bytes : List ℕ) (n : ℕ) → Appends a b (take n bytes) → Appends b c [] → WentOut a c bytes
+WentOut-front a b c bytes n first none =
+    (take n bytes, drop n bytes, sym (take-append-drop n bytes), subst (Appends a c) (append-nil (take n bytes)) (Appends-trans a b c (take n bytes) [] first none))
+
+-- a write that failed
+pub WentOut-kept : (a b c : Option (List ℕ)) (bytes : List ℕ) (n : ℕ) → Appends a b (take n bytes) → Keeps b c → WentOut a c bytes
+WentOut-kept a b c bytes n first kept =
+    (take n bytes, drop n bytes, sym (take-append-drop n bytes), Appends-kept a b c (take n bytes) first kept)
+
+-- an answer is a head and a body
+pub answer-parts : (answer : Answer) (head body : List ℕ) → head ≡ head_of (response_of answer) → body ≡ (response_of answer).body
+    → answer_bytes answer ≡ head ++ body
+unfolding response_text
+answer-parts answer head body is_head is_body = ap₂ (λ (x y : List ℕ). x ++ y) (sym is_head) (sym is_body)
+
+-- the head went out, and the front of the body
+pub WentOut-behind : (a b c : Option (List ℕ)) (head body all : List ℕ) → all ≡ head ++ body → Appends a b head → WentOut b c body → WentOut a c all
+WentOut-behind a b c head body all is first next =
+    (head ++ next.0, next.1, is ∙ ap (λ (t : List ℕ). head ++ t) next.2 ∙ sym (append_assoc head next.0 next.1), Appends-trans a b c head next.0 first next.3)
+
+-- the front of the head went out
+pub WentOut-within : (a b : Option (List ℕ)) (head body all : List ℕ) → all ≡ head ++ body → WentOut a b head → WentOut a b all
+WentOut-within a b head body all is first =
+    (first.0, first.1 ++ body, is ∙ ap (λ (t : List ℕ). t ++ body) first.2 ∙ append_assoc first.0 first.1 body, first.3)

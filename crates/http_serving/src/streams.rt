@@ -1,0 +1,44 @@
+//! Where messages come from, and where answers go.
+
+ghost use Rattle.std.specs.Prelude.{◌≡◌, ◌<◌, ℕ, List, length, Option, IfOk, OnErr};
+ghost use Rattle.std.specs.Io.{ReadsAtMost, WritesAtMost};
+ghost use Rattle.std.specs.Io.KnownBytes.{ReadConsumes, WriteAppends};
+
+/// A read or a write failed.
+#[derive(Clone, Copy)]
+pub struct StreamFault;
+
+/// What bytes are read from.
+pub trait Source {
+    /// The bytes that are left, where they are known.
+    ghost left: { Self → Option (List ℕ) };
+
+    /// One call may lead from the first state to the second.
+    ghost steps: { Self → Self → Type 0 };
+
+    /// The last call failed.
+    ghost has_failed: { Self → Type 0 };
+
+    /// Puts bytes at the start of `buf`, and says how many; none at the end alone.
+    fn read_some(&mut self, buf: &mut [u8]) -> Result<usize, StreamFault>
+        ensures bound { ReadsAtMost result buf.new }
+        ensures bytes { ReadConsumes (left self.old) (left self.new) result buf.new }
+        ensures step { steps self.old self.new }
+        ensures failed { OnErr result (has_failed self.new) };
+}
+
+/// What bytes are written to.
+pub trait Sink {
+    /// The bytes that it holds, where they are known.
+    ghost held: { Self → Option (List ℕ) };
+
+    /// The last call failed, or took none of some bytes.
+    ghost has_failed: { Self → Type 0 };
+
+    /// Takes bytes from the front of `bytes`, and says how many.
+    fn write_some(&mut self, bytes: &[u8]) -> Result<usize, StreamFault>
+        ensures bound { WritesAtMost result bytes.now }
+        ensures bytes { WriteAppends (held self.old) (held self.new) result bytes.now }
+        ensures failed { OnErr result (has_failed self.new) }
+        ensures took_none { IfOk result (λ n. n ≡ 0 → 0 < length bytes.now → has_failed self.new) };
+}
