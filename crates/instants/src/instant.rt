@@ -1,0 +1,39 @@
+ghost use Rattle.std.specs.Prelude.{◌≡◌};
+ghost use Rattle.instants.specs.Instants as spec;
+
+use jiff::Timestamp;
+use sched_book::Moment;
+use texts::utf8_text;
+
+/// The moment that an instant of ISO 8601 tells: `None` where the bytes are no UTF-8, where `jiff` reads no
+/// instant, where it is not on a whole second, and where it is no moment.
+pub fn moment_of(text: &[u8]) -> Option<Moment>
+    ensures { result ≡ spec.moment_of text.now }
+{
+    match utf8_text(text) {
+        Some(text) => moment_told(text),
+        None => None,
+    }
+}
+
+/// The same of a text.
+pub fn moment_told(text: &str) -> Option<Moment>
+    ensures { result ≡ spec.moment_told text.now }
+{
+    match text.parse::<Timestamp>() {
+        Ok(instant) => moment_at(instant),
+        Err(_) => None,
+    }
+}
+
+fn moment_at(instant: Timestamp) -> Option<Moment>
+    ensures { result ≡ spec.moment_of_nanoseconds instant.nanosecond }
+{
+    if instant.subsec_nanosecond() != 0 {
+        return None;
+    }
+    match u64::try_from(instant.as_second()) {
+        Ok(second) => Moment::new(second),
+        Err(_) => None,
+    }
+}
