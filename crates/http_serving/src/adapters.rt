@@ -11,6 +11,7 @@ use std::io::{ErrorKind, Read, Write};
 const MOST_TRIES: u32 = 1_000_000;
 
 /// A reader as a source. A read that a signal interrupts is tried again.
+#[derive(Drop)]
 pub struct FromRead<'r, R>(pub &'r mut R);
 
 impl<'r, R: Read> Source for FromRead<'r, R> {
@@ -36,6 +37,7 @@ impl<'r, R: Read> Source for FromRead<'r, R> {
 }
 
 /// A writer as a sink. A write that a signal interrupts is tried again.
+#[derive(Drop)]
 pub struct FromWrite<'w, W>(pub &'w mut W);
 
 impl<'w, W: Write> Sink for FromWrite<'w, W> {

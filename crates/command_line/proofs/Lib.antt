@@ -1,0 +1,4 @@
+pub mod NumberTexts
+pub mod Subcommands
+pub mod PlainProgram
+pub mod Sayings

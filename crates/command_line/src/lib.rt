@@ -1,0 +1,11 @@
+//! The program's command line: what is ordered by its words.
+#![tactic(auto)]
+
+mod number;
+mod order;
+mod program;
+mod reading;
+mod values;
+
+pub use order::{Order, OrderFault};
+pub use reading::order_of;

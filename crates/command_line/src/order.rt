@@ -1,0 +1,50 @@
+use sched_book::Moment;
+use texts::Text;
+
+/// What a command line orders. Each `tables`, `settings` and `file` is the path of a file.
+#[derive(Drop)]
+pub enum Order {
+    /// Make a tables file by a settings file.
+    Create {
+        settings: Text,
+        tables: Text,
+    },
+    /// Serve so many connections on this port of 127.0.0.1, one after the other.
+    Serve {
+        tables: Text,
+        port: u16,
+        count: u32,
+    },
+    /// Import the batch of this kind and this name, whose text is in the file.
+    Import {
+        tables: Text,
+        kind: Text,
+        batch: Text,
+        file: Text,
+    },
+    /// Let time go by to this moment.
+    Tick {
+        tables: Text,
+        at: Moment,
+    },
+    /// Print the statement of the host of this number.
+    Statement {
+        tables: Text,
+        host: u32,
+    },
+    /// Answer the messages of a run from standard input, with the default settings where none are told.
+    Replay {
+        settings: Option<Text>,
+    },
+}
+
+/// Why a command line orders nothing.
+#[derive(Drop)]
+pub enum OrderFault {
+    /// The words are no order of the program.
+    Refused,
+    /// The words ask for help, and this is the text to show.
+    Help(Text),
+    /// Memory was wanting.
+    Memory,
+}
