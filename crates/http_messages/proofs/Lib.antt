@@ -1,0 +1,7 @@
+mod HeadLemmas
+mod NumberLemmas
+mod FieldLemmas
+mod RowLemmas
+mod MeaningLemmas
+mod KindLemmas
+mod RouteLemmas

@@ -1,0 +1,10 @@
+pub mod Places
+pub mod Heads
+pub mod Fields
+pub mod Numbers
+pub mod Bodies
+pub mod Routing
+pub mod Routers
+pub mod Deciding
+pub mod Meaning
+pub mod Hearing

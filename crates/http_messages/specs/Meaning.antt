@@ -1,0 +1,38 @@
+-- What the bytes of a connection mean: one request, with its body.
+use Rattle.std.specs.Prelude.{◌≡◌, ◌⊎◌, ℕ, List, ◌++◌, IsTrue}
+use Rattle.httparse.specs.Grammar.{RequestHead}
+use Rattle.rpc_records.specs.declared.fault.Fault.TheVariants.{BadHttp}
+use Rattle.http_messages.specs.Deciding.{Asked, call, import, tick, statement, wrong_method, refused, decided, asked_with, is_cut}
+use Rattle.http_messages.specs.Heads.{IsHead, HasNoHead, AwaitsHead}
+use Rattle.http_messages.specs.declared.message.Message.{Message}
+use Rattle.http_messages.specs.declared.message.Message.TheVariants as message
+
+-- where this is the operator's key, bytes ask for this: what their head and what stands behind it ask for, and where they
+-- have no head they are refused
+abbrev pub Means : List ℕ → List ℕ → Asked → Type 0
+Means key bytes asked =
+    ((h : RequestHead) × (rest : List ℕ) × IsHead bytes h rest × (asked ≡ asked_with (decided key h) rest))
+    ⊎ (HasNoHead bytes × (asked ≡ refused BadHttp))
+
+-- they ask for it whatever follows
+abbrev pub IsSettled : List ℕ → List ℕ → Asked → Type 0
+IsSettled key bytes asked = (more : List ℕ) → Means key (bytes ++ more) asked
+
+-- they are no whole message yet, and what follows may make them one: the head is not whole, or its body isn't
+abbrev pub Awaits : List ℕ → List ℕ → Type 0
+Awaits key bytes =
+    AwaitsHead bytes
+    ⊎ ((h : RequestHead) × (rest : List ℕ) × IsHead bytes h rest × IsTrue (is_cut (decided key h) rest))
+
+-- no bytes ask for two things
+abbrev pub MessagesHaveOneMeaning : Type 0
+MessagesHaveOneMeaning = (key bytes : List ℕ) (a b : Asked) → Means key bytes a → Means key bytes b → a ≡ b
+
+-- what a message asks for
+abbrev pub message_seen : Message → Asked
+message_seen (message.Call body) = call body.now
+message_seen (message.Import kind batch text) = import kind batch.now text.now
+message_seen message.Tick = tick
+message_seen (message.Statement host) = statement host
+message_seen (message.WrongMethod allowed) = wrong_method allowed
+message_seen (message.Refused fault) = refused fault

@@ -1,0 +1,38 @@
+-- The router of the routes, as `matchit` keeps it.
+use Rattle.std.specs.Prelude.{ℕ, List, [], codes, drop, nat_eq, if◌then◌else◌, Option, Some, None, option_map, option_and_then, Result, Ok, Err}
+use Rattle.std.specs.List.{starts_with}
+use Rattle.matchit.specs.Order.{placed}
+use Rattle.matchit.specs.Route.{Scan, parse_route}
+use Rattle.matchit.specs.Router.{RouteOf, route_from}
+use Rattle.matchit.specs.Rows.{RowsOf}
+use Rattle.matchit.specs.Seek.{first}
+use Rattle.matchit.specs.declared.error.InsertError.{InsertError}
+use Rattle.http_messages.specs.Routing.{Route, scheduler, tick, hosts, import_of}
+use Rattle.http_messages.specs.declared.place.Place.{Place}
+use Rattle.http_messages.specs.declared.place.Place.TheVariants.{Scheduler, Import, Tick, Hosts}
+
+-- routes with one more, where its text is one of a route
+abbrev pub with_route : Result Scan InsertError → Place → RowsOf (RouteOf Place) → RowsOf (RouteOf Place)
+with_route (Ok scan) place rows = placed (scan.pattern, route_from scan place) rows
+with_route (Err e) place rows = rows
+
+abbrev pub the_routes : RowsOf (RouteOf Place)
+the_routes =
+    with_route (parse_route (codes "/hosts/{id}")) Hosts
+    (with_route (parse_route (codes "/tick")) Tick
+    (with_route (parse_route (codes "/import/{kind}/{batch}")) Import
+    (with_route (parse_route (codes "/scheduler")) Scheduler [])))
+
+-- the place that the router finds for a path
+abbrev pub found_place : List ℕ → Option Place
+found_place path = option_map (λ route. route.value) (first the_routes path)
+
+-- the route at a place, by what the path names
+abbrev pub route_at : Place → List ℕ → Option Route
+route_at Scheduler path = Some scheduler
+route_at Import path = if starts_with nat_eq path (codes "/import/") then import_of (drop 8 path) else None
+route_at Tick path = Some tick
+route_at Hosts path = if starts_with nat_eq path (codes "/hosts/") then Some (hosts (drop 7 path)) else None
+
+abbrev pub found_route : List ℕ → Option Route
+found_route path = option_and_then (λ place. route_at place path) (found_place path)

@@ -1,0 +1,145 @@
+ghost use Rattle.std.specs.Prelude.{◌≡◌, length, map, All, option_map};
+ghost use Rattle.std.specs.Str.{bytes_eq};
+ghost use Rattle.httparse.specs.Spans.{IsHeaderWithin, header_bytes};
+ghost use Rattle.http_messages.specs.Deciding as spec;
+ghost use Rattle.http_messages.specs.Fields.{found_told};
+ghost use Rattle.http_messages.specs.Hearing.{decision_seen};
+ghost use Rattle.http_messages.specs.Meaning.{message_seen};
+ghost use Rattle.http_messages.specs.Places.{method_text};
+ghost use Rattle.http_messages.specs.Routing.{route_seen};
+
+use crate::bodies::body_length;
+use crate::fields::{Found, find};
+use crate::message::Message;
+use crate::numbers::host_in;
+use crate::routes::Route;
+use http_responses::Method;
+use httparse::spans::HeaderSpan;
+use rpc_records::Fault;
+
+/// What a head decides.
+#[derive(Clone, Copy)]
+pub(crate) enum Decision<'b> {
+    /// What is asked, whatever stands behind the head.
+    AtOnce(Message<'b>),
+    /// The route, and the length of the body.
+    WithBody(Route<'b>, usize),
+}
+
+impl<'b> Decision<'b> {
+    /// Whether fewer bytes than those of the body stand behind the head.
+    pub(crate) fn is_cut(self, rest: &[u8]) -> bool
+        ensures { result ≡ spec.is_cut (decision_seen self.entry) rest.now }
+    {
+        match self {
+            Decision::AtOnce(_) => false,
+            Decision::WithBody(_, bytes) => rest.len() < bytes,
+        }
+    }
+
+    /// What is asked with these bytes behind the head.
+    pub(crate) fn message(self, rest: &'b [u8]) -> Message<'b>
+        ensures { message_seen result ≡ spec.asked_with (decision_seen self.entry) rest.now }
+    {
+        match self {
+            Decision::AtOnce(message) => message,
+            Decision::WithBody(_, bytes) if rest.len() < bytes => Message::Refused(Fault::BadHttp),
+            Decision::WithBody(route, bytes) => message_on(route, &rest[..bytes]),
+        }
+    }
+}
+
+/// What is asked on a route with a whole body.
+fn message_on<'b>(route: Route<'b>, body: &'b [u8]) -> Message<'b>
+    ensures { message_seen result ≡ spec.asked_on (route_seen route.entry) body.now }
+{
+    match route {
+        Route::Scheduler => Message::Call(body),
+        Route::Import(kind, batch) => Message::Import {
+            kind,
+            batch,
+            text: body,
+        },
+        Route::Tick => Message::Tick,
+        Route::Hosts(id) => match host_in(id) {
+            Some(host) => Message::Statement(host),
+            None => Message::Refused(Fault::NoSuchHost),
+        },
+    }
+}
+
+/// Whether two texts are the same, in a time that tells their lengths alone.
+fn is_same_text(text: &[u8], key: &[u8]) -> bool
+    ensures { result ≡ bytes_eq text.now key.now }
+{
+    if text.len() != key.len() {
+        return false;
+    }
+    let mut are_same = true;
+    for index in 0..key.len() {
+        are_same &= text[index] == key[index];
+    }
+    are_same
+}
+
+/// Whether exactly one field tells a key, and it is the operator's.
+fn is_operator(key: &[u8], front: &[u8], spans: &[HeaderSpan]) -> bool
+    requires { All (IsHeaderWithin (length front.now)) spans.now }
+    ensures { result ≡ spec.is_operator key.now (map (header_bytes front.now) spans.now) }
+{
+    match find(front, spans, b"x-operator-key") {
+        Found::Once(value) => is_same_text(value, key),
+        _ => false,
+    }
+}
+
+/// Whether a request names this method.
+fn is_method(name: &[u8], method: Method) -> bool
+    ensures { result ≡ bytes_eq name.now (method_text method) }
+{
+    match method {
+        Method::Get => name == b"GET".as_slice(),
+        Method::Post => name == b"POST".as_slice(),
+    }
+}
+
+/// What the method and the fields of a head decide on a route.
+fn decide_on<'b>(
+    key: &[u8],
+    method: &[u8],
+    front: &[u8],
+    spans: &[HeaderSpan],
+    route: Route<'b>,
+) -> Decision<'b>
+    requires { All (IsHeaderWithin (length front.now)) spans.now }
+    ensures { decision_seen result ≡ spec.decided_on key.now method.now (map (header_bytes front.now) spans.now) (route_seen route.entry) }
+{
+    let place = route.place();
+    if !is_method(method, place.method()) {
+        return Decision::AtOnce(Message::WrongMethod(place.method()));
+    }
+    if place.needs_key() && !is_operator(key, front, spans) {
+        return Decision::AtOnce(Message::Refused(Fault::NotOperator));
+    }
+    match body_length(place, front, spans) {
+        Ok(bytes) => Decision::WithBody(route, bytes),
+        Err(fault) => Decision::AtOnce(Message::Refused(fault)),
+    }
+}
+
+/// What the method and the fields of a head decide, where its path has this route or none.
+pub(crate) fn decide_for<'b>(
+    key: &[u8],
+    method: &[u8],
+    front: &[u8],
+    spans: &[HeaderSpan],
+    route: Option<Route<'b>>,
+) -> Decision<'b>
+    requires { All (IsHeaderWithin (length front.now)) spans.now }
+    ensures { decision_seen result ≡ spec.decided_for key.now method.now (map (header_bytes front.now) spans.now) (option_map route_seen route.entry) }
+{
+    match route {
+        Some(route) => decide_on(key, method, front, spans, route),
+        None => Decision::AtOnce(Message::Refused(Fault::NoRoute)),
+    }
+}

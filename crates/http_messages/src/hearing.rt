@@ -1,0 +1,78 @@
+ghost use Rattle.std.specs.Prelude.{◌≡◌, true, false};
+ghost use Rattle.httparse.specs.Grammar.{RequestHead};
+ghost use Rattle.httparse.specs.Spans.{IsRequestWithin, IsRequestAt};
+ghost use Rattle.http_messages.specs.Deciding.{decided};
+ghost use Rattle.http_messages.specs.Hearing.{decision_seen};
+ghost use Rattle.http_messages.specs.Meaning.{Means, IsSettled, Awaits, message_seen};
+ghost use Rattle.http_messages.specs.Routers.{the_routes};
+
+use crate::deciding::{Decision, decide_for};
+use crate::heads::{HeadRead, MOST_FIELDS, head_room, read_head};
+use crate::message::{Heard, Message};
+use crate::place::Place;
+use crate::routes::{path_of, route_of};
+use httparse::spans::{EMPTY_HEADER_SPAN, HeaderSpan, RequestSpans};
+use matchit::Router;
+use rpc_records::Fault;
+use texts::utf8_text;
+
+/// What the head in `front` decides whose parts are at these spans.
+fn decide<'b>(
+    router: &Router<Place>,
+    key: &[u8],
+    front: &'b [u8],
+    fields: &[HeaderSpan],
+    spans: RequestSpans,
+) -> Decision<'b>
+    requires routes { router.now ≡ the_routes }
+    requires within { IsRequestWithin front.now fields.now spans }
+    ensures { (h : RequestHead) → IsRequestAt front.entry.now fields.now spans h → decision_seen result ≡ decided key.now h }
+{
+    let method = spans.method.of(front);
+    let fields = &fields[..spans.headers];
+    match utf8_text(spans.path.of(front)) {
+        Some(target) => decide_for(
+            key,
+            method,
+            front,
+            fields,
+            route_of(router, path_of(target)),
+        ),
+        None => Decision::AtOnce(Message::Refused(Fault::BadHttp)),
+    }
+}
+
+/// What the bytes that came so far mean, where `key` is the operator's, and whether they stay that whatever follows.
+///
+/// The checks come in this order, and the first that fails tells the refusal: the head, the route, the method, the
+/// operator's key on its routes, the length of the body, and whether the body is whole. What a path names is looked at
+/// with the route, but for a host's number, which comes last.
+///
+/// Bytes that are not settled await more: as long as the peer goes on, they are to be heard again with what it sends.
+/// Once it has stopped they mean what is told here, which for a request that is cut short is [`Fault::BadHttp`].
+pub fn hear<'b>(router: &Router<Place>, key: &[u8], bytes: &'b [u8]) -> Heard<'b>
+    requires { router.now ≡ the_routes }
+    ensures meaning { Means key.now bytes.entry.now (message_seen result.message) }
+    ensures settled { result.is_settled ≡ true → IsSettled key.now bytes.entry.now (message_seen result.message) }
+    ensures awaits { result.is_settled ≡ false → Awaits key.now bytes.entry.now }
+{
+    let mut fields = [EMPTY_HEADER_SPAN; MOST_FIELDS];
+    match read_head(bytes, &mut fields) {
+        HeadRead::Whole(spans) => {
+            let decision = decide(router, key, head_room(bytes), &fields, spans);
+            let rest = &bytes[spans.len..];
+            Heard {
+                message: decision.message(rest),
+                is_settled: !decision.is_cut(rest),
+            }
+        }
+        HeadRead::Partial => Heard {
+            message: Message::Refused(Fault::BadHttp),
+            is_settled: false,
+        },
+        HeadRead::Refused => Heard {
+            message: Message::Refused(Fault::BadHttp),
+            is_settled: true,
+        },
+    }
+}

@@ -1,0 +1,22 @@
+//! What the bytes of a request mean.
+//!
+//! [`hear`] takes the bytes that a peer sent so far. It tells the message that they are, and whether they stay that
+//! message whatever follows; as long as they may yet become another, more is to be read. `specs/` says what bytes
+//! mean, check by check in their order; [`laws`] are the theorems.
+#![tactic(auto)]
+
+mod bodies;
+mod deciding;
+mod fields;
+mod heads;
+mod hearing;
+pub mod laws;
+pub mod message;
+mod numbers;
+pub mod place;
+mod routes;
+
+pub use hearing::hear;
+pub use message::{Heard, Message};
+pub use place::Place;
+pub use routes::new_router;

@@ -1,0 +1,32 @@
+use http_responses::Method;
+use pasts::Kind;
+use rpc_records::Fault;
+
+/// What a message asks for.
+#[derive(Clone, Copy)]
+pub enum Message<'b> {
+    /// A call of a host, with its body.
+    Call(&'b [u8]),
+    /// An import of rows of a kind, with their bytes, under the name of a batch.
+    Import {
+        kind: Kind,
+        batch: &'b str,
+        text: &'b [u8],
+    },
+    /// A tick: late jobs are to lapse.
+    Tick,
+    /// The statement of the host of this number.
+    Statement(u32),
+    /// The route has another method, this one.
+    WrongMethod(Method),
+    /// A refusal for any other fault of the bytes.
+    Refused(Fault),
+}
+
+/// What bytes mean.
+#[derive(Clone, Copy)]
+pub struct Heard<'b> {
+    pub message: Message<'b>,
+    /// Whether they mean the same whatever follows.
+    pub is_settled: bool,
+}

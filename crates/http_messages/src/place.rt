@@ -1,0 +1,53 @@
+ghost use Rattle.std.specs.Prelude.{◌≡◌};
+ghost use Rattle.http_messages.specs.Places as spec;
+
+use http_responses::Method;
+
+/// The most bytes of the body of a call or of a tick.
+const MOST_CALL_BYTES: usize = 262_144;
+
+/// The most bytes of the body of an import.
+const MOST_IMPORT_BYTES: usize = 1_048_576;
+
+/// A route, without what its path names.
+#[derive(Clone, Copy)]
+pub enum Place {
+    /// `/scheduler`, for calls of hosts.
+    Scheduler,
+    /// `/import/KIND/BATCH`
+    Import,
+    /// `/tick`
+    Tick,
+    /// `/hosts/ID`
+    Hosts,
+}
+
+impl Place {
+    /// The one method that it has.
+    pub(crate) fn method(self) -> Method
+        ensures { result ≡ spec.method_of self }
+    {
+        match self {
+            Place::Hosts => Method::Get,
+            _ => Method::Post,
+        }
+    }
+
+    /// Whether it is the operator's alone.
+    pub(crate) fn needs_key(self) -> bool
+        ensures { result ≡ spec.needs_key self }
+    {
+        !matches!(self, Place::Scheduler)
+    }
+
+    /// The most bytes of its body.
+    pub(crate) fn most_bytes(self) -> usize
+        ensures { result ≡ spec.most_bytes self }
+    {
+        match self {
+            Place::Import => MOST_IMPORT_BYTES,
+            Place::Scheduler | Place::Tick => MOST_CALL_BYTES,
+            Place::Hosts => 0,
+        }
+    }
+}
