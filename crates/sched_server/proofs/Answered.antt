@@ -1,0 +1,45 @@
+-- What a message asks for says something to the scheduler, which is served.
+use Rattle.std.proofs.Common.{◌≡◌, ℕ, List, refl, sym, ◌∙◌, ap, subst}
+use Rattle.std.specs.Prelude.{Result, Ok, Err, IfOk}
+use Rattle.http_messages.specs.Deciding.{Asked}
+use Rattle.http_messages.specs.Deciding as asks
+use Rattle.http_messages.specs.Meaning.{message_seen}
+use Rattle.http_messages.specs.declared.message.Message.{Message}
+use Rattle.rpc_records.specs.declared.fault.Fault.{Fault}
+use Rattle.sched_book.specs.declared.desk.Unavailable.{Unavailable}
+use Rattle.sched_book.specs.declared.rows.Rows.{Rows}
+use Rattle.sched_book.specs.declared.world.World.{World}
+use Rattle.pasts.specs.Messages.{Said, Import}
+use Rattle.pasts.specs.declared.answer.Answer.{Answer}
+use Rattle.pasts.specs.declared.kind.Kind.{Kind}
+use Rattle.message_engine.specs.Imports.{Reads}
+use Rattle.message_engine.specs.Stores.{Calls, Batches, ServesIn}
+use Rattle.sched_server.specs.Meanings.{Says}
+
+-- a message of a known form says what that form says
+pub says_so : (m form : Message) (said : Said) → m ≡ form → Says (message_seen form) said → Says (message_seen m) said
+says_so m form said is says = let P : Message → Type 0 = λ x. Says (message_seen x) said in subst P (sym is) says
+
+-- and is served as that
+pub known_serves : (m form : Message) (said : Said) (now : ℕ) (w w' : World) (calls calls' : Calls) (batches batches' : Batches)
+    (r : Result Answer Unavailable) → m ≡ form → Says (message_seen form) said
+    → IfOk r (λ a. ServesIn (record { now = now; said = said }) a w calls batches w' calls' batches')
+    → IfOk r (λ a. (s : Said) × Says (message_seen m) s × ServesIn (record { now = now; said = s }) a w calls batches w' calls' batches')
+known_serves m form said now w w' calls calls' batches batches' (Ok a) is says serves = (said, says_so m form said is says, serves)
+known_serves m form said now w w' calls calls' batches batches' (Err e) is says serves = tt
+
+-- what holds at every moment holds at this one
+pub at_moment : (P : ℕ → Answer → Type 0) (now : ℕ) (r : Result Answer Unavailable) → IfOk r (λ a. (t : ℕ) → P t a) → IfOk r (P now)
+at_moment P now (Ok a) all = all now
+at_moment P now (Err e) all = tt
+
+-- an import says what its text reads as
+pub import_serves : (m form : Message) (kind : Kind) (batch text : List ℕ) (now : ℕ) (w w' : World) (calls calls' : Calls) (batches batches' : Batches)
+    (r : Result Answer Unavailable) → m ≡ form → message_seen form ≡ asks.import kind batch text
+    → IfOk r (λ a. (read : Result Rows Fault) × Reads kind text read
+    × ServesIn (record { now = now; said = Import kind batch text read }) a w calls batches w' calls' batches')
+    → IfOk r (λ a. (s : Said) × Says (message_seen m) s × ServesIn (record { now = now; said = s }) a w calls batches w' calls' batches')
+import_serves m form kind batch text now w w' calls calls' batches batches' (Ok a) is asks_for serves =
+    let P : Asked → Type 0 = λ asked. Says asked (Import kind batch text serves.0) in
+    (Import kind batch text serves.0, subst P (sym (ap message_seen is ∙ asks_for)) (serves.0, serves.1, refl), serves.2)
+import_serves m form kind batch text now w w' calls calls' batches batches' (Err e) is asks_for serves = tt

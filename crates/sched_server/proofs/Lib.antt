@@ -1,0 +1,5 @@
+mod Told
+mod Answered
+mod Handled
+mod Followed
+mod Begun

@@ -1,0 +1,18 @@
+-- The answer that says what was told. (This project's own.)
+use Rattle.std.specs.Prelude.{◌≡◌, ◌⊎◌, Option, Result, Ok, Err}
+use Rattle.http_responses.specs.declared.answer.Answer.{Answer}
+use Rattle.http_responses.specs.declared.answer.Answer.TheVariants as answer
+use Rattle.http_responses.specs.declared.method.Method.{Method}
+use Rattle.rpc_records.specs.declared.fault.Fault.{Fault}
+use Rattle.sched_book.specs.declared.desk.Unavailable.{Unavailable}
+use Rattle.pasts.specs.declared.answer.Answer as told
+use Rattle.pasts.specs.declared.answer.Answer.TheVariants as tells
+use Rattle.sched_server.specs.Handled.{response_to}
+
+abbrev pub IsRefusal : told.Answer → Type 0
+IsRefusal t = (fault : Fault) × (t ≡ tells.Refusal fault)
+
+-- It is unavailable where nothing was told, or a refusal found no memory; else it is the response to what was told.
+abbrev pub Responds : Option Method → Result told.Answer Unavailable → Answer → Type 0
+Responds allowed r answer.Unavailable = ((e : Unavailable) × (r ≡ Err e)) ⊎ ((t : told.Answer) × (r ≡ Ok t) × IsRefusal t)
+Responds allowed r (answer.Response response) = (t : told.Answer) × (r ≡ Ok t) × (response ≡ response_to allowed t)

@@ -1,0 +1,46 @@
+-- What one message of bytes does to a store, and the response that answers it. (The forms of responses are RFC 9112's; the rest is
+-- this profile's.)
+use Rattle.std.specs.Prelude.{◌≡◌, ℕ, List, Option, Some, None}
+use Rattle.http_messages.specs.Deciding.{Asked}
+use Rattle.http_messages.specs.Meaning.{Means}
+use Rattle.http_responses.specs.Responses.{good_response, statement_response, refusal_response, wrong_method_response}
+use Rattle.http_responses.specs.declared.answer.Answer.{Answer}
+use Rattle.http_responses.specs.declared.answer.Answer.TheVariants as answer
+use Rattle.http_responses.specs.declared.method.Method.{Method}
+use Rattle.http_responses.specs.declared.response.Response.{Response}
+use Rattle.rpc_records.specs.declared.fault.Fault.{Fault}
+use Rattle.sched_book.specs.Sound.{Sound}
+use Rattle.sched_book.specs.declared.world.World.{World}
+use Rattle.pasts.specs.Messages.{Said}
+use Rattle.pasts.specs.Stands.{Same}
+use Rattle.pasts.specs.declared.answer.Answer as told
+use Rattle.pasts.specs.declared.answer.Answer.TheVariants as tells
+use Rattle.message_engine.specs.Stores.{Calls, Batches, tables_by, ServesIn}
+use Rattle.sched_server.specs.Meanings.{Says, allowed_by}
+
+-- the response that refuses; of a wrong method it tells the one that the route takes
+abbrev pub refusal_to : Option Method → Fault → Response
+refusal_to None fault = refusal_response fault
+refusal_to (Some allowed) fault = wrong_method_response allowed
+
+-- the response that says what was told
+abbrev pub response_to : Option Method → told.Answer → Response
+response_to allowed (tells.Good body) = good_response body
+response_to allowed (tells.Statement text) = statement_response text
+response_to allowed (tells.Refusal fault) = refusal_to allowed fault
+
+-- A message means what it asks for; that says something to the scheduler, which is served; and the response says what was told.
+pub record Handles (key bytes : List ℕ) (now : ℕ) (r : Response) (w : World) (calls : Calls) (batches : Batches)
+    (w' : World) (calls' : Calls) (batches' : Batches) : Type 0 where
+  pub asked : Asked
+  pub said : Said
+  pub told : told.Answer
+  pub means : Means key bytes asked
+  pub says : Says asked said
+  pub serves : ServesIn (record { now = now; said = said }) told w calls batches w' calls' batches'
+  pub response : r ≡ response_to (allowed_by asked) told
+
+-- Where the answer is unavailable nothing was changed, and any other answer is the response of the message.
+abbrev pub HandledAs : List ℕ → List ℕ → ℕ → Answer → World → Calls → Batches → World → Calls → Batches → Type 0
+HandledAs key bytes now answer.Unavailable w calls batches w' calls' batches' = Sound w → Same (tables_by w' calls' batches') (tables_by w calls batches)
+HandledAs key bytes now (answer.Response r) w calls batches w' calls' batches' = Handles key bytes now r w calls batches w' calls' batches'

@@ -1,0 +1,31 @@
+-- What a message that asks for something says to the scheduler. (The scheduler_request is BOINC's; the rest is this profile's.)
+use Rattle.std.specs.Prelude.{◌≡◌, Option, Some, None, Result}
+use Rattle.http_messages.specs.Deciding.{Asked}
+use Rattle.http_messages.specs.Deciding as asks
+use Rattle.http_responses.specs.declared.method.Method.{Method}
+use Rattle.rpc_records.specs.Reading.{meaning}
+use Rattle.rpc_records.specs.declared.fault.Fault.{Fault}
+use Rattle.rpc_records.specs.declared.fault.Fault.TheVariants as fault
+use Rattle.sched_book.specs.declared.rows.Rows.{Rows}
+use Rattle.pasts.specs.Messages.{Said, Import, Tick, Read, Refused}
+use Rattle.message_engine.specs.Imports.{Reads}
+use Rattle.message_engine.specs.Posts.{said_by}
+use Rattle.sched_server.specs.Statements.{told_of_host}
+
+-- A call says the request that its body means, or its fault; an import says what its text reads as; a statement is a read of what stands.
+abbrev pub Says : Asked → Said → Type 0
+Says (asks.call body) said = said ≡ said_by (meaning body)
+Says (asks.import kind batch text) said = (read : Result Rows Fault) × Reads kind text read × (said ≡ Import kind batch text read)
+Says asks.tick said = said ≡ Tick
+Says (asks.statement host) said = said ≡ Read (told_of_host host)
+Says (asks.wrong_method allowed) said = said ≡ Refused fault.WrongMethod
+Says (asks.refused f) said = said ≡ Refused f
+
+-- the method that the route takes, of a message with another
+abbrev pub allowed_by : Asked → Option Method
+allowed_by (asks.wrong_method allowed) = Some allowed
+allowed_by (asks.call body) = None
+allowed_by (asks.import kind batch text) = None
+allowed_by asks.tick = None
+allowed_by (asks.statement host) = None
+allowed_by (asks.refused f) = None

@@ -1,0 +1,10 @@
+-- What a service is made of, as the promises speak of it. (This project's own.)
+use Rattle.std.specs.Prelude.{ℕ, List}
+use Rattle.sched_server.specs.declared.service.Service.{Service}
+
+abbrev pub store_of : {S : Type 0} → Service S → S
+store_of service = service.store
+
+-- the operator's key
+abbrev pub key_of : {S : Type 0} → Service S → List ℕ
+key_of service = service.key

@@ -1,0 +1,143 @@
+//! What a message is told, and the response that says it.
+
+ghost use Rattle.std.specs.Prelude.{◌≡◌, IfOk, OnErr, Result};
+ghost use Rattle.rpc_records.specs.Reading.{meaning};
+ghost use Rattle.rpc_records.specs.declared.fault.Fault.{Fault};
+ghost use Rattle.sched_book.specs.Trusted.{Trusted};
+ghost use Rattle.sched_book.specs.declared.rows.Rows.{Rows};
+ghost use Rattle.pasts.specs.Messages.{Said, Import};
+ghost use Rattle.http_messages.specs.Meaning.{message_seen};
+ghost use Rattle.message_engine.specs.Imports.{Reads};
+ghost use Rattle.message_engine.specs.Posts.{said_by};
+ghost use Rattle.message_engine.specs.Stores.{ServesIn, IsLeft};
+ghost use Rattle.sched_server.specs.Answering.{IsRefusal, Responds};
+ghost use Rattle.sched_server.specs.Handled.{refusal_to, response_to};
+ghost use Rattle.sched_server.specs.Meanings.{Says, allowed_by};
+
+use crate::statements::statement;
+use http_messages::Message;
+use http_responses::{Answer, Method, Response};
+use message_engine::{Store, call, import, tick};
+use pasts::{Answer as Told, Kind};
+use rpc_records::{Fault, decode_request};
+use sched_book::{Moment, Unavailable};
+use std::alloc::Global;
+use texts::{Memory, Text};
+
+/// Answers the call that the body of a scheduler_request says; one that says none is refused.
+fn call_in_body<S: Store>(
+    alloc: Global,
+    store: &mut S,
+    body: &[u8],
+    now: Moment,
+) -> Result<Told, Unavailable>
+    ensures honest { S.honest store.new → S.honest store.old }
+    ensures kept { Trusted S.Units store.old store.new (S.well_kept store.new) }
+    ensures exact { Trusted S.Units store.old store.new (IfOk result (λ answer.
+        ServesIn (record { now = now; said = said_by (meaning body.now) }) answer
+        (S.world store.old) (S.calls store.old) (S.batches store.old) (S.world store.new) (S.calls store.new) (S.batches store.new))) }
+    ensures err { Trusted S.Units store.old store.new (OnErr result (
+        IsLeft (S.world store.old) (S.calls store.old) (S.batches store.old) (S.world store.new) (S.calls store.new) (S.batches store.new))) }
+{
+    match decode_request(alloc, body) {
+        Ok(request) => call(alloc, store, request, now),
+        Err(Fault::Unavailable) => Err(Unavailable),
+        Err(fault) => Ok(Told::Refusal(fault)),
+    }
+}
+
+/// Imports the batch of this name.
+fn import_batch<S: Store>(
+    alloc: Global,
+    store: &mut S,
+    kind: Kind,
+    batch: &str,
+    text: &[u8],
+    now: Moment,
+) -> Result<Told, Unavailable>
+    ensures honest { S.honest store.new → S.honest store.old }
+    ensures kept { Trusted S.Units store.old store.new (S.well_kept store.new) }
+    ensures exact { Trusted S.Units store.old store.new (IfOk result (λ answer.
+        (read : Result Rows Fault) × Reads kind text.now read ×
+        ServesIn (record { now = now; said = Import kind batch.now text.now read }) answer
+        (S.world store.old) (S.calls store.old) (S.batches store.old) (S.world store.new) (S.calls store.new) (S.batches store.new))) }
+    ensures err { Trusted S.Units store.old store.new (OnErr result (
+        IsLeft (S.world store.old) (S.calls store.old) (S.batches store.old) (S.world store.new) (S.calls store.new) (S.batches store.new))) }
+{
+    let name = Text::copied(alloc, batch)?;
+    import(alloc, store, kind, &name, text, now)
+}
+
+/// What a message is told at this moment, and what it does to the store.
+pub(crate) fn answer<S: Store>(
+    alloc: Global,
+    store: &mut S,
+    now: Moment,
+    message: Message<'_>,
+) -> Result<Told, Unavailable>
+    ensures honest { S.honest store.new → S.honest store.old }
+    ensures kept { Trusted S.Units store.old store.new (S.well_kept store.new) }
+    ensures exact { Trusted S.Units store.old store.new (IfOk result (λ told.
+        (said : Said) × Says (message_seen message.entry) said × ServesIn (record { now = now; said = said }) told
+        (S.world store.old) (S.calls store.old) (S.batches store.old) (S.world store.new) (S.calls store.new) (S.batches store.new))) }
+    ensures err { Trusted S.Units store.old store.new (OnErr result (
+        IsLeft (S.world store.old) (S.calls store.old) (S.batches store.old) (S.world store.new) (S.calls store.new) (S.batches store.new))) }
+{
+    match message {
+        Message::Call(body) => call_in_body(alloc, store, body, now),
+        Message::Import { kind, batch, text } => import_batch(alloc, store, kind, batch, text, now),
+        Message::Tick => tick(alloc, store, now),
+        Message::Statement(host) => statement(alloc, store, host),
+        Message::WrongMethod(_) => Ok(Told::Refusal(Fault::WrongMethod)),
+        Message::Refused(fault) => Ok(Told::Refusal(fault)),
+    }
+}
+
+/// The method that the route of a message takes, where the message has another.
+pub(crate) fn allowed_by(message: &Message<'_>) -> Option<Method>
+    ensures { result ≡ allowed_by (message_seen message.now) }
+{
+    match message {
+        Message::WrongMethod(allowed) => Some(*allowed),
+        _ => None,
+    }
+}
+
+/// The response that refuses; where a method is told, it says that the route takes that one.
+fn refusal_to(alloc: Global, allowed: Option<Method>, fault: Fault) -> Result<Response, Memory>
+    ensures { IfOk result (λ response. response ≡ refusal_to allowed fault) }
+{
+    match allowed {
+        Some(method) => Response::wrong_method(alloc, method),
+        None => Response::refusal(alloc, fault),
+    }
+}
+
+/// The response that says what was told. Only a refusal wants memory.
+fn response_to(alloc: Global, allowed: Option<Method>, told: Told) -> Result<Response, Memory>
+    ensures ok { IfOk result (λ response. response ≡ response_to allowed told) }
+    ensures err { OnErr result (IsRefusal told) }
+{
+    match told {
+        Told::Good(body) => Ok(Response::good(body)),
+        Told::Statement(text) => Ok(Response::statement(text)),
+        Told::Refusal(fault) => refusal_to(alloc, allowed, fault),
+    }
+}
+
+/// The answer that says what was told: unavailable where nothing was, or where a refusal finds no memory.
+pub(crate) fn respond(
+    alloc: Global,
+    allowed: Option<Method>,
+    told: Result<Told, Unavailable>,
+) -> Answer
+    ensures { Responds allowed told result }
+{
+    match told {
+        Ok(told) => match response_to(alloc, allowed, told) {
+            Ok(response) => Answer::Response(response),
+            Err(_) => Answer::Unavailable,
+        },
+        Err(Unavailable) => Answer::Unavailable,
+    }
+}

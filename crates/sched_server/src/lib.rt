@@ -1,0 +1,18 @@
+//! The scheduler as an HTTP server: what the bytes of a message do, and the bytes that answer them.
+//!
+//! A [`Service`] hears a message, does what it means over any store, and answers with a response whose bytes are all
+//! owned before the store commits. It is served on a reader and a writer by [`http_serving::serve_one`].
+#![tactic(auto)]
+
+mod answers;
+mod arrival;
+mod handling;
+pub mod laws;
+mod running;
+mod service;
+mod statements;
+
+pub use arrival::Arrival;
+pub use http_responses::Answer;
+pub use http_serving::IoFault;
+pub use service::Service;
