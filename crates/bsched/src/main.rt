@@ -1,69 +1,57 @@
 //! The scheduler of a BOINC project, as a program.
 //!
-//! `bsched`, alone or as `bsched replay`, reads the messages of a run from standard input, a line each, and
-//! prints the answers. `docs/PROFILE.md` states the formats.
+//! An operator makes tables, imports a project, serves it, lets time go by, and reads what a host was given; a run of
+//! messages is replayed from standard input. `bsched --help` tells the words, and `docs/PROFILE.md` states the formats.
 #![tactic(auto)]
-
-ghost use Rattle.std.specs.Prelude.{IfOk};
-ghost use Rattle.sched_book.specs.Limits.{AreSettingsInLimits};
 
 #[cfg(test)]
 mod tests;
 
-use replay_lines::{Ended, replay};
-use sched_book::Settings;
-use sched_tables::{OpenFault, Tables};
-use sqlite::MemStore;
-use std::alloc::Global;
-use std::io::{BufReader, BufWriter};
+use command_line::{Order, OrderFault, order_of};
+use commands::{Failure, perform};
+use std::io::Write;
 use std::process::ExitCode;
 use std::{env, io};
-use texts::{Memory, Text};
+
+/// The exit status of a command line that is refused.
+const BAD_COMMAND_LINE: u8 = 64;
 
 fn main(rt: HostRuntime) -> io::Result<ExitCode> {
-    let alloc = rt.alloc();
-    let words: Vec<String> = env::args(&rt)?.collect(alloc)?;
-    if !asks_for_replay(&words) {
-        eprintln!(rt; "bsched: bad command line")?;
-        return Ok(ExitCode::from(64));
-    }
-    let reader = BufReader::new(alloc, rt.reader())?;
-    let writer = BufWriter::new(alloc, io::writer(&rt))?;
-    let ended = match new_tables(alloc) {
-        Ok(mut tables) => replay(alloc, &mut tables, reader, writer),
-        Err(_) => Ended::Unavailable,
-    };
-    if ended != Ended::Good {
-        eprintln!(rt; "bsched: {ended}")?;
-    }
-    Ok(ExitCode::from(ended.status()))
-}
-
-/// Whether the command line, whose first word is the program's name, is `bsched` or `bsched replay`.
-fn asks_for_replay(words: &[String]) -> bool {
-    match words {
-        [] | [_] => true,
-        [_, command] => command.as_str() == "replay",
-        _ => false,
+    match words_of(&rt) {
+        Ok(words) => ordered(&rt, order_of(rt.alloc(), &words)),
+        Err(error) => failed(&rt, Failure::from(error)),
     }
 }
 
-/// New tables in memory, with the settings that `replay` takes where none are told.
-fn new_tables(alloc: Global) -> Result<Tables<MemStore>, OpenFault> {
-    Tables::in_memory(alloc, &default_settings(alloc)?)
+/// The words of the command line, of which the first is the program's name.
+fn words_of(rt: &HostRuntime) -> io::Result<Vec<String>> {
+    Ok(env::args(rt)?.collect(rt.alloc())?)
 }
 
-/// What `replay` takes where no settings are told.
-fn default_settings(alloc: Global) -> Result<Settings, Memory>
-    ensures { IfOk result AreSettingsInLimits }
-{
-    Ok(Settings {
-        daily_result_quota: 4,
-        max_hosts: 3,
-        max_wus_in_progress: 3,
-        max_wus_to_send: 2,
-        operator_key: Text::copied(alloc, "opkey-01")?,
-        request_delay: 60,
-        resend_lost_results: true,
-    })
+/// Carries out the order of a command line, or tells what is wrong with it.
+fn ordered(rt: &HostRuntime, order: Result<Order, OrderFault>) -> io::Result<ExitCode> {
+    match order {
+        Ok(order) => carried_out(rt, &order),
+        Err(OrderFault::Help(text)) => {
+            io::writer(rt).write_all(text.as_str().as_bytes())?;
+            Ok(ExitCode::SUCCESS)
+        }
+        Err(OrderFault::Refused) => {
+            eprintln!(rt; "bsched: bad command line")?;
+            Ok(ExitCode::from(BAD_COMMAND_LINE))
+        }
+        Err(OrderFault::Memory) => failed(rt, Failure::Unavailable),
+    }
+}
+
+fn carried_out(rt: &HostRuntime, order: &Order) -> io::Result<ExitCode> {
+    match perform(rt, order) {
+        Ok(outcome) => Ok(ExitCode::from(outcome.status())),
+        Err(failure) => failed(rt, failure),
+    }
+}
+
+fn failed(rt: &HostRuntime, failure: Failure) -> io::Result<ExitCode> {
+    eprintln!(rt; "bsched: {failure}")?;
+    Ok(ExitCode::from(failure.status()))
 }

@@ -3,6 +3,7 @@
 mod jobs;
 mod judging;
 mod lapses;
+mod messages;
 mod mixed;
 mod quotas;
 mod refusals;
@@ -12,36 +13,62 @@ mod spellings;
 mod stored;
 mod worked;
 
-use crate::default_settings;
+use commands::default_settings;
 use message_engine::{ListStore, Store};
 use repeats::first_answered_otherwise;
 use replay_lines::{Ended, replay};
 use rows::{Row, first_wrong};
 use sched_book::Settings;
+use sched_server::Service;
 use sched_tables::Tables;
 use std::alloc::Global;
 use std::io;
 use std::io::{BufReader, ErrorKind, Read};
 use std::test::Fail;
 
-/// What a replay of these lines prints over a store, and how it ends.
-fn replayed_over<S: Store>(
+/// The service over a store.
+fn service_over<S: Store + Drop>(alloc: Global, store: S) -> Result<Service<S>, Fail> {
+    match Service::new(alloc, store) {
+        Ok(service) => Ok(service),
+        Err(_) => Err(Fail::new("no memory for a service")),
+    }
+}
+
+/// The service over new lists in memory.
+fn new_service(alloc: Global) -> Result<Service<ListStore>, Fail> {
+    service_over(alloc, ListStore::new(alloc, &default_settings(alloc)?)?)
+}
+
+/// What a replay of these lines by a service prints, and how it ends.
+fn replayed_by<S: Store>(
     alloc: Global,
-    store: &mut S,
+    service: &mut Service<S>,
     lines: &[u8],
 ) -> Result<(Vec<u8>, Ended), Fail> {
     let mut printed = Vec::new(alloc);
-    let ended = replay(alloc, store, BufReader::new(alloc, lines)?, &mut printed);
+    let ended = replay(alloc, service, BufReader::new(alloc, lines)?, &mut printed);
     Ok((printed, ended))
+}
+
+/// What a replay of these lines over a store prints, and how it ends.
+fn replayed_over<S: Store + Drop>(
+    alloc: Global,
+    store: S,
+    lines: &[u8],
+) -> Result<(Vec<u8>, Ended), Fail> {
+    let mut service = service_over(alloc, store)?;
+    replayed_by(alloc, &mut service, lines)
 }
 
 /// What a replay of these lines prints over tables with these settings, and how it ends; it fails where the plain lists
 /// print anything else.
-fn replayed_by(alloc: Global, settings: &Settings, lines: &[u8]) -> Result<(Vec<u8>, Ended), Fail> {
-    let mut lists = ListStore::new(alloc, settings)?;
-    let mut tables = Tables::in_memory(alloc, settings)?;
-    let by_lists = replayed_over(alloc, &mut lists, lines)?;
-    let by_tables = replayed_over(alloc, &mut tables, lines)?;
+fn replayed_under(
+    alloc: Global,
+    settings: &Settings,
+    lines: &[u8],
+) -> Result<(Vec<u8>, Ended), Fail> {
+    let by_lists = replayed_over(alloc, ListStore::new(alloc, settings)?, lines)?;
+    let by_tables = replayed_over(alloc, Tables::in_memory(alloc, settings)?, lines)?;
     if by_tables != by_lists {
         return Err(Fail::new("the tables answer otherwise than the lists"));
     }
@@ -57,7 +84,7 @@ fn replayed(alloc: Global, lines: &[u8]) -> Result<(Vec<u8>, Ended), Fail> {
 fn replayed_with(alloc: Global, max_hosts: u32, lines: &[u8]) -> Result<(Vec<u8>, Ended), Fail> {
     let mut settings = default_settings(alloc)?;
     settings.max_hosts = max_hosts;
-    replayed_by(alloc, &settings, lines)
+    replayed_under(alloc, &settings, lines)
 }
 
 const PROJECT: &str =
@@ -391,6 +418,10 @@ fn lines_that_are_none_end_the_run(rt: HostRuntime) -> Result<(), Fail> {
         "1970-01-01T00:00:00Z import/accounts/b1 x",
         "1970-01-01T00:00:00Z import/accounts/b1 7",
         "1970-01-01T00:00:00Z import/units/b1 x",
+        "1970-01-01T00:00:00Z hosts",
+        "1970-01-01T00:00:00Z hosts/",
+        "1970-01-01T00:00:00Z hosts/1 ",
+        "1970-01-01T00:00:00Z hosts/1/2",
         "1970-01-01T00:00:00.5Z account k2",
         "1969-12-31T23:59:59Z account k2",
         "9892-03-08T12:26:41Z account k2",
@@ -469,32 +500,32 @@ fn short_answers(alloc: Global) -> Result<String, Fail> {
 
 /// What a replay prints whose reader is interrupted before each few bytes, and how it ends.
 fn replayed_interrupted(alloc: Global, text: &[u8]) -> Result<(Vec<u8>, Ended), Fail> {
-    let mut store = ListStore::new(alloc, &default_settings(alloc)?)?;
+    let mut service = new_service(alloc)?;
     let interrupted = Interrupted {
         text,
         is_ready: false,
     };
     let reader = BufReader::with_capacity(alloc, 7, interrupted)?;
     let mut printed = Vec::new(alloc);
-    let ended = replay(alloc, &mut store, reader, &mut printed);
+    let ended = replay(alloc, &mut service, reader, &mut printed);
     Ok((printed, ended))
 }
 
 /// What a replay prints whose reader fails behind these bytes, and how it ends.
 fn replayed_before_a_fault(alloc: Global, front: &[u8]) -> Result<(Vec<u8>, Ended), Fail> {
-    let mut store = ListStore::new(alloc, &default_settings(alloc)?)?;
+    let mut service = new_service(alloc)?;
     let reader = BufReader::new(alloc, front.chain(Broken))?;
     let mut printed = Vec::new(alloc);
-    let ended = replay(alloc, &mut store, reader, &mut printed);
+    let ended = replay(alloc, &mut service, reader, &mut printed);
     Ok((printed, ended))
 }
 
 /// What a replay prints into so many bytes of room, and how it ends.
 fn replayed_into(alloc: Global, length: usize, lines: &[u8]) -> Result<(Vec<u8>, Ended), Fail> {
-    let mut store = ListStore::new(alloc, &default_settings(alloc)?)?;
+    let mut service = new_service(alloc)?;
     let reader = BufReader::new(alloc, lines)?;
     let mut room = vec![in alloc; b' '; length]?;
-    let ended = replay(alloc, &mut store, reader, room.as_mut_slice());
+    let ended = replay(alloc, &mut service, reader, room.as_mut_slice());
     Ok((room, ended))
 }
 

@@ -1,29 +1,13 @@
--- A line of a replay: INSTANT, one space, a word and, where a body follows, one space and the body. (This profile.)
-use Rattle.std.specs.Prelude.{ℕ, ℤ, pos, negsuc, ◌+◌, ◌/◌, ◌%◌, ◌==◌, ◌&&◌, nat_le, if◌then◌else◌, List, [], ◌∷◌, ◌++◌, codes, take, drop, Option, Some, None, option_and_then, option_map, unwrap_or, position}
-use Rattle.std.specs.Result.{result_ok}
-use Rattle.std.specs.Str.{bytes_eq, is_utf8}
-use Rattle.jiff.specs.Words.{parse_timestamp}
+-- A line of a replay: INSTANT, one space, a word and, where a body follows, one space and the body; and the message of HTTP that it
+-- becomes. (This profile.)
+use Rattle.std.specs.Prelude.{ℕ, ◌+◌, ◌==◌, if◌then◌else◌, List, [], ◌∷◌, ◌++◌, codes, take, drop, Option, Some, None, option_and_then, option_map, unwrap_or, position}
+use Rattle.std.specs.Str.{bytes_eq}
 use Rattle.texts.specs.Words.{is_word, word_of}
 use Rattle.serde_json.specs.Find.{as_str}
 use Rattle.rpc_records.specs.Reading.{json_of}
-use Rattle.sched_book.specs.Limits.{last_moment}
-use Rattle.message_engine.specs.declared.arrival.Arrival.{Arrival}
-use Rattle.message_engine.specs.declared.arrival.Post.{Post}
-use Rattle.message_engine.specs.declared.arrival.Post.TheVariants.{Import, Scheduler, Tick}
-
--- the moment of an instant, in nanoseconds from 1970-01-01T00:00:00Z: it is on a whole second and within the moments
-abbrev pub moment_of_nanoseconds : ℤ → Option ℕ
-moment_of_nanoseconds (pos n) =
-    if (n % 1_000_000_000 == 0) && nat_le (n / 1_000_000_000) last_moment then Some (n / 1_000_000_000) else None
-moment_of_nanoseconds (negsuc n) = None
-
--- the moment that INSTANT tells, an instant of ISO 8601 as `jiff` reads it
-abbrev pub moment_told : List ℕ → Option ℕ
-moment_told text = option_and_then moment_of_nanoseconds (result_ok (parse_timestamp text))
-
--- the same of bytes, which have to be UTF-8
-abbrev pub moment_of : List ℕ → Option ℕ
-moment_of bytes = if is_utf8 bytes then moment_told bytes else None
+use Rattle.http_requests.specs.Requests.{call_request, import_request, tick_request, statement_request}
+use Rattle.instants.specs.Instants.{moment_of}
+use Rattle.replay_lines.specs.declared.line.Line.{Line}
 
 -- the bytes that part a line's words, and the parts of a word
 abbrev pub space : ℕ
@@ -45,49 +29,55 @@ abbrev pub account_rows : List ℕ → List ℕ
 account_rows name = codes "authenticator,name" ++ 10 ∷ (name ++ 44 ∷ (name ++ 10 ∷ []))
 
 -- `account` wants a word, and is the import of that account by a batch of its name
-abbrev pub account_line : Option (List ℕ) → Option Post
-account_line None = None
-account_line (Some name) = if is_word name then Some (Import (codes "accounts") name (account_rows name)) else None
+abbrev pub account_line : List ℕ → Option (List ℕ) → Option (List ℕ)
+account_line key None = None
+account_line key (Some name) = if is_word name then Some (import_request key (codes "accounts") name (account_rows name)) else None
 
 -- the text that a JSON string tells (RFC 8259)
 abbrev pub text_told : List ℕ → Option (List ℕ)
 text_told body = option_and_then as_str (json_of body)
 
 -- an import, where its kind, its name and its text are there
-abbrev pub import_by : Option (List ℕ) → Option (List ℕ) → Option (List ℕ) → Option Post
-import_by None batch text = None
-import_by (Some kind) None text = None
-import_by (Some kind) (Some batch) None = None
-import_by (Some kind) (Some batch) (Some text) = Some (Import kind batch text)
+abbrev pub import_by : List ℕ → Option (List ℕ) → Option (List ℕ) → Option (List ℕ) → Option (List ℕ)
+import_by key None batch text = None
+import_by key (Some kind) None text = None
+import_by key (Some kind) (Some batch) None = None
+import_by key (Some kind) (Some batch) (Some text) = Some (import_request key kind batch text)
 
 -- `import/KIND/BATCH` wants two words, and a JSON string with the text
-abbrev pub import_line : Option (List ℕ) → Option (List ℕ) → Option Post
-import_line None body = None
-import_line (Some names) body =
-    import_by (word_of (first_part slash names)) (option_and_then word_of (second_part slash names)) (option_and_then text_told body)
+abbrev pub import_line : List ℕ → Option (List ℕ) → Option (List ℕ) → Option (List ℕ)
+import_line key None body = None
+import_line key (Some names) body =
+    import_by key (word_of (first_part slash names)) (option_and_then word_of (second_part slash names)) (option_and_then text_told body)
+
+-- `hosts/ID` wants a word, and has no body, nor a space for one
+abbrev pub hosts_line : List ℕ → Option (List ℕ) → Option (List ℕ) → Option (List ℕ)
+hosts_line key host None = option_map (statement_request key) (option_and_then word_of host)
+hosts_line key host (Some body) = None
 
 -- `tick` has no body, nor a space for one
-abbrev pub tick_line : Option (List ℕ) → Option Post
-tick_line None = Some Tick
-tick_line (Some body) = None
+abbrev pub tick_line : List ℕ → Option (List ℕ) → Option (List ℕ)
+tick_line key None = Some (tick_request key)
+tick_line key (Some body) = None
 
 -- `scheduler` takes any bytes, and none where it has no body
-abbrev pub line_by : List ℕ → Option (List ℕ) → Option Post
-line_by word body =
-    if bytes_eq word (codes "account") then account_line body
-    else (if bytes_eq word (codes "scheduler") then Some (Scheduler (unwrap_or body []))
-    else (if bytes_eq word (codes "tick") then tick_line body
-    else (if bytes_eq (first_part slash word) (codes "import") then import_line (second_part slash word) body
-    else None)))
+abbrev pub message_by : List ℕ → List ℕ → Option (List ℕ) → Option (List ℕ)
+message_by key word body =
+    if bytes_eq word (codes "account") then account_line key body
+    else (if bytes_eq word (codes "scheduler") then Some (call_request (unwrap_or body []))
+    else (if bytes_eq word (codes "tick") then tick_line key body
+    else (if bytes_eq (first_part slash word) (codes "import") then import_line key (second_part slash word) body
+    else (if bytes_eq (first_part slash word) (codes "hosts") then hosts_line key (second_part slash word) body
+    else None))))
 
-abbrev pub line_of : List ℕ → Option Post
-line_of text = line_by (first_part space text) (second_part space text)
+abbrev pub message_of : List ℕ → List ℕ → Option (List ℕ)
+message_of key text = message_by key (first_part space text) (second_part space text)
 
-abbrev pub arrival_at : Option ℕ → Option Post → Option Arrival
-arrival_at None line = None
-arrival_at (Some now) None = None
-arrival_at (Some moment) (Some post) = Some (record { moment = moment; post = post })
+abbrev pub line_at : Option ℕ → Option (List ℕ) → Option Line
+line_at None message = None
+line_at (Some now) None = None
+line_at (Some now) (Some message) = Some (record { now = now; message = message })
 
--- what arrives by a line, where the line has this form
-abbrev pub arrival_of : List ℕ → Option Arrival
-arrival_of text = arrival_at (moment_of (first_part space text)) (option_and_then line_of (second_part space text))
+-- the message of a line and its moment, where the line has this form; an operator's message has this key
+abbrev pub line_of : List ℕ → List ℕ → Option Line
+line_of key text = line_at (moment_of (first_part space text)) (option_and_then (message_of key) (second_part space text))

@@ -1,4 +1,4 @@
-//! A replay: the messages of a run, a line each, and their answers.
+//! A replay: the messages of a run, a line each, and their answers by a service.
 //!
 //! `docs/PROFILE.md` states the form of a line.
 #![tactic(auto)]
@@ -8,11 +8,12 @@ ghost use Rattle.replay_lines.specs.Endings.{exit_status};
 
 mod line;
 
-pub use line::arrival_of;
-use message_engine::{Store, serve};
-use pasts::Answer;
-use rpc_records::{Fault, fault_text, unavailable_text};
-use std::alloc::Global;
+use http_responses::Media;
+pub use line::{Line, line_of};
+use message_engine::Store;
+use sched_server::{Answer, Service};
+use serde_json::Value;
+use std::alloc::{AllocError, Global};
 use std::io::{BufRead, ErrorKind, Read, Write};
 use std::{fmt, io};
 
@@ -60,16 +61,16 @@ impl fmt::Display for Ended {
     }
 }
 
-/// Answers the lines of `reader` from a store, each by a line of `writer`: its status, a space and its body. The
-/// first line that is none ends it. An answer that finds no memory is the refusal `unavailable`, and the lines
-/// behind it are answered all the same.
+/// Answers the lines of `reader` by a service, each by a line of `writer`: its status, a space and its body; the body of a
+/// statement as one JSON string. The first line that is none ends it. An answer that finds no memory is the refusal
+/// `unavailable`, and the lines behind it are answered all the same.
 pub fn replay<S: Store, R: BufRead + Drop, W: Write + Drop>(
     alloc: Global,
-    store: &mut S,
+    service: &mut Service<S>,
     mut reader: R,
     mut writer: W,
 ) -> Ended {
-    let ended = answer_lines(alloc, store, &mut reader, &mut writer).unwrap_or_else(
+    let ended = answer_lines(alloc, service, &mut reader, &mut writer).unwrap_or_else(
         |error| ended_by(&error),
     );
     match writer.flush() {
@@ -88,7 +89,7 @@ fn ended_by(error: &io::Error) -> Ended {
 /// Answers each line.
 fn answer_lines<S: Store, R: BufRead, W: Write>(
     alloc: Global,
-    store: &mut S,
+    service: &mut Service<S>,
     reader: &mut R,
     writer: &mut W,
 ) -> io::Result<Ended> {
@@ -98,7 +99,7 @@ fn answer_lines<S: Store, R: BufRead, W: Write>(
         if !read_line(reader, &mut line)? {
             return Ok(ended);
         }
-        match print_answer(alloc, store, &line, writer)? {
+        match print_answer(alloc, service, &line, writer)? {
             Printed::Answer => {}
             Printed::Unavailable => ended = Ended::Unavailable,
             Printed::NoLine => return Ok(Ended::Line(number)),
@@ -140,51 +141,51 @@ enum Printed {
 /// Prints the answer to a line, which may have its line feed.
 fn print_answer<S: Store, W: Write>(
     alloc: Global,
-    store: &mut S,
+    service: &mut Service<S>,
     line: &[u8],
     writer: &mut W,
 ) -> io::Result<Printed> {
     let Some(text) = text_of(line) else {
         return Ok(Printed::NoLine);
     };
-    match arrival_of(alloc, text) {
+    match line_of(alloc, service.operator_key(), text) {
         Ok(None) => Ok(Printed::NoLine),
-        Ok(Some(arrival)) => {
-            let answer = serve(alloc, store, &arrival);
-            print_told(alloc, writer, answer.as_ref())
+        Ok(Some(line)) => {
+            let answer = service.handle(alloc, line.now, line.message.as_slice());
+            print_told(alloc, writer, &answer)
         }
-        Err(_) => print_unavailable(writer),
+        Err(_) => print(writer, &Answer::Unavailable),
     }
 }
 
-/// Prints what an arrival was answered; there is no answer where memory was wanting.
-fn print_told<W: Write>(
-    alloc: Global,
-    writer: &mut W,
-    answer: Option<&Answer>,
-) -> io::Result<Printed> {
+/// Prints an answer; of a statement the body as a JSON string, where there is memory for it.
+fn print_told<W: Write>(alloc: Global, writer: &mut W, answer: &Answer) -> io::Result<Printed> {
+    match answer.media() {
+        Media::Json => print(writer, answer),
+        Media::Csv => print_quoted(alloc, writer, answer),
+    }
+}
+
+fn print_quoted<W: Write>(alloc: Global, writer: &mut W, answer: &Answer) -> io::Result<Printed> {
+    match quoted(alloc, answer.body()) {
+        Ok(text) => {
+            writeln!(writer, "{} {text}", answer.status())?;
+            Ok(Printed::Answer)
+        }
+        Err(_) => print(writer, &Answer::Unavailable),
+    }
+}
+
+/// A text as a JSON string (RFC 8259, section 7).
+fn quoted(alloc: Global, text: &str) -> Result<String, AllocError> {
+    Value::String(String::from_str(alloc, text)?).to_string(alloc)
+}
+
+/// Prints the status and the body of an answer.
+fn print<W: Write>(writer: &mut W, answer: &Answer) -> io::Result<Printed> {
+    writeln!(writer, "{} {}", answer.status(), answer.body())?;
     match answer {
-        Some(Answer::Good(body)) => print(writer, 200, body.as_str()),
-        Some(Answer::Statement(text)) => print(writer, 200, text.as_str()),
-        Some(Answer::Refusal(fault)) => print_refusal(alloc, writer, fault),
-        None => print_unavailable(writer),
+        Answer::Unavailable => Ok(Printed::Unavailable),
+        Answer::Response(_) => Ok(Printed::Answer),
     }
-}
-
-fn print_refusal<W: Write>(alloc: Global, writer: &mut W, fault: &Fault) -> io::Result<Printed> {
-    match fault_text(alloc, fault) {
-        Ok(body) => print(writer, fault.status(), body.as_str()),
-        Err(_) => print_unavailable(writer),
-    }
-}
-
-fn print_unavailable<W: Write>(writer: &mut W) -> io::Result<Printed> {
-    print(writer, Fault::Unavailable.status(), unavailable_text())?;
-    Ok(Printed::Unavailable)
-}
-
-/// Prints a status and a body.
-fn print<W: Write>(writer: &mut W, status: u16, body: &str) -> io::Result<Printed> {
-    writeln!(writer, "{status} {body}")?;
-    Ok(Printed::Answer)
 }

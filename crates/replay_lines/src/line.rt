@@ -1,74 +1,116 @@
-ghost use Rattle.std.specs.Prelude.{◌≡◌, ◌<◌, ◌==◌, length, position, IfOk, IfSome, option_map, option_and_then};
+ghost use Rattle.std.specs.Prelude.{◌≡◌, ◌<◌, ◌==◌, length, position, IfOk, IfSome, None, option_map, option_and_then};
 ghost use Rattle.std.specs.String.{string_bytes};
 ghost use Rattle.serde_json.specs.Find.{as_str};
 ghost use Rattle.serde_json.specs.View.{view};
 ghost use Rattle.rpc_records.specs.Reading.{json_of};
 ghost use Rattle.replay_lines.specs.ReplayLines as spec;
 
-use jiff::Timestamp;
-use message_engine::{Arrival, Post};
+use http_requests::{call_request, import_request, statement_request, tick_request};
+use instants::moment_of;
 use sched_book::Moment;
 use serde_json::Value;
 use std::alloc::{AllocError, Global};
-use texts::{Listed, Memory, Text, utf8_text, word_of};
+use texts::{Listed, Memory, word_of};
 
-/// What arrives by a line of a replay, `INSTANT WORD BODY` without its line feed, or `None` where the line
-/// has not that form. The words are `account`, whose body is a word; `import/KIND/BATCH`, whose body is a JSON
-/// string; `scheduler`, whose body is a request's bytes, none where it is left out; and `tick`, which has no body.
-pub fn arrival_of(alloc: Global, text: &[u8]) -> Result<Option<Arrival>, Memory>
-    ensures { IfOk result (λ arrival. arrival ≡ spec.arrival_of text.now) }
+/// A line of a replay: a message of HTTP, and the moment at which it comes.
+#[derive(Drop)]
+pub struct Line {
+    pub now: Moment,
+    pub message: Listed<u8>,
+}
+
+/// What comes by a line of a replay, `INSTANT WORD BODY` without its line feed, or `None` where the line has not that
+/// form. The words are `account`, whose body is a word; `import/KIND/BATCH`, whose body is a JSON string; `scheduler`,
+/// whose body is a request's bytes, none where it is left out; and `tick` and `hosts/ID`, which have no body. An
+/// operator's message has the key.
+pub fn line_of(alloc: Global, key: &str, text: &[u8]) -> Result<Option<Line>, Memory>
+    ensures { IfOk result (λ line. line ≡ spec.line_of key.now text.now) }
 {
-    let Some(moment) = moment_of(first_part(text, b' ')) else {
+    let Some(now) = moment_of(first_part(text, b' ')) else {
         return Ok(None);
     };
     let Some(said) = second_part(text, b' ') else {
         return Ok(None);
     };
-    match line_of(alloc, said)? {
+    match message_of(alloc, key, said)? {
         None => Ok(None),
-        Some(post) => Ok(Some(Arrival { moment, post })),
+        Some(message) => Ok(Some(Line { now, message })),
     }
 }
 
-fn line_of(alloc: Global, text: &[u8]) -> Result<Option<Post>, Memory>
-    ensures { IfOk result (λ line. line ≡ spec.line_of text.now) }
+fn message_of(alloc: Global, key: &str, text: &[u8]) -> Result<Option<Listed<u8>>, Memory>
+    ensures { IfOk result (λ message. message ≡ spec.message_of key.now text.now) }
 {
-    line_by(alloc, first_part(text, b' '), second_part(text, b' '))
+    message_by(alloc, key, first_part(text, b' '), second_part(text, b' '))
 }
 
 /// The message of this word and body.
-fn line_by(alloc: Global, word: &[u8], body: Option<&[u8]>) -> Result<Option<Post>, Memory>
-    ensures { IfOk result (λ line. line ≡ spec.line_by word.now (option_map (λ b. b.now) body.entry)) }
+fn message_by(
+    alloc: Global,
+    key: &str,
+    word: &[u8],
+    body: Option<&[u8]>,
+) -> Result<Option<Listed<u8>>, Memory>
+    ensures { IfOk result (λ message. message ≡ spec.message_by key.now word.now (option_map (λ b. b.now) body.entry)) }
 {
     if word == b"account".as_slice() {
-        return account_line(alloc, body);
+        return account_line(alloc, key, body);
     }
     if word == b"scheduler".as_slice() {
-        let body = body.unwrap_or(&[]);
-        return Ok(Some(Post::Scheduler(Listed::of(body.to_vec(alloc)?))));
+        let message = call_request(alloc, body.unwrap_or(&[]))?;
+        return Ok(Some(Listed::of(message)));
     }
     if word == b"tick".as_slice() {
-        return Ok(tick_line(body));
+        return tick_line(alloc, key, body);
     }
     if first_part(word, b'/') == b"import".as_slice() {
-        return import_line(alloc, second_part(word, b'/'), body);
+        return import_line(alloc, key, second_part(word, b'/'), body);
+    }
+    if first_part(word, b'/') == b"hosts".as_slice() {
+        return hosts_line(alloc, key, second_part(word, b'/'), body);
     }
     Ok(None)
 }
 
 /// A tick, which has no body.
-fn tick_line(body: Option<&[u8]>) -> Option<Post>
-    ensures { result ≡ spec.tick_line (option_map (λ b. b.now) body.entry) }
+fn tick_line(alloc: Global, key: &str, body: Option<&[u8]>) -> Result<Option<Listed<u8>>, Memory>
+    ensures { IfOk result (λ message. message ≡ spec.tick_line key.now (option_map (λ b. b.now) body.entry)) }
 {
     match body {
-        None => Some(Post::Tick),
-        Some(_) => None,
+        None => Ok(Some(Listed::of(tick_request(alloc, key)?))),
+        Some(_) => Ok(None),
     }
 }
 
+/// The statement of a host, which has no body.
+fn hosts_line(
+    alloc: Global,
+    key: &str,
+    host: Option<&[u8]>,
+    body: Option<&[u8]>,
+) -> Result<Option<Listed<u8>>, Memory>
+    ensures { IfOk result (λ message.
+        message ≡ spec.hosts_line key.now (option_map (λ h. h.now) host.entry) (option_map (λ b. b.now) body.entry)) }
+{
+    match body {
+        None => host_line(alloc, key, host),
+        Some(_) => Ok(None),
+    }
+}
+
+fn host_line(alloc: Global, key: &str, host: Option<&[u8]>) -> Result<Option<Listed<u8>>, Memory>
+    ensures { IfOk result (λ message.
+        message ≡ spec.hosts_line key.now (option_map (λ h. h.now) host.entry) None) }
+{
+    let Some(host) = host.and_then(word_of) else {
+        return Ok(None);
+    };
+    Ok(Some(Listed::of(statement_request(alloc, key, host)?)))
+}
+
 /// The import of the account of this name.
-fn account_line(alloc: Global, body: Option<&[u8]>) -> Result<Option<Post>, Memory>
-    ensures { IfOk result (λ line. line ≡ spec.account_line (option_map (λ b. b.now) body.entry)) }
+fn account_line(alloc: Global, key: &str, body: Option<&[u8]>) -> Result<Option<Listed<u8>>, Memory>
+    ensures { IfOk result (λ message. message ≡ spec.account_line key.now (option_map (λ b. b.now) body.entry)) }
 {
     let Some(body) = body else {
         return Ok(None);
@@ -76,11 +118,9 @@ fn account_line(alloc: Global, body: Option<&[u8]>) -> Result<Option<Post>, Memo
     let Some(name) = word_of(body) else {
         return Ok(None);
     };
-    Ok(Some(Post::Import {
-        kind: Text::copied(alloc, "accounts")?,
-        batch: Text::copied(alloc, name)?,
-        text: Listed::of(account_rows(alloc, name)?.into_bytes()),
-    }))
+    let rows = account_rows(alloc, name)?;
+    let message = import_request(alloc, key, "accounts", name, rows.as_bytes())?;
+    Ok(Some(Listed::of(message)))
 }
 
 fn account_rows(alloc: Global, name: &str) -> Result<String, Memory>
@@ -92,29 +132,38 @@ fn account_rows(alloc: Global, name: &str) -> Result<String, Memory>
 /// The import of a batch, whose kind and name the path tells.
 fn import_line(
     alloc: Global,
+    key: &str,
     path: Option<&[u8]>,
     body: Option<&[u8]>,
-) -> Result<Option<Post>, Memory>
-    ensures { IfOk result (λ line.
-        line ≡ spec.import_line (option_map (λ p. p.now) path.entry) (option_map (λ b. b.now) body.entry)) }
+) -> Result<Option<Listed<u8>>, Memory>
+    ensures { IfOk result (λ message.
+        message ≡ spec.import_line key.now (option_map (λ p. p.now) path.entry) (option_map (λ b. b.now) body.entry)) }
 {
     let Some(path) = path else {
         return Ok(None);
     };
-    let Some(kind) = word_of(first_part(path, b'/')) else {
+    let text = text_in(alloc, body)?;
+    let kind = word_of(first_part(path, b'/'));
+    let batch = second_part(path, b'/').and_then(word_of);
+    import_by(alloc, key, kind, batch, text)
+}
+
+/// The import of this kind, name and text, where all three are there.
+fn import_by(
+    alloc: Global,
+    key: &str,
+    kind: Option<&str>,
+    batch: Option<&str>,
+    text: Option<String>,
+) -> Result<Option<Listed<u8>>, Memory>
+    ensures { IfOk result (λ message. message ≡ spec.import_by key.now
+        (option_map (λ k. k.now) kind.entry) (option_map (λ b. b.now) batch.entry) (option_map string_bytes text)) }
+{
+    let (Some(kind), Some(batch), Some(text)) = (kind, batch, text) else {
         return Ok(None);
     };
-    let Some(batch) = second_part(path, b'/').and_then(word_of) else {
-        return Ok(None);
-    };
-    let Some(text) = text_in(alloc, body)? else {
-        return Ok(None);
-    };
-    Ok(Some(Post::Import {
-        kind: Text::copied(alloc, kind)?,
-        batch: Text::copied(alloc, batch)?,
-        text: Listed::of(text.into_bytes()),
-    }))
+    let message = import_request(alloc, key, kind, batch, text.as_bytes())?;
+    Ok(Some(Listed::of(message)))
 }
 
 /// The text that a JSON string tells (RFC 8259), where it is there and is one.
@@ -154,38 +203,6 @@ fn text_of(value: Value) -> Option<String>
     match value {
         Value::String(text) => Some(text),
         _ => None,
-    }
-}
-
-/// The moment that an instant of ISO 8601 tells: `None` where `jiff` reads none, where it is not on a whole
-/// second, and where it is no moment.
-pub fn moment_of(text: &[u8]) -> Option<Moment>
-    ensures { result ≡ spec.moment_of text.now }
-{
-    match utf8_text(text) {
-        Some(text) => moment_told(text),
-        None => None,
-    }
-}
-
-fn moment_told(text: &str) -> Option<Moment>
-    ensures { result ≡ spec.moment_told text.now }
-{
-    match text.parse::<Timestamp>() {
-        Ok(instant) => moment_at(instant),
-        Err(_) => None,
-    }
-}
-
-fn moment_at(instant: Timestamp) -> Option<Moment>
-    ensures { result ≡ spec.moment_of_nanoseconds instant.nanosecond }
-{
-    if instant.subsec_nanosecond() != 0 {
-        return None;
-    }
-    match u64::try_from(instant.as_second()) {
-        Ok(second) => Moment::new(second),
-        Err(_) => None,
     }
 }
 

@@ -81,6 +81,10 @@ pub const FIRST_ROWS: &[Row] = &[
             Step::Asks(BOB, &[T1_1]),
             Step::Tick(8201, 2),
             Step::Reports(ANN, 2, 9000, ("t1_0", 0, "ok"), 0),
+            Step::Line(
+                "1970-01-01T02:30:00Z hosts/1",
+                "200 \"result,app,sent,deadline,server_state,outcome,validate_state,credit\\nt1_0,dock,1970-01-01 00:16:40,1970-01-01 02:16:40,5,1,3,0.000\\ntotal,,,,,,,0.000\\n\"",
+            ),
         ],
     ),
 ];

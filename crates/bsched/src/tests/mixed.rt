@@ -3,9 +3,9 @@
 //! Each round of ten lines has a new call of each host, a repeat, an older number, a reused number, another repeat, and
 //! two ticks. What an answer must be is told from the lines, or from the answers before it.
 
-use super::replayed_by;
+use super::replayed_under;
 use super::rows::instant;
-use crate::default_settings;
+use commands::default_settings;
 use replay_lines::Ended;
 use std::alloc::Global;
 use std::str;
@@ -178,7 +178,7 @@ fn printed(alloc: Global) -> Result<String, Fail> {
     settings.max_wus_in_progress = 4;
     settings.daily_result_quota = 100;
     let lines = lines(alloc)?;
-    let (out, ended) = replayed_by(alloc, &settings, lines.as_bytes())?;
+    let (out, ended) = replayed_under(alloc, &settings, lines.as_bytes())?;
     if ended != Ended::Good {
         return Ok(String::new(alloc));
     }

@@ -1,7 +1,12 @@
-//! Tables that are spoiled.
+//! Tables that are spoiled, and tables in a file.
 
-use super::{CALL_START, PROJECT, replayed_over};
-use crate::default_settings;
+use super::repeats::is_answered_again_in;
+use super::rows::Row;
+use super::{
+    CALL_START, PROJECT, jobs, judging, replayed, replayed_by, replayed_over, service_over,
+};
+use commands::default_settings;
+use message_engine::Store;
 use replay_lines::Ended;
 use sched_tables::{OpenFault, Tables};
 use sqlite::{Alter, Connection, Error, MemStore};
@@ -29,14 +34,19 @@ fn run<S: Alter>(conn: &mut Connection<S>, sql: &str) -> Result<usize, Error> {
     conn.execute(sql, &[])
 }
 
-/// Tables in memory after the lines.
-fn filled(alloc: Global) -> Result<Tables<MemStore>, Fail> {
-    let mut tables = Tables::in_memory(alloc, &default_settings(alloc)?)?;
-    let (_, ended) = replayed_over(alloc, &mut tables, lines(alloc)?.as_bytes())?;
+/// A store after the lines.
+fn after_lines<S: Store + Drop>(alloc: Global, store: S) -> Result<S, Fail> {
+    let mut service = service_over(alloc, store)?;
+    let (_, ended) = replayed_by(alloc, &mut service, lines(alloc)?.as_bytes())?;
     if ended != Ended::Good {
         return Err(Fail::new("the lines end otherwise"));
     }
-    Ok(tables)
+    Ok(service.into_tables())
+}
+
+/// Tables in memory after the lines.
+fn filled(alloc: Global) -> Result<Tables<MemStore>, Fail> {
+    after_lines(alloc, Tables::in_memory(alloc, &default_settings(alloc)?)?)
 }
 
 /// How the tables are refused after a statement, or none where they are opened.
@@ -138,4 +148,55 @@ fn tables_are_no_new_tables(rt: HostRuntime) -> Result<(), Fail> {
             Ok(())
         }
     }
+}
+
+/// Makes tables in a database, which is closed then.
+fn make<S: Alter + Drop>(alloc: Global, conn: Connection<S>) -> Result<(), Fail> {
+    Tables::create(alloc, conn, &default_settings(alloc)?)?;
+    Ok(())
+}
+
+/// What a replay of these lines prints over the tables of a database, which is closed then.
+fn printed_over<S: Alter + Drop>(
+    alloc: Global,
+    conn: Connection<S>,
+    lines: &str,
+) -> Result<Vec<u8>, Fail> {
+    let (printed, _) = replayed_over(alloc, Tables::open(alloc, conn)?, lines.as_bytes())?;
+    Ok(printed)
+}
+
+/// What these lines print where the file of the tables is opened for each and closed behind it.
+fn printed_line_by_line(rt: &HostRuntime, path: &str, lines: &str) -> Result<Vec<u8>, Fail> {
+    let alloc = rt.alloc();
+    let mut printed = Vec::new(alloc);
+    for line in lines.split_inclusive('\n') {
+        printed.append(&mut printed_over(alloc, Connection::open(rt, path)?, line)?)?;
+    }
+    Ok(printed)
+}
+
+#[test]
+fn a_file_that_is_closed_behind_each_line_answers_on(rt: HostRuntime) -> Result<(), Fail> {
+    let lines = lines(rt.alloc())?;
+    make(rt.alloc(), Connection::open(&rt, "project.db")?)?;
+    let printed = printed_line_by_line(&rt, "project.db", lines.as_str())?;
+    let (whole, _) = replayed(rt.alloc(), lines.as_bytes())?;
+    assert_eq!(rt; printed, whole);
+    Ok(())
+}
+
+/// Whether the messages of the first of these rows get their first answers again over tables in a file.
+fn first_is_answered_again(rt: &HostRuntime, path: &str, rows: &[Row]) -> Result<bool, Fail> {
+    match rows.first() {
+        Some(row) => is_answered_again_in(rt.alloc(), Connection::open(rt, path)?, row),
+        None => Ok(false),
+    }
+}
+
+#[test]
+fn messages_that_come_twice_to_a_file_are_answered_again(rt: HostRuntime) -> Result<(), Fail> {
+    assert!(rt; first_is_answered_again(&rt, "jobs.db", jobs::FIRST_ROWS)?);
+    assert!(rt; first_is_answered_again(&rt, "judged.db", judging::FIRST_ROWS)?);
+    Ok(())
 }

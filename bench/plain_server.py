@@ -1,0 +1,50 @@
+#!/usr/bin/env python3
+"""Serves the plain twin by Python's http.server, for `bench/serve speed`.
+
+usage: plain_server.py PROJECT PORT
+PROJECT is a folder with the CSV files of the imports. It prints the port once it listens. Of HTTP it knows what a call needs.
+"""
+import os
+import sys
+import time
+from http.server import BaseHTTPRequestHandler, HTTPServer
+
+sys.dont_write_bytecode = True
+sys.path.insert(0, os.path.dirname(os.path.abspath(__file__)))
+import plain
+
+
+class Handler(BaseHTTPRequestHandler):
+    """One POST to /scheduler."""
+
+    def do_POST(self):
+        body = self.rfile.read(int(self.headers["content-length"]))
+        try:
+            status, told = 200, self.server.service.scheduler(body, int(time.time()))
+        except plain.Refused as refusal:
+            status, told = refusal.status, refusal.body
+        told = told.encode()
+        self.send_response(status)
+        self.send_header("content-type", "application/json")
+        self.send_header("content-length", str(len(told)))
+        self.send_header("connection", "close")
+        self.end_headers()
+        self.wfile.write(told)
+
+    def log_message(self, *_words):
+        """Nothing: no line for each message."""
+
+
+def main():
+    folder, port = sys.argv[1], int(sys.argv[2])
+    server = HTTPServer(("127.0.0.1", port), Handler)
+    server.service = plain.Service({**plain.SETTINGS, "max_hosts": 100})
+    for kind in ("accounts", "apps", "versions", "workunits"):
+        with open(os.path.join(folder, f"{kind}.csv"), newline="") as file:
+            server.service.imported(kind, "first", file.read())
+    print(port, flush=True)
+    server.serve_forever()
+
+
+if __name__ == "__main__":
+    main()

@@ -1,0 +1,427 @@
+//! Messages of HTTP by their bytes, streams that stop in the middle, a socket, and the words of a command line.
+
+use super::{Broken, CALL_START, PROJECT, REPLY, new_service, replayed_by};
+use command_line::{Order, OrderFault, order_of};
+use commands::serve_on;
+use http_serving::{FromRead, FromWrite, IoFault, serve_one};
+use message_engine::{ListStore, Store};
+use replay_lines::line_of;
+use sched_server::Service;
+use std::alloc::Global;
+use std::io;
+use std::io::{Read, Write};
+use std::net::{TcpListener, TcpStream};
+use std::test::Fail;
+
+/// A message, and the status and the body of its answer.
+type Exchange = (&'static str, u16, &'static str);
+
+const BAD_HTTP: &str = "{\"error\":\"bad_http\",\"number\":1}";
+
+const NO_ROUTE: &str = "{\"error\":\"no_route\",\"number\":2}";
+
+const WRONG_METHOD: &str = "{\"error\":\"wrong_method\",\"number\":3}";
+
+const LENGTH_REQUIRED: &str = "{\"error\":\"length_required\",\"number\":4}";
+
+const TOO_LARGE: &str = "{\"error\":\"too_large\",\"number\":5}";
+
+const NOT_OPERATOR: &str = "{\"error\":\"not_operator\",\"number\":13}";
+
+const NO_SUCH_HOST: &str = "{\"error\":\"no_such_host\",\"number\":19}";
+
+const NONE_LAPSED: &str = "{\"lapsed\":0}";
+
+/// Heads, paths and methods.
+const HEADS: &[Exchange] = &[
+    ("", 400, BAD_HTTP),
+    ("POST /tick HTTP/1.1\r\n", 400, BAD_HTTP),
+    ("POST /tick HTTP/2.0\r\n\r\n", 400, BAD_HTTP),
+    ("POST /tick\r\n\r\n", 400, BAD_HTTP),
+    ("GET /nowhere HTTP/1.1\r\n\r\n", 404, NO_ROUTE),
+    ("POST /tick/ HTTP/1.1\r\n\r\n", 404, NO_ROUTE),
+    ("POST http://h/tick HTTP/1.1\r\n\r\n", 404, NO_ROUTE),
+    ("POST /import/units/b1 HTTP/1.1\r\n\r\n", 404, NO_ROUTE),
+    ("POST /import/accounts/b%31 HTTP/1.1\r\n\r\n", 404, NO_ROUTE),
+    ("GET /hosts/ HTTP/1.1\r\n\r\n", 404, NO_ROUTE),
+    ("PUT /tick HTTP/1.1\r\n\r\n", 405, WRONG_METHOD),
+    ("GET /scheduler HTTP/1.1\r\n\r\n", 405, WRONG_METHOD),
+    ("POST /hosts/1 HTTP/1.1\r\n\r\n", 405, WRONG_METHOD),
+];
+
+/// The operator's key.
+const KEYS: &[Exchange] = &[
+    ("GET /hosts/9 HTTP/1.1\r\n\r\n", 403, NOT_OPERATOR),
+    (
+        "POST /tick HTTP/1.1\r\nx-operator-key: opkey-02\r\n\r\n",
+        403,
+        NOT_OPERATOR,
+    ),
+    (
+        "POST /tick HTTP/1.1\r\nx-operator-key: opkey-011\r\n\r\n",
+        403,
+        NOT_OPERATOR,
+    ),
+    (
+        "POST /tick HTTP/1.1\r\nx-operator-key: opkey-01\r\nX-Operator-Key: opkey-01\r\n\r\n",
+        403,
+        NOT_OPERATOR,
+    ),
+    (
+        "POST /tick HTTP/1.1\r\nX-OPERATOR-KEY: opkey-01\r\n\r\n",
+        200,
+        NONE_LAPSED,
+    ),
+    (
+        "\r\nPOST /tick?now=1 HTTP/1.0\nx-operator-key: opkey-01\n\n",
+        200,
+        NONE_LAPSED,
+    ),
+    (
+        "GET /hosts/0 HTTP/1.1\r\nx-operator-key: opkey-01\r\n\r\n",
+        404,
+        NO_SUCH_HOST,
+    ),
+    (
+        "GET /hosts/01 HTTP/1.1\r\nx-operator-key: opkey-01\r\n\r\n",
+        404,
+        NO_SUCH_HOST,
+    ),
+    (
+        "GET /hosts/2147483648 HTTP/1.1\r\nx-operator-key: opkey-01\r\n\r\n",
+        404,
+        NO_SUCH_HOST,
+    ),
+];
+
+/// Bodies and their lengths.
+const BODIES: &[Exchange] = &[
+    (
+        "POST /scheduler HTTP/1.1\r\ncontent-length: 10\r\n\r\n{}",
+        400,
+        BAD_HTTP,
+    ),
+    ("POST /scheduler HTTP/1.1\r\n\r\n{}", 411, LENGTH_REQUIRED),
+    (
+        "POST /scheduler HTTP/1.1\r\ntransfer-encoding: chunked\r\n\r\n2\r\n{}\r\n0\r\n\r\n",
+        411,
+        LENGTH_REQUIRED,
+    ),
+    (
+        "POST /scheduler HTTP/1.1\r\ncontent-length: x\r\ntransfer-encoding: chunked\r\n\r\n",
+        411,
+        LENGTH_REQUIRED,
+    ),
+    (
+        "POST /scheduler HTTP/1.1\r\ncontent-length: 2\r\nContent-Length: 2\r\n\r\n{}",
+        400,
+        BAD_HTTP,
+    ),
+    (
+        "POST /scheduler HTTP/1.1\r\ncontent-length: +2\r\n\r\n{}",
+        400,
+        BAD_HTTP,
+    ),
+    (
+        "POST /scheduler HTTP/1.1\r\ncontent-length: 00000000002\r\n\r\n{}",
+        400,
+        BAD_HTTP,
+    ),
+    (
+        "POST /scheduler HTTP/1.1\r\ncontent-length: 262145\r\n\r\n",
+        413,
+        TOO_LARGE,
+    ),
+    (
+        "POST /scheduler HTTP/1.1\r\ncontent-length: 262144\r\n\r\n",
+        400,
+        BAD_HTTP,
+    ),
+    (
+        "POST /import/apps/b1 HTTP/1.1\r\nx-operator-key: opkey-01\r\ncontent-length: 1048577\r\n\r\n",
+        413,
+        TOO_LARGE,
+    ),
+    (
+        "POST /scheduler HTTP/1.1\r\ncontent-length: 2\r\n\r\n[]more",
+        400,
+        "{\"error\":\"bad_json\",\"number\":6}",
+    ),
+    (
+        "POST /scheduler HTTP/1.1\r\ncontent-length: 0000000002\r\n\r\n{}",
+        400,
+        "{\"error\":\"bad_member\",\"member\":\"authenticator\",\"number\":7}",
+    ),
+];
+
+/// The status and the body of the answer to a message at moment 0, over a reader and a writer. (It has no clause, so that
+/// the proof of a test does not carry what each message does.)
+fn answered<S: Store>(
+    alloc: Global,
+    service: &mut Service<S>,
+    message: &[u8],
+) -> Result<Vec<u8>, Fail> {
+    let mut reader = message;
+    let mut written = Vec::new(alloc);
+    match serve_one(
+        alloc,
+        service,
+        0,
+        &mut FromRead(&mut reader),
+        &mut FromWrite(&mut written),
+    ) {
+        Ok(()) => Ok(written),
+        Err(_) => Err(Fail::new("a message over whole streams has a fault")),
+    }
+}
+
+/// Whether the bytes of an answer tell this status and this body.
+fn tells(alloc: Global, answer: &[u8], status: u16, body: &str) -> Result<bool, Fail> {
+    let start = format!(in alloc; "HTTP/1.1 {status} ")?;
+    let end = format!(in alloc;
+        "content-length: {}\r\nconnection: close\r\n\r\n{body}",
+        body.len()
+    )?;
+    Ok(answer.starts_with(start.as_bytes()) && answer.ends_with(end.as_bytes()))
+}
+
+/// The first message that is answered otherwise.
+fn first_otherwise(alloc: Global, exchanges: &[Exchange]) -> Result<Option<&'static str>, Fail> {
+    first_otherwise_by(alloc, &mut new_service(alloc)?, exchanges)
+}
+
+fn first_otherwise_by<S: Store>(
+    alloc: Global,
+    service: &mut Service<S>,
+    exchanges: &[Exchange],
+) -> Result<Option<&'static str>, Fail> {
+    for (message, status, body) in exchanges {
+        let answer = answered(alloc, service, message.as_bytes())?;
+        if !tells(alloc, &answer, *status, body)? {
+            return Ok(Some(message));
+        }
+    }
+    Ok(None)
+}
+
+#[test]
+fn heads_paths_and_methods(rt: HostRuntime) -> Result<(), Fail> {
+    assert_eq!(rt; first_otherwise(rt.alloc(), HEADS)?, None);
+    Ok(())
+}
+
+#[test]
+fn the_operators_key(rt: HostRuntime) -> Result<(), Fail> {
+    assert_eq!(rt; first_otherwise(rt.alloc(), KEYS)?, None);
+    Ok(())
+}
+
+#[test]
+fn bodies_and_their_lengths(rt: HostRuntime) -> Result<(), Fail> {
+    assert_eq!(rt; first_otherwise(rt.alloc(), BODIES)?, None);
+    Ok(())
+}
+
+/// A tick's message whose head has so many bytes.
+fn tick_of(alloc: Global, size: usize) -> Result<String, Fail> {
+    let mut message = String::from_str(
+        alloc,
+        "POST /tick HTTP/1.1\r\nx-operator-key: opkey-01\r\nx: ",
+    )?;
+    for _ in message.len()..size.saturating_sub(4) {
+        message.push_str("y")?;
+    }
+    message.push_str("\r\n\r\n")?;
+    Ok(message)
+}
+
+#[test]
+fn a_head_may_have_8192_bytes(rt: HostRuntime) -> Result<(), Fail> {
+    let alloc = rt.alloc();
+    let mut service = new_service(alloc)?;
+    let longest = answered(alloc, &mut service, tick_of(alloc, 8192)?.as_bytes())?;
+    assert!(rt; tells(alloc, &longest, 200, NONE_LAPSED)?);
+    let longer = answered(alloc, &mut service, tick_of(alloc, 8193)?.as_bytes())?;
+    assert!(rt; tells(alloc, &longer, 400, BAD_HTTP)?);
+    Ok(())
+}
+
+/// A message that asks for the statement of a host that does not stand.
+const READS_NINTH: &str = "GET /hosts/9 HTTP/1.1\r\nx-operator-key: opkey-01\r\n\r\n";
+
+/// All bytes of its answer.
+const NINTH_IS_NONE: &str =
+    "HTTP/1.1 404 Not Found\r\ncontent-type: application/json\r\ncontent-length: 36\r\nconnection: close\r\n\r\n{\"error\":\"no_such_host\",\"number\":19}";
+
+/// All bytes of the answer to a method that a tick has not.
+const ONLY_POST: &str =
+    "HTTP/1.1 405 Method Not Allowed\r\nallow: POST\r\ncontent-type: application/json\r\ncontent-length: 35\r\nconnection: close\r\n\r\n{\"error\":\"wrong_method\",\"number\":3}";
+
+#[test]
+fn answers_to_their_last_byte(rt: HostRuntime) -> Result<(), Fail> {
+    let alloc = rt.alloc();
+    let mut service = new_service(alloc)?;
+    let ninth = answered(alloc, &mut service, READS_NINTH.as_bytes())?;
+    assert!(rt; ninth.as_slice() == NINTH_IS_NONE.as_bytes());
+    let put = answered(alloc, &mut service, b"PUT /tick HTTP/1.1\r\n\r\n")?;
+    assert!(rt; put.as_slice() == ONLY_POST.as_bytes());
+    Ok(())
+}
+
+#[test]
+fn a_socket_is_served(rt: HostRuntime) -> Result<(), Fail> {
+    let mut service = new_service(rt.alloc())?;
+    let listener = TcpListener::bind(&rt, ("127.0.0.1", 0u16))?;
+    let mut stream = TcpStream::connect(&rt, listener.local_addr()?)?;
+    stream.write_all(READS_NINTH.as_bytes())?;
+    serve_on(&rt, &mut service, &listener, 1);
+    let answer = io::read_to_string(rt.alloc(), stream)?;
+    assert_eq!(rt; answer.as_str(), NINTH_IS_NONE);
+    Ok(())
+}
+
+/// The service after the imports of the project, in which no host stands.
+fn project(alloc: Global) -> Result<Service<ListStore>, Fail> {
+    let mut service = new_service(alloc)?;
+    let _printed = replayed_by(alloc, &mut service, PROJECT.as_bytes())?;
+    Ok(service)
+}
+
+/// The first call of Ann's host, as a message.
+fn first_call(alloc: Global) -> Result<Vec<u8>, Fail> {
+    let line = format!(in alloc; "{CALL_START}}}")?;
+    match line_of(alloc, "opkey-01", line.as_bytes())? {
+        Some(line) => Ok(line.message.into_vec()),
+        None => Err(Fail::new("the call is no line")),
+    }
+}
+
+/// Whether the first host stands.
+fn has_host<S: Store>(alloc: Global, service: &mut Service<S>) -> Result<bool, Fail> {
+    let message = b"GET /hosts/1 HTTP/1.1\r\nx-operator-key: opkey-01\r\n\r\n";
+    let answer = answered(alloc, service, message.as_slice())?;
+    Ok(!tells(alloc, &answer, 404, NO_SUCH_HOST)?)
+}
+
+/// What serving a front of a message gives, behind which the reader fails, and what was written.
+fn served_before_a_fault<S: Store>(
+    alloc: Global,
+    service: &mut Service<S>,
+    front: &[u8],
+) -> (Result<(), IoFault>, Vec<u8>) {
+    let mut reader = front.chain(Broken);
+    let mut written = Vec::new(alloc);
+    let served = serve_one(
+        alloc,
+        service,
+        1000,
+        &mut FromRead(&mut reader),
+        &mut FromWrite(&mut written),
+    );
+    (served, written)
+}
+
+/// What serving a message into so many bytes of room gives.
+fn served_into<S: Store>(
+    alloc: Global,
+    service: &mut Service<S>,
+    message: &[u8],
+    length: usize,
+) -> Result<(Result<(), IoFault>, Vec<u8>), Fail> {
+    let mut reader = message;
+    let mut room = vec![in alloc; b' '; length]?;
+    let served = serve_one(
+        alloc,
+        service,
+        1000,
+        &mut FromRead(&mut reader),
+        &mut FromWrite(&mut room.as_mut_slice()),
+    );
+    Ok((served, room))
+}
+
+/// Whether a message that breaks off, behind each of its bytes, is told as a fault of the reader, with nothing written; and
+/// one that ends there is refused.
+fn fronts_are_no_message<S: Store>(
+    alloc: Global,
+    service: &mut Service<S>,
+    message: &[u8],
+) -> Result<bool, Fail> {
+    for length in 0..message.len() {
+        let front = message.get(..length).unwrap_or(&[]);
+        let (served, written) = served_before_a_fault(alloc, service, front);
+        let cut = answered(alloc, service, front)?;
+        if !matches!(served, Err(IoFault::Read)) || !written.is_empty() {
+            return Ok(false);
+        }
+        if !tells(alloc, &cut, 400, BAD_HTTP)? {
+            return Ok(false);
+        }
+    }
+    Ok(!has_host(alloc, service)?)
+}
+
+#[test]
+fn a_message_that_is_not_read_whole_never_was(rt: HostRuntime) -> Result<(), Fail> {
+    let message = first_call(rt.alloc())?;
+    let mut service = project(rt.alloc())?;
+    let never_was = fronts_are_no_message(rt.alloc(), &mut service, &message);
+    assert!(rt; never_was?);
+    Ok(())
+}
+
+/// Whether an answer that breaks off, at first before it began, and then behind each of its bytes, is told as a fault of the
+/// writer, and comes again in between, whole.
+fn fronts_come_again<S: Store>(
+    alloc: Global,
+    service: &mut Service<S>,
+    message: &[u8],
+    body: &str,
+) -> Result<bool, Fail> {
+    let (served, _) = served_into(alloc, service, message, 0)?;
+    let whole = answered(alloc, service, message)?;
+    if !matches!(served, Err(IoFault::Write)) || !tells(alloc, &whole, 200, body)? {
+        return Ok(false);
+    }
+    for length in 1..whole.len() {
+        let (served, written) = served_into(alloc, service, message, length)?;
+        if !matches!(served, Err(IoFault::Write)) || !whole.starts_with(&written) {
+            return Ok(false);
+        }
+    }
+    Ok(true)
+}
+
+#[test]
+fn a_reply_that_is_not_written_whole_comes_again(rt: HostRuntime) -> Result<(), Fail> {
+    let message = first_call(rt.alloc())?;
+    let body = REPLY.trim_start_matches("200 ").trim_end();
+    let mut service = project(rt.alloc())?;
+    let again = fronts_come_again(rt.alloc(), &mut service, &message, body);
+    assert!(rt; again?);
+    Ok(())
+}
+
+/// What a command line of these words orders.
+fn ordered(alloc: Global, words: &str) -> Result<Result<Order, OrderFault>, Fail> {
+    let mut all = Vec::new(alloc);
+    for word in words.split(' ') {
+        all.push(String::from_str(alloc, word)?)?;
+    }
+    Ok(order_of(alloc, &all))
+}
+
+#[test]
+fn words_order_a_tick(rt: HostRuntime) -> Result<(), Fail> {
+    let alloc = rt.alloc();
+    match ordered(alloc, "bsched tick --tables t --at 1970-01-01T00:00:00Z")? {
+        Ok(Order::Tick { tables, at }) => {
+            assert!(rt; tables.is("t") && at.seconds() == 0);
+        }
+        _ => return Err(Fail::new("these words order a tick")),
+    }
+    match ordered(alloc, "bsched tick --tables t --at x")? {
+        Err(OrderFault::Refused) => Ok(()),
+        _ => Err(Fail::new("x is no instant")),
+    }
+}

@@ -1,0 +1,104 @@
+//! How an order ends.
+
+use replay_lines::Ended;
+use sched_tables::OpenFault;
+use sqlite::{Error, ErrorCode};
+use std::io::ErrorKind;
+use std::{fmt, io};
+use texts::Memory;
+
+/// How an order ended that was carried out.
+#[derive(Clone, Copy, Debug, PartialEq, Eq)]
+pub enum Outcome {
+    /// All of it was done.
+    Done,
+    /// Its message was refused. The refusal is printed.
+    Refused,
+}
+
+impl Outcome {
+    /// The exit status of a program that ends so.
+    pub fn status(self) -> u8 {
+        match self {
+            Outcome::Done => 0,
+            Outcome::Refused => 1,
+        }
+    }
+}
+
+/// Why an order was not carried out.
+#[derive(Clone, Copy, Debug, PartialEq, Eq)]
+pub enum Failure {
+    /// The file of settings tells none.
+    Settings,
+    /// A file, a socket or a stream failed, or a file is none of tables.
+    File,
+    /// The line of this number, from 1, of a replay is none.
+    Line(u32),
+    /// Memory was wanting, or the disk failed.
+    Unavailable,
+}
+
+impl Failure {
+    /// The exit status of a program that ends so.
+    pub fn status(self) -> u8 {
+        match self {
+            Failure::Settings | Failure::File | Failure::Line(_) => 1,
+            Failure::Unavailable => 2,
+        }
+    }
+}
+
+impl fmt::Display for Failure {
+    fn fmt<W: fmt::Write>(&self, f: &mut fmt::Formatter<W>) -> fmt::Result {
+        match self {
+            Failure::Settings => write!(f, "settings"),
+            Failure::File => write!(f, "file"),
+            Failure::Line(number) => write!(f, "line {number}"),
+            Failure::Unavailable => write!(f, "unavailable"),
+        }
+    }
+}
+
+impl From<Memory> for Failure {
+    fn from(_memory: Memory) -> Failure {
+        Failure::Unavailable
+    }
+}
+
+impl From<io::Error> for Failure {
+    fn from(error: io::Error) -> Failure {
+        match error.kind() {
+            ErrorKind::OutOfMemory => Failure::Unavailable,
+            _ => Failure::File,
+        }
+    }
+}
+
+impl From<Error> for Failure {
+    fn from(error: Error) -> Failure {
+        match error {
+            Error::SqliteFailure(ErrorCode::OutOfMemory) => Failure::Unavailable,
+            _ => Failure::File,
+        }
+    }
+}
+
+impl From<OpenFault> for Failure {
+    fn from(fault: OpenFault) -> Failure {
+        match fault {
+            OpenFault::NotTables | OpenFault::BadRow => Failure::File,
+            OpenFault::Unavailable => Failure::Unavailable,
+        }
+    }
+}
+
+/// How a replay ended.
+pub(crate) fn ended(ended: Ended) -> Result<Outcome, Failure> {
+    match ended {
+        Ended::Good => Ok(Outcome::Done),
+        Ended::Line(number) => Err(Failure::Line(number)),
+        Ended::File => Err(Failure::File),
+        Ended::Unavailable => Err(Failure::Unavailable),
+    }
+}

@@ -1,0 +1,14 @@
+//! What the program does at each order of an operator.
+//!
+//! Nothing here has a clause but that it is safe and ends: what is printed, files and sockets are shown by tests. What an
+//! order does to the tables is done by [`sched_server::Service::handle`], which has.
+#![tactic(auto)]
+
+mod ending;
+mod files;
+mod orders;
+mod serving;
+
+pub use ending::{Failure, Outcome};
+pub use orders::{default_settings, perform};
+pub use serving::serve_on;
