@@ -40,7 +40,7 @@ use Rattle.pasts.specs.declared.kind.Kind.{Kind}
 use Rattle.pasts.proofs.ByNumber.{kept_by_number}
 use Rattle.message_engine.proofs.EntriesKept.{told_serves}
 use Rattle.message_engine.specs.Calls.{IsNamed, told_caller, MayAct, ServesCall}
-use Rattle.message_engine.specs.Stores.{Calls, Batches, tables_by, calls_with, IsCommitted, IsLeft, ServesSoundly}
+use Rattle.message_engine.specs.Stores.{Calls, Batches, tables_by, calls_with, IsCommitted, IsLeft, IsServed, ServesSoundly}
 use Rattle.message_engine.specs.declared.entry.Entry.TheVariants as entry
 
 -- ---- what is left
@@ -189,31 +189,39 @@ acted w after calls later batches newer c r now delta reply moment range may sou
   sound = subst Sound (sym done.world_is) soundly;
 }
 
--- A step was made of a call that may act, and its reply is kept with it.
-pub kept_serves : {E : Type 0} (w u after : World) (calls d later : Calls) (batches b newer : Batches) (c : Caller) (r : Request) (now : ℕ) (delta : List Change)
-    (reply : Reply) (text : List ℕ) (result : Result Answer E)
-    → u ≡ w → ((host : ℕ) → d host ≡ calls host) → ((kind : Kind) (batch : List ℕ) → b kind batch ≡ batches kind batch)
-    → now ≤ last_moment → IsInRange r → text ≡ canonical_text r
-    → (Sound w → IsAdmitted w c r → RpcStep w c r now (applied w delta) reply) → (Sound w → IsAdmitted w c r → Sound (applied w delta))
-    → (Sound w → IsAdmitted w c r → Fits w delta)
-    → IfOk result (λ answer. answer ≡ Good (reply_text_of reply))
-    → OnOk result (Fits u delta
-    → IsCommitted delta (entry.Kept reply.hostid (record { seqno = r.rpc_seqno; text = text; reply = reply_text_of reply })) u d b after later newer)
-    → IfOk result (λ answer. MayAct w calls c r → ServesCall r now answer w calls batches after later newer)
-kept_serves w u after calls d later batches b newer c r now delta reply text (Err e) world_is calls_are batches_are moment range spelt step soundly fits told commits = tt
-kept_serves w u after calls d later batches b newer c r now delta reply text (Ok answer) world_is calls_are batches_are moment range spelt step soundly fits told commits =
-    λ may sound.
-    let admitted : IsAdmitted w c r = record { caller = may.0.0; limits = range } in
-    let commits_here : Fits w delta
-    → IsCommitted delta (entry.Kept reply.hostid (kept_call r (reply_text_of reply))) w calls batches after later newer =
-    subst
-    (λ (t : World × (Calls × (Batches × List ℕ))). Fits t.0 delta
-    → IsCommitted delta (entry.Kept reply.hostid (record { seqno = r.rpc_seqno; text = t.1.1.1; reply = reply_text_of reply })) t.0 t.1.0 t.1.1.0
-    after later newer)
-    (λ i. (world_is i, (λ host. calls_are host i, (λ kind batch. batches_are kind batch i, spelt i)))) commits in
-    subst (λ x. ServesSoundly (record { now = now; said = Rpc r }) x w calls batches after later newer) (sym told)
-    (acted w after calls later batches newer c r now delta reply moment range may sound (step sound admitted) (soundly sound admitted)
-    (commits_here (fits sound admitted)))
+-- A step was made of a call that may act, and what is committed on what was read is committed on what stood before.
+module _ (w u after : World) (calls d later : Calls) (batches b newer : Batches) (c : Caller) (r : Request) (now : ℕ) (delta : List Change)
+    (reply : Reply) (text : List ℕ) (world_is : u ≡ w) (calls_are : (host : ℕ) → d host ≡ calls host)
+    (batches_are : (kind : Kind) (batch : List ℕ) → b kind batch ≡ batches kind batch)
+    (moment : now ≤ last_moment) (range : IsInRange r) (spelt : text ≡ canonical_text r)
+    (step : Sound w → IsAdmitted w c r → RpcStep w c r now (applied w delta) reply) (soundly : Sound w → IsAdmitted w c r → Sound (applied w delta))
+    (fits : Sound w → IsAdmitted w c r → Fits w delta) where
+  abbrev IsKept : World → Calls → Batches → List ℕ → Type 0
+  IsKept x e k t =
+      Fits x delta → Sound (applied x delta)
+      → IsCommitted delta (entry.Kept reply.hostid (record { seqno = r.rpc_seqno; text = t; reply = reply_text_of reply })) x e k after later newer
+
+  acts : IsKept u d b text → MayAct w calls c r → ServesCall r now (Good (reply_text_of reply)) w calls batches after later newer
+  acts commits may sound =
+      let admitted : IsAdmitted w c r = record { caller = may.0.0; limits = range } in
+      let commits_here : IsKept w calls batches (canonical_text r) =
+      subst (λ (t : World × (Calls × (Batches × List ℕ))). IsKept t.0 t.1.0 t.1.1.0 t.1.1.1)
+      (λ i. (world_is i, (λ host. calls_are host i, (λ kind batch. batches_are kind batch i, spelt i)))) commits in
+      acted w after calls later batches newer c r now delta reply moment range may sound (step sound admitted) (soundly sound admitted)
+      (commits_here (fits sound admitted) (soundly sound admitted))
+
+  -- its reply is kept with it
+  pub kept_serves : {E : Type 0} (result : Result Answer E) → IfOk result (λ answer. answer ≡ Good (reply_text_of reply))
+      → OnOk result (Fits u delta
+      → IsCommitted delta (entry.Kept reply.hostid (record { seqno = r.rpc_seqno; text = text; reply = reply_text_of reply })) u d b after later newer)
+      → IfOk result (λ answer. MayAct w calls c r → ServesCall r now answer w calls batches after later newer)
+  kept_serves (Err e) told commits = tt
+  kept_serves (Ok answer) told commits = λ may.
+      subst (λ x. ServesCall r now x w calls batches after later newer) (sym told) (acts (λ fits_here soundly_here. commits fits_here) may)
+
+  -- what a stop leaves of a commit is one call ahead
+  pub kept_ahead : IsKept u d b text → MayAct w calls c r → IsServed (record { now = now; said = Rpc r }) w calls batches after later newer
+  kept_ahead commits may = (Good (reply_text_of reply), acts commits may)
 
 -- ---- what was only read before
 
@@ -231,6 +239,19 @@ fresh_serves w u after calls d later batches b newer c r now text told (Ok answe
     (λ i. (world_is i, (λ host. calls_are host i, λ kind batch. batches_are kind batch i))) acts
     (named, ap (told_caller calls c r.rpc_seqno) (sym spelt) ∙ sym told_is ∙ fresh)
 
+-- and the same of what a stop leaves
+pub fresh_ahead : (w u after : World) (calls d later : Calls) (batches b newer : Batches) (c : Caller) (r : Request) (now : ℕ) (text : List ℕ)
+    (told : Option Answer)
+    → u ≡ w → ((host : ℕ) → d host ≡ calls host) → ((kind : Kind) (batch : List ℕ) → b kind batch ≡ batches kind batch)
+    → text ≡ canonical_text r → told ≡ None → told ≡ told_caller calls c r.rpc_seqno text
+    → (MayAct u d c r → IsServed (record { now = now; said = Rpc r }) u d b after later newer)
+    → IsNamed w c r → IsServed (record { now = now; said = Rpc r }) w calls batches after later newer
+fresh_ahead w u after calls d later batches b newer c r now text told world_is calls_are batches_are spelt fresh told_is acts named =
+    subst
+    (λ (t : World × (Calls × Batches)). MayAct t.0 t.1.0 c r → IsServed (record { now = now; said = Rpc r }) t.0 t.1.0 t.1.1 after later newer)
+    (λ i. (world_is i, (λ host. calls_are host i, λ kind batch. batches_are kind batch i))) acts
+    (named, ap (told_caller calls c r.rpc_seqno) (sym spelt) ∙ sym told_is ∙ fresh)
+
 -- a named call is served as it would have been before it was named
 pub named_serves : {E : Type 0} (w u after : World) (calls d later : Calls) (batches b newer : Batches) (c : Caller) (r : Request) (now : ℕ)
     (result : Result Answer E)
@@ -242,6 +263,17 @@ named_serves w u after calls d later batches b newer c r now (Err e) world_is ca
 named_serves w u after calls d later batches b newer c r now (Ok answer) world_is calls_are batches_are named serves =
     subst
     (λ (t : World × (Calls × Batches)). IsNamed t.0 c r → ServesCall r now answer t.0 t.1.0 t.1.1 after later newer)
+    (λ i. (world_is i, (λ host. calls_are host i, λ kind batch. batches_are kind batch i))) serves named
+
+-- and the same of what a stop leaves
+pub named_ahead : (w u after : World) (calls d later : Calls) (batches b newer : Batches) (c : Caller) (r : Request) (now : ℕ)
+    → u ≡ w → ((host : ℕ) → d host ≡ calls host) → ((kind : Kind) (batch : List ℕ) → b kind batch ≡ batches kind batch)
+    → IsNamed w c r
+    → (IsNamed u c r → IsServed (record { now = now; said = Rpc r }) u d b after later newer)
+    → IsServed (record { now = now; said = Rpc r }) w calls batches after later newer
+named_ahead w u after calls d later batches b newer c r now world_is calls_are batches_are named serves =
+    subst
+    (λ (t : World × (Calls × Batches)). IsNamed t.0 c r → IsServed (record { now = now; said = Rpc r }) t.0 t.1.0 t.1.1 after later newer)
     (λ i. (world_is i, (λ host. calls_are host i, λ kind batch. batches_are kind batch i))) serves named
 
 -- ---- want of memory

@@ -31,7 +31,7 @@ use Rattle.pasts.specs.declared.batch.KeptBatch.{KeptBatch}
 use Rattle.pasts.specs.declared.kind.Kind.{Kind}
 use Rattle.pasts.proofs.ByNumber.{kept_by_number}
 use Rattle.message_engine.specs.Imports.{reading_of, as_refusal, Reads}
-use Rattle.message_engine.specs.Stores.{Calls, Batches, IsCommitted, IsLeft, ServesIn}
+use Rattle.message_engine.specs.Stores.{Calls, Batches, IsCommitted, IsLeft, IsServed, ServesIn}
 use Rattle.message_engine.specs.declared.entry.Entry.{Entry}
 use Rattle.message_engine.specs.declared.entry.Entry.TheVariants as entry
 use Rattle.message_engine.proofs.EntriesKept.{committed_on, serves_on, told_serves, step_serves}
@@ -100,14 +100,15 @@ module _ (now count : ℕ) (kind : Kind) (batch text : List ℕ) (new : Rows) (d
   m = message_of now kind batch text (Ok new)
 
   rows_serve : (answer : Answer) → answer ≡ Good (imported_text (kind_name kind) batch count)
-      → (Fits v delta → IsCommitted delta (entry_of kind batch text count) v calls' batches' w calls'' batches'')
+      → (Fits v delta → Sound (applied v delta) → IsCommitted delta (entry_of kind batch text count) v calls' batches' w calls'' batches'')
       → batches kind batch ≡ None → fault_of_rows (shelf_of u) new ≡ None → ServesIn m answer u calls batches w calls'' batches''
   rows_serve answer is done none unrefused sound =
       let P : World → Type 0 = λ x. Fits x delta in
+      let R : World → Type 0 = λ x. Sound (applied x delta) in
       let Q : Answer → Type 0 = λ a. ServesIn m a u calls batches w calls'' batches'' in
       let checked : AreChecked u new = record { in_limits = limits; unrefused = unrefused } in
       let made = committed_on delta (entry_of kind batch text count) u v w calls calls' calls'' batches batches' batches'' left
-      (done (subst P (sym left.world_is) (fits sound checked))) in
+      (done (subst P (sym left.world_is) (fits sound checked)) (subst R (sym left.world_is) (after sound checked))) in
       subst Q (sym is)
       (step_serves m (call.Import new) (answered.Imported count) delta (entry_of kind batch text count) u w calls calls'' batches batches''
       (ap (λ o. told_import u o text (Ok new)) none ∙ ap (option_map Refusal) unrefused)
@@ -118,8 +119,14 @@ module _ (now count : ℕ) (kind : Kind) (batch text : List ℕ) (new : Rows) (d
   pub rows_done : (result : Result Answer Unavailable) → IfOk result (λ answer. answer ≡ Good (imported_text (kind_name kind) batch count))
       → OnOk result (Fits v delta → IsCommitted delta (entry_of kind batch text count) v calls' batches' w calls'' batches'')
       → IfOk result (λ answer. batches kind batch ≡ None → fault_of_rows (shelf_of u) new ≡ None → ServesIn m answer u calls batches w calls'' batches'')
-  rows_done (Ok answer) is done = rows_serve answer is done
+  rows_done (Ok answer) is done = rows_serve answer is (λ fits_here soundly. done fits_here)
   rows_done (Err e) is done = tt
+
+  -- what a stop leaves of a commit is one import ahead
+  pub rows_ahead : (Fits v delta → Sound (applied v delta) → IsCommitted delta (entry_of kind batch text count) v calls' batches' w calls'' batches'')
+      → batches kind batch ≡ None → fault_of_rows (shelf_of u) new ≡ None → IsServed m u calls batches w calls'' batches''
+  rows_ahead done none unrefused =
+      (Good (imported_text (kind_name kind) batch count), rows_serve (Good (imported_text (kind_name kind) batch count)) refl done none unrefused)
 
 -- ---- what was read before
 
@@ -138,6 +145,15 @@ module _ (now : ℕ) (kind : Kind) (batch text : List ℕ) (u v w : World) (call
       (serves (still none) (ap (λ x. fault_of_rows (shelf_of x) new) left.world_is ∙ unrefused))
   added_on new (Err e) unrefused serves = tt
 
+  -- and the same of what a stop leaves
+  pub added_ahead : (new : Rows) → fault_of_rows (shelf_of u) new ≡ None
+      → (batches' kind batch ≡ None → fault_of_rows (shelf_of v) new ≡ None
+      → IsServed (message_of now kind batch text (Ok new)) v calls' batches' w calls'' batches'')
+      → batches kind batch ≡ None → IsServed (message_of now kind batch text (Ok new)) u calls batches w calls'' batches''
+  added_ahead new unrefused serves none =
+      let served = serves (still none) (ap (λ x. fault_of_rows (shelf_of x) new) left.world_is ∙ unrefused) in
+      (served.0, serves_on (message_of now kind batch text (Ok new)) served.0 u v w calls calls' calls'' batches batches' batches'' left served.1)
+
   -- a batch that was looked for, and then imported
   pub new_on : (name : List ℕ) (looked : Option KeptBatch) (result : Result Answer Unavailable) → looked ≡ None → name ≡ batch → looked ≡ batches kind name
       → IfOk result (λ answer. batches' kind batch ≡ None → ServesRead now kind batch text answer v calls' batches' w calls'' batches'')
@@ -146,6 +162,18 @@ module _ (now : ℕ) (kind : Kind) (batch text : List ℕ) (u v w : World) (call
       let read = serves (still (looked_up batches kind batch name looked None none same there)) in
       (read.0, read.1, serves_on (message_of now kind batch text read.0) answer u v w calls calls' calls'' batches batches' batches'' left read.2)
   new_on name looked (Err e) none same there serves = tt
+
+  -- and the same of what a stop leaves
+  pub new_ahead : (name : List ℕ) (looked : Option KeptBatch) → looked ≡ None → name ≡ batch → looked ≡ batches kind name
+      → (batches' kind batch ≡ None
+      → (read : Result Rows Fault) × Reads kind text read × IsServed (message_of now kind batch text read) v calls' batches' w calls'' batches'')
+      → (read : Result Rows Fault) × Reads kind text read × IsServed (message_of now kind batch text read) u calls batches w calls'' batches''
+  new_ahead name looked none same there serves =
+      let served = serves (still (looked_up batches kind batch name looked None none same there)) in (
+        served.0,
+        served.1,
+        (served.2.0, serves_on (message_of now kind batch text served.0) served.2.0 u v w calls calls' calls'' batches batches' batches'' left served.2.1),
+      )
 
 -- rows that were read, and then imported
 pub read_on : (now : ℕ) (kind : Kind) (batch text : List ℕ) (new : Rows) (u w : World) (calls calls'' : Calls) (batches batches'' : Batches)

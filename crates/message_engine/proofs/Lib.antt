@@ -3,6 +3,5 @@ mod EntriesKept
 mod CallsServed
 mod ImportsServed
 mod TicksServed
-mod Meant
-mod Followed
+pub mod Stopped
 pub mod Begun

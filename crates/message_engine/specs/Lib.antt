@@ -1,6 +1,5 @@
 pub mod Stores
+pub mod Stops
 pub mod ListStores
 pub mod Imports
-pub mod Posts
 pub mod Calls
-pub mod Arrivals

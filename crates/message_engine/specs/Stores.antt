@@ -1,5 +1,5 @@
 -- What a store holds, and what one message does to it. (This project's own.)
-use Rattle.std.specs.Prelude.{◌≡◌, ℕ, ◌&&◌, if◌then◌else◌, List, ◌∷◌, take, Option, Some}
+use Rattle.std.specs.Prelude.{◌≡◌, ℕ, ◌&&◌, if◌then◌else◌, List, [], ◌∷◌, take, Option, Some}
 use Rattle.std.specs.Str.{bytes_eq}
 use Rattle.reply_register.specs.declared.kept.Kept.{Kept}
 use Rattle.sched_book.specs.Delta.{applied}
@@ -10,7 +10,7 @@ use Rattle.pasts.specs.Answers.{kept_beside_last}
 use Rattle.pasts.specs.ByNumber.{calls_by_number, put_at}
 use Rattle.pasts.specs.Kinds.{same_kind}
 use Rattle.pasts.specs.Messages.{Message}
-use Rattle.pasts.specs.Stands.{Tables, Serves}
+use Rattle.pasts.specs.Stands.{Tables, Stands, Serves}
 use Rattle.pasts.specs.declared.answer.Answer.{Answer}
 use Rattle.pasts.specs.declared.batch.KeptBatch.{KeptBatch}
 use Rattle.pasts.specs.declared.kind.Kind.{Kind}
@@ -62,3 +62,11 @@ pub record ServesSoundly (m : Message) (answer : Answer) (w : World) (calls : Ca
 
 abbrev pub ServesIn : Message → Answer → World → Calls → Batches → World → Calls → Batches → Type 0
 ServesIn m answer w calls batches w' calls' batches' = Sound w → ServesSoundly m answer w calls batches w' calls' batches'
+
+-- it was served, with some answer
+abbrev pub IsServed : Message → World → Calls → Batches → World → Calls → Batches → Type 0
+IsServed m w calls batches w' calls' batches' = (answer : Answer) × ServesIn m answer w calls batches w' calls' batches'
+
+-- a store stands for the empty past, and its world is sound
+abbrev pub StandsForNothing : World → Calls → Batches → Type 0
+StandsForNothing w calls batches = Stands (tables_by w calls batches) [] × Sound w

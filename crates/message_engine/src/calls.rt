@@ -16,7 +16,8 @@ ghost use Rattle.pasts.specs.Messages.{Rpc};
 ghost use Rattle.pasts.specs.Told.{told_beside};
 ghost use Rattle.pasts.specs.declared.answer.Answer.TheVariants.{Good};
 ghost use Rattle.message_engine.specs.Calls.{IsNamed, MayAct, ServesCall, told_caller};
-ghost use Rattle.message_engine.specs.Stores.{ServesIn, IsCommitted, IsLeft};
+ghost use Rattle.message_engine.specs.Stops.{AtAStop};
+ghost use Rattle.message_engine.specs.Stores.{ServesIn, IsServed, IsCommitted, IsLeft};
 ghost use Rattle.message_engine.specs.declared.entry.Entry.TheVariants as entry;
 
 use crate::entry::Entry;
@@ -121,6 +122,10 @@ fn keep<S: Store>(
         (S.world store.old) (S.calls store.old) (S.batches store.old) (S.world store.new) (S.calls store.new) (S.batches store.new))) }
     ensures err { Trusted S.Units store.old store.new (OnErr result (
         IsLeft (S.world store.old) (S.calls store.old) (S.batches store.old) (S.world store.new) (S.calls store.new) (S.batches store.new))) }
+    ensures stop { AtAStop S.Units S.may_leave store.old store.new (λ w calls batches.
+        Fits (S.world store.old) delta.now → Sound (applied (S.world store.old) delta.now) →
+        IsCommitted delta.now (entry.Kept reply.now.hostid (record { seqno = seqno; text = text; reply = reply_text_of reply.now }))
+        (S.world store.old) (S.calls store.old) (S.batches store.old) w calls batches) }
 {
     let body = reply_text(alloc, reply)?;
     let kept = Kept {
@@ -150,6 +155,9 @@ fn call_fresh<S: Store>(
         (S.world store.old) (S.calls store.old) (S.batches store.old) (S.world store.new) (S.calls store.new) (S.batches store.new))) }
     ensures err { Trusted S.Units store.old store.new (OnErr result (
         IsLeft (S.world store.old) (S.calls store.old) (S.batches store.old) (S.world store.new) (S.calls store.new) (S.batches store.new))) }
+    ensures stop { AtAStop S.Units S.may_leave store.old store.new (λ w calls batches.
+        MayAct (S.world store.old) (S.calls store.old) caller request →
+        IsServed (record { now = now; said = Rpc request }) (S.world store.old) (S.calls store.old) (S.batches store.old) w calls batches) }
 {
     let seqno = request.rpc_seqno;
     match call_step(alloc, store, caller, request, now) {
@@ -175,6 +183,9 @@ fn call_admitted<S: Store>(
         (S.world store.old) (S.calls store.old) (S.batches store.old) (S.world store.new) (S.calls store.new) (S.batches store.new))) }
     ensures err { Trusted S.Units store.old store.new (OnErr result (
         IsLeft (S.world store.old) (S.calls store.old) (S.batches store.old) (S.world store.new) (S.calls store.new) (S.batches store.new))) }
+    ensures stop { AtAStop S.Units S.may_leave store.old store.new (λ w calls batches.
+        IsNamed (S.world store.old) caller request →
+        IsServed (record { now = now; said = Rpc request }) (S.world store.old) (S.calls store.old) (S.batches store.old) w calls batches) }
 {
     let text = request_text(alloc, &request)?;
     match told_kept(alloc, store, &caller, request.rpc_seqno, text.as_str())? {
@@ -184,7 +195,8 @@ fn call_admitted<S: Store>(
 }
 
 /// Answers a call. One that is first heard is a step of the job machine, and is kept with its reply; any other is told
-/// what stands and what is kept of its host's calls say, and changes nothing.
+/// what stands and what is kept of its host's calls say, and changes nothing. A stop at any moment leaves the store as
+/// it was, or with the call served.
 ///
 /// # Errors
 ///
@@ -203,6 +215,8 @@ pub fn call<S: Store>(
         (S.world store.old) (S.calls store.old) (S.batches store.old) (S.world store.new) (S.calls store.new) (S.batches store.new))) }
     ensures err { Trusted S.Units store.old store.new (OnErr result (
         IsLeft (S.world store.old) (S.calls store.old) (S.batches store.old) (S.world store.new) (S.calls store.new) (S.batches store.new))) }
+    ensures stop { AtAStop S.Units S.may_leave store.old store.new (λ w calls batches.
+        IsServed (record { now = now; said = Rpc request }) (S.world store.old) (S.calls store.old) (S.batches store.old) w calls batches) }
 {
     match admit(alloc, store, &request) {
         Ok(caller) => call_admitted(alloc, store, caller, request, now),

@@ -5,7 +5,8 @@ ghost use Rattle.std.specs.Str.{bytes_eq};
 ghost use Rattle.office_files.specs.Importing.{Says, Refuses};
 ghost use Rattle.rpc_records.specs.declared.fault.Fault.{Fault};
 ghost use Rattle.rpc_records.specs.declared.fault.Fault.TheVariants as fault;
-ghost use Rattle.sched_book.specs.Delta.{Fits};
+ghost use Rattle.sched_book.specs.Delta.{applied, Fits};
+ghost use Rattle.sched_book.specs.Sound.{Sound};
 ghost use Rattle.sched_book.specs.Imports.{fault_of_rows, shelf_of};
 ghost use Rattle.sched_book.specs.Limits.{AreRowsInLimits};
 ghost use Rattle.sched_book.specs.Trusted.{Trusted};
@@ -15,7 +16,8 @@ ghost use Rattle.pasts.specs.Kinds.{kind_name};
 ghost use Rattle.pasts.specs.Messages.{Import};
 ghost use Rattle.pasts.specs.declared.answer.Answer.TheVariants as answers;
 ghost use Rattle.message_engine.specs.Imports.{reading_of, Reads};
-ghost use Rattle.message_engine.specs.Stores.{IsCommitted, IsLeft, ServesIn};
+ghost use Rattle.message_engine.specs.Stops.{AtAStop};
+ghost use Rattle.message_engine.specs.Stores.{IsCommitted, IsLeft, IsServed, ServesIn};
 ghost use Rattle.message_engine.specs.declared.entry.Entry.TheVariants as entry;
 
 use crate::bodies::imported;
@@ -90,6 +92,9 @@ fn commit_batch<S: Store>(
         (S.world store.old) (S.calls store.old) (S.batches store.old) (S.world store.new) (S.calls store.new) (S.batches store.new))) }
     ensures err { Trusted S.Units store.old store.new (OnErr result (
         IsLeft (S.world store.old) (S.calls store.old) (S.batches store.old) (S.world store.new) (S.calls store.new) (S.batches store.new))) }
+    ensures stop { AtAStop S.Units S.may_leave store.old store.new (λ w calls batches.
+        Fits (S.world store.old) delta.now → Sound (applied (S.world store.old) delta.now) →
+        IsCommitted delta.now (entry.Batch kind batch.now (record { text = text.now; answer = body.now })) (S.world store.old) (S.calls store.old) (S.batches store.old) w calls batches) }
 {
     let entry = batch_entry(alloc, kind, batch, text, body)?;
     store.commit(delta, &entry)
@@ -113,6 +118,9 @@ fn keep_batch<S: Store>(
         (S.world store.old) (S.calls store.old) (S.batches store.old) (S.world store.new) (S.calls store.new) (S.batches store.new))) }
     ensures err { Trusted S.Units store.old store.new (OnErr result (
         IsLeft (S.world store.old) (S.calls store.old) (S.batches store.old) (S.world store.new) (S.calls store.new) (S.batches store.new))) }
+    ensures stop { AtAStop S.Units S.may_leave store.old store.new (λ w calls batches.
+        Fits (S.world store.old) delta.now → Sound (applied (S.world store.old) delta.now) →
+        IsCommitted delta.now (entry.Batch kind batch.now (record { text = text.now; answer = imported_text (kind_name kind) batch.now count })) (S.world store.old) (S.calls store.old) (S.batches store.old) w calls batches) }
 {
     let body = imported(alloc, kind.name(), batch.as_str(), count as u64)?;
     commit_batch(alloc, store, kind, batch, text, &body, delta)?;
@@ -138,6 +146,9 @@ fn add_rows<S: Store>(
         (S.world store.old) (S.calls store.old) (S.batches store.old) (S.world store.new) (S.calls store.new) (S.batches store.new))) }
     ensures err { Trusted S.Units store.old store.new (OnErr result (
         IsLeft (S.world store.old) (S.calls store.old) (S.batches store.old) (S.world store.new) (S.calls store.new) (S.batches store.new))) }
+    ensures stop { AtAStop S.Units S.may_leave store.old store.new (λ w calls batches.
+        S.batches store.old kind batch.now ≡ None → fault_of_rows (shelf_of (S.world store.old)) rows ≡ None →
+        IsServed (record { now = now; said = Import kind batch.now text.now (Ok rows) }) (S.world store.old) (S.calls store.old) (S.batches store.old) w calls batches) }
 {
     let (delta, count) = import_step(alloc, store, rows, now)?;
     keep_batch(alloc, store, kind, batch, text, &delta, count)
@@ -162,6 +173,9 @@ fn import_rows<S: Store>(
         (S.world store.old) (S.calls store.old) (S.batches store.old) (S.world store.new) (S.calls store.new) (S.batches store.new))) }
     ensures err { Trusted S.Units store.old store.new (OnErr result (
         IsLeft (S.world store.old) (S.calls store.old) (S.batches store.old) (S.world store.new) (S.calls store.new) (S.batches store.new))) }
+    ensures stop { AtAStop S.Units S.may_leave store.old store.new (λ w calls batches.
+        S.batches store.old kind batch.now ≡ None →
+        IsServed (record { now = now; said = Import kind batch.now text.now (Ok rows) }) (S.world store.old) (S.calls store.old) (S.batches store.old) w calls batches) }
 {
     match check_rows(alloc, store, &rows) {
         Ok(()) => add_rows(alloc, store, kind, batch, text, rows, now),
@@ -187,6 +201,9 @@ fn import_new<S: Store>(
         (S.world store.old) (S.calls store.old) (S.batches store.old) (S.world store.new) (S.calls store.new) (S.batches store.new))) }
     ensures err { Trusted S.Units store.old store.new (OnErr result (
         IsLeft (S.world store.old) (S.calls store.old) (S.batches store.old) (S.world store.new) (S.calls store.new) (S.batches store.new))) }
+    ensures stop { AtAStop S.Units S.may_leave store.old store.new (λ w calls batches.
+        S.batches store.old kind batch.now ≡ None → (read : Result Rows Fault) × Reads kind text.now read ×
+        IsServed (record { now = now; said = Import kind batch.now text.now read }) (S.world store.old) (S.calls store.old) (S.batches store.old) w calls batches) }
 {
     match read_rows(alloc, kind, text) {
         Ok(rows) => import_rows(alloc, store, kind, batch, text, rows, now),
@@ -197,6 +214,7 @@ fn import_new<S: Store>(
 
 /// Imports a batch of rows. One that is kept is answered again where it has the same bytes, and refused where it has
 /// others; one that is not kept is read, its rows are looked at beside what stands, and then added and kept, or refused.
+/// A stop at any moment leaves the store as it was, or with the import served.
 ///
 /// # Errors
 ///
@@ -217,6 +235,9 @@ pub fn import<S: Store>(
         (S.world store.old) (S.calls store.old) (S.batches store.old) (S.world store.new) (S.calls store.new) (S.batches store.new))) }
     ensures err { Trusted S.Units store.old store.new (OnErr result (
         IsLeft (S.world store.old) (S.calls store.old) (S.batches store.old) (S.world store.new) (S.calls store.new) (S.batches store.new))) }
+    ensures stop { AtAStop S.Units S.may_leave store.old store.new (λ w calls batches.
+        (read : Result Rows Fault) × Reads kind text.now read ×
+        IsServed (record { now = now; said = Import kind batch.now text.now read }) (S.world store.old) (S.calls store.old) (S.batches store.old) w calls batches) }
 {
     match store.kept_batch(alloc, kind, batch.as_str())? {
         Some(kept) => Ok(told_again(kept, text)),

@@ -9,9 +9,8 @@ ghost use Rattle.sched_book.specs.Places.{unit_named, known_host, sent_on_day};
 ghost use Rattle.sched_book.specs.Step.{empty_world};
 ghost use Rattle.pasts.specs.Answers.{kept_beside_last};
 ghost use Rattle.pasts.specs.declared.kind.Kind.{Kind};
-ghost use Rattle.message_engine.specs.Arrivals.{StandsFor};
 ghost use Rattle.message_engine.specs.ListStores.{calls_at, is_batch, batch_at, world_of, calls_of, batches_of};
-ghost use Rattle.message_engine.specs.Stores.{IsCommitted, IsLeft};
+ghost use Rattle.message_engine.specs.Stores.{IsCommitted, IsLeft, StandsForNothing};
 ghost use Rattle.message_engine.specs.declared.entry.Entry.TheVariants as entry;
 
 use crate::copies::{append_copies, copy_batch, copy_kept};
@@ -111,7 +110,7 @@ impl ListStore {
         ensures world { IfOk result (λ store. world_of store ≡ empty_world settings.now) }
         ensures calls { IfOk result (λ store. (host : ℕ) → calls_of store host ≡ []) }
         ensures batches { IfOk result (λ store. (kind : Kind) (batch : List ℕ) → batches_of store kind batch ≡ None) }
-        ensures stands { IfOk result (λ store. AreSettingsInLimits settings.now → StandsFor (world_of store) (calls_of store) (batches_of store) []) }
+        ensures stands { IfOk result (λ store. AreSettingsInLimits settings.now → StandsForNothing (world_of store) (calls_of store) (batches_of store)) }
     {
         Ok(ListStore {
             alloc,
@@ -310,6 +309,9 @@ impl Store for ListStore {
 
     ghost batches = { batches_of };
 
+    // nothing is left of lists in memory
+    ghost may_leave = { λ store w kept imports. ⊥ };
+
     fn kept(&mut self, alloc: Global, host: u32) -> Result<Listed<Kept>, Unavailable> {
         let mut kept = Listed::new(alloc);
         append_copies(&mut kept, calls_of(self.calls.as_slice(), host))?;
@@ -339,4 +341,8 @@ impl Store for ListStore {
     ghost stays_calls = { λ a b h k l host. Prim.search rules };
 
     ghost stays_batches = { λ a b h k l kind batch. Prim.search rules };
+
+    ghost stays_left = { λ a b h w kept imports left. left };
+
+    ghost settled = { λ a h k l w kept imports left. absurd left };
 }

@@ -34,12 +34,18 @@ at_moment P now (Ok a) all = all now
 at_moment P now (Err e) all = tt
 
 -- an import says what its text reads as
+pub import_says : (m form : Message) (kind : Kind) (batch text : List ℕ) (read : Result Rows Fault)
+    → m ≡ form → message_seen form ≡ asks.import kind batch text → Reads kind text read → Says (message_seen m) (Import kind batch text read)
+import_says m form kind batch text read is asks_for reads =
+    let P : Asked → Type 0 = λ asked. Says asked (Import kind batch text read) in
+    subst P (sym (ap message_seen is ∙ asks_for)) (read, reads, refl)
+
+-- and is served as that
 pub import_serves : (m form : Message) (kind : Kind) (batch text : List ℕ) (now : ℕ) (w w' : World) (calls calls' : Calls) (batches batches' : Batches)
     (r : Result Answer Unavailable) → m ≡ form → message_seen form ≡ asks.import kind batch text
     → IfOk r (λ a. (read : Result Rows Fault) × Reads kind text read
     × ServesIn (record { now = now; said = Import kind batch text read }) a w calls batches w' calls' batches')
     → IfOk r (λ a. (s : Said) × Says (message_seen m) s × ServesIn (record { now = now; said = s }) a w calls batches w' calls' batches')
 import_serves m form kind batch text now w w' calls calls' batches batches' (Ok a) is asks_for serves =
-    let P : Asked → Type 0 = λ asked. Says asked (Import kind batch text serves.0) in
-    (Import kind batch text serves.0, subst P (sym (ap message_seen is ∙ asks_for)) (serves.0, serves.1, refl), serves.2)
+    (Import kind batch text serves.0, import_says m form kind batch text serves.0 is asks_for serves.1, serves.2)
 import_serves m form kind batch text now w w' calls calls' batches batches' (Err e) is asks_for serves = tt

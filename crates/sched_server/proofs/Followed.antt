@@ -126,12 +126,19 @@ holds_so_far P before arrivals i answers a x less is count holds =
     ∙ next_followed before arrivals i answers a x less is count
     )) holds
 
+-- with the key and the bytes under other names
+pub handled_as : (old key read bytes : List ℕ) (now : ℕ) (w w' : World) (calls calls' : Calls) (batches batches' : Batches) (a : Answer)
+    → key ≡ old → read ≡ bytes → HandledAs key read now a w calls batches w' calls' batches' → HandledAs old bytes now a w calls batches w' calls' batches'
+handled_as old key read bytes now w w' calls calls' batches batches' a same is done =
+    let P : List ℕ → Type 0 = λ k. HandledAs k read now a w calls batches w' calls' batches' in
+    let Q : List ℕ → Type 0 = λ b. HandledAs old b now a w calls batches w' calls' batches' in
+    subst Q is (subst P same done)
+
 -- an arrival that was handled by the same key stands behind those before
 pub handled_on : (old key read bytes : List ℕ) (now : ℕ) (w w' : World) (calls calls' : Calls) (batches batches' : Batches) (a : Answer)
     → key ≡ old → read ≡ bytes → HandledAs key read now a w calls batches w' calls' batches'
     → (before : List Came) → StandsFor old w calls batches before
     → StandsFor old w' calls' batches' (record { arrival = record { now = now; bytes = bytes }; answer = a } ∷ before)
 handled_on old key read bytes now w w' calls calls' batches batches' a same is done before st =
-    let P : List ℕ → Type 0 = λ k. HandledAs k read now a w calls batches w' calls' batches' in
-    let Q : List ℕ → Type 0 = λ b. HandledAs old b now a w calls batches w' calls' batches' in
-    handled_stands old bytes now w w' calls calls' batches batches' a (subst Q is (subst P same done)) before st
+    handled_stands old bytes now w w' calls calls' batches batches' a
+    (handled_as old key read bytes now w w' calls calls' batches batches' a same is done) before st

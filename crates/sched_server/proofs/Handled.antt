@@ -1,5 +1,5 @@
 -- A message of bytes: what it means is served, and the response says what was told.
-use Rattle.std.proofs.Common.{◌≡◌, inl, inr, ℕ, List, subst}
+use Rattle.std.proofs.Common.{◌≡◌, inl, inr, ℕ, List, refl, subst}
 use Rattle.std.specs.Prelude.{Option, Some, None, Result, Ok, Err, IfOk, OnErr}
 use Rattle.http_messages.specs.Deciding.{Asked}
 use Rattle.http_messages.specs.Meaning.{Means}
@@ -14,9 +14,9 @@ use Rattle.pasts.specs.Messages.{Said, Message}
 use Rattle.pasts.specs.Stands.{Same, ServesAs, told_by}
 use Rattle.pasts.specs.declared.answer.Answer as told
 use Rattle.pasts.specs.declared.answer.Answer.TheVariants as tells
-use Rattle.message_engine.specs.Stores.{Calls, Batches, tables_by, IsLeft, ServesIn}
+use Rattle.message_engine.specs.Stores.{Calls, Batches, tables_by, IsLeft, IsServed, ServesIn}
 use Rattle.sched_server.specs.Answering.{IsRefusal, Responds}
-use Rattle.sched_server.specs.Handled.{HandledAs}
+use Rattle.sched_server.specs.Handled.{response_to, HandledAs, IsHandled}
 use Rattle.sched_server.specs.Meanings.{Says, allowed_by}
 use Rattle.sched_server.proofs.Told.{left_same}
 
@@ -90,3 +90,20 @@ pub handled : (key bytes : List ℕ) (now : ℕ) (asked : Asked) (allowed : Opti
 handled key bytes now asked allowed w w' calls calls' batches batches' r a means allows serves left responds =
     let P : Option Method → Type 0 = λ o. Responds o r a in
     handled_by key bytes now asked w w' calls calls' batches batches' r a means serves left (subst P allows responds)
+
+-- a message whose meaning was served was handled
+pub is_handled : (key bytes : List ℕ) (now : ℕ) (asked : Asked) (w w' : World) (calls calls' : Calls) (batches batches' : Batches) → Means key bytes asked
+    → ((said : Said) × Says asked said × IsServed (record { now = now; said = said }) w calls batches w' calls' batches')
+    → IsHandled key bytes now w calls batches w' calls' batches'
+is_handled key bytes now asked w w' calls calls' batches batches' means served = (
+  response_to (allowed_by asked) served.2.0,
+  record {
+    asked = asked;
+    said = served.0;
+    told = served.2.0;
+    means = means;
+    says = served.1;
+    serves = served.2.1;
+    response = refl;
+  },
+)

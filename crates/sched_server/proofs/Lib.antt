@@ -2,4 +2,6 @@ mod Told
 mod Answered
 mod Handled
 mod Followed
+mod Stopped
 mod Begun
+mod Lasting

@@ -1,5 +1,5 @@
 -- What came, with its answers, and what a store stands for. What came is listed with the newest first. (This project's own.)
-use Rattle.std.specs.Prelude.{◌≡◌, ℕ, List, [], ◌∷◌}
+use Rattle.std.specs.Prelude.{◌≡◌, ◌⊎◌, ℕ, List, [], ◌∷◌}
 use Rattle.http_messages.specs.Deciding.{Asked}
 use Rattle.http_messages.specs.Meaning.{Means}
 use Rattle.http_responses.specs.declared.answer.Answer.{Answer}
@@ -7,9 +7,9 @@ use Rattle.http_responses.specs.declared.answer.Answer.TheVariants as answer
 use Rattle.http_responses.specs.declared.response.Response.{Response}
 use Rattle.sched_book.specs.Sound.{Sound}
 use Rattle.sched_book.specs.declared.world.World.{World}
-use Rattle.pasts.specs.Stands.{Heard, Past, Stands}
+use Rattle.pasts.specs.Stands.{Heard, Past, Same, Stands}
 use Rattle.message_engine.specs.Stores.{Calls, Batches, tables_by}
-use Rattle.sched_server.specs.Handled.{response_to}
+use Rattle.sched_server.specs.Handled.{response_to, HandledAs}
 use Rattle.sched_server.specs.Meanings.{Says, allowed_by}
 use Rattle.sched_server.specs.declared.arrival.Arrival.{Arrival}
 
@@ -59,3 +59,16 @@ abbrev pub followed : List Came → List Arrival → List Answer → List Came
 followed before [] answers = before
 followed before (a ∷ arrivals) [] = before
 followed before (a ∷ arrivals) (answer ∷ answers) = followed (record { arrival = a; answer = answer } ∷ before) arrivals answers
+
+-- these, the newest first, were handled one after the other
+abbrev pub HandledInTurn : List ℕ → List Came → World → Calls → Batches → World → Calls → Batches → Type 0
+HandledInTurn key [] w calls batches w' calls' batches' = Same (tables_by w' calls' batches') (tables_by w calls batches)
+HandledInTurn key (c ∷ earlier) w calls batches w' calls' batches' =
+    (u : World) × (d : Calls) × (b : Batches) × HandledInTurn key earlier w calls batches u d b
+    × HandledAs key c.arrival.bytes c.arrival.now c.answer u d b w' calls' batches'
+
+-- A stop leaves what stands for what came before, or for that and this arrival, with a response that nobody read.
+abbrev pub StandsAtAStop : List ℕ → World → Calls → Batches → Arrival → List Came → Type 0
+StandsAtAStop key w calls batches arrival before =
+    StandsFor key w calls batches before
+    ⊎ ((r : Response) × StandsFor key w calls batches (record { arrival = arrival; answer = answer.Response r } ∷ before))

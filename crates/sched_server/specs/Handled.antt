@@ -44,3 +44,7 @@ pub record Handles (key bytes : List ℕ) (now : ℕ) (r : Response) (w : World)
 abbrev pub HandledAs : List ℕ → List ℕ → ℕ → Answer → World → Calls → Batches → World → Calls → Batches → Type 0
 HandledAs key bytes now answer.Unavailable w calls batches w' calls' batches' = Sound w → Same (tables_by w' calls' batches') (tables_by w calls batches)
 HandledAs key bytes now (answer.Response r) w calls batches w' calls' batches' = Handles key bytes now r w calls batches w' calls' batches'
+
+-- it was handled, with some response, which nobody may have read
+abbrev pub IsHandled : List ℕ → List ℕ → ℕ → World → Calls → Batches → World → Calls → Batches → Type 0
+IsHandled key bytes now w calls batches w' calls' batches' = (r : Response) × Handles key bytes now r w calls batches w' calls' batches'

@@ -1,16 +1,21 @@
 -- What a message that asks for something says to the scheduler. (The scheduler_request is BOINC's; the rest is this profile's.)
-use Rattle.std.specs.Prelude.{◌≡◌, Option, Some, None, Result}
+use Rattle.std.specs.Prelude.{◌≡◌, Option, Some, None, Result, Ok, Err}
 use Rattle.http_messages.specs.Deciding.{Asked}
 use Rattle.http_messages.specs.Deciding as asks
 use Rattle.http_responses.specs.declared.method.Method.{Method}
 use Rattle.rpc_records.specs.Reading.{meaning}
 use Rattle.rpc_records.specs.declared.fault.Fault.{Fault}
 use Rattle.rpc_records.specs.declared.fault.Fault.TheVariants as fault
+use Rattle.rpc_records.specs.declared.request.Request.{Request}
 use Rattle.sched_book.specs.declared.rows.Rows.{Rows}
-use Rattle.pasts.specs.Messages.{Said, Import, Tick, Read, Refused}
+use Rattle.pasts.specs.Messages.{Said, Rpc, Import, Tick, Read, Refused}
 use Rattle.message_engine.specs.Imports.{Reads}
-use Rattle.message_engine.specs.Posts.{said_by}
 use Rattle.sched_server.specs.Statements.{told_of_host}
+
+-- a body means a request, or it has a fault
+abbrev pub said_by : Result Request Fault → Said
+said_by (Ok request) = Rpc request
+said_by (Err fault) = Refused fault
 
 -- A call says the request that its body means, or its fault; an import says what its text reads as; a statement is a read of what stands.
 abbrev pub Says : Asked → Said → Type 0

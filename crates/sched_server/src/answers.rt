@@ -8,11 +8,11 @@ ghost use Rattle.sched_book.specs.declared.rows.Rows.{Rows};
 ghost use Rattle.pasts.specs.Messages.{Said, Import};
 ghost use Rattle.http_messages.specs.Meaning.{message_seen};
 ghost use Rattle.message_engine.specs.Imports.{Reads};
-ghost use Rattle.message_engine.specs.Posts.{said_by};
-ghost use Rattle.message_engine.specs.Stores.{ServesIn, IsLeft};
+ghost use Rattle.message_engine.specs.Stops.{AtAStop};
+ghost use Rattle.message_engine.specs.Stores.{ServesIn, IsServed, IsLeft};
 ghost use Rattle.sched_server.specs.Answering.{IsRefusal, Responds};
 ghost use Rattle.sched_server.specs.Handled.{refusal_to, response_to};
-ghost use Rattle.sched_server.specs.Meanings.{Says, allowed_by};
+ghost use Rattle.sched_server.specs.Meanings.{Says, said_by, allowed_by};
 
 use crate::statements::statement;
 use http_messages::Message;
@@ -38,6 +38,8 @@ fn call_in_body<S: Store>(
         (S.world store.old) (S.calls store.old) (S.batches store.old) (S.world store.new) (S.calls store.new) (S.batches store.new))) }
     ensures err { Trusted S.Units store.old store.new (OnErr result (
         IsLeft (S.world store.old) (S.calls store.old) (S.batches store.old) (S.world store.new) (S.calls store.new) (S.batches store.new))) }
+    ensures stop { AtAStop S.Units S.may_leave store.old store.new (λ w calls batches.
+        IsServed (record { now = now; said = said_by (meaning body.now) }) (S.world store.old) (S.calls store.old) (S.batches store.old) w calls batches) }
 {
     match decode_request(alloc, body) {
         Ok(request) => call(alloc, store, request, now),
@@ -63,6 +65,9 @@ fn import_batch<S: Store>(
         (S.world store.old) (S.calls store.old) (S.batches store.old) (S.world store.new) (S.calls store.new) (S.batches store.new))) }
     ensures err { Trusted S.Units store.old store.new (OnErr result (
         IsLeft (S.world store.old) (S.calls store.old) (S.batches store.old) (S.world store.new) (S.calls store.new) (S.batches store.new))) }
+    ensures stop { AtAStop S.Units S.may_leave store.old store.new (λ w calls batches.
+        (read : Result Rows Fault) × Reads kind text.now read ×
+        IsServed (record { now = now; said = Import kind batch.now text.now read }) (S.world store.old) (S.calls store.old) (S.batches store.old) w calls batches) }
 {
     let name = Text::copied(alloc, batch)?;
     import(alloc, store, kind, &name, text, now)
@@ -82,6 +87,9 @@ pub(crate) fn answer<S: Store>(
         (S.world store.old) (S.calls store.old) (S.batches store.old) (S.world store.new) (S.calls store.new) (S.batches store.new))) }
     ensures err { Trusted S.Units store.old store.new (OnErr result (
         IsLeft (S.world store.old) (S.calls store.old) (S.batches store.old) (S.world store.new) (S.calls store.new) (S.batches store.new))) }
+    ensures stop { AtAStop S.Units S.may_leave store.old store.new (λ w calls batches.
+        (said : Said) × Says (message_seen message.entry) said ×
+        IsServed (record { now = now; said = said }) (S.world store.old) (S.calls store.old) (S.batches store.old) w calls batches) }
 {
     match message {
         Message::Call(body) => call_in_body(alloc, store, body, now),

@@ -6,8 +6,11 @@ ghost use Rattle.http_messages.specs.Meaning.{Means, IsSettled, Awaits, message_
 ghost use Rattle.http_responses.specs.Answers.{answer_bytes};
 ghost use Rattle.http_responses.specs.declared.answer.Answer as given;
 ghost use Rattle.sched_book.specs.Trusted.{Trusted};
-ghost use Rattle.sched_server.specs.Arrivals.{Came, StandsFor};
-ghost use Rattle.sched_server.specs.Handled.{HandledAs};
+ghost use Rattle.sched_book.specs.declared.world.World.{World};
+ghost use Rattle.message_engine.specs.Stops.{AtAStop};
+ghost use Rattle.message_engine.specs.Stores.{Calls, Batches};
+ghost use Rattle.sched_server.specs.Arrivals.{Came, StandsFor, StandsAtAStop};
+ghost use Rattle.sched_server.specs.Handled.{HandledAs, IsHandled};
 ghost use Rattle.sched_server.specs.Views.{store_of, key_of};
 
 use crate::answers::{allowed_by, answer, respond};
@@ -77,6 +80,9 @@ impl<S: Store> Service<S> {
     /// has no fault adds its rows and is kept with its answer; a tick is a step of the machine; a statement is a read of
     /// what stands. Anything else changes nothing, and a repeat gets the very bytes of the kept answer. Behind a commit
     /// the answer asks for no memory: what is unavailable has changed nothing.
+    ///
+    /// A stop at any moment leaves what stands for all that came before, or for that and this message, whose answer nobody
+    /// read: it is answered again by the same bytes.
     pub fn handle(&mut self, alloc: Global, now: Moment, bytes: &[u8]) -> Answer
         ensures honest { S.honest (store_of self.new) → S.honest (store_of self.old) }
         ensures kept { Trusted S.Units (store_of self.old) (store_of self.new) (S.well_kept (store_of self.new)) }
@@ -88,6 +94,12 @@ impl<S: Store> Service<S> {
             → StandsFor (key_of self.old) (S.world (store_of self.old)) (S.calls (store_of self.old)) (S.batches (store_of self.old)) before
             → StandsFor (key_of self.old) (S.world (store_of self.new)) (S.calls (store_of self.new)) (S.batches (store_of self.new))
             (record { arrival = record { now = now; bytes = bytes.now }; answer = result } ∷ before)) }
+        ensures left { AtAStop S.Units S.may_leave (store_of self.old) (store_of self.new) (IsHandled (key_of self.old) bytes.now now
+            (S.world (store_of self.old)) (S.calls (store_of self.old)) (S.batches (store_of self.old))) }
+        ensures stop { S.honest (store_of self.old) → S.well_kept (store_of self.old) → (before : List Came)
+            → StandsFor (key_of self.old) (S.world (store_of self.old)) (S.calls (store_of self.old)) (S.batches (store_of self.old)) before
+            → (w : World) (calls : Calls) (batches : Batches) → S.may_leave (store_of self.new) w calls batches
+            → StandsAtAStop (key_of self.old) w calls batches (record { now = now; bytes = bytes.now }) before }
     {
         let message = self.heard(bytes).message;
         let allowed = allowed_by(&message);
@@ -107,7 +119,9 @@ impl<S: Store> Handler for Service<S> {
         × (key_of new ≡ key_of old)
         × Trusted S.Units (store_of old) (store_of new) (HandledAs (key_of old) bytes now answer
         (S.world (store_of old)) (S.calls (store_of old)) (S.batches (store_of old))
-        (S.world (store_of new)) (S.calls (store_of new)) (S.batches (store_of new))) };
+        (S.world (store_of new)) (S.calls (store_of new)) (S.batches (store_of new)))
+        × AtAStop S.Units S.may_leave (store_of old) (store_of new) (IsHandled (key_of old) bytes now
+        (S.world (store_of old)) (S.calls (store_of old)) (S.batches (store_of old))) };
 
     fn is_settled(&self, bytes: &[u8]) -> bool {
         self.heard(bytes).is_settled

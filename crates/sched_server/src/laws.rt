@@ -1,6 +1,14 @@
 //! Laws of the definitions. Each function does nothing; its contract is the law.
 
-ghost use Rattle.sched_server.specs.Laws.{NewStoresStand, HandledStands};
+ghost use Rattle.std.specs.Prelude.{List, ℕ};
+ghost use Rattle.sched_book.specs.declared.world.World.{World};
+ghost use Rattle.sched_machine.specs.Decisions.{CanonicalsStay, VerdictsStay, StatusesStay, CreditsStay, CreditsAddUp};
+ghost use Rattle.sched_machine.specs.Runs.{OwnersStay, ReportsStay, LapsesStay, OneForEachUser};
+ghost use Rattle.message_engine.specs.Stores.{Calls, Batches};
+ghost use Rattle.sched_server.specs.Arrivals.{Came, StandsFor};
+ghost use Rattle.sched_server.specs.Laws.{NewStoresStand, HandledStands, HoldsOfWhatStands, Lasts, DeadlinesMoveByResendsAlone, NoHeldJobDropsFromSight};
+
+use message_engine::Store;
 
 /// A new store, of which nothing was heard, stands for the empty past of bytes.
 pub fn new_stores_stand()
@@ -11,4 +19,67 @@ pub fn new_stores_stand()
 /// over a reader and a writer too, with the bytes that it read as the message, also where its answer is lost.
 pub fn handled_stands()
     ensures { HandledStands }
+{}
+
+/// At rest, what a stop leaves of a store stands for all that came, as the store does: every answered message is in.
+pub fn what_is_left_stands<S: Store>()
+    ensures { (store : S) → S.honest store → S.well_kept store → (key : List ℕ) (before : List Came)
+        → StandsFor key (S.world store) (S.calls store) (S.batches store) before
+        → (w : World) (calls : Calls) (batches : Batches) → S.may_leave store w calls batches → StandsFor key w calls batches before }
+{}
+
+/// Whatever messages come, an instance that was given to a host stays that host's, with its moment of sending.
+pub fn owners_stay()
+    ensures { Lasts OwnersStay }
+{}
+
+/// A deadline moves only where a call of the instance's host has it sent again.
+pub fn deadlines_move_by_resends_alone()
+    ensures { DeadlinesMoveByResendsAlone }
+{}
+
+/// What was reported of an instance stays.
+pub fn reports_stay()
+    ensures { Lasts ReportsStay }
+{}
+
+/// An instance that lapsed keeps its lapse.
+pub fn lapses_stay()
+    ensures { Lasts LapsesStay }
+{}
+
+/// A canonical result stays the canonical one.
+pub fn canonicals_stay()
+    ensures { Lasts CanonicalsStay }
+{}
+
+/// So does each verdict.
+pub fn verdicts_stay()
+    ensures { Lasts VerdictsStay }
+{}
+
+/// What is done stays done, and what failed stays failed, for the same reason.
+pub fn statuses_stay()
+    ensures { Lasts StatusesStay }
+{}
+
+/// The credit of no host and no user falls.
+pub fn credits_never_fall()
+    ensures { Lasts CreditsStay }
+{}
+
+/// The hosts together, and the users together, have the credit of all valid results, each once.
+pub fn credits_add_up()
+    ensures { HoldsOfWhatStands CreditsAddUp }
+{}
+
+/// No workunit has two instances that were given to hosts of one user.
+pub fn one_for_each_user()
+    ensures { HoldsOfWhatStands OneForEachUser }
+{}
+
+/// After a first-heard call that lists what its client has, where lost jobs are sent again, its host holds just what
+/// it held, lists and did not report, and what the reply names.
+pub fn no_held_job_drops_from_sight()
+    ensures { NoHeldJobDropsFromSight }
 {}

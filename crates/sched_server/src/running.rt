@@ -1,9 +1,9 @@
 //! Messages one after the other, and what the store stands for behind them.
 
-ghost use Rattle.std.specs.Prelude.{◌≡◌, length, List, IfOk, OnErr};
+ghost use Rattle.std.specs.Prelude.{◌≡◌, length, List, [], IfOk, OnErr};
 ghost use Rattle.http_responses.specs.declared.answer.Answer as given;
 ghost use Rattle.sched_book.specs.Trusted.{Trusted};
-ghost use Rattle.sched_server.specs.Arrivals.{Came, StandsFor, followed};
+ghost use Rattle.sched_server.specs.Arrivals.{Came, StandsFor, HandledInTurn, followed};
 ghost use Rattle.sched_server.specs.Views.{store_of, key_of};
 
 use crate::arrival::Arrival;
@@ -28,6 +28,10 @@ impl<S: Store> Service<S> {
         ensures kept { Trusted S.Units (store_of self.old) (store_of self.new) (S.well_kept (store_of self.new)) }
         ensures key { key_of self.new ≡ key_of self.old }
         ensures count { IfOk result (λ answers. length answers.items ≡ length arrivals.now) }
+        ensures exact { Trusted S.Units (store_of self.old) (store_of self.new) (IfOk result (λ answers.
+            HandledInTurn (key_of self.old) (followed [] arrivals.now answers.items)
+            (S.world (store_of self.old)) (S.calls (store_of self.old)) (S.batches (store_of self.old))
+            (S.world (store_of self.new)) (S.calls (store_of self.new)) (S.batches (store_of self.new)))) }
         ensures stands { Trusted S.Units (store_of self.old) (store_of self.new) (IfOk result (λ answers. (before : List Came)
             → StandsFor (key_of self.old) (S.world (store_of self.old)) (S.calls (store_of self.old)) (S.batches (store_of self.old)) before
             → StandsFor (key_of self.old) (S.world (store_of self.new)) (S.calls (store_of self.new)) (S.batches (store_of self.new))

@@ -3,6 +3,7 @@
 ghost use Rattle.std.specs.Prelude.{◌≡◌, ℕ, IfOk, OnErr};
 ghost use Rattle.sched_book.specs.Trusted.{Trusted};
 ghost use Rattle.pasts.specs.Messages.{Read};
+ghost use Rattle.message_engine.specs.Stops.{AtAStop};
 ghost use Rattle.message_engine.specs.Stores.{ServesIn, IsLeft};
 ghost use Rattle.sched_server.specs.Statements.{statement_told, told_of_host};
 
@@ -41,6 +42,7 @@ pub(crate) fn statement<S: Store>(
         (S.world store.old) (S.calls store.old) (S.batches store.old) (S.world store.new) (S.calls store.new) (S.batches store.new))) }
     ensures err { Trusted S.Units store.old store.new (OnErr result (
         IsLeft (S.world store.old) (S.calls store.old) (S.batches store.old) (S.world store.new) (S.calls store.new) (S.batches store.new))) }
+    ensures stop { AtAStop S.Units S.may_leave store.old store.new (λ w calls batches. ⊥) }
 {
     let statement = host_statement(alloc, store, host)?;
     Ok(tell(statement))

@@ -6,7 +6,7 @@ ghost use Rattle.sqlite.specs.Steps.{over_memory};
 ghost use Rattle.sched_book.specs.Limits.{AreSettingsInLimits};
 ghost use Rattle.sched_book.specs.Sound.{Sound};
 ghost use Rattle.sched_book.specs.Step.{empty_world};
-ghost use Rattle.message_engine.specs.Arrivals.{StandsFor};
+ghost use Rattle.message_engine.specs.Stores.{StandsForNothing};
 ghost use Rattle.table_meaning.specs.Schema.{no_schema};
 ghost use Rattle.table_reading.specs.Reading.{ReadFrom};
 ghost use Rattle.sched_tables.specs.Entries.{calls_of, batches_of};
@@ -33,7 +33,7 @@ impl<S: Alter + Drop> Tables<S> {
         ensures held { IfOk result (λ t. IsHonest (state_of S.Store t) → AreWellKept (state_of S.Store t) (world_of t)) }
         ensures nothing { IfOk result (λ t. IsHonest (state_of S.Store t) → KeepNothing (state_of S.Store t)) }
         ensures stands { IfOk result (λ t. IsHonest (state_of S.Store t) → AreSettingsInLimits settings.now
-            → StandsFor (world_of t) (calls_of (state_of S.Store t).now.trees) (batches_of (state_of S.Store t).now.trees) []) }
+            → StandsForNothing (world_of t) (calls_of (state_of S.Store t).now.trees) (batches_of (state_of S.Store t).now.trees)) }
         ensures taken { IfErr result (λ e. e ≡ OpenFault.NotTables → (state S.Store conn).now.schema ≢ no_schema) }
     {
         let desk = ListDesk::new(alloc, settings)?;
@@ -66,7 +66,7 @@ impl Tables<MemStore> {
         ensures held { IfOk result (λ t. IsHonest (state_of over_memory t) → AreWellKept (state_of over_memory t) (world_of t)) }
         ensures nothing { IfOk result (λ t. IsHonest (state_of over_memory t) → KeepNothing (state_of over_memory t)) }
         ensures stands { IfOk result (λ t. IsHonest (state_of over_memory t) → AreSettingsInLimits settings.now
-            → StandsFor (world_of t) (calls_of (state_of over_memory t).now.trees) (batches_of (state_of over_memory t).now.trees) []) }
+            → StandsForNothing (world_of t) (calls_of (state_of over_memory t).now.trees) (batches_of (state_of over_memory t).now.trees)) }
     {
         let conn = Connection::open_in_memory(alloc)?;
         Tables::create(alloc, conn, settings)

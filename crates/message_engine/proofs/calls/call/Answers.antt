@@ -1,5 +1,6 @@
 use Rattle.std.proofs.Common.{Err, ap}
-use Rattle.message_engine.proofs.CallsServed.{account_serves, number_serves, named_serves, left_before}
+use Rattle.message_engine.proofs.CallsServed.{account_serves, number_serves, named_serves, named_ahead, left_before}
+use Rattle.message_engine.proofs.Stopped.{stop_on}
 use Rattle.message_engine.proofs.calls.call.Goals as goal
 
 pub returns-in-Ok-clause-exact : goal.returns-in-Ok-clause-exact
@@ -39,3 +40,13 @@ returns-in-Ok-clause-err g c = λ honest kept.
     left_before _ _ _ _ _ _ _ _ _ c.call_admitted.result
     (g.met.S.Units.stays_same _ _ reads honest_1 kept) (g.met.S.Store.stays_calls _ _ reads honest_1 kept) (g.met.S.Store.stays_batches _ _ reads honest_1 kept)
     (c.call_admitted.ensures.err honest kept_1)
+
+pub returns-in-Ok-clause-stop : goal.returns-in-Ok-clause-stop
+returns-in-Ok-clause-stop g c =
+    let reads = c.admit.ensures.reads in
+    stop_on g.S.Units g.S.Store.may_leave c.args.store.now c.admit.new.desk c.call_admitted.new.store _ _
+    (g.met.S.Store.stays_left _ _ reads) (g.met.S.Units.stays_honest _ _ reads) (g.met.S.Units.stays_kept _ _ reads)
+    (λ honest kept w calls batches ahead. named_ahead _ _ w _ _ calls _ _ batches c.in-Ok.caller c.args.request c.args.now
+    (g.met.S.Units.stays_same _ _ reads honest kept) (g.met.S.Store.stays_calls _ _ reads honest kept) (g.met.S.Store.stays_batches _ _ reads honest kept)
+    (c.in-Ok.ensures.caller honest kept) ahead)
+    c.call_admitted.ensures.stop

@@ -1,5 +1,6 @@
 use Rattle.std.proofs.Common.{◌∙◌}
-use Rattle.message_engine.proofs.CallsServed.{again_serves, fresh_serves, left_before}
+use Rattle.message_engine.proofs.CallsServed.{again_serves, fresh_serves, fresh_ahead, left_before}
+use Rattle.message_engine.proofs.Stopped.{stop_on}
 use Rattle.message_engine.proofs.calls.call_admitted.Goals as goal
 
 pub returns-in-None-clause-exact : goal.returns-in-None-clause-exact
@@ -30,3 +31,13 @@ returns-in-None-clause-err g c = λ honest kept.
     left_before _ _ _ _ _ _ _ _ _ c.call_fresh.result
     (g.met.S.Units.stays_same _ _ reads honest_1 kept) (g.met.S.Store.stays_calls _ _ reads honest_1 kept) (g.met.S.Store.stays_batches _ _ reads honest_1 kept)
     (c.call_fresh.ensures.err honest kept_1)
+
+pub returns-in-None-clause-stop : goal.returns-in-None-clause-stop
+returns-in-None-clause-stop g c =
+    let reads = c.told_kept.ensures.reads in
+    stop_on g.S.Units g.S.Store.may_leave c.args.store.now c.told_kept.new.store c.call_fresh.new.store _ _
+    (g.met.S.Store.stays_left _ _ reads) (g.met.S.Units.stays_honest _ _ reads) (g.met.S.Units.stays_kept _ _ reads)
+    (λ honest kept w calls batches ahead. fresh_ahead _ _ w _ _ calls _ _ batches c.args.caller c.args.request c.args.now c.as_str.result.now c.in_ok-answer.field-0
+    (g.met.S.Units.stays_same _ _ reads honest kept) (g.met.S.Store.stays_calls _ _ reads honest kept) (g.met.S.Store.stays_batches _ _ reads honest kept)
+    (c.as_str.ensures ∙ c.in_ok-text.ensures.text) c.in-None.is (c.in_ok-answer.ensures.told honest kept) ahead)
+    c.call_fresh.ensures.stop

@@ -1,4 +1,4 @@
-use Rattle.std.proofs.Common.{rules}
+use Rattle.std.proofs.Common.{Ok, refl, inl, inr, rules}
 use Rattle.message_engine.proofs.ImportsServed.{read_on, unread_serves}
 use Rattle.message_engine.proofs.imports.import_new.Goals as goal
 
@@ -19,4 +19,12 @@ returns-in-Err g c = record {
       (g.S.Units.world c.args.store.now) (g.S.Store.calls c.args.store.now) (g.S.Store.batches c.args.store.now)
       (search rules) c.fault.ensures c.in-Err.ensures.err none;
   err = λ honest kept. tt;
+  stop = λ w calls batches left. inl left;
 }
+
+pub returns-in-Ok-clause-stop : goal.returns-in-Ok-clause-stop
+returns-in-Ok-clause-stop g c = λ w calls batches left.
+    elim (c.import_rows.ensures.stop w calls batches left) [
+      | inl before ↦ inl before
+      | inr ahead ↦ inr (ahead.0, λ kept none. (Ok c.in-Ok.rows, (Ok c.in-Ok.rows, c.in-Ok.ensures.ok, refl), ahead.1 kept none))
+    ]

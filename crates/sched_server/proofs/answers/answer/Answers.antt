@@ -1,12 +1,13 @@
-use Rattle.std.proofs.Common.{refl}
+use Rattle.std.proofs.Common.{refl, inl}
 use Rattle.rpc_records.specs.Reading.{meaning}
 use Rattle.rpc_records.specs.declared.fault.Fault.TheVariants as fault
-use Rattle.pasts.specs.Messages.{Tick, Read, Refused}
-use Rattle.message_engine.specs.Posts.{said_by}
+use Rattle.pasts.specs.Messages.{Import, Tick, Read, Refused}
 use Rattle.message_engine.specs.Stores.{ServesIn}
+use Rattle.message_engine.proofs.Stopped.{stop_weaker}
+use Rattle.sched_server.specs.Meanings.{said_by}
 use Rattle.sched_server.specs.Statements.{told_of_host}
 use Rattle.sched_server.proofs.Told.{refused_serves}
-use Rattle.sched_server.proofs.Answered.{says_so, known_serves, at_moment, import_serves}
+use Rattle.sched_server.proofs.Answered.{says_so, known_serves, at_moment, import_says, import_serves}
 use Rattle.sched_server.proofs.answers.answer.Goals as goal
 
 pub returns-in-Call-clause-exact : goal.returns-in-Call-clause-exact
@@ -39,3 +40,32 @@ returns-in-WrongMethod-clause-exact g c = λ honest kept.
 pub returns-in-Refused-clause-exact : goal.returns-in-Refused-clause-exact
 returns-in-Refused-clause-exact g c = λ honest kept.
     (Refused c.in-Refused.fault, says_so c.args.message _ _ c.in-Refused.is refl, refused_serves c.in-Refused.fault c.args.now _ _ _)
+
+pub returns-in-Call-clause-stop : goal.returns-in-Call-clause-stop
+returns-in-Call-clause-stop g c =
+    stop_weaker g.S.Units g.S.Store.may_leave c.args.store.now c.call_in_body.new.store _ _
+    (λ w calls batches served. (said_by (meaning c.in-Call.body.now), says_so c.args.message _ _ c.in-Call.is refl, served)) c.call_in_body.ensures.stop
+
+pub returns-in-Import-clause-stop : goal.returns-in-Import-clause-stop
+returns-in-Import-clause-stop g c =
+    stop_weaker g.S.Units g.S.Store.may_leave c.args.store.now c.import_batch.new.store _ _
+    (λ w calls batches served. (
+      Import c.in-Import.kind c.in-Import.batch.now c.in-Import.text.now served.0,
+      import_says c.args.message _ c.in-Import.kind c.in-Import.batch.now c.in-Import.text.now served.0 c.in-Import.is refl served.1,
+      served.2,
+    )) c.import_batch.ensures.stop
+
+pub returns-in-Tick-clause-stop : goal.returns-in-Tick-clause-stop
+returns-in-Tick-clause-stop g c =
+    stop_weaker g.S.Units g.S.Store.may_leave c.args.store.now c.tick.new.store _ _
+    (λ w calls batches served. (Tick, says_so c.args.message _ _ c.in-Tick.is refl, served)) c.tick.ensures.stop
+
+pub returns-in-Statement-clause-stop : goal.returns-in-Statement-clause-stop
+returns-in-Statement-clause-stop g c =
+    stop_weaker g.S.Units g.S.Store.may_leave c.args.store.now c.statement.new.store _ _ (λ w calls batches none. absurd none) c.statement.ensures.stop
+
+pub returns-in-WrongMethod-clause-stop : goal.returns-in-WrongMethod-clause-stop
+returns-in-WrongMethod-clause-stop g c = λ w calls batches left. inl left
+
+pub returns-in-Refused-clause-stop : goal.returns-in-Refused-clause-stop
+returns-in-Refused-clause-stop g c = λ w calls batches left. inl left

@@ -1,4 +1,4 @@
-use Rattle.std.proofs.Common.{sym, ◌∙◌, ap}
+use Rattle.std.proofs.Common.{sym, ◌∙◌, ap, inl}
 use Rattle.std.specs.Prelude.{Some}
 use Rattle.pasts.specs.Messages.{Read}
 use Rattle.sched_server.specs.Statements.{statement_told, told_of_host}
@@ -15,3 +15,6 @@ returns-clause-exact g c = λ honest kept now.
       calls_are = g.met.S.Store.stays_calls _ _ reads honest kept;
       batches_are = g.met.S.Store.stays_batches _ _ reads honest kept;
     })
+
+pub returns-clause-stop : goal.returns-clause-stop
+returns-clause-stop g c = λ w calls batches left. inl (g.met.S.Store.stays_left _ _ c.host_statement.ensures.reads w calls batches left)

@@ -1,5 +1,5 @@
-use Rattle.std.proofs.Common.{◌≡◌, List, length, take}
-use Rattle.sched_server.specs.Arrivals.{Came, StandsFor, followed}
+use Rattle.std.proofs.Common.{◌≡◌, List, [], length, take}
+use Rattle.sched_server.specs.Arrivals.{Came, StandsFor, HandledInTurn, followed}
 use Rattle.sched_server.specs.Views.{store_of, key_of}
 use Rattle.sched_server.proofs.service.Service.run.Given as goal
 
@@ -14,3 +14,7 @@ invariant-loop-arrival g l =
     → StandsFor (key_of l.fn.self) (g.S.Units.world (store_of l.fn.self)) (g.S.Store.calls (store_of l.fn.self)) (g.S.Store.batches (store_of l.fn.self)) before
     → StandsFor (key_of l.fn.self) (g.S.Units.world (store_of l.self)) (g.S.Store.calls (store_of l.self)) (g.S.Store.batches (store_of l.self))
     (followed before (take l.arrival-index l.arrivals) l.answers.items))
+    × (g.S.Units.honest (store_of l.self) → g.S.Units.well_kept (store_of l.fn.self)
+    → HandledInTurn (key_of l.fn.self) (followed [] (take l.arrival-index l.arrivals) l.answers.items)
+    (g.S.Units.world (store_of l.fn.self)) (g.S.Store.calls (store_of l.fn.self)) (g.S.Store.batches (store_of l.fn.self))
+    (g.S.Units.world (store_of l.self)) (g.S.Store.calls (store_of l.self)) (g.S.Store.batches (store_of l.self)))
