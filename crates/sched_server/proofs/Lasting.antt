@@ -1,5 +1,5 @@
 -- What holds through each run of the machine holds of what stands before and after messages of bytes.
-use Rattle.std.proofs.Common.{◌≡◌, ◌⊎◌, ℕ, List, [], ◌∷◌, ◌++◌, refl, sym, ◌∙◌, subst}
+use Rattle.std.proofs.Common.{◌≡◌, ℕ, List, [], ◌∷◌, ◌++◌, refl, sym, ◌∙◌, subst}
 use Rattle.http_responses.specs.declared.answer.Answer.{Answer}
 use Rattle.http_responses.specs.declared.answer.Answer.TheVariants as answer
 use Rattle.sched_book.specs.Sound.{Sound}
@@ -71,7 +71,7 @@ served_in_turn key (c ∷ earlier) w w' calls calls' batches batches' sound done
 
 have_stood : (key : List ℕ) (w : World) (calls : Calls) (batches : Batches) (before : List Came) → StandsFor key w calls batches before
     → past.HaveStood (tables_by w calls batches)
-have_stood key w calls batches before st = record { settings = st.sound.settings; past = st.past; stands = st.stands }
+have_stood key w calls batches before st = record { settings = st.sound.rows.settings; past = st.past; stands = st.stands }
 
 pub of_what_stands : (P : World → Type 0) → past.HoldsWhereTablesStand P → HoldsOfWhatStands P
 of_what_stands P law key w calls batches before st = law (tables_by w calls batches) (have_stood key w calls batches before st)

@@ -1,5 +1,5 @@
 -- What a stop leaves behind a message, and at rest.
-use Rattle.std.proofs.Common.{◌⊎◌, ℕ, List, [], ◌∷◌, sym, subst, inl, inr}
+use Rattle.std.proofs.Common.{◌⊎◌, ℕ, List, sym, subst, inl, inr}
 use Rattle.http_responses.specs.declared.answer.Answer.TheVariants as answer
 use Rattle.sched_book.specs.Sound.{Sound}
 use Rattle.sched_book.specs.declared.world.World.{World}
