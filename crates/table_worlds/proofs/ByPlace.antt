@@ -15,6 +15,7 @@ nth_next xs i = ap (nth xs) (add-one i) ∙ nth-suc xs i
 pub all_got : {X : Type 0} (P : X → Type 0) (xs : List X) (i : ℕ) (x : X) → slice_get xs i ≡ Some x → All P xs → P x
 all_got P xs i x is all = subst P (get_or_from_slice_get xs i x x is) (All-get_or P xs i x (slice_get_within xs i x is) all)
 
+-- and of what stands at a place
 pub all_nth : {X : Type 0} (P : X → Type 0) (xs : List X) (n : ℕ) (x : X) → nth xs n ≡ Some x → All P xs → P x
 all_nth P xs zero x is all = absurd (none-some x is)
 all_nth P xs (suc i) x is all = all_got P xs i x (sym (nth-suc xs i) ∙ is) all

@@ -22,14 +22,16 @@ use Rattle.table_worlds.proofs.ByPlace.{all_nth}
 use Rattle.table_worlds.proofs.ReadBack.{number_at, text_at, account_in, account_back, app_in, app_back, version_in, version_back, unit_in, unit_back, host_in, host_back, job_in, job_back}
 use Rattle.table_worlds.proofs.SameLists.{same_part, same_told, same_elements, same_at_places}
 
--- a switch is told by its number
+-- the number of a switch
 abbrev switch_number : Bool → ℕ
 switch_number on = if on then 1 else 0
 
+-- the number tells the switch
 switch_back : (on : Bool) → (switch_number on == 1) ≡ on
 switch_back true = refl
 switch_back false = refl
 
+-- switches of one number are the same
 same_switch : (a b : Bool) → switch_number a ≡ switch_number b → a ≡ b
 same_switch a b same = sym (switch_back a) ∙ ap (λ n. n == 1) same ∙ switch_back b
 
@@ -112,6 +114,7 @@ module _ (w v : World) (calls later : ℕ → Option Kept) (batches newer : List
   abbrev job_row : World → ℕ → ℕ → UnitBook → Job → StoredRow
   job_row at unit num b x = stored.Instance (instance_row at b unit num x)
 
+  -- it is the same, whichever workunits stand there
   same_job_of : (unit num : ℕ) (o p : Option UnitBook)
       → option_map columns_of (option_and_then (λ (b : UnitBook). option_map (job_row w unit num b) (slice_get b.instances num)) o)
       ≡ option_map columns_of (option_and_then (λ (b : UnitBook). option_map (job_row v unit num b) (slice_get b.instances num)) p)
@@ -128,6 +131,7 @@ module _ (w v : World) (calls later : ℕ → Option Kept) (batches newer : List
   same_units : w.units ≡ v.units
   same_units = same_at_places w.units v.units (λ id. same_book (unit_at w id) (unit_at v id) (same_unit id) (λ num. same_job_of id num (unit_at w id) (unit_at v id) (same (instance_key id num))))
 
+  -- all of the two worlds
   same_world : w ≡ v
   same_world = λ i. record { settings = same_settings i; accounts = same_accounts i; apps = same_apps i; versions = same_versions i; units = same_units i; hosts = same_hosts i }
 

@@ -17,6 +17,7 @@ same_part part f g read None (Some y) back also same = absurd (none-some (column
 same_part part f g read (Some x) None back also same = absurd (none-some (columns_of (f x)) (sym same))
 same_part part f g read (Some x) (Some y) back also same = ap Some (sym (back x refl) ∙ ap read (same_Some (columns_of (f x)) (columns_of (g y)) same) ∙ also y refl)
 
+-- an option that is changed by nothing
 as_it_is : {X : Type 0} (o : Option X) → option_map (λ x. x) o ≡ o
 as_it_is None = refl
 as_it_is (Some x) = refl
