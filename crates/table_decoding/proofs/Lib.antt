@@ -1,6 +1,5 @@
 pub mod AppsPlaced
 pub mod InstancesPlaced
-pub mod JoinedWords
 pub mod Refusals
 pub mod RowsInOrder
 pub mod SettingsTold

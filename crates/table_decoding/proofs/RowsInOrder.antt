@@ -1,34 +1,21 @@
 -- Rows that stand for items, each at its number.
 use Rattle.std.proofs.Common.{◌≡◌, ℕ, zero, suc, ◌+◌, List, [], ◌∷◌, ◌++◌, length, take, Option, Some, refl, sym, ap, subst, ◌∙◌, arith}
-use Rattle.std.specs.Prelude.{All, slice_get, unwrap_or, map, filter_map, option_map}
+use Rattle.std.specs.Prelude.{slice_get, unwrap_or, map, filter_map, option_map}
 use Rattle.std.specs.List.{range_with_len, cons_option}
 use Rattle.std.proofs.lemmas.List.{take_more, take_all}
-use Rattle.std.proofs.lemmas.List.Elements.{All-get_or}
 use Rattle.std.proofs.lemmas.Option.{none-some, slice_get_within, get_or_from_slice_get}
-use Rattle.std.proofs.Math.Numerals.{add-one}
 use Rattle.sched_book.specs.Given.{map_from}
 use Rattle.sched_book.specs.Places.{nth, held_by, host_credit}
 use Rattle.sched_book.specs.declared.world.World.{World}
-use Rattle.sched_book.proofs.PlacesOf.{nth-suc}
 use Rattle.table_meaning.specs.declared.rows.StoredRow.{StoredRow}
 use Rattle.table_worlds.specs.declared.keys.NumberedTable.TheVariants as table
 use Rattle.table_worlds.specs.declared.keys.WorldKey.{WorldKey}
 use Rattle.table_worlds.specs.declared.keys.WorldKey.TheVariants.{Account, App, Version, Unit, Host}
 use Rattle.table_worlds.specs.Keys.{row_in, numbered}
+use Rattle.table_worlds.proofs.ByPlace.{nth_next}
 use Rattle.table_decoding.specs.Decoding.{of_account, of_app, of_version, of_unit, of_host}
 
--- what stands at the place behind an index
-pub nth_next : {X : Type 0} (xs : List X) (i : ℕ) → nth xs (i + 1) ≡ slice_get xs i
-nth_next xs i = ap (nth xs) (add-one i) ∙ nth-suc xs i
-
--- what holds of all of a list holds of what stands in it
-pub all_got : {X : Type 0} (P : X → Type 0) (xs : List X) (i : ℕ) (x : X) → slice_get xs i ≡ Some x → All P xs → P x
-all_got P xs i x is all = subst P (get_or_from_slice_get xs i x x is) (All-get_or P xs i x (slice_get_within xs i x is) all)
-
-pub all_nth : {X : Type 0} (P : X → Type 0) (xs : List X) (n : ℕ) (x : X) → nth xs n ≡ Some x → All P xs → P x
-all_nth P xs zero x is all = absurd (none-some x is)
-all_nth P xs (suc i) x is all = all_got P xs i x (sym (nth-suc xs i) ∙ is) all
-
+-- the first so many with one more
 pub take_one_more : {X : Type 0} (xs : List X) (i : ℕ) (x : X) → slice_get xs i ≡ Some x → take (i + 1) xs ≡ take i xs ++ x ∷ []
 take_one_more xs i x is = take_more xs i x (slice_get_within xs i x is) ∙ ap (λ y. take i xs ++ y ∷ []) (get_or_from_slice_get xs i x x is)
 

@@ -3,7 +3,8 @@ use Rattle.std.proofs.lemmas.Option.{slice_get_within}
 use Rattle.sched_book.specs.Limits.{IsInstanceInLimits}
 use Rattle.table_decoding.proofs.InstancesPlaced.{next_one}
 use Rattle.table_decoding.proofs.Refusals.{passed_on}
-use Rattle.table_decoding.proofs.RowsInOrder.{all_got, take_one_more}
+use Rattle.table_worlds.proofs.ByPlace.{all_got}
+use Rattle.table_decoding.proofs.RowsInOrder.{take_one_more}
 use Rattle.table_decoding.proofs.instances.instances_of.Goals as goal
 
 pub returns-in_err-instance-in-Some : goal.returns-in_err-instance-in-Some

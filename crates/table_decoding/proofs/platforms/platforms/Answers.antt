@@ -4,7 +4,7 @@ use Rattle.std.specs.List.{slice_split}
 use Rattle.std.specs.Str.Iter.{split_text, split_has_more, split_pattern}
 use Rattle.std.proofs.lemmas.Iterator.Consumers.{YieldsList-end}
 use Rattle.std.proofs.lemmas.Iterator.Splits.{YieldsList-from_str_split}
-use Rattle.table_decoding.proofs.JoinedWords.{split_joined}
+use Rattle.table_worlds.proofs.JoinedWords.{split_joined}
 use Rattle.table_decoding.proofs.platforms.platforms.Goals as goal
 
 pub returns : goal.returns

@@ -1,7 +1,7 @@
 use Rattle.std.proofs.Common.{rules}
 use Rattle.sched_book.specs.declared.rows.HostRow.{HostRow}
 use Rattle.table_decoding.specs.Decoding.{of_host, ArePlatforms}
-use Rattle.table_decoding.proofs.RowsInOrder.{all_nth}
+use Rattle.table_worlds.proofs.ByPlace.{all_nth}
 use Rattle.table_decoding.proofs.rows.hosts.Goals as goal
 
 pub returns : goal.returns

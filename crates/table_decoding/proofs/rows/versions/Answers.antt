@@ -1,7 +1,7 @@
 use Rattle.std.proofs.Common.{rules}
 use Rattle.sched_book.specs.Sound.{IsSoundVersion}
 use Rattle.table_decoding.specs.Decoding.{of_version}
-use Rattle.table_decoding.proofs.RowsInOrder.{all_nth}
+use Rattle.table_worlds.proofs.ByPlace.{all_nth}
 use Rattle.table_decoding.proofs.rows.versions.Goals as goal
 
 pub returns : goal.returns

@@ -1,7 +1,7 @@
 use Rattle.std.proofs.Common.{rules}
 use Rattle.sched_book.specs.Sound.{IsSoundUnit}
 use Rattle.table_decoding.specs.Decoding.{of_unit}
-use Rattle.table_decoding.proofs.RowsInOrder.{all_nth}
+use Rattle.table_worlds.proofs.ByPlace.{all_nth}
 use Rattle.table_decoding.proofs.units.units.Goals as goal
 
 pub returns : goal.returns
