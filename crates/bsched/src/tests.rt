@@ -15,7 +15,7 @@ mod worked;
 
 use commands::default_settings;
 use message_engine::{ListStore, Store};
-use repeats::first_answered_otherwise;
+use repeats::{first_answered_otherwise, first_answered_otherwise_in_files};
 use replay_lines::{Ended, replay};
 use rows::{Row, first_wrong};
 use sched_book::Settings;
@@ -107,16 +107,19 @@ fn answers_in_project(
 }
 
 /// The name of the first row that does not hold, where so many hosts may stand, or in which a message that comes a second
-/// time is answered otherwise.
+/// time is answered otherwise, over tables in memory or in a file.
 fn first_wrong_twice(
-    alloc: Global,
+    rt: &HostRuntime,
     max_hosts: u32,
     rows: &[Row],
 ) -> Result<Option<&'static str>, Fail> {
-    match first_wrong(alloc, max_hosts, rows)? {
-        Some(name) => Ok(Some(name)),
-        None => first_answered_otherwise(alloc, rows),
+    if let Some(name) = first_wrong(rt.alloc(), max_hosts, rows)? {
+        return Ok(Some(name));
     }
+    if let Some(name) = first_answered_otherwise(rt.alloc(), rows)? {
+        return Ok(Some(name));
+    }
+    first_answered_otherwise_in_files(rt, rows)
 }
 
 #[test]
@@ -139,112 +142,97 @@ fn repeats_and_refusals_third(rt: HostRuntime) -> Result<(), Fail> {
 
 #[test]
 fn grants_and_lost_jobs_first(rt: HostRuntime) -> Result<(), Fail> {
-    assert_eq!(rt; first_wrong_twice(rt.alloc(), 3, jobs::FIRST_ROWS)?, None);
+    assert_eq!(rt; first_wrong_twice(&rt, 3, jobs::FIRST_ROWS)?, None);
     Ok(())
 }
 
 #[test]
 fn grants_and_lost_jobs_second(rt: HostRuntime) -> Result<(), Fail> {
-    assert_eq!(rt; first_wrong_twice(rt.alloc(), 3, jobs::SECOND_ROWS)?, None);
+    assert_eq!(rt; first_wrong_twice(&rt, 3, jobs::SECOND_ROWS)?, None);
     Ok(())
 }
 
 #[test]
 fn grants_and_lost_jobs_third(rt: HostRuntime) -> Result<(), Fail> {
-    assert_eq!(rt; first_wrong_twice(rt.alloc(), 3, jobs::THIRD_ROWS)?, None);
+    assert_eq!(rt; first_wrong_twice(&rt, 3, jobs::THIRD_ROWS)?, None);
     Ok(())
 }
 
 #[test]
 fn grants_and_lost_jobs_fourth(rt: HostRuntime) -> Result<(), Fail> {
-    assert_eq!(rt; first_wrong_twice(rt.alloc(), 3, jobs::FOURTH_ROWS)?, None);
+    assert_eq!(rt; first_wrong_twice(&rt, 3, jobs::FOURTH_ROWS)?, None);
     Ok(())
 }
 
 #[test]
 fn grants_and_lost_jobs_fifth(rt: HostRuntime) -> Result<(), Fail> {
-    assert_eq!(rt; first_wrong_twice(rt.alloc(), 3, jobs::FIFTH_ROWS)?, None);
+    assert_eq!(rt; first_wrong_twice(&rt, 3, jobs::FIFTH_ROWS)?, None);
     Ok(())
 }
 
 #[test]
 fn grants_and_lost_jobs_sixth(rt: HostRuntime) -> Result<(), Fail> {
-    assert_eq!(rt; first_wrong_twice(rt.alloc(), 3, jobs::SIXTH_ROWS)?, None);
+    assert_eq!(rt; first_wrong_twice(&rt, 3, jobs::SIXTH_ROWS)?, None);
     Ok(())
 }
 
 #[test]
 fn grants_and_lost_jobs_seventh(rt: HostRuntime) -> Result<(), Fail> {
-    assert_eq!(rt; first_wrong_twice(rt.alloc(), 3, jobs::SEVENTH_ROWS)?, None);
+    assert_eq!(rt; first_wrong_twice(&rt, 3, jobs::SEVENTH_ROWS)?, None);
     Ok(())
 }
 
 #[test]
 fn reports_and_quorums_first(rt: HostRuntime) -> Result<(), Fail> {
-    assert_eq!(rt;
-        first_wrong_twice(rt.alloc(), 5, judging::FIRST_ROWS)?,
-        None
-    );
+    assert_eq!(rt; first_wrong_twice(&rt, 5, judging::FIRST_ROWS)?, None);
     Ok(())
 }
 
 #[test]
 fn reports_and_quorums_second(rt: HostRuntime) -> Result<(), Fail> {
-    assert_eq!(rt;
-        first_wrong_twice(rt.alloc(), 5, judging::SECOND_ROWS)?,
-        None
-    );
+    assert_eq!(rt; first_wrong_twice(&rt, 5, judging::SECOND_ROWS)?, None);
     Ok(())
 }
 
 #[test]
 fn reports_and_quorums_third(rt: HostRuntime) -> Result<(), Fail> {
-    assert_eq!(rt;
-        first_wrong_twice(rt.alloc(), 5, judging::THIRD_ROWS)?,
-        None
-    );
+    assert_eq!(rt; first_wrong_twice(&rt, 5, judging::THIRD_ROWS)?, None);
     Ok(())
 }
 
 #[test]
 fn credit_and_quotas_first(rt: HostRuntime) -> Result<(), Fail> {
-    assert_eq!(rt; first_wrong_twice(rt.alloc(), 5, quotas::FIRST_ROWS)?, None);
+    assert_eq!(rt; first_wrong_twice(&rt, 5, quotas::FIRST_ROWS)?, None);
     Ok(())
 }
 
 #[test]
 fn credit_and_quotas_second(rt: HostRuntime) -> Result<(), Fail> {
-    assert_eq!(rt;
-        first_wrong_twice(rt.alloc(), 5, quotas::SECOND_ROWS)?,
-        None
-    );
+    assert_eq!(rt; first_wrong_twice(&rt, 5, quotas::SECOND_ROWS)?, None);
     Ok(())
 }
 
 #[test]
 fn credit_and_quotas_third(rt: HostRuntime) -> Result<(), Fail> {
-    assert_eq!(rt; first_wrong_twice(rt.alloc(), 5, quotas::THIRD_ROWS)?, None);
+    assert_eq!(rt; first_wrong_twice(&rt, 5, quotas::THIRD_ROWS)?, None);
     Ok(())
 }
 
 #[test]
 fn lapses_and_failures_first(rt: HostRuntime) -> Result<(), Fail> {
-    assert_eq!(rt; first_wrong_twice(rt.alloc(), 5, lapses::FIRST_ROWS)?, None);
+    assert_eq!(rt; first_wrong_twice(&rt, 5, lapses::FIRST_ROWS)?, None);
     Ok(())
 }
 
 #[test]
 fn lapses_and_failures_second(rt: HostRuntime) -> Result<(), Fail> {
-    assert_eq!(rt;
-        first_wrong_twice(rt.alloc(), 5, lapses::SECOND_ROWS)?,
-        None
-    );
+    assert_eq!(rt; first_wrong_twice(&rt, 5, lapses::SECOND_ROWS)?, None);
     Ok(())
 }
 
 #[test]
 fn lapses_and_failures_third(rt: HostRuntime) -> Result<(), Fail> {
-    assert_eq!(rt; first_wrong_twice(rt.alloc(), 5, lapses::THIRD_ROWS)?, None);
+    assert_eq!(rt; first_wrong_twice(&rt, 5, lapses::THIRD_ROWS)?, None);
     Ok(())
 }
 

@@ -26,13 +26,13 @@ pub fn serve_on<S: Store>(
     }
 }
 
-/// Serves a connection, which fails where no time-out can be set.
+/// Serves a connection, which fails where its options can't be set.
 fn serve_stream<S: Store>(
     rt: &HostRuntime,
     service: &mut Service<S>,
     stream: &TcpStream,
 ) -> Result<(), IoFault> {
-    let Ok(()) = set_time_outs(stream) else {
+    let Ok(()) = set_options(stream) else {
         return Err(IoFault::Read);
     };
     let mut reader = stream;
@@ -46,10 +46,12 @@ fn serve_stream<S: Store>(
     )
 }
 
-fn set_time_outs(stream: &TcpStream) -> io::Result<()> {
+/// Sets the time-outs, and has each write sent at once: an answer is two writes, of its head and its body.
+fn set_options(stream: &TcpStream) -> io::Result<()> {
     let most = Some(Duration::from_secs(TIME_OUT_SECONDS));
     stream.set_read_timeout(most)?;
-    stream.set_write_timeout(most)
+    stream.set_write_timeout(most)?;
+    stream.set_nodelay(true)
 }
 
 /// The seconds since 1970-01-01T00:00:00Z, or what is no moment where the clock tells none.

@@ -12,11 +12,15 @@ use texts::Listed;
 impl<S: Alter> Store for Tables<S> {
     ghost use Rattle.std.proofs.Common.{rules};
     ghost use Rattle.sched_tables.specs.Entries.{calls_of, batches_of};
-    ghost use Rattle.sched_tables.specs.Views.{state_of};
+    ghost use Rattle.sched_tables.specs.Stops.{MayBeFound};
+    ghost use Rattle.sched_tables.specs.StopLaws.{stays_found, found_is_committed};
+    ghost use Rattle.sched_tables.specs.Views.{state_of, world_of};
 
     ghost calls = { λ t. calls_of (state_of S.Store t).now.trees };
 
     ghost batches = { λ t. batches_of (state_of S.Store t).now.trees };
+
+    ghost may_leave = { λ t. MayBeFound (state_of S.Store t) };
 
     fn kept(&mut self, alloc: Global, host: u32) -> Result<Listed<Kept>, Unavailable> {
         let call = self.last_call(alloc, host)?;
@@ -41,4 +45,9 @@ impl<S: Alter> Store for Tables<S> {
     ghost stays_calls = { λ a b h k l host. Prim.search rules };
 
     ghost stays_batches = { λ a b h k l kind batch. Prim.search rules };
+
+    ghost stays_left = { λ a b h w kept imports found. stays_found (state_of S.Store a) (state_of S.Store b) w kept imports h.0.survives found };
+
+    ghost settled = { λ a h k l w kept imports found. found_is_committed (state_of S.Store a) (world_of a) w kept imports k l
+        (λ trees left. S.settled a.conn.store trees h.1 left) found };
 }

@@ -79,11 +79,26 @@ pub fn first_answered_otherwise(alloc: Global, rows: &[Row]) -> Result<Option<&'
 }
 
 /// Whether the messages of a row get their first answers again over new tables of a connection.
-pub fn is_answered_again_in<S: Alter + Drop>(
+fn is_answered_again_in<S: Alter + Drop>(
     alloc: Global,
     conn: Connection<S>,
     row: &Row,
 ) -> Result<bool, Fail> {
     let tables = Tables::create(alloc, conn, &settings(alloc)?)?;
     is_answered_again(alloc, tables, row)
+}
+
+/// The name of the first row in which a message is answered otherwise when it comes again, over tables in a file.
+pub fn first_answered_otherwise_in_files(
+    rt: &HostRuntime,
+    rows: &[Row],
+) -> Result<Option<&'static str>, Fail> {
+    for row in rows {
+        let path = format!(in rt.alloc(); "{}.db", row.0)?;
+        let conn = Connection::open(rt, path.as_str())?;
+        if !is_answered_again_in(rt.alloc(), conn, row)? {
+            return Ok(Some(row.0));
+        }
+    }
+    Ok(None)
 }

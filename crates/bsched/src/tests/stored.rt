@@ -1,10 +1,6 @@
 //! Tables that are spoiled, and tables in a file.
 
-use super::repeats::is_answered_again_in;
-use super::rows::Row;
-use super::{
-    CALL_START, PROJECT, jobs, judging, replayed, replayed_by, replayed_over, service_over,
-};
+use super::{CALL_START, PROJECT, replayed, replayed_by, replayed_over, service_over};
 use commands::default_settings;
 use message_engine::Store;
 use replay_lines::Ended;
@@ -183,20 +179,5 @@ fn a_file_that_is_closed_behind_each_line_answers_on(rt: HostRuntime) -> Result<
     let printed = printed_line_by_line(&rt, "project.db", lines.as_str())?;
     let (whole, _) = replayed(rt.alloc(), lines.as_bytes())?;
     assert_eq!(rt; printed, whole);
-    Ok(())
-}
-
-/// Whether the messages of the first of these rows get their first answers again over tables in a file.
-fn first_is_answered_again(rt: &HostRuntime, path: &str, rows: &[Row]) -> Result<bool, Fail> {
-    match rows.first() {
-        Some(row) => is_answered_again_in(rt.alloc(), Connection::open(rt, path)?, row),
-        None => Ok(false),
-    }
-}
-
-#[test]
-fn messages_that_come_twice_to_a_file_are_answered_again(rt: HostRuntime) -> Result<(), Fail> {
-    assert!(rt; first_is_answered_again(&rt, "jobs.db", jobs::FIRST_ROWS)?);
-    assert!(rt; first_is_answered_again(&rt, "judged.db", judging::FIRST_ROWS)?);
     Ok(())
 }
