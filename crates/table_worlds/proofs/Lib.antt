@@ -1,10 +1,16 @@
+pub mod AppsNamed
+pub mod ByPlace
 pub mod ChangesFound
 pub mod HostTotals
 pub mod InstanceRows
+pub mod JoinedWords
 pub mod KeysStand
 pub mod Members
 pub mod NewWorld
 pub mod NothingGoes
+pub mod OneWorld
+pub mod ReadBack
 pub mod RowsHold
+pub mod SameLists
 pub mod TotalsCounted
 pub mod WorldSettled

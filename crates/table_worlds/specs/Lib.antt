@@ -1,5 +1,6 @@
 pub mod Changes
 pub mod Keys
+pub mod OneWorld
 pub mod PlacesSeen
 pub mod RowsOf
 pub mod Totals

@@ -3,6 +3,7 @@
 
 mod changes;
 pub mod keys;
+pub mod laws;
 pub mod matching;
 mod rows;
 mod sameness;
