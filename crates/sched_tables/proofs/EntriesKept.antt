@@ -90,46 +90,58 @@ module _ (db : Database) (w : World) (calls : LastCalls) (batches : Imports) (ho
 
 -- ---- a commit
 
-module _ (old new : State) (w v : World) (cs : List Change) (e : Entry) (row : Option StoredRow) (row_is : row ≡ row_of e) (after : v ≡ applied w cs) (kept : AreWellKept old w)
-    (rests : new.now ≡ new.committed) (leads : LeadsTo w cs row old.now new.now) where
+-- tables that held a world with what they keep, and tables that the changes and the row of an entry lead to
+module _ (old new : Database) (w : World) (cs : List Change) (e : Entry) (row : Option StoredRow) (row_is : row ≡ row_of e) (holds : HoldWorld old w (calls_in old.trees) (batches_in old.trees))
+    (leads : LeadsTo w cs row old new) where
   abbrev calls : LastCalls
-  calls = calls_in old.now.trees
+  calls = calls_in old.trees
 
   abbrev batches : Imports
-  batches = batches_in old.now.trees
+  batches = batches_in old.trees
 
-  now_held : HoldWorld new.now (applied w cs) (last_calls_with e calls) (imports_with e batches)
+  pub now_held : HoldWorld new (applied w cs) (last_calls_with e calls) (imports_with e batches)
   now_held = leads calls (last_calls_with e calls) batches (imports_with e batches)
-      (subst (λ r. Keeps (applied w cs) (cons_option r []) calls batches (last_calls_with e calls) (imports_with e batches)) (sym row_is) (keeps_entry (applied w cs) e calls batches)) kept.holds
+      (subst (λ r. Keeps (applied w cs) (cons_option r []) calls batches (last_calls_with e calls) (imports_with e batches)) (sym row_is) (keeps_entry (applied w cs) e calls batches)) holds
 
+  -- the calls are those with the entry
+  pub calls_then : (host : ℕ) → calls_of new.trees host ≡ calls_with e (calls_of old.trees) host
+  calls_then host = ap option_to_list (calls_back new (applied w cs) (last_calls_with e calls) (imports_with e batches) now_held host) ∙ said e
+    where
+      said : (e : Entry) → option_to_list (last_calls_with e calls host) ≡ calls_with e (calls_of old.trees) host
+      said (entry.Kept number k) = cases (eqb number host)
+        where
+          cases : (b : Bool) → option_to_list (cond b (Some k) (calls host)) ≡ cond b (k ∷ []) (option_to_list (calls host))
+          cases true = refl
+          cases false = refl
+      said (entry.Batch kind name b) = refl
+      said entry.Nothing = refl
+
+  -- and so are the imports
+  pub batches_then : (kind : Kind) (name : List ℕ) → batches_of new.trees kind name ≡ batches_with e (batches_of old.trees) kind name
+  batches_then kind name = ap (option_map kept_batch) (batches_back new (applied w cs) (last_calls_with e calls) (imports_with e batches) now_held (kind_name kind) name) ∙ said e
+    where
+      said : (e : Entry) → option_map kept_batch (imports_with e batches (kind_name kind) name) ≡ batches_with e (batches_of old.trees) kind name
+      said (entry.Batch k n b) = cases (bytes_eq (kind_name k) (kind_name kind) && bytes_eq n name)
+        where
+          cases : (c : Bool) → option_map kept_batch (cond c (Some (b.text, b.answer)) (batches (kind_name kind) name)) ≡ cond c (Some b) (option_map kept_batch (batches (kind_name kind) name))
+          cases true = refl
+          cases false = refl
+      said (entry.Kept number k) = refl
+      said entry.Nothing = refl
+
+module _ (old new : State) (w v : World) (cs : List Change) (e : Entry) (row : Option StoredRow) (row_is : row ≡ row_of e) (after : v ≡ applied w cs) (kept : AreWellKept old w)
+    (rests : new.now ≡ new.committed) (leads : LeadsTo w cs row old.now new.now) where
   pub kept_then : new.in_transaction ≡ false → AreWellKept new v
   kept_then idle = record {
     idle = idle;
     rests = rests;
-    holds = subst (λ u. HoldWorld new.now u (calls_in new.now.trees) (batches_in new.now.trees)) (sym after) (held_with_kept new.now (applied w cs) (last_calls_with e calls) (imports_with e batches) now_held);
+    holds = subst (λ u. HoldWorld new.now u (calls_in new.now.trees) (batches_in new.now.trees)) (sym after)
+        (held_with_kept new.now (applied w cs) _ _ (now_held old.now new.now w cs e row row_is kept.holds leads));
   }
 
   pub committed : IsCommitted cs e w (calls_of old.now.trees) (batches_of old.now.trees) v (calls_of new.now.trees) (batches_of new.now.trees)
   committed = record {
     world_is = after;
-    calls_are = λ host. ap option_to_list (calls_back new.now (applied w cs) (last_calls_with e calls) (imports_with e batches) now_held host) ∙ calls_said e host;
-    batches_are = λ kind name. ap (option_map kept_batch) (batches_back new.now (applied w cs) (last_calls_with e calls) (imports_with e batches) now_held (kind_name kind) name) ∙ batches_said e kind name;
+    calls_are = calls_then old.now new.now w cs e row row_is kept.holds leads;
+    batches_are = batches_then old.now new.now w cs e row row_is kept.holds leads;
   }
-    where
-      calls_said : (e : Entry) (host : ℕ) → option_to_list (last_calls_with e calls host) ≡ calls_with e (calls_of old.now.trees) host
-      calls_said (entry.Kept number k) host = cases (eqb number host)
-        where
-          cases : (b : Bool) → option_to_list (cond b (Some k) (calls host)) ≡ cond b (k ∷ []) (option_to_list (calls host))
-          cases true = refl
-          cases false = refl
-      calls_said (entry.Batch kind name b) host = refl
-      calls_said entry.Nothing host = refl
-
-      batches_said : (e : Entry) (kind : Kind) (name : List ℕ) → option_map kept_batch (imports_with e batches (kind_name kind) name) ≡ batches_with e (batches_of old.now.trees) kind name
-      batches_said (entry.Batch k n b) kind name = cases (bytes_eq (kind_name k) (kind_name kind) && bytes_eq n name)
-        where
-          cases : (c : Bool) → option_map kept_batch (cond c (Some (b.text, b.answer)) (batches (kind_name kind) name)) ≡ cond c (Some b) (option_map kept_batch (batches (kind_name kind) name))
-          cases true = refl
-          cases false = refl
-      batches_said (entry.Kept number k) kind name = refl
-      batches_said entry.Nothing kind name = refl

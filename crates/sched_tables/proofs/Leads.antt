@@ -1,8 +1,9 @@
 -- Rows put lead from tables that hold a world to tables that hold the next one.
-use Rattle.std.proofs.Common.{◌≡◌, List, [], ◌++◌, Option, false, true≢false, Result, Ok, Err, is_err, OnOk, OnErr, sym, ap, subst, ◌∙◌, option_map}
+use Rattle.std.proofs.Common.{◌≡◌, IsTrue, List, [], ◌++◌, Option, false, true≢false, Result, Ok, Err, is_err, OnOk, OnErr, sym, ap, subst, ◌∙◌, option_map}
 use Rattle.std.specs.List.{cons_option}
 use Rattle.sqlite.specs.Effect.{Database}
-use Rattle.sqlite.specs.State.{State}
+use Rattle.sqlite.specs.State.{State, Survives}
+use Rattle.sqlite.proofs.StateLemmas.{survives_weaker}
 use Rattle.sched_book.specs.Delta.{applied}
 use Rattle.sched_book.specs.declared.delta.Change.{Change}
 use Rattle.sched_book.specs.declared.world.World.{World}
@@ -26,6 +27,12 @@ pub leads : (w v : World) (cs : List Change) (rows all : List StoredRow) (more :
 leads w v cs rows all more old new after changes pushed puts = λ calls calls' batches batches' keeps holds.
     held_same new _ _ (world_settled w cs rows (subst (λ u. AreChanges w u rows) after changes) calls calls' batches batches' (cons_option more []) keeps.each keeps.other_calls keeps.other_batches)
     (subst (PutsRows old new) pushed puts (contents_of w calls batches) holds)
+
+-- what a stop leaves of the rows put it leaves of the changes and the row more
+pub leaves_whole : (w v : World) (cs : List Change) (rows all : List StoredRow) (more row : Option StoredRow) (old new : State) → v ≡ applied w cs → AreChanges w v rows → all ≡ rows ++ cons_option more [] → more ≡ row
+    → Survives old new (λ trees. IsTrue old.is_open × (db : Database) × PutsRows old.now db all × (trees ≡ db.trees)) → Survives old new (λ trees. IsTrue old.is_open × (db : Database) × LeadsTo w cs row old.now db × (trees ≡ db.trees))
+leaves_whole w v cs rows all more row old new after changes pushed is = survives_weaker old new _ _
+    (λ clean trees put. (put.0, put.1, subst (λ (o : Option StoredRow). LeadsTo w cs o old.now put.1) is (leads w v cs rows all more old.now put.1 after changes pushed put.2), put.3))
 
 pub was_ok : {T E : Type 0} (r : Result T E) (P : Type 0) → is_err r ≡ false → OnOk r P → P
 was_ok (Ok x) P good holds = holds

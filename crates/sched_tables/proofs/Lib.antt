@@ -2,3 +2,4 @@ pub mod EntriesKept
 pub mod Leads
 pub mod NewTables
 pub mod Opened
+pub mod Stops

@@ -1,6 +1,6 @@
 //! Changes of the world and what is kept of a message, put into the tables at once.
 
-ghost use Rattle.std.specs.Prelude.{◌≡◌, false, IfOk, OnOk, OnErr};
+ghost use Rattle.std.specs.Prelude.{◌≡◌, false, IsTrue, IfOk, OnOk, OnErr};
 ghost use Rattle.sqlite.specs.State.{Survives};
 ghost use Rattle.sched_book.specs.Delta.{applied};
 ghost use Rattle.sched_tables.specs.Commits.{LeadsTo};
@@ -41,7 +41,7 @@ fn row_of(alloc: Global, entry: &Entry) -> Result<Option<StoredRow>, Unavailable
 
 impl<S: Alter> Tables<S> {
     /// Makes these changes and keeps what the entry tells, in one transaction: where it is unavailable, neither is done. A
-    /// stop at any moment leaves what a stop could leave before, or the whole.
+    /// stop at any moment leaves what a stop could leave before, or the whole, and this only where the connection was open.
     pub fn commit(&mut self, delta: &Delta, entry: &Entry) -> Result<(), Unavailable>
         ensures honest { IsHonest (state_of S.Store self.new) → IsHonest (state_of S.Store self.old) }
         ensures idle { (state_of S.Store self.old).in_transaction ≡ false → (state_of S.Store self.new).in_transaction ≡ false }
@@ -53,7 +53,7 @@ impl<S: Alter> Tables<S> {
             ((state_of S.Store self.new).now ≡ (state_of S.Store self.old).now) × ((state_of S.Store self.new).committed ≡ (state_of S.Store self.old).committed)
             × (world_of self.new ≡ world_of self.old)) }
         ensures crash { Survives (state_of S.Store self.old) (state_of S.Store self.new)
-            (λ trees. (db : _) × LeadsTo (world_of self.old) delta.now (row_of entry.now) (state_of S.Store self.old).now db × (trees ≡ db.trees)) }
+            (λ trees. IsTrue (state_of S.Store self.old).is_open × (db : _) × LeadsTo (world_of self.old) delta.now (row_of entry.now) (state_of S.Store self.old).now db × (trees ≡ db.trees)) }
     {
         let row = row_of(self.alloc, entry)?;
         let after = self.desk.with(delta)?;

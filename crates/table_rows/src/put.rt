@@ -1,6 +1,6 @@
 //! Rows put at their keys, in one transaction.
 
-ghost use Rattle.std.specs.Prelude.{◌≡◌, false, [], ◌∷◌, IsTrue, OnOk, OnErr};
+ghost use Rattle.std.specs.Prelude.{◌≡◌, ◌≢◌, false, [], ◌∷◌, IsTrue, OnOk, OnErr};
 ghost use Rattle.sqlite.specs.Held.{state};
 ghost use Rattle.sqlite.specs.State.{HasCleanDisk, KeepsCommit, Survives};
 ghost use Rattle.table_meaning.specs.Texts.{put_text as sql_put};
@@ -49,6 +49,8 @@ fn put_row<S: Alter>(
     ensures kept { HasCleanDisk (state S.Store tx.new.conn.now) → KeepsCommit (state S.Store tx.old.conn.now) (state S.Store tx.new.conn.now) }
     ensures moves { HasCleanDisk (state S.Store tx.new.conn.now) → IsTrue (state S.Store tx.old.conn.now).in_transaction
         → OnOk result (Moves (state S.Store tx.old.conn.now) (state S.Store tx.new.conn.now) (row.now ∷ [])) }
+    ensures was_open { HasCleanDisk (state S.Store tx.new.conn.now) → IsTrue (state S.Store tx.old.conn.now).in_transaction
+        → OnOk result (IsTrue (state S.Store tx.old.conn.now).is_open) }
 {
     let values = values_of(alloc, row)?;
     tx.execute(put_text(row), values.as_slice())?;
@@ -66,6 +68,8 @@ pub(crate) fn put_each<S: Alter>(
     ensures kept { HasCleanDisk (state S.Store tx.new.conn.now) → KeepsCommit (state S.Store tx.old.conn.now) (state S.Store tx.new.conn.now) }
     ensures moves { HasCleanDisk (state S.Store tx.new.conn.now) → IsTrue (state S.Store tx.old.conn.now).in_transaction
         → OnOk result (Moves (state S.Store tx.old.conn.now) (state S.Store tx.new.conn.now) rows.now) }
+    ensures was_open { HasCleanDisk (state S.Store tx.new.conn.now) → IsTrue (state S.Store tx.old.conn.now).in_transaction → rows.now ≢ []
+        → OnOk result (IsTrue (state S.Store tx.old.conn.now).is_open) }
 {
     for row in rows {
         put_row(alloc, tx, row)?;
@@ -73,7 +77,8 @@ pub(crate) fn put_each<S: Alter>(
     Ok(())
 }
 
-/// Puts each of the rows at its key, in order: all of them or none.
+/// Puts each of the rows at its key, in order: all of them or none. Where there is no row, nothing is written. A stop at any
+/// moment leaves what a stop could leave before, or all the rows, and these only where the connection was open.
 pub fn put_rows<S: Alter>(
     alloc: Global,
     conn: &mut Connection<S>,
@@ -81,14 +86,18 @@ pub fn put_rows<S: Alter>(
 ) -> Result<(), Error>
     ensures was_open { HasCleanDisk (state S.Store conn.new) → IsTrue (state S.Store conn.new).is_open → IsTrue (state S.Store conn.old).is_open }
     ensures idle { (state S.Store conn.old).in_transaction ≡ false → (state S.Store conn.new).in_transaction ≡ false }
-    ensures both { HasCleanDisk (state S.Store conn.new) → OnOk result (PutsRows (state S.Store conn.old).now (state S.Store conn.new).committed rows.now) }
-    ensures rest { HasCleanDisk (state S.Store conn.new) → OnOk result ((state S.Store conn.new).now ≡ (state S.Store conn.new).committed) }
+    ensures both { HasCleanDisk (state S.Store conn.new) → IsTrue (state S.Store conn.new).is_open → OnOk result (PutsRows (state S.Store conn.old).now (state S.Store conn.new).committed rows.now) }
+    ensures rest { HasCleanDisk (state S.Store conn.new) → IsTrue (state S.Store conn.new).is_open → OnOk result ((state S.Store conn.new).now ≡ (state S.Store conn.new).committed) }
     ensures neither { HasCleanDisk (state S.Store conn.new) → IsTrue (state S.Store conn.new).is_open
         → OnErr result (((state S.Store conn.new).now ≡ (state S.Store conn.old).now) × ((state S.Store conn.new).committed ≡ (state S.Store conn.old).committed)) }
-    ensures crash { Survives (state S.Store conn.old) (state S.Store conn.new) (λ trees. (db : _) × PutsRows (state S.Store conn.old).now db rows.now × (trees ≡ db.trees)) }
+    ensures crash { Survives (state S.Store conn.old) (state S.Store conn.new)
+        (λ trees. IsTrue (state S.Store conn.old).is_open × (db : _) × PutsRows (state S.Store conn.old).now db rows.now × (trees ≡ db.trees)) }
 {
     if !conn.is_autocommit() {
         return Err(Error::SqliteFailure(ErrorCode::TransactionState));
+    }
+    if rows.is_empty() {
+        return Ok(());
     }
     let mut tx = conn.transaction();
     put_each(alloc, &mut tx, rows)?;

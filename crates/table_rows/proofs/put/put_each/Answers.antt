@@ -22,4 +22,5 @@ loop-row-preserved g c =
       λ clean inside.
           let moved = kept.3 (early clean) inside in
           subst (Moves first after) (sym next) (moved_more first before after (take c.loop-row.row-index c.args.rows.now) c.row-item.result moved (c.in_ok-put_row.ensures.moves clean moved.inside)),
+      λ clean inside some. (kept.2 (early clean)).was_open (c.in_ok-put_row.ensures.was_open clean (kept.3 (early clean) inside).inside),
     )

@@ -1,4 +1,4 @@
-use Rattle.std.proofs.Common.{◌≡◌, IsTrue, take}
+use Rattle.std.proofs.Common.{◌≡◌, ◌≢◌, [], IsTrue, take}
 use Rattle.sqlite.specs.Held.{state}
 use Rattle.sqlite.specs.State.{HasCleanDisk, KeepsCommit, Survives}
 use Rattle.table_meaning.specs.Steps.{Moves}
@@ -10,3 +10,4 @@ invariant-loop-row g l =
     let now = state g.S.Store l.tx.conn.now in
     (l.tx.conn.ghost_name ≡ l.initial.tx.conn.ghost_name) × Survives old now (λ _. ⊥) × (HasCleanDisk now → KeepsCommit old now)
     × (HasCleanDisk now → IsTrue old.in_transaction → Moves old now (take l.row-index l.rows))
+    × (HasCleanDisk now → IsTrue old.in_transaction → take l.row-index l.rows ≢ [] → IsTrue old.is_open)

@@ -1,4 +1,4 @@
-use Rattle.std.proofs.Common.{◌≡◌, refl, sym, subst, rules, arith}
+use Rattle.std.proofs.Common.{◌≡◌, ◌≢◌, [], IsTrue, refl, sym, subst, rules, arith}
 use Rattle.std.proofs.lemmas.Result.{on_ok_weaker}
 use Rattle.sqlite_trees.specs.Tree.{Trees}
 use Rattle.sqlite.specs.Effect.{Database}
@@ -10,7 +10,7 @@ use Rattle.table_meaning.specs.Steps.{PutsRows}
 use Rattle.table_rows.proofs.put.put_rows.Goals as goal
 
 pub returns-clause-both : goal.returns-clause-both
-returns-clause-both g c clean =
+returns-clause-both g c clean _ =
     let old = c.args.conn.now in
     let mid = c.put_each.new.tx.conn.now in
     let end = c.commit.new.self.0 in
@@ -29,8 +29,11 @@ returns-clause-crash g c =
     let end = c.commit.new.self.0 in
     let begun = c.transaction-tx.ensures.begun in
     let same : end ≡ c.conn-2-1.given.0 = search rules in
-    let P = λ (trees : Trees). (db : Database) × PutsRows (state g.S.Store old).now db c.args.rows.now × (trees ≡ db.trees) in
+    let some : c.args.rows.now ≢ [] = search rules in
+    let P = λ (trees : Trees). IsTrue (state g.S.Store old).is_open × (db : Database) × PutsRows (state g.S.Store old).now db c.args.rows.now × (trees ≡ db.trees) in
     let whole = survives_then (state g.S.Store old) (state g.S.Store mid) (state g.S.Store end) _ _ P (λ _ db none. absurd none)
-    (λ clean db is. (_, ((rw begun at c.in_ok-put_each.ensures.moves) (omega (arith, c.commit.ensures.survives.clean)) refl).puts, is))
+    (λ clean db is.
+    let early : HasCleanDisk (state g.S.Store mid) = omega (arith, c.commit.ensures.survives.clean) in
+    ((rw begun at c.in_ok-put_each.ensures.was_open) early refl some, _, ((rw begun at c.in_ok-put_each.ensures.moves) early refl).puts, is))
     (survives_begin g.S.Store old (state g.S.Store mid) _ (rw begun at c.put_each.ensures.survives)) c.commit.ensures.survives in
     subst (λ h. Survives (state g.S.Store old) (state g.S.Store h) P) same whole
