@@ -46,8 +46,7 @@ impl<S: Alter> Store for Tables<S> {
 
     ghost stays_batches = { λ a b h k l kind batch. Prim.search rules };
 
-    ghost stays_left = { λ a b h w kept imports found. stays_found (state_of S.Store a) (state_of S.Store b) w kept imports h.0.survives found };
+    ghost stays_left = { λ a b h w kept imports found. stays_found _ _ w kept imports h.0.survives found };
 
-    ghost settled = { λ a h k l w kept imports found. found_is_committed (state_of S.Store a) (world_of a) w kept imports k l
-        (λ trees left. S.settled a.conn.store trees h.1 left) found };
+    ghost settled = { λ a h k l w kept imports found. found_is_committed _ _ w kept imports k l (λ trees left. S.settled _ trees h.1 left) found };
 }

@@ -1,4 +1,4 @@
-use Rattle.std.proofs.Common.{◌≡◌, refl}
+use Rattle.std.proofs.Common.{◌≡◌, refl, inl, inr}
 use Rattle.sched_book.specs.Delta.{applied}
 use Rattle.sched_tables.specs.Commits.{LeadsTo}
 use Rattle.sched_tables.specs.Entries.{row_of}
@@ -6,6 +6,7 @@ use Rattle.sched_tables.specs.Held.{AreWellKept}
 use Rattle.sched_tables.specs.Views.{state_of, world_of}
 use Rattle.sched_tables.proofs.EntriesKept.{kept_then, committed}
 use Rattle.sched_tables.proofs.Leads.{all_ok, kept_after}
+use Rattle.sched_tables.proofs.Stops.{found_is_ahead}
 use Rattle.sched_tables.proofs.store.TablesStore.commit.Goals as goal
 
 pub returns-clause-kept : goal.returns-clause-kept
@@ -33,3 +34,11 @@ returns-clause-ok g c = λ honest kept.
     all_ok c.commit.result (v ≡ applied w cs) (new.now ≡ new.committed) (LeadsTo w cs row old.now new.now) _
     c.commit.ensures.world (c.commit.ensures.rests honest) (c.commit.ensures.leads honest)
     (λ after rests leads fits. committed old new w v cs c.args.entry.now row refl after kept rests leads)
+
+pub returns-clause-stop : goal.returns-clause-stop
+returns-clause-stop g c = λ w kept imports found.
+    elim (found_is_ahead (state_of g.S.Store c.args.self.now) (state_of g.S.Store c.commit.new.self) (world_of c.args.self.now) w c.args.delta.now c.args.entry.now
+    (row_of c.args.entry.now) kept imports refl c.commit.ensures.crash found) [
+      | inl before ↦ inl before
+      | inr ahead ↦ inr (ahead.0, λ well fits sound. ahead.1 well sound)
+    ]
