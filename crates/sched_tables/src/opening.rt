@@ -6,11 +6,13 @@ ghost use Rattle.sqlite.specs.Steps.{over_memory};
 ghost use Rattle.sched_book.specs.Limits.{AreSettingsInLimits};
 ghost use Rattle.sched_book.specs.Sound.{Sound};
 ghost use Rattle.sched_book.specs.Step.{empty_world};
-ghost use Rattle.message_engine.specs.Stores.{StandsForNothing};
+ghost use Rattle.sched_book.specs.declared.world.World.{World as Known};
+ghost use Rattle.message_engine.specs.Stores.{Calls, Batches, IsLeft, StandsForNothing};
 ghost use Rattle.table_meaning.specs.Schema.{no_schema};
 ghost use Rattle.table_reading.specs.Reading.{ReadFrom};
 ghost use Rattle.sched_tables.specs.Entries.{calls_of, batches_of};
 ghost use Rattle.sched_tables.specs.Held.{IsHonest, AreWellKept, KeepNothing};
+ghost use Rattle.sched_tables.specs.Stops.{MayBeFound};
 ghost use Rattle.sched_tables.specs.Views.{state_of, world_of};
 
 use crate::tables::Tables;
@@ -45,12 +47,14 @@ impl<S: Alter + Drop> Tables<S> {
     ///
     /// `NotTables` where the schema is not that of the stored tables, or no setting tells it; `BadRow` where the rows are
     /// not those of a sound world with what may be kept beside it, as [`table_reading::stored_world`] says. A connection
-    /// that is refused is dropped, with its file as it was.
+    /// that is refused is dropped, with its file as it was. A stop that finds the tables opened leaves what they hold.
     pub fn open(alloc: Global, conn: Connection<S>) -> Result<Tables<S>, OpenFault>
         ensures sound { IfOk result (λ t. Sound (world_of t)) }
         ensures held { IfOk result (λ t. IsHonest (state_of S.Store t) → AreWellKept (state_of S.Store t) (world_of t)) }
         ensures same { IfOk result (λ t. IsHonest (state_of S.Store t) → (state_of S.Store t).now ≡ (state S.Store conn).committed) }
         ensures rows { IfOk result (λ t. IsHonest (state_of S.Store t) → ReadFrom (state_of S.Store t).now.trees (world_of t)) }
+        ensures stop { IfOk result (λ t. IsHonest (state_of S.Store t) → (w : Known) (calls : Calls) (batches : Batches) → MayBeFound (state_of S.Store t) w calls batches
+            → IsLeft (world_of t) (calls_of (state_of S.Store t).now.trees) (batches_of (state_of S.Store t).now.trees) w calls batches) }
     {
         let mut conn = known(alloc, conn)?;
         let world = stored_world(alloc, &mut conn)?;

@@ -1,7 +1,9 @@
 use Rattle.std.proofs.Common.{sym, subst, ◌∙◌}
 use Rattle.sqlite.specs.Held.{state}
 use Rattle.table_reading.specs.Reading.{ReadFrom}
+use Rattle.sched_book.specs.Sound.{Sound}
 use Rattle.sched_tables.specs.Held.{AreWellKept}
+use Rattle.sched_tables.specs.StopLaws.{found_is_committed}
 use Rattle.sched_tables.proofs.Opened.{early, was_known, shows_the_same, opened_kept, opened_rows}
 use Rattle.sched_tables.proofs.tables.Tables.open.Goals as goal
 
@@ -33,3 +35,8 @@ returns-clause-rows g c = λ honest.
     let reads = c.stored_world.ensures.reads in
     subst (ReadFrom read.now.trees) (sym c.in_ok-desk.ensures)
     (opened_rows taken read opens known reads honest c.in_ok-world.world (c.in_ok-world.ensures.stands (was_known taken read opens known reads honest)))
+
+pub returns-clause-stop : goal.returns-clause-stop
+returns-clause-stop g c = λ honest w calls batches found.
+    found_is_committed (state g.S.Store c.stored_world.new.conn) c.in_ok-desk.desk w calls batches (returns-clause-held g c honest)
+    (subst Sound (sym c.in_ok-desk.ensures) c.in_ok-world.ensures.sound) (λ trees left. g.met.S.Store.settled c.stored_world.new.conn.store trees honest.1 left) found
