@@ -14,7 +14,7 @@ use Rattle.table_meaning.specs.Steps.{PutsRows}
 use Rattle.table_meaning.specs.Worlds.{contents_of, HoldWorld}
 use Rattle.table_worlds.specs.Changes.{AreChanges}
 use Rattle.table_worlds.proofs.WorldSettled.{world_settled}
-use Rattle.sched_tables.specs.Commits.{LeadsTo}
+use Rattle.sched_tables.specs.Commits.{LeadsTo, LeadsAfter}
 use Rattle.sched_tables.specs.Held.{AreWellKept}
 use Rattle.table_meaning.specs.Kept.{calls_in, batches_in}
 
@@ -28,11 +28,21 @@ leads w v cs rows all more old new after changes pushed puts = λ calls calls' b
     held_same new _ _ (world_settled w cs rows (subst (λ u. AreChanges w u rows) after changes) calls calls' batches batches' (cons_option more []) keeps.each keeps.other_calls keeps.other_batches)
     (subst (PutsRows old new) pushed puts (contents_of w calls batches) holds)
 
--- what a stop leaves of the rows put it leaves of the changes and the row more
-pub leaves_whole : (w v : World) (cs : List Change) (rows all : List StoredRow) (more row : Option StoredRow) (old new : State) → v ≡ applied w cs → AreChanges w v rows → all ≡ rows ++ cons_option more [] → more ≡ row
-    → Survives old new (λ trees. IsTrue old.is_open × (db : Database) × PutsRows old.now db all × (trees ≡ db.trees)) → Survives old new (λ trees. IsTrue old.is_open × (db : Database) × LeadsTo w cs row old.now db × (trees ≡ db.trees))
-leaves_whole w v cs rows all more row old new after changes pushed is = survives_weaker old new _ _
-    (λ clean trees put. (put.0, put.1, subst (λ (o : Option StoredRow). LeadsTo w cs o old.now put.1) is (leads w v cs rows all more old.now put.1 after changes pushed put.2), put.3))
+-- rows between two worlds lead from the one to the other, whatever changes make it that
+module _ (w v : World) (all : List StoredRow) (more : Option StoredRow) (between : (changed : List StoredRow) × AreChanges w v changed × (all ≡ changed ++ cons_option more [])) where
+  pub leads_after : (old new : Database) → PutsRows old new all → LeadsAfter w v more old new
+  leads_after old new puts = λ cs after. leads w v cs between.0 all more old new after between.1 between.2 puts
+
+  -- and what a stop leaves of the rows put leads there
+  pub leaves_after : (old new : State) → Survives old new (λ trees. IsTrue old.is_open × (db : Database) × PutsRows old.now db all × (trees ≡ db.trees))
+      → Survives old new (λ trees. IsTrue old.is_open × (db : Database) × LeadsAfter w v more old.now db × (trees ≡ db.trees))
+  leaves_after old new = survives_weaker old new _ _ (λ clean trees put. (put.0, put.1, leads_after old.now put.1 put.2, put.3))
+
+-- what is said of all changes that make the one world the other is said of these
+pub leaves_these : (w v : World) (cs : List Change) (more : Option StoredRow) (old new : State) → v ≡ applied w cs
+    → Survives old new (λ trees. IsTrue old.is_open × (db : Database) × LeadsAfter w v more old.now db × (trees ≡ db.trees))
+    → Survives old new (λ trees. IsTrue old.is_open × (db : Database) × LeadsTo w cs more old.now db × (trees ≡ db.trees))
+leaves_these w v cs more old new after = survives_weaker old new _ _ (λ clean trees put. (put.0, put.1, put.2 cs after, put.3))
 
 pub was_ok : {T E : Type 0} (r : Result T E) (P : Type 0) → is_err r ≡ false → OnOk r P → P
 was_ok (Ok x) P good holds = holds

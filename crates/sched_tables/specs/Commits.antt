@@ -29,3 +29,7 @@ pub record Keeps (w : World) (rows : List StoredRow) (calls : LastCalls) (batche
 abbrev pub LeadsTo : World → List Change → Option StoredRow → Database → Database → Type 0
 LeadsTo w cs more old new = (calls calls' : LastCalls) (batches batches' : Imports)
     → Keeps (applied w cs) (cons_option more []) calls batches calls' batches' → HoldWorld old w calls batches → HoldWorld new (applied w cs) calls' batches'
+
+-- The same of whatever changes make one world the other.
+abbrev pub LeadsAfter : World → World → Option StoredRow → Database → Database → Type 0
+LeadsAfter w v more old new = (cs : List Change) → v ≡ applied w cs → LeadsTo w cs more old new
