@@ -6,15 +6,11 @@ use office_files::{SettingsFault, settings_of};
 use sched_book::Settings;
 use sched_server::Service;
 use sched_tables::Tables;
-use sqlite::{Alter, Connection, FileStore};
+use sqlite::{Alter, Connection};
 use std::alloc::Global;
-use std::fs;
 use std::fs::File;
 use std::io::Read;
 use texts::utf8_text;
-
-/// Tables in a file.
-pub(crate) type FileTables = Tables<FileStore<sqlite::File>>;
 
 /// The longest file of settings, in bytes.
 const MOST_SETTINGS_BYTES: usize = 65_536;
@@ -66,13 +62,8 @@ fn create_in<S: Alter + Drop>(
     Ok(())
 }
 
-/// The service over the tables of a file. A file that does not stand is not made.
-pub(crate) fn open_service(rt: &HostRuntime, path: &str) -> Result<Service<FileTables>, Failure> {
-    fs::metadata(rt, path)?;
-    open_in(rt.alloc(), Connection::open(rt, path)?)
-}
-
-fn open_in<S: Alter + Drop>(
+/// The service over the tables of a database.
+pub(crate) fn open_in<S: Alter + Drop>(
     alloc: Global,
     conn: Connection<S>,
 ) -> Result<Service<Tables<S>>, Failure> {

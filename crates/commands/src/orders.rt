@@ -4,7 +4,7 @@ ghost use Rattle.std.specs.Prelude.{IfOk};
 ghost use Rattle.sched_book.specs.Limits.{AreSettingsInLimits};
 
 use crate::ending::{Failure, Outcome, ended};
-use crate::files::{bytes_of, create_tables, open_service, service_over, settings_in};
+use crate::files::{bytes_of, create_tables, open_in, service_over, settings_in};
 use crate::serving::serve_on;
 use command_line::Order;
 use http_requests::{import_request, statement_request, tick_request};
@@ -15,14 +15,35 @@ use replay_lines::replay;
 use sched_book::{Moment, Settings};
 use sched_server::{Answer, Service};
 use sched_tables::Tables;
+use sqlite::{Alter, Connection};
 use std::alloc::Global;
-use std::io;
 use std::io::{BufReader, BufWriter, Write};
 use std::net::TcpListener;
+use std::{fs, io};
 use texts::{Memory, Text};
 
 /// The most bytes of an import's file that are read: what is longer is refused.
 const MOST_IMPORT_BYTES: usize = 1_048_576;
+
+/// What an order wants of the service over the tables of a file.
+#[derive(Drop)]
+enum Task<'a> {
+    Serve {
+        port: u16,
+        count: u32,
+    },
+    Import {
+        kind: &'a str,
+        batch: &'a str,
+        file: &'a str,
+    },
+    Tick {
+        at: Moment,
+    },
+    Statement {
+        host: u32,
+    },
+}
 
 /// Carries out an order.
 ///
@@ -30,28 +51,66 @@ const MOST_IMPORT_BYTES: usize = 1_048_576;
 ///
 /// A [`Failure`] where a file, a socket or a stream fails, or memory is wanting.
 pub fn perform(rt: &HostRuntime, order: &Order) -> Result<Outcome, Failure> {
-    match order {
-        Order::Create { settings, tables } => create(rt, settings.as_str(), tables.as_str()),
+    let (tables, task) = match order {
+        Order::Create { settings, tables } => {
+            return create(rt, settings.as_str(), tables.as_str());
+        }
+        Order::Replay { settings } => return replay_input(rt, settings.as_ref()),
         Order::Serve {
             tables,
             port,
             count,
-        } => serve(rt, tables.as_str(), *port, *count),
+        } => (
+            tables,
+            Task::Serve {
+                port: *port,
+                count: *count,
+            },
+        ),
         Order::Import {
             tables,
             kind,
             batch,
             file,
-        } => import(
-            rt,
-            tables.as_str(),
-            kind.as_str(),
-            batch.as_str(),
-            file.as_str(),
+        } => (
+            tables,
+            Task::Import {
+                kind: kind.as_str(),
+                batch: batch.as_str(),
+                file: file.as_str(),
+            },
         ),
-        Order::Tick { tables, at } => tick(rt, tables.as_str(), *at),
-        Order::Statement { tables, host } => statement(rt, tables.as_str(), *host),
-        Order::Replay { settings } => replay_input(rt, settings.as_ref()),
+        Order::Tick { tables, at } => (tables, Task::Tick { at: *at }),
+        Order::Statement { tables, host } => (tables, Task::Statement { host: *host }),
+    };
+    perform_on(rt, tables.as_str(), &task)
+}
+
+/// Does a task over the tables of a file, which is closed then. A file that does not stand is not made.
+fn perform_on(rt: &HostRuntime, tables: &str, task: &Task<'_>) -> Result<Outcome, Failure> {
+    fs::metadata(rt, tables)?;
+    perform_in(rt, Connection::open(rt, tables)?, task)
+}
+
+fn perform_in<S: Alter + Drop>(
+    rt: &HostRuntime,
+    conn: Connection<S>,
+    task: &Task<'_>,
+) -> Result<Outcome, Failure> {
+    let mut service = open_in(rt.alloc(), conn)?;
+    perform_by(rt, &mut service, task)
+}
+
+fn perform_by<S: Store>(
+    rt: &HostRuntime,
+    service: &mut Service<S>,
+    task: &Task<'_>,
+) -> Result<Outcome, Failure> {
+    match task {
+        Task::Serve { port, count } => serve(rt, service, *port, *count),
+        Task::Import { kind, batch, file } => import(rt, service, kind, batch, file),
+        Task::Tick { at } => tick(rt, service, *at),
+        Task::Statement { host } => statement(rt, service, *host),
     }
 }
 
@@ -64,12 +123,7 @@ fn create(rt: &HostRuntime, settings: &str, tables: &str) -> Result<Outcome, Fai
 }
 
 /// Serves so many connections on a port of 127.0.0.1.
-fn serve(rt: &HostRuntime, tables: &str, port: u16, count: u32) -> Result<Outcome, Failure> {
-    let mut service = open_service(rt, tables)?;
-    serve_by(rt, &mut service, port, count)
-}
-
-fn serve_by<S: Store>(
+fn serve<S: Store>(
     rt: &HostRuntime,
     service: &mut Service<S>,
     port: u16,
@@ -81,18 +135,7 @@ fn serve_by<S: Store>(
 }
 
 /// Imports the batch in a file, at moment 0: nothing of an import depends on it.
-fn import(
-    rt: &HostRuntime,
-    tables: &str,
-    kind: &str,
-    batch: &str,
-    file: &str,
-) -> Result<Outcome, Failure> {
-    let mut service = open_service(rt, tables)?;
-    import_by(rt, &mut service, kind, batch, file)
-}
-
-fn import_by<S: Store>(
+fn import<S: Store>(
     rt: &HostRuntime,
     service: &mut Service<S>,
     kind: &str,
@@ -105,12 +148,7 @@ fn import_by<S: Store>(
 }
 
 /// Lets time go by up to a moment.
-fn tick(rt: &HostRuntime, tables: &str, at: Moment) -> Result<Outcome, Failure> {
-    let mut service = open_service(rt, tables)?;
-    tick_by(rt, &mut service, at)
-}
-
-fn tick_by<S: Store>(
+fn tick<S: Store>(
     rt: &HostRuntime,
     service: &mut Service<S>,
     at: Moment,
@@ -120,12 +158,7 @@ fn tick_by<S: Store>(
 }
 
 /// Prints the statement of a host.
-fn statement(rt: &HostRuntime, tables: &str, host: u32) -> Result<Outcome, Failure> {
-    let mut service = open_service(rt, tables)?;
-    statement_by(rt, &mut service, host)
-}
-
-fn statement_by<S: Store>(
+fn statement<S: Store>(
     rt: &HostRuntime,
     service: &mut Service<S>,
     host: u32,
