@@ -23,7 +23,7 @@ use sched_server::Service;
 use sched_tables::Tables;
 use std::alloc::Global;
 use std::io;
-use std::io::{BufReader, ErrorKind, Read};
+use std::io::{BufRead, BufReader, ErrorKind, Read};
 use std::test::Fail;
 
 /// The service over a store.
@@ -39,15 +39,24 @@ fn new_service(alloc: Global) -> Result<Service<ListStore>, Fail> {
     service_over(alloc, ListStore::new(alloc, &default_settings(alloc)?)?)
 }
 
+/// What a replay of the lines of a reader by a service prints, and how it ends.
+fn replayed_from<S: Store, R: BufRead + Drop>(
+    alloc: Global,
+    service: &mut Service<S>,
+    reader: R,
+) -> (Vec<u8>, Ended) {
+    let mut printed = Vec::new(alloc);
+    let ended = replay(alloc, service, reader, &mut printed);
+    (printed, ended)
+}
+
 /// What a replay of these lines by a service prints, and how it ends.
 fn replayed_by<S: Store>(
     alloc: Global,
     service: &mut Service<S>,
     lines: &[u8],
 ) -> Result<(Vec<u8>, Ended), Fail> {
-    let mut printed = Vec::new(alloc);
-    let ended = replay(alloc, service, BufReader::new(alloc, lines)?, &mut printed);
-    Ok((printed, ended))
+    Ok(replayed_from(alloc, service, BufReader::new(alloc, lines)?))
 }
 
 /// What a replay of these lines over a store prints, and how it ends.
@@ -488,31 +497,27 @@ fn short_answers(alloc: Global) -> Result<String, Fail> {
 
 /// What a replay prints whose reader is interrupted before each few bytes, and how it ends.
 fn replayed_interrupted(alloc: Global, text: &[u8]) -> Result<(Vec<u8>, Ended), Fail> {
-    let mut service = new_service(alloc)?;
     let interrupted = Interrupted {
         text,
         is_ready: false,
     };
     let reader = BufReader::with_capacity(alloc, 7, interrupted)?;
-    let mut printed = Vec::new(alloc);
-    let ended = replay(alloc, &mut service, reader, &mut printed);
-    Ok((printed, ended))
+    let mut service = new_service(alloc)?;
+    Ok(replayed_from(alloc, &mut service, reader))
 }
 
 /// What a replay prints whose reader fails behind these bytes, and how it ends.
 fn replayed_before_a_fault(alloc: Global, front: &[u8]) -> Result<(Vec<u8>, Ended), Fail> {
-    let mut service = new_service(alloc)?;
     let reader = BufReader::new(alloc, front.chain(Broken))?;
-    let mut printed = Vec::new(alloc);
-    let ended = replay(alloc, &mut service, reader, &mut printed);
-    Ok((printed, ended))
+    let mut service = new_service(alloc)?;
+    Ok(replayed_from(alloc, &mut service, reader))
 }
 
 /// What a replay prints into so many bytes of room, and how it ends.
 fn replayed_into(alloc: Global, length: usize, lines: &[u8]) -> Result<(Vec<u8>, Ended), Fail> {
-    let mut service = new_service(alloc)?;
-    let reader = BufReader::new(alloc, lines)?;
     let mut room = vec![in alloc; b' '; length]?;
+    let reader = BufReader::new(alloc, lines)?;
+    let mut service = new_service(alloc)?;
     let ended = replay(alloc, &mut service, reader, room.as_mut_slice());
     Ok((room, ended))
 }
