@@ -257,14 +257,20 @@ const NINTH_IS_NONE: &str =
 const ONLY_POST: &str =
     "HTTP/1.1 405 Method Not Allowed\r\nallow: POST\r\ncontent-type: application/json\r\ncontent-length: 35\r\nconnection: close\r\n\r\n{\"error\":\"wrong_method\",\"number\":3}";
 
+/// Whether a statement of no host and a tick by another method are answered so, to the last byte.
+fn answers_wholly<S: Store>(alloc: Global, service: &mut Service<S>) -> Result<bool, Fail> {
+    let ninth = answered(alloc, service, READS_NINTH.as_bytes())?;
+    let put = answered(alloc, service, b"PUT /tick HTTP/1.1\r\n\r\n")?;
+    Ok(ninth.as_slice() == NINTH_IS_NONE.as_bytes() && put.as_slice() == ONLY_POST.as_bytes())
+}
+
+fn is_answered_wholly(alloc: Global) -> Result<bool, Fail> {
+    answers_wholly(alloc, &mut new_service(alloc)?)
+}
+
 #[test]
 fn answers_to_their_last_byte(rt: HostRuntime) -> Result<(), Fail> {
-    let alloc = rt.alloc();
-    let mut service = new_service(alloc)?;
-    let ninth = answered(alloc, &mut service, READS_NINTH.as_bytes())?;
-    assert!(rt; ninth.as_slice() == NINTH_IS_NONE.as_bytes());
-    let put = answered(alloc, &mut service, b"PUT /tick HTTP/1.1\r\n\r\n")?;
-    assert!(rt; put.as_slice() == ONLY_POST.as_bytes());
+    assert!(rt; is_answered_wholly(rt.alloc())?);
     Ok(())
 }
 
@@ -361,12 +367,14 @@ fn fronts_are_no_message<S: Store>(
     Ok(!has_host(alloc, service)?)
 }
 
+fn no_front_is_a_message(alloc: Global) -> Result<bool, Fail> {
+    let message = first_call(alloc)?;
+    fronts_are_no_message(alloc, &mut project(alloc)?, &message)
+}
+
 #[test]
 fn a_message_that_is_not_read_whole_never_was(rt: HostRuntime) -> Result<(), Fail> {
-    let message = first_call(rt.alloc())?;
-    let mut service = project(rt.alloc())?;
-    let never_was = fronts_are_no_message(rt.alloc(), &mut service, &message);
-    assert!(rt; never_was?);
+    assert!(rt; no_front_is_a_message(rt.alloc())?);
     Ok(())
 }
 
@@ -392,13 +400,15 @@ fn fronts_come_again<S: Store>(
     Ok(true)
 }
 
+fn each_front_comes_again(alloc: Global) -> Result<bool, Fail> {
+    let message = first_call(alloc)?;
+    let body = REPLY.trim_start_matches("200 ").trim_end();
+    fronts_come_again(alloc, &mut project(alloc)?, &message, body)
+}
+
 #[test]
 fn a_reply_that_is_not_written_whole_comes_again(rt: HostRuntime) -> Result<(), Fail> {
-    let message = first_call(rt.alloc())?;
-    let body = REPLY.trim_start_matches("200 ").trim_end();
-    let mut service = project(rt.alloc())?;
-    let again = fronts_come_again(rt.alloc(), &mut service, &message, body);
-    assert!(rt; again?);
+    assert!(rt; each_front_comes_again(rt.alloc())?);
     Ok(())
 }
 
