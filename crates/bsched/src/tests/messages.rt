@@ -235,14 +235,17 @@ fn tick_of(alloc: Global, size: usize) -> Result<String, Fail> {
     Ok(message)
 }
 
+/// Whether a tick whose head has so many bytes is told this status and this body.
+fn is_tick_told(alloc: Global, size: usize, status: u16, body: &str) -> Result<bool, Fail> {
+    let message = tick_of(alloc, size)?;
+    let answer = answered(alloc, &mut new_service(alloc)?, message.as_bytes())?;
+    tells(alloc, &answer, status, body)
+}
+
 #[test]
 fn a_head_may_have_8192_bytes(rt: HostRuntime) -> Result<(), Fail> {
-    let alloc = rt.alloc();
-    let mut service = new_service(alloc)?;
-    let longest = answered(alloc, &mut service, tick_of(alloc, 8192)?.as_bytes())?;
-    assert!(rt; tells(alloc, &longest, 200, NONE_LAPSED)?);
-    let longer = answered(alloc, &mut service, tick_of(alloc, 8193)?.as_bytes())?;
-    assert!(rt; tells(alloc, &longer, 400, BAD_HTTP)?);
+    assert!(rt; is_tick_told(rt.alloc(), 8192, 200, NONE_LAPSED)?);
+    assert!(rt; is_tick_told(rt.alloc(), 8193, 400, BAD_HTTP)?);
     Ok(())
 }
 
