@@ -11,13 +11,12 @@ mod repeats;
 mod rows;
 mod spellings;
 mod stored;
-mod worked;
 
 use commands::default_settings;
 use message_engine::{ListStore, Store};
 use repeats::{first_answered_otherwise, first_answered_otherwise_in_files};
 use replay_lines::{Ended, replay};
-use rows::{Row, first_wrong};
+use rows::first_wrong;
 use sched_book::Settings;
 use sched_server::Service;
 use sched_tables::Tables;
@@ -120,152 +119,50 @@ fn answers_in_project(
 fn first_wrong_twice(
     rt: &HostRuntime,
     max_hosts: u32,
-    rows: &[Row],
+    text: &'static str,
 ) -> Result<Option<&'static str>, Fail> {
-    if let Some(name) = first_wrong(rt.alloc(), max_hosts, rows)? {
+    if let Some(name) = first_wrong(rt.alloc(), max_hosts, text)? {
         return Ok(Some(name));
     }
-    if let Some(name) = first_answered_otherwise(rt.alloc(), rows)? {
+    if let Some(name) = first_answered_otherwise(rt.alloc(), text)? {
         return Ok(Some(name));
     }
-    first_answered_otherwise_in_files(rt, rows)
+    first_answered_otherwise_in_files(rt, text)
 }
 
 #[test]
-fn repeats_and_refusals_first(rt: HostRuntime) -> Result<(), Fail> {
-    assert_eq!(rt; first_wrong(rt.alloc(), 3, refusals::FIRST_ROWS)?, None);
+fn repeats_and_refusals(rt: HostRuntime) -> Result<(), Fail> {
+    assert_eq!(rt; first_wrong(rt.alloc(), 3, refusals::ROWS)?, None);
     Ok(())
 }
 
 #[test]
-fn repeats_and_refusals_second(rt: HostRuntime) -> Result<(), Fail> {
-    assert_eq!(rt; first_wrong(rt.alloc(), 3, refusals::SECOND_ROWS)?, None);
+fn grants_and_lost_jobs(rt: HostRuntime) -> Result<(), Fail> {
+    assert_eq!(rt; first_wrong_twice(&rt, 3, jobs::ROWS)?, None);
     Ok(())
 }
 
 #[test]
-fn repeats_and_refusals_third(rt: HostRuntime) -> Result<(), Fail> {
-    assert_eq!(rt; first_wrong(rt.alloc(), 3, refusals::THIRD_ROWS)?, None);
+fn reports_and_quorums(rt: HostRuntime) -> Result<(), Fail> {
+    assert_eq!(rt; first_wrong_twice(&rt, 5, judging::ROWS)?, None);
     Ok(())
 }
 
 #[test]
-fn grants_and_lost_jobs_first(rt: HostRuntime) -> Result<(), Fail> {
-    assert_eq!(rt; first_wrong_twice(&rt, 3, jobs::FIRST_ROWS)?, None);
+fn credit_and_quotas(rt: HostRuntime) -> Result<(), Fail> {
+    assert_eq!(rt; first_wrong_twice(&rt, 5, quotas::ROWS)?, None);
     Ok(())
 }
 
 #[test]
-fn grants_and_lost_jobs_second(rt: HostRuntime) -> Result<(), Fail> {
-    assert_eq!(rt; first_wrong_twice(&rt, 3, jobs::SECOND_ROWS)?, None);
+fn lapses_and_failures(rt: HostRuntime) -> Result<(), Fail> {
+    assert_eq!(rt; first_wrong_twice(&rt, 5, lapses::ROWS)?, None);
     Ok(())
 }
 
 #[test]
-fn grants_and_lost_jobs_third(rt: HostRuntime) -> Result<(), Fail> {
-    assert_eq!(rt; first_wrong_twice(&rt, 3, jobs::THIRD_ROWS)?, None);
-    Ok(())
-}
-
-#[test]
-fn grants_and_lost_jobs_fourth(rt: HostRuntime) -> Result<(), Fail> {
-    assert_eq!(rt; first_wrong_twice(&rt, 3, jobs::FOURTH_ROWS)?, None);
-    Ok(())
-}
-
-#[test]
-fn grants_and_lost_jobs_fifth(rt: HostRuntime) -> Result<(), Fail> {
-    assert_eq!(rt; first_wrong_twice(&rt, 3, jobs::FIFTH_ROWS)?, None);
-    Ok(())
-}
-
-#[test]
-fn grants_and_lost_jobs_sixth(rt: HostRuntime) -> Result<(), Fail> {
-    assert_eq!(rt; first_wrong_twice(&rt, 3, jobs::SIXTH_ROWS)?, None);
-    Ok(())
-}
-
-#[test]
-fn grants_and_lost_jobs_seventh(rt: HostRuntime) -> Result<(), Fail> {
-    assert_eq!(rt; first_wrong_twice(&rt, 3, jobs::SEVENTH_ROWS)?, None);
-    Ok(())
-}
-
-#[test]
-fn reports_and_quorums_first(rt: HostRuntime) -> Result<(), Fail> {
-    assert_eq!(rt; first_wrong_twice(&rt, 5, judging::FIRST_ROWS)?, None);
-    Ok(())
-}
-
-#[test]
-fn reports_and_quorums_second(rt: HostRuntime) -> Result<(), Fail> {
-    assert_eq!(rt; first_wrong_twice(&rt, 5, judging::SECOND_ROWS)?, None);
-    Ok(())
-}
-
-#[test]
-fn reports_and_quorums_third(rt: HostRuntime) -> Result<(), Fail> {
-    assert_eq!(rt; first_wrong_twice(&rt, 5, judging::THIRD_ROWS)?, None);
-    Ok(())
-}
-
-#[test]
-fn credit_and_quotas_first(rt: HostRuntime) -> Result<(), Fail> {
-    assert_eq!(rt; first_wrong_twice(&rt, 5, quotas::FIRST_ROWS)?, None);
-    Ok(())
-}
-
-#[test]
-fn credit_and_quotas_second(rt: HostRuntime) -> Result<(), Fail> {
-    assert_eq!(rt; first_wrong_twice(&rt, 5, quotas::SECOND_ROWS)?, None);
-    Ok(())
-}
-
-#[test]
-fn credit_and_quotas_third(rt: HostRuntime) -> Result<(), Fail> {
-    assert_eq!(rt; first_wrong_twice(&rt, 5, quotas::THIRD_ROWS)?, None);
-    Ok(())
-}
-
-#[test]
-fn lapses_and_failures_first(rt: HostRuntime) -> Result<(), Fail> {
-    assert_eq!(rt; first_wrong_twice(&rt, 5, lapses::FIRST_ROWS)?, None);
-    Ok(())
-}
-
-#[test]
-fn lapses_and_failures_second(rt: HostRuntime) -> Result<(), Fail> {
-    assert_eq!(rt; first_wrong_twice(&rt, 5, lapses::SECOND_ROWS)?, None);
-    Ok(())
-}
-
-#[test]
-fn lapses_and_failures_third(rt: HostRuntime) -> Result<(), Fail> {
-    assert_eq!(rt; first_wrong_twice(&rt, 5, lapses::THIRD_ROWS)?, None);
-    Ok(())
-}
-
-#[test]
-fn odd_spellings_first(rt: HostRuntime) -> Result<(), Fail> {
-    assert_eq!(rt; first_wrong(rt.alloc(), 3, spellings::FIRST_ROWS)?, None);
-    Ok(())
-}
-
-#[test]
-fn odd_spellings_second(rt: HostRuntime) -> Result<(), Fail> {
-    assert_eq!(rt; first_wrong(rt.alloc(), 3, spellings::SECOND_ROWS)?, None);
-    Ok(())
-}
-
-#[test]
-fn odd_spellings_third(rt: HostRuntime) -> Result<(), Fail> {
-    assert_eq!(rt; first_wrong(rt.alloc(), 3, spellings::THIRD_ROWS)?, None);
-    Ok(())
-}
-
-#[test]
-fn odd_spellings_fourth(rt: HostRuntime) -> Result<(), Fail> {
-    assert_eq!(rt; first_wrong(rt.alloc(), 3, spellings::FOURTH_ROWS)?, None);
+fn odd_spellings(rt: HostRuntime) -> Result<(), Fail> {
+    assert_eq!(rt; first_wrong(rt.alloc(), 3, spellings::ROWS)?, None);
     Ok(())
 }
 

@@ -1,473 +1,157 @@
 //! Worked rows of grants and lost jobs.
 
-use super::rows::{
-    ANN, ANN_TOO, BOB, CALL, CID, Call, JOB, Job, REPLY, Reply, Row, Step, W1, W2, W3, W4,
-};
+pub const ROWS: &str = r#"
+= a repeat is told no job, though work came between
+> 1970-01-01T00:16:40Z scheduler {"authenticator":"k1","rpc_seqno":1,"host_info":{"host_cpid":"c1","p_fpops":1000,"m_nbytes":8000,"d_free":9000},"platform_name":"linux","work_req_seconds":3600}
+< 200 {"end_word":"no_eligible_work","host_total_credit":0,"hostid":1,"request_delay":60,"result_abort":[],"result_ack":[],"results":[],"rpc_seqno":1,"user_name":"Ann","user_total_credit":0}
+> 1970-01-01T00:00:00Z import/workunits/u3 "name,app,min_quorum,target_nresults,max_error_results,max_total_results,max_success_results,delay_bound,rsc_fpops_est,rsc_memory_bound,rsc_disk_bound,credit\nw1,dock,2,2,3,5,4,7200,3600000,1000,1000,5000\n"
+< 200 {"batch":"u3","kind":"workunits","rows":1}
+> 1970-01-01T00:18:20Z scheduler {"authenticator":"k1","rpc_seqno":1,"host_info":{"host_cpid":"c1","p_fpops":1000,"m_nbytes":8000,"d_free":9000},"platform_name":"linux","work_req_seconds":3600}
+< 200 {"end_word":"no_eligible_work","host_total_credit":0,"hostid":1,"request_delay":60,"result_abort":[],"result_ack":[],"results":[],"rpc_seqno":1,"user_name":"Ann","user_total_credit":0}
 
-/// A call that asks for as much work as a job is, for two jobs, and for more than there are.
-const ASKS: Call<'static> = Call {
-    asked: 3600,
-    ..CALL
-};
+= one job is enough where it reaches what was asked
+> 1970-01-01T00:00:00Z import/workunits/u3 "name,app,min_quorum,target_nresults,max_error_results,max_total_results,max_success_results,delay_bound,rsc_fpops_est,rsc_memory_bound,rsc_disk_bound,credit\nw1,dock,2,2,3,5,4,7200,3600000,1000,1000,5000\nw2,dock,2,2,3,5,4,7200,3600000,1000,1000,5000\n"
+< 200 {"batch":"u3","kind":"workunits","rows":2}
+> 1970-01-01T00:16:40Z scheduler {"authenticator":"k1","rpc_seqno":1,"host_info":{"host_cpid":"c1","p_fpops":1000,"m_nbytes":8000,"d_free":9000},"platform_name":"linux","work_req_seconds":3600}
+< 200 {"end_word":"enough","host_total_credit":0,"hostid":1,"request_delay":60,"result_abort":[],"result_ack":[],"results":[{"app_name":"dock","estimate":3600,"name":"w1_0","platform":"linux","report_deadline":8200,"resent":false,"version_num":102,"wu_name":"w1"}],"rpc_seqno":1,"user_name":"Ann","user_total_credit":0}
 
-const ASKS_FOR_TWO: Call<'static> = Call {
-    asked: 7200,
-    ..CALL
-};
+= two jobs come for a second more
+> 1970-01-01T00:00:00Z import/workunits/u3 "name,app,min_quorum,target_nresults,max_error_results,max_total_results,max_success_results,delay_bound,rsc_fpops_est,rsc_memory_bound,rsc_disk_bound,credit\nw1,dock,2,2,3,5,4,7200,3600000,1000,1000,5000\nw2,dock,2,2,3,5,4,7200,3600000,1000,1000,5000\n"
+< 200 {"batch":"u3","kind":"workunits","rows":2}
+> 1970-01-01T00:16:40Z scheduler {"authenticator":"k1","rpc_seqno":1,"host_info":{"host_cpid":"c1","p_fpops":1000,"m_nbytes":8000,"d_free":9000},"platform_name":"linux","work_req_seconds":3601}
+< 200 {"end_word":"enough","host_total_credit":0,"hostid":1,"request_delay":60,"result_abort":[],"result_ack":[],"results":[{"app_name":"dock","estimate":3600,"name":"w1_0","platform":"linux","report_deadline":8200,"resent":false,"version_num":102,"wu_name":"w1"},{"app_name":"dock","estimate":3600,"name":"w2_0","platform":"linux","report_deadline":8200,"resent":false,"version_num":102,"wu_name":"w2"}],"rpc_seqno":1,"user_name":"Ann","user_total_credit":0}
 
-const ASKS_FOR_ALL: Call<'static> = Call {
-    asked: 100_000,
-    ..CALL
-};
+= no third job comes for all
+> 1970-01-01T00:00:00Z import/workunits/u3 "name,app,min_quorum,target_nresults,max_error_results,max_total_results,max_success_results,delay_bound,rsc_fpops_est,rsc_memory_bound,rsc_disk_bound,credit\nw1,dock,2,2,3,5,4,7200,3600000,1000,1000,5000\nw2,dock,2,2,3,5,4,7200,3600000,1000,1000,5000\n"
+< 200 {"batch":"u3","kind":"workunits","rows":2}
+> 1970-01-01T00:16:40Z scheduler {"authenticator":"k1","rpc_seqno":1,"host_info":{"host_cpid":"c1","p_fpops":1000,"m_nbytes":8000,"d_free":9000},"platform_name":"linux","work_req_seconds":100000}
+< 200 {"end_word":"reply_limit","host_total_credit":0,"hostid":1,"request_delay":60,"result_abort":[],"result_ack":[],"results":[{"app_name":"dock","estimate":3600,"name":"w1_0","platform":"linux","report_deadline":8200,"resent":false,"version_num":102,"wu_name":"w1"},{"app_name":"dock","estimate":3600,"name":"w2_0","platform":"linux","report_deadline":8200,"resent":false,"version_num":102,"wu_name":"w2"}],"rpc_seqno":1,"user_name":"Ann","user_total_credit":0}
 
-/// Calls of a slow host, to which a job is just short enough, and too long.
-const JUST_FAST_ENOUGH: Call<'static> = Call {
-    asked: 1,
-    p_fpops: 500,
-    ..CALL
-};
+= a host gets one job of a workunit
+> 1970-01-01T00:00:00Z import/workunits/u3 "name,app,min_quorum,target_nresults,max_error_results,max_total_results,max_success_results,delay_bound,rsc_fpops_est,rsc_memory_bound,rsc_disk_bound,credit\nw1,dock,2,2,3,5,4,7200,3600000,1000,1000,5000\n"
+< 200 {"batch":"u3","kind":"workunits","rows":1}
+> 1970-01-01T00:16:40Z scheduler {"authenticator":"k1","rpc_seqno":1,"host_info":{"host_cpid":"c1","p_fpops":1000,"m_nbytes":8000,"d_free":9000},"platform_name":"linux","work_req_seconds":100000}
+< 200 {"end_word":"no_eligible_work","host_total_credit":0,"hostid":1,"request_delay":60,"result_abort":[],"result_ack":[],"results":[{"app_name":"dock","estimate":3600,"name":"w1_0","platform":"linux","report_deadline":8200,"resent":false,"version_num":102,"wu_name":"w1"}],"rpc_seqno":1,"user_name":"Ann","user_total_credit":0}
 
-const TOO_SLOW: Call<'static> = Call {
-    asked: 1,
-    p_fpops: 499,
-    ..CALL
-};
+= a second host of a user gets no job of the workunit
+> 1970-01-01T00:00:00Z import/workunits/u3 "name,app,min_quorum,target_nresults,max_error_results,max_total_results,max_success_results,delay_bound,rsc_fpops_est,rsc_memory_bound,rsc_disk_bound,credit\nw1,dock,2,2,3,5,4,7200,3600000,1000,1000,5000\n"
+< 200 {"batch":"u3","kind":"workunits","rows":1}
+> 1970-01-01T00:16:40Z scheduler {"authenticator":"k1","rpc_seqno":1,"host_info":{"host_cpid":"c1","p_fpops":1000,"m_nbytes":8000,"d_free":9000},"platform_name":"linux","work_req_seconds":3600}
+< 200 {"end_word":"enough","host_total_credit":0,"hostid":1,"request_delay":60,"result_abort":[],"result_ack":[],"results":[{"app_name":"dock","estimate":3600,"name":"w1_0","platform":"linux","report_deadline":8200,"resent":false,"version_num":102,"wu_name":"w1"}],"rpc_seqno":1,"user_name":"Ann","user_total_credit":0}
+> 1970-01-01T00:16:40Z scheduler {"authenticator":"k1","rpc_seqno":1,"host_info":{"host_cpid":"c9","p_fpops":1000,"m_nbytes":8000,"d_free":9000},"platform_name":"linux","work_req_seconds":3600}
+< 200 {"end_word":"no_eligible_work","host_total_credit":0,"hostid":2,"request_delay":60,"result_abort":[],"result_ack":[],"results":[],"rpc_seqno":1,"user_name":"Ann","user_total_credit":0}
 
-/// The second call of a host, which lists no job.
-const LISTS_NONE: Call<'static> = Call {
-    seqno: 2,
-    other_results: Some(&[]),
-    ..CALL
-};
+= a lost job is sent again and keeps a deadline in reach
+> 1970-01-01T00:00:00Z import/workunits/u3 "name,app,min_quorum,target_nresults,max_error_results,max_total_results,max_success_results,delay_bound,rsc_fpops_est,rsc_memory_bound,rsc_disk_bound,credit\nw1,dock,2,2,3,5,4,7200,3600000,1000,1000,5000\n"
+< 200 {"batch":"u3","kind":"workunits","rows":1}
+> 1970-01-01T00:16:40Z scheduler {"authenticator":"k1","rpc_seqno":1,"host_info":{"host_cpid":"c1","p_fpops":1000,"m_nbytes":8000,"d_free":9000},"platform_name":"linux","work_req_seconds":3600}
+< 200 {"end_word":"enough","host_total_credit":0,"hostid":1,"request_delay":60,"result_abort":[],"result_ack":[],"results":[{"app_name":"dock","estimate":3600,"name":"w1_0","platform":"linux","report_deadline":8200,"resent":false,"version_num":102,"wu_name":"w1"}],"rpc_seqno":1,"user_name":"Ann","user_total_credit":0}
+> 1970-01-01T01:16:40Z scheduler {"authenticator":"k1","rpc_seqno":2,"host_info":{"host_cpid":"c1","p_fpops":1000,"m_nbytes":8000,"d_free":9000},"platform_name":"linux","other_results":[]}
+< 200 {"end_word":"enough","host_total_credit":0,"hostid":1,"request_delay":60,"result_abort":[],"result_ack":[],"results":[{"app_name":"dock","estimate":3600,"name":"w1_0","platform":"linux","report_deadline":8200,"resent":true,"version_num":102,"wu_name":"w1"}],"rpc_seqno":2,"user_name":"Ann","user_total_credit":0}
 
-/// The first jobs of further workunits.
-const SECOND: Job = Job { unit: "w2", ..JOB };
+= a lost job is sent again with a new deadline where the old one is out of reach
+> 1970-01-01T00:00:00Z import/workunits/u3 "name,app,min_quorum,target_nresults,max_error_results,max_total_results,max_success_results,delay_bound,rsc_fpops_est,rsc_memory_bound,rsc_disk_bound,credit\nw1,dock,2,2,3,5,4,7200,3600000,1000,1000,5000\n"
+< 200 {"batch":"u3","kind":"workunits","rows":1}
+> 1970-01-01T00:16:40Z scheduler {"authenticator":"k1","rpc_seqno":1,"host_info":{"host_cpid":"c1","p_fpops":1000,"m_nbytes":8000,"d_free":9000},"platform_name":"linux","work_req_seconds":3600}
+< 200 {"end_word":"enough","host_total_credit":0,"hostid":1,"request_delay":60,"result_abort":[],"result_ack":[],"results":[{"app_name":"dock","estimate":3600,"name":"w1_0","platform":"linux","report_deadline":8200,"resent":false,"version_num":102,"wu_name":"w1"}],"rpc_seqno":1,"user_name":"Ann","user_total_credit":0}
+> 1970-01-01T01:16:41Z scheduler {"authenticator":"k1","rpc_seqno":2,"host_info":{"host_cpid":"c1","p_fpops":1000,"m_nbytes":8000,"d_free":9000},"platform_name":"linux","other_results":[]}
+< 200 {"end_word":"enough","host_total_credit":0,"hostid":1,"request_delay":60,"result_abort":[],"result_ack":[],"results":[{"app_name":"dock","estimate":3600,"name":"w1_0","platform":"linux","report_deadline":11801,"resent":true,"version_num":102,"wu_name":"w1"}],"rpc_seqno":2,"user_name":"Ann","user_total_credit":0}
 
-const THIRD: Job = Job {
-    unit: "w3",
-    deadline: 8300,
-    ..JOB
-};
+= a job sent again counts as work that was asked for
+> 1970-01-01T00:00:00Z import/workunits/u3 "name,app,min_quorum,target_nresults,max_error_results,max_total_results,max_success_results,delay_bound,rsc_fpops_est,rsc_memory_bound,rsc_disk_bound,credit\nw1,dock,2,2,3,5,4,7200,3600000,1000,1000,5000\nw2,dock,2,2,3,5,4,7200,3600000,1000,1000,5000\n"
+< 200 {"batch":"u3","kind":"workunits","rows":2}
+> 1970-01-01T00:16:40Z scheduler {"authenticator":"k1","rpc_seqno":1,"host_info":{"host_cpid":"c1","p_fpops":1000,"m_nbytes":8000,"d_free":9000},"platform_name":"linux","work_req_seconds":3600}
+< 200 {"end_word":"enough","host_total_credit":0,"hostid":1,"request_delay":60,"result_abort":[],"result_ack":[],"results":[{"app_name":"dock","estimate":3600,"name":"w1_0","platform":"linux","report_deadline":8200,"resent":false,"version_num":102,"wu_name":"w1"}],"rpc_seqno":1,"user_name":"Ann","user_total_credit":0}
+> 1970-01-01T00:16:40Z scheduler {"authenticator":"k1","rpc_seqno":2,"host_info":{"host_cpid":"c1","p_fpops":1000,"m_nbytes":8000,"d_free":9000},"platform_name":"linux","work_req_seconds":3600,"other_results":[]}
+< 200 {"end_word":"enough","host_total_credit":0,"hostid":1,"request_delay":60,"result_abort":[],"result_ack":[],"results":[{"app_name":"dock","estimate":3600,"name":"w1_0","platform":"linux","report_deadline":8200,"resent":true,"version_num":102,"wu_name":"w1"}],"rpc_seqno":2,"user_name":"Ann","user_total_credit":0}
 
-/// The first job, sent again.
-const AGAIN: Job = Job {
-    resent: true,
-    ..JOB
-};
+= without a list no job is lost, and held ones count
+> 1970-01-01T00:00:00Z import/workunits/u3 "name,app,min_quorum,target_nresults,max_error_results,max_total_results,max_success_results,delay_bound,rsc_fpops_est,rsc_memory_bound,rsc_disk_bound,credit\nw1,dock,2,2,3,5,4,7200,3600000,1000,1000,5000\nw2,dock,2,2,3,5,4,7200,3600000,1000,1000,5000\nw3,dock,2,2,3,5,4,7200,3600000,1000,1000,5000\nw4,dock,2,2,3,5,4,7200,3600000,1000,1000,5000\n"
+< 200 {"batch":"u3","kind":"workunits","rows":4}
+> 1970-01-01T00:16:40Z scheduler {"authenticator":"k1","rpc_seqno":1,"host_info":{"host_cpid":"c1","p_fpops":1000,"m_nbytes":8000,"d_free":9000},"platform_name":"linux","work_req_seconds":7200}
+< 200 {"end_word":"enough","host_total_credit":0,"hostid":1,"request_delay":60,"result_abort":[],"result_ack":[],"results":[{"app_name":"dock","estimate":3600,"name":"w1_0","platform":"linux","report_deadline":8200,"resent":false,"version_num":102,"wu_name":"w1"},{"app_name":"dock","estimate":3600,"name":"w2_0","platform":"linux","report_deadline":8200,"resent":false,"version_num":102,"wu_name":"w2"}],"rpc_seqno":1,"user_name":"Ann","user_total_credit":0}
+> 1970-01-01T00:18:20Z scheduler {"authenticator":"k1","rpc_seqno":2,"host_info":{"host_cpid":"c1","p_fpops":1000,"m_nbytes":8000,"d_free":9000},"platform_name":"linux","work_req_seconds":100000}
+< 200 {"end_word":"in_progress_limit","host_total_credit":0,"hostid":1,"request_delay":60,"result_abort":[],"result_ack":[],"results":[{"app_name":"dock","estimate":3600,"name":"w3_0","platform":"linux","report_deadline":8300,"resent":false,"version_num":102,"wu_name":"w3"}],"rpc_seqno":2,"user_name":"Ann","user_total_credit":0}
 
-/// The further jobs of the first workunit, as others get them at 1200.
-const TO_BOB: Job = Job {
-    number: 1,
-    deadline: 8400,
-    ..JOB
-};
+= a job fits where its estimate is at most the delay bound
+> 1970-01-01T00:00:00Z import/workunits/u3 "name,app,min_quorum,target_nresults,max_error_results,max_total_results,max_success_results,delay_bound,rsc_fpops_est,rsc_memory_bound,rsc_disk_bound,credit\nw1,dock,2,2,3,5,4,7200,3600000,1000,1000,5000\n"
+< 200 {"batch":"u3","kind":"workunits","rows":1}
+> 1970-01-01T00:16:40Z scheduler {"authenticator":"k1","rpc_seqno":1,"host_info":{"host_cpid":"c1","p_fpops":500,"m_nbytes":8000,"d_free":9000},"platform_name":"linux","work_req_seconds":1}
+< 200 {"end_word":"enough","host_total_credit":0,"hostid":1,"request_delay":60,"result_abort":[],"result_ack":[],"results":[{"app_name":"dock","estimate":7200,"name":"w1_0","platform":"linux","report_deadline":8200,"resent":false,"version_num":102,"wu_name":"w1"}],"rpc_seqno":1,"user_name":"Ann","user_total_credit":0}
 
-const TO_CID: Job = Job {
-    number: 2,
-    ..TO_BOB
-};
+= a job does not fit where its estimate is beyond the delay bound
+> 1970-01-01T00:00:00Z import/workunits/u3 "name,app,min_quorum,target_nresults,max_error_results,max_total_results,max_success_results,delay_bound,rsc_fpops_est,rsc_memory_bound,rsc_disk_bound,credit\nw1,dock,2,2,3,5,4,7200,3600000,1000,1000,5000\n"
+< 200 {"batch":"u3","kind":"workunits","rows":1}
+> 1970-01-01T00:16:40Z scheduler {"authenticator":"k1","rpc_seqno":1,"host_info":{"host_cpid":"c1","p_fpops":499,"m_nbytes":8000,"d_free":9000},"platform_name":"linux","work_req_seconds":1}
+< 200 {"end_word":"no_eligible_work","host_total_credit":0,"hostid":1,"request_delay":60,"result_abort":[],"result_ack":[],"results":[],"rpc_seqno":1,"user_name":"Ann","user_total_credit":0}
 
-/// Replies with one job, two, none for want of one, and one again.
-const GETS: Reply<'static> = Reply {
-    jobs: &[JOB],
-    ..REPLY
-};
+= a lost job that fits no more makes room for another
+> 1970-01-01T00:00:00Z import/workunits/u3 "name,app,min_quorum,target_nresults,max_error_results,max_total_results,max_success_results,delay_bound,rsc_fpops_est,rsc_memory_bound,rsc_disk_bound,credit\nw1,dock,2,2,3,5,4,7200,3600000,1000,1000,5000\n"
+< 200 {"batch":"u3","kind":"workunits","rows":1}
+> 1970-01-01T00:16:40Z scheduler {"authenticator":"k1","rpc_seqno":1,"host_info":{"host_cpid":"c1","p_fpops":1000,"m_nbytes":8000,"d_free":9000},"platform_name":"linux","work_req_seconds":3600}
+< 200 {"end_word":"enough","host_total_credit":0,"hostid":1,"request_delay":60,"result_abort":[],"result_ack":[],"results":[{"app_name":"dock","estimate":3600,"name":"w1_0","platform":"linux","report_deadline":8200,"resent":false,"version_num":102,"wu_name":"w1"}],"rpc_seqno":1,"user_name":"Ann","user_total_credit":0}
+> 1970-01-01T00:18:20Z scheduler {"authenticator":"k1","rpc_seqno":2,"host_info":{"host_cpid":"c1","p_fpops":499,"m_nbytes":8000,"d_free":9000},"platform_name":"linux","other_results":[]}
+< 200 {"end_word":"enough","host_total_credit":0,"hostid":1,"request_delay":60,"result_abort":[],"result_ack":[],"results":[],"rpc_seqno":2,"user_name":"Ann","user_total_credit":0}
+> 1970-01-01T00:20:00Z scheduler {"authenticator":"k2","rpc_seqno":1,"host_info":{"host_cpid":"c2","p_fpops":1000,"m_nbytes":8000,"d_free":9000},"platform_name":"linux","work_req_seconds":3600}
+< 200 {"end_word":"enough","host_total_credit":0,"hostid":2,"request_delay":60,"result_abort":[],"result_ack":[],"results":[{"app_name":"dock","estimate":3600,"name":"w1_1","platform":"linux","report_deadline":8400,"resent":false,"version_num":102,"wu_name":"w1"}],"rpc_seqno":1,"user_name":"Bob","user_total_credit":0}
+> 1970-01-01T00:20:00Z scheduler {"authenticator":"k3","rpc_seqno":1,"host_info":{"host_cpid":"c3","p_fpops":1000,"m_nbytes":8000,"d_free":9000},"platform_name":"linux","work_req_seconds":3600}
+< 200 {"end_word":"enough","host_total_credit":0,"hostid":3,"request_delay":60,"result_abort":[],"result_ack":[],"results":[{"app_name":"dock","estimate":3600,"name":"w1_2","platform":"linux","report_deadline":8400,"resent":false,"version_num":102,"wu_name":"w1"}],"rpc_seqno":1,"user_name":"Cid","user_total_credit":0}
 
-const GETS_TWO: Reply<'static> = Reply {
-    jobs: &[JOB, SECOND],
-    ..REPLY
-};
+= a name that is no job of the host is aborted once
+> 1970-01-01T00:00:00Z import/workunits/u3 "name,app,min_quorum,target_nresults,max_error_results,max_total_results,max_success_results,delay_bound,rsc_fpops_est,rsc_memory_bound,rsc_disk_bound,credit\nw1,dock,2,2,3,5,4,7200,3600000,1000,1000,5000\n"
+< 200 {"batch":"u3","kind":"workunits","rows":1}
+> 1970-01-01T00:16:40Z scheduler {"authenticator":"k1","rpc_seqno":1,"host_info":{"host_cpid":"c1","p_fpops":1000,"m_nbytes":8000,"d_free":9000},"platform_name":"linux","work_req_seconds":3600,"other_results":["w1_0","zz_0","w1_0"]}
+< 200 {"end_word":"enough","host_total_credit":0,"hostid":1,"request_delay":60,"result_abort":["w1_0","zz_0"],"result_ack":[],"results":[{"app_name":"dock","estimate":3600,"name":"w1_0","platform":"linux","report_deadline":8200,"resent":false,"version_num":102,"wu_name":"w1"}],"rpc_seqno":1,"user_name":"Ann","user_total_credit":0}
+> 1970-01-01T00:16:40Z scheduler {"authenticator":"k1","rpc_seqno":2,"host_info":{"host_cpid":"c1","p_fpops":1000,"m_nbytes":8000,"d_free":9000},"platform_name":"linux","other_results":["w1_0"]}
+< 200 {"end_word":"enough","host_total_credit":0,"hostid":1,"request_delay":60,"result_abort":[],"result_ack":[],"results":[],"rpc_seqno":2,"user_name":"Ann","user_total_credit":0}
 
-const GETS_NONE: Reply<'static> = Reply {
-    end: "no_eligible_work",
-    ..REPLY
-};
+= names of what is another's or was reported are aborted
+> 1970-01-01T00:00:00Z import/workunits/u3 "name,app,min_quorum,target_nresults,max_error_results,max_total_results,max_success_results,delay_bound,rsc_fpops_est,rsc_memory_bound,rsc_disk_bound,credit\nw1,dock,2,2,3,5,4,7200,3600000,1000,1000,5000\n"
+< 200 {"batch":"u3","kind":"workunits","rows":1}
+> 1970-01-01T00:16:40Z scheduler {"authenticator":"k1","rpc_seqno":1,"host_info":{"host_cpid":"c1","p_fpops":1000,"m_nbytes":8000,"d_free":9000},"platform_name":"linux","work_req_seconds":3600}
+< 200 {"end_word":"enough","host_total_credit":0,"hostid":1,"request_delay":60,"result_abort":[],"result_ack":[],"results":[{"app_name":"dock","estimate":3600,"name":"w1_0","platform":"linux","report_deadline":8200,"resent":false,"version_num":102,"wu_name":"w1"}],"rpc_seqno":1,"user_name":"Ann","user_total_credit":0}
+> 1970-01-01T00:16:40Z scheduler {"authenticator":"k2","rpc_seqno":1,"host_info":{"host_cpid":"c2","p_fpops":1000,"m_nbytes":8000,"d_free":9000},"platform_name":"linux","other_results":["w1_0"]}
+< 200 {"end_word":"enough","host_total_credit":0,"hostid":2,"request_delay":60,"result_abort":["w1_0"],"result_ack":[],"results":[],"rpc_seqno":1,"user_name":"Bob","user_total_credit":0}
+> 1970-01-01T00:16:40Z scheduler {"authenticator":"k1","rpc_seqno":2,"host_info":{"host_cpid":"c1","p_fpops":1000,"m_nbytes":8000,"d_free":9000},"platform_name":"linux","other_results":["w1_0"],"results":[{"name":"w1_0","exit_status":0,"output":"ok"}]}
+< 200 {"end_word":"enough","host_total_credit":0,"hostid":1,"request_delay":60,"result_abort":["w1_0"],"result_ack":["w1_0"],"results":[],"rpc_seqno":2,"user_name":"Ann","user_total_credit":0}
 
-const GETS_AGAIN: Reply<'static> = Reply {
-    jobs: &[AGAIN],
-    ..REPLY
-};
+= just the job that is not listed is sent again, before a new one
+> 1970-01-01T00:00:00Z import/workunits/u3 "name,app,min_quorum,target_nresults,max_error_results,max_total_results,max_success_results,delay_bound,rsc_fpops_est,rsc_memory_bound,rsc_disk_bound,credit\nw1,dock,2,2,3,5,4,7200,3600000,1000,1000,5000\nw2,dock,2,2,3,5,4,7200,3600000,1000,1000,5000\nw3,dock,2,2,3,5,4,7200,3600000,1000,1000,5000\n"
+< 200 {"batch":"u3","kind":"workunits","rows":3}
+> 1970-01-01T00:16:40Z scheduler {"authenticator":"k1","rpc_seqno":1,"host_info":{"host_cpid":"c1","p_fpops":1000,"m_nbytes":8000,"d_free":9000},"platform_name":"linux","work_req_seconds":7200}
+< 200 {"end_word":"enough","host_total_credit":0,"hostid":1,"request_delay":60,"result_abort":[],"result_ack":[],"results":[{"app_name":"dock","estimate":3600,"name":"w1_0","platform":"linux","report_deadline":8200,"resent":false,"version_num":102,"wu_name":"w1"},{"app_name":"dock","estimate":3600,"name":"w2_0","platform":"linux","report_deadline":8200,"resent":false,"version_num":102,"wu_name":"w2"}],"rpc_seqno":1,"user_name":"Ann","user_total_credit":0}
+> 1970-01-01T00:18:20Z scheduler {"authenticator":"k1","rpc_seqno":2,"host_info":{"host_cpid":"c1","p_fpops":1000,"m_nbytes":8000,"d_free":9000},"platform_name":"linux","work_req_seconds":7200,"other_results":["w1_0"]}
+< 200 {"end_word":"enough","host_total_credit":0,"hostid":1,"request_delay":60,"result_abort":[],"result_ack":[],"results":[{"app_name":"dock","estimate":3600,"name":"w2_0","platform":"linux","report_deadline":8200,"resent":true,"version_num":102,"wu_name":"w2"},{"app_name":"dock","estimate":3600,"name":"w3_0","platform":"linux","report_deadline":8300,"resent":false,"version_num":102,"wu_name":"w3"}],"rpc_seqno":2,"user_name":"Ann","user_total_credit":0}
 
-pub const FIRST_ROWS: &[Row] = &[
-    (
-        "a repeat is told no job, though work came between",
-        &[
-            Step::Call(ASKS, GETS_NONE),
-            Step::Units(&[W1]),
-            Step::Call(
-                Call {
-                    moment: 1100,
-                    ..ASKS
-                },
-                GETS_NONE,
-            ),
-        ],
-    ),
-    (
-        "one job is enough where it reaches what was asked",
-        &[Step::Units(&[W1, W2]), Step::Asks(ANN, &[JOB])],
-    ),
-    (
-        "two jobs come for a second more",
-        &[
-            Step::Units(&[W1, W2]),
-            Step::Call(
-                Call {
-                    asked: 3601,
-                    ..CALL
-                },
-                GETS_TWO,
-            ),
-        ],
-    ),
-    (
-        "no third job comes for all",
-        &[
-            Step::Units(&[W1, W2]),
-            Step::Call(
-                ASKS_FOR_ALL,
-                Reply {
-                    end: "reply_limit",
-                    ..GETS_TWO
-                },
-            ),
-        ],
-    ),
-    (
-        "a host gets one job of a workunit",
-        &[
-            Step::Units(&[W1]),
-            Step::Call(
-                ASKS_FOR_ALL,
-                Reply {
-                    end: "no_eligible_work",
-                    ..GETS
-                },
-            ),
-        ],
-    ),
-];
+= a job comes with the version of the first platform that has any
+# of the first platform there is no version, of the third a greater one
+> 1970-01-01T00:00:00Z import/workunits/u3 "name,app,min_quorum,target_nresults,max_error_results,max_total_results,max_success_results,delay_bound,rsc_fpops_est,rsc_memory_bound,rsc_disk_bound,credit\nw1,dock,2,2,3,5,4,7200,3600000,1000,1000,5000\n"
+< 200 {"batch":"u3","kind":"workunits","rows":1}
+> 1970-01-01T00:00:00Z import/versions/v1 "app,platform,version_num\ndock,win,5\n"
+< 200 {"batch":"v1","kind":"versions","rows":1}
+> 1970-01-01T00:16:40Z scheduler {"authenticator":"k1","rpc_seqno":1,"host_info":{"host_cpid":"c1","p_fpops":1000,"m_nbytes":8000,"d_free":9000},"platform_name":"arm","work_req_seconds":3600,"alt_platforms":["win","linux"]}
+< 200 {"end_word":"enough","host_total_credit":0,"hostid":1,"request_delay":60,"result_abort":[],"result_ack":[],"results":[{"app_name":"dock","estimate":3600,"name":"w1_0","platform":"win","report_deadline":8200,"resent":false,"version_num":5,"wu_name":"w1"}],"rpc_seqno":1,"user_name":"Ann","user_total_credit":0}
+> 1970-01-01T00:16:40Z scheduler {"authenticator":"k2","rpc_seqno":1,"host_info":{"host_cpid":"c2","p_fpops":1000,"m_nbytes":8000,"d_free":9000},"platform_name":"arm","work_req_seconds":3600}
+< 200 {"end_word":"no_eligible_work","host_total_credit":0,"hostid":2,"request_delay":60,"result_abort":[],"result_ack":[],"results":[],"rpc_seqno":1,"user_name":"Bob","user_total_credit":0}
 
-pub const SECOND_ROWS: &[Row] = &[
-    (
-        "a second host of a user gets no job of the workunit",
-        &[
-            Step::Units(&[W1]),
-            Step::Asks(ANN, &[JOB]),
-            Step::Call(
-                Call {
-                    host: ANN_TOO,
-                    ..ASKS
-                },
-                GETS_NONE,
-            ),
-        ],
-    ),
-    (
-        "a lost job is sent again and keeps a deadline in reach",
-        &[
-            Step::Units(&[W1]),
-            Step::Asks(ANN, &[JOB]),
-            Step::Call(
-                Call {
-                    moment: 4600,
-                    ..LISTS_NONE
-                },
-                GETS_AGAIN,
-            ),
-        ],
-    ),
-    (
-        "a lost job is sent again with a new deadline where the old one is out of reach",
-        &[
-            Step::Units(&[W1]),
-            Step::Asks(ANN, &[JOB]),
-            Step::Call(
-                Call {
-                    moment: 4601,
-                    ..LISTS_NONE
-                },
-                Reply {
-                    jobs: &[Job {
-                        deadline: 11_801,
-                        ..AGAIN
-                    }],
-                    ..REPLY
-                },
-            ),
-        ],
-    ),
-    (
-        "a job sent again counts as work that was asked for",
-        &[
-            Step::Units(&[W1, W2]),
-            Step::Asks(ANN, &[JOB]),
-            Step::Call(
-                Call {
-                    asked: 3600,
-                    ..LISTS_NONE
-                },
-                GETS_AGAIN,
-            ),
-        ],
-    ),
-];
+= a job sent again has the version and the estimate of now
+> 1970-01-01T00:00:00Z import/workunits/u3 "name,app,min_quorum,target_nresults,max_error_results,max_total_results,max_success_results,delay_bound,rsc_fpops_est,rsc_memory_bound,rsc_disk_bound,credit\nw1,dock,2,2,3,5,4,7200,3600000,1000,1000,5000\n"
+< 200 {"batch":"u3","kind":"workunits","rows":1}
+> 1970-01-01T00:16:40Z scheduler {"authenticator":"k1","rpc_seqno":1,"host_info":{"host_cpid":"c1","p_fpops":1000,"m_nbytes":8000,"d_free":9000},"platform_name":"linux","work_req_seconds":3600}
+< 200 {"end_word":"enough","host_total_credit":0,"hostid":1,"request_delay":60,"result_abort":[],"result_ack":[],"results":[{"app_name":"dock","estimate":3600,"name":"w1_0","platform":"linux","report_deadline":8200,"resent":false,"version_num":102,"wu_name":"w1"}],"rpc_seqno":1,"user_name":"Ann","user_total_credit":0}
+> 1970-01-01T00:00:00Z import/versions/v1 "app,platform,version_num\ndock,linux,103\n"
+< 200 {"batch":"v1","kind":"versions","rows":1}
+> 1970-01-01T00:16:40Z scheduler {"authenticator":"k1","rpc_seqno":2,"host_info":{"host_cpid":"c1","p_fpops":500,"m_nbytes":8000,"d_free":9000},"platform_name":"linux","other_results":[]}
+< 200 {"end_word":"enough","host_total_credit":0,"hostid":1,"request_delay":60,"result_abort":[],"result_ack":[],"results":[{"app_name":"dock","estimate":7200,"name":"w1_0","platform":"linux","report_deadline":8200,"resent":true,"version_num":103,"wu_name":"w1"}],"rpc_seqno":2,"user_name":"Ann","user_total_credit":0}
 
-pub const THIRD_ROWS: &[Row] = &[
-    (
-        "without a list no job is lost, and held ones count",
-        &[
-            Step::Units(&[W1, W2, W3, W4]),
-            Step::Call(ASKS_FOR_TWO, GETS_TWO),
-            Step::Call(
-                Call {
-                    seqno: 2,
-                    moment: 1100,
-                    ..ASKS_FOR_ALL
-                },
-                Reply {
-                    end: "in_progress_limit",
-                    jobs: &[THIRD],
-                    ..REPLY
-                },
-            ),
-        ],
-    ),
-    (
-        "a job fits where its estimate is at most the delay bound",
-        &[
-            Step::Units(&[W1]),
-            Step::Call(
-                JUST_FAST_ENOUGH,
-                Reply {
-                    jobs: &[Job {
-                        estimate: 7200,
-                        ..JOB
-                    }],
-                    ..REPLY
-                },
-            ),
-        ],
-    ),
-    (
-        "a job does not fit where its estimate is beyond the delay bound",
-        &[Step::Units(&[W1]), Step::Call(TOO_SLOW, GETS_NONE)],
-    ),
-];
-
-pub const FOURTH_ROWS: &[Row] = &[
-    (
-        "a lost job that fits no more makes room for another",
-        &[
-            Step::Units(&[W1]),
-            Step::Asks(ANN, &[JOB]),
-            Step::Call(
-                Call {
-                    moment: 1100,
-                    p_fpops: 499,
-                    ..LISTS_NONE
-                },
-                REPLY,
-            ),
-            Step::Call(
-                Call {
-                    host: BOB,
-                    moment: 1200,
-                    ..ASKS
-                },
-                Reply {
-                    jobs: &[TO_BOB],
-                    ..REPLY
-                },
-            ),
-            Step::Call(
-                Call {
-                    host: CID,
-                    moment: 1200,
-                    ..ASKS
-                },
-                Reply {
-                    jobs: &[TO_CID],
-                    ..REPLY
-                },
-            ),
-        ],
-    ),
-    (
-        "a name that is no job of the host is aborted once",
-        &[
-            Step::Units(&[W1]),
-            // the first job is none of the host's as long as it was not given
-            Step::Call(
-                Call {
-                    other_results: Some(&["w1_0", "zz_0", "w1_0"]),
-                    ..ASKS
-                },
-                Reply {
-                    aborts: &["w1_0", "zz_0"],
-                    ..GETS
-                },
-            ),
-            Step::Call(
-                Call {
-                    seqno: 2,
-                    other_results: Some(&["w1_0"]),
-                    ..CALL
-                },
-                REPLY,
-            ),
-        ],
-    ),
-];
-
-pub const FIFTH_ROWS: &[Row] = &[
-    (
-        "names of what is another's or was reported are aborted",
-        &[
-            Step::Units(&[W1]),
-            Step::Asks(ANN, &[JOB]),
-            Step::Call(
-                Call {
-                    host: BOB,
-                    other_results: Some(&["w1_0"]),
-                    ..CALL
-                },
-                Reply {
-                    aborts: &["w1_0"],
-                    ..REPLY
-                },
-            ),
-            Step::Call(
-                Call {
-                    seqno: 2,
-                    other_results: Some(&["w1_0"]),
-                    results: &[("w1_0", 0, "ok")],
-                    ..CALL
-                },
-                Reply {
-                    aborts: &["w1_0"],
-                    acks: &["w1_0"],
-                    ..REPLY
-                },
-            ),
-        ],
-    ),
-    (
-        "just the job that is not listed is sent again, before a new one",
-        &[
-            Step::Units(&[W1, W2, W3]),
-            Step::Call(ASKS_FOR_TWO, GETS_TWO),
-            Step::Call(
-                Call {
-                    seqno: 2,
-                    moment: 1100,
-                    other_results: Some(&["w1_0"]),
-                    ..ASKS_FOR_TWO
-                },
-                Reply {
-                    jobs: &[
-                        Job {
-                            resent: true,
-                            ..SECOND
-                        },
-                        THIRD,
-                    ],
-                    ..REPLY
-                },
-            ),
-        ],
-    ),
-];
-
-pub const SIXTH_ROWS: &[Row] = &[
-    (
-        // of the first platform there is no version, of the third a greater one
-        "a job comes with the version of the first platform that has any",
-        &[
-            Step::Units(&[W1]),
-            Step::Line(
-                "1970-01-01T00:00:00Z import/versions/v1 \"app,platform,version_num\\ndock,win,5\\n\"",
-                "200 {\"batch\":\"v1\",\"kind\":\"versions\",\"rows\":1}",
-            ),
-            Step::Call(
-                Call {
-                    platform: "arm",
-                    more: ",\"alt_platforms\":[\"win\",\"linux\"]",
-                    ..ASKS
-                },
-                Reply {
-                    jobs: &[Job {
-                        platform: "win",
-                        version: 5,
-                        ..JOB
-                    }],
-                    ..REPLY
-                },
-            ),
-            Step::Call(
-                Call {
-                    host: BOB,
-                    platform: "arm",
-                    ..ASKS
-                },
-                GETS_NONE,
-            ),
-        ],
-    ),
-    (
-        "a job sent again has the version and the estimate of now",
-        &[
-            Step::Units(&[W1]),
-            Step::Asks(ANN, &[JOB]),
-            Step::Line(
-                "1970-01-01T00:00:00Z import/versions/v1 \"app,platform,version_num\\ndock,linux,103\\n\"",
-                "200 {\"batch\":\"v1\",\"kind\":\"versions\",\"rows\":1}",
-            ),
-            Step::Call(
-                Call {
-                    p_fpops: 500,
-                    ..LISTS_NONE
-                },
-                Reply {
-                    jobs: &[Job {
-                        version: 103,
-                        estimate: 7200,
-                        ..AGAIN
-                    }],
-                    ..REPLY
-                },
-            ),
-        ],
-    ),
-];
-
-pub const SEVENTH_ROWS: &[Row] = &[(
-    // the facts that stand last count
-    "a job fits where memory and disk are at least its bounds",
-    &[
-        Step::Units(&[W1]),
-        Step::Call(
-            Call {
-                more: ",\"host_info\":{\"host_cpid\":\"c1\",\"p_fpops\":1000,\"m_nbytes\":1000,\"d_free\":1000}",
-                ..ASKS
-            },
-            GETS,
-        ),
-        Step::Call(
-            Call {
-                host: BOB,
-                more: ",\"host_info\":{\"host_cpid\":\"c2\",\"p_fpops\":1000,\"m_nbytes\":999,\"d_free\":1000}",
-                ..ASKS
-            },
-            GETS_NONE,
-        ),
-        Step::Call(
-            Call {
-                host: CID,
-                more: ",\"host_info\":{\"host_cpid\":\"c3\",\"p_fpops\":1000,\"m_nbytes\":1000,\"d_free\":999}",
-                ..ASKS
-            },
-            GETS_NONE,
-        ),
-    ],
-)];
+= a job fits where memory and disk are at least its bounds
+# the facts that stand last count
+> 1970-01-01T00:00:00Z import/workunits/u3 "name,app,min_quorum,target_nresults,max_error_results,max_total_results,max_success_results,delay_bound,rsc_fpops_est,rsc_memory_bound,rsc_disk_bound,credit\nw1,dock,2,2,3,5,4,7200,3600000,1000,1000,5000\n"
+< 200 {"batch":"u3","kind":"workunits","rows":1}
+> 1970-01-01T00:16:40Z scheduler {"authenticator":"k1","rpc_seqno":1,"host_info":{"host_cpid":"c1","p_fpops":1000,"m_nbytes":8000,"d_free":9000},"platform_name":"linux","work_req_seconds":3600,"host_info":{"host_cpid":"c1","p_fpops":1000,"m_nbytes":1000,"d_free":1000}}
+< 200 {"end_word":"enough","host_total_credit":0,"hostid":1,"request_delay":60,"result_abort":[],"result_ack":[],"results":[{"app_name":"dock","estimate":3600,"name":"w1_0","platform":"linux","report_deadline":8200,"resent":false,"version_num":102,"wu_name":"w1"}],"rpc_seqno":1,"user_name":"Ann","user_total_credit":0}
+> 1970-01-01T00:16:40Z scheduler {"authenticator":"k2","rpc_seqno":1,"host_info":{"host_cpid":"c2","p_fpops":1000,"m_nbytes":8000,"d_free":9000},"platform_name":"linux","work_req_seconds":3600,"host_info":{"host_cpid":"c2","p_fpops":1000,"m_nbytes":999,"d_free":1000}}
+< 200 {"end_word":"no_eligible_work","host_total_credit":0,"hostid":2,"request_delay":60,"result_abort":[],"result_ack":[],"results":[],"rpc_seqno":1,"user_name":"Bob","user_total_credit":0}
+> 1970-01-01T00:16:40Z scheduler {"authenticator":"k3","rpc_seqno":1,"host_info":{"host_cpid":"c3","p_fpops":1000,"m_nbytes":8000,"d_free":9000},"platform_name":"linux","work_req_seconds":3600,"host_info":{"host_cpid":"c3","p_fpops":1000,"m_nbytes":1000,"d_free":999}}
+< 200 {"end_word":"no_eligible_work","host_total_credit":0,"hostid":3,"request_delay":60,"result_abort":[],"result_ack":[],"results":[],"rpc_seqno":1,"user_name":"Cid","user_total_credit":0}
+"#;

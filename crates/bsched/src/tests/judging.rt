@@ -1,262 +1,144 @@
 //! Worked rows of reports, and of what they decide.
 
-use super::rows::{ANN, BOB, CALL, CID, Call, Host, JOB, Job, REPLY, Reply, Row, Step, Unit, W1};
-use super::worked::{ASKS, ASKS_FOR_TWO, HAS_CREDIT, LISTS_NONE, READS, W5, W5_0, W5_1};
+pub const ROWS: &str = r#"
+= a reported job is not lost
+> 1970-01-01T00:00:00Z import/workunits/u3 "name,app,min_quorum,target_nresults,max_error_results,max_total_results,max_success_results,delay_bound,rsc_fpops_est,rsc_memory_bound,rsc_disk_bound,credit\nw1,dock,2,2,3,5,4,7200,3600000,1000,1000,5000\n"
+< 200 {"batch":"u3","kind":"workunits","rows":1}
+> 1970-01-01T00:16:40Z scheduler {"authenticator":"k1","rpc_seqno":1,"host_info":{"host_cpid":"c1","p_fpops":1000,"m_nbytes":8000,"d_free":9000},"platform_name":"linux","work_req_seconds":3600}
+< 200 {"end_word":"enough","host_total_credit":0,"hostid":1,"request_delay":60,"result_abort":[],"result_ack":[],"results":[{"app_name":"dock","estimate":3600,"name":"w1_0","platform":"linux","report_deadline":8200,"resent":false,"version_num":102,"wu_name":"w1"}],"rpc_seqno":1,"user_name":"Ann","user_total_credit":0}
+> 1970-01-01T00:18:20Z scheduler {"authenticator":"k1","rpc_seqno":2,"host_info":{"host_cpid":"c1","p_fpops":1000,"m_nbytes":8000,"d_free":9000},"platform_name":"linux","other_results":[],"results":[{"name":"w1_0","exit_status":0,"output":"ok"}]}
+< 200 {"end_word":"enough","host_total_credit":0,"hostid":1,"request_delay":60,"result_abort":[],"result_ack":["w1_0"],"results":[],"rpc_seqno":2,"user_name":"Ann","user_total_credit":0}
 
-/// Two more users' hosts.
-const DAN: Host = Host {
-    key: "k4",
-    cpid: "c4",
-    number: 4,
-    user: "k4",
-};
+= a lost job of a done workunit is not sent again
+> 1970-01-01T00:00:00Z import/workunits/u3 "name,app,min_quorum,target_nresults,max_error_results,max_total_results,max_success_results,delay_bound,rsc_fpops_est,rsc_memory_bound,rsc_disk_bound,credit\nw5,dock,1,2,3,5,4,7200,3600000,1000,1000,5000\n"
+< 200 {"batch":"u3","kind":"workunits","rows":1}
+> 1970-01-01T00:16:40Z scheduler {"authenticator":"k1","rpc_seqno":1,"host_info":{"host_cpid":"c1","p_fpops":1000,"m_nbytes":8000,"d_free":9000},"platform_name":"linux","work_req_seconds":3600}
+< 200 {"end_word":"enough","host_total_credit":0,"hostid":1,"request_delay":60,"result_abort":[],"result_ack":[],"results":[{"app_name":"dock","estimate":3600,"name":"w5_0","platform":"linux","report_deadline":8200,"resent":false,"version_num":102,"wu_name":"w5"}],"rpc_seqno":1,"user_name":"Ann","user_total_credit":0}
+> 1970-01-01T00:16:40Z scheduler {"authenticator":"k2","rpc_seqno":1,"host_info":{"host_cpid":"c2","p_fpops":1000,"m_nbytes":8000,"d_free":9000},"platform_name":"linux","work_req_seconds":3600}
+< 200 {"end_word":"enough","host_total_credit":0,"hostid":2,"request_delay":60,"result_abort":[],"result_ack":[],"results":[{"app_name":"dock","estimate":3600,"name":"w5_1","platform":"linux","report_deadline":8200,"resent":false,"version_num":102,"wu_name":"w5"}],"rpc_seqno":1,"user_name":"Bob","user_total_credit":0}
+> 1970-01-01T00:33:20Z scheduler {"authenticator":"k2","rpc_seqno":2,"host_info":{"host_cpid":"c2","p_fpops":1000,"m_nbytes":8000,"d_free":9000},"platform_name":"linux","results":[{"name":"w5_1","exit_status":0,"output":"x"}]}
+< 200 {"end_word":"enough","host_total_credit":5000,"hostid":2,"request_delay":60,"result_abort":[],"result_ack":["w5_1"],"results":[],"rpc_seqno":2,"user_name":"Bob","user_total_credit":5000}
+> 1970-01-01T00:35:00Z scheduler {"authenticator":"k1","rpc_seqno":2,"host_info":{"host_cpid":"c1","p_fpops":1000,"m_nbytes":8000,"d_free":9000},"platform_name":"linux","other_results":[]}
+< 200 {"end_word":"enough","host_total_credit":0,"hostid":1,"request_delay":60,"result_abort":[],"result_ack":[],"results":[],"rpc_seqno":2,"user_name":"Ann","user_total_credit":0}
 
-const EVE: Host = Host {
-    key: "k5",
-    cpid: "c5",
-    number: 5,
-    user: "k5",
-};
+= a report that agrees has credit behind the quorum
+> 1970-01-01T00:00:00Z import/workunits/u3 "name,app,min_quorum,target_nresults,max_error_results,max_total_results,max_success_results,delay_bound,rsc_fpops_est,rsc_memory_bound,rsc_disk_bound,credit\nw5,dock,1,2,3,5,4,7200,3600000,1000,1000,5000\n"
+< 200 {"batch":"u3","kind":"workunits","rows":1}
+> 1970-01-01T00:16:40Z scheduler {"authenticator":"k1","rpc_seqno":1,"host_info":{"host_cpid":"c1","p_fpops":1000,"m_nbytes":8000,"d_free":9000},"platform_name":"linux","work_req_seconds":3600}
+< 200 {"end_word":"enough","host_total_credit":0,"hostid":1,"request_delay":60,"result_abort":[],"result_ack":[],"results":[{"app_name":"dock","estimate":3600,"name":"w5_0","platform":"linux","report_deadline":8200,"resent":false,"version_num":102,"wu_name":"w5"}],"rpc_seqno":1,"user_name":"Ann","user_total_credit":0}
+> 1970-01-01T00:16:40Z scheduler {"authenticator":"k2","rpc_seqno":1,"host_info":{"host_cpid":"c2","p_fpops":1000,"m_nbytes":8000,"d_free":9000},"platform_name":"linux","work_req_seconds":3600}
+< 200 {"end_word":"enough","host_total_credit":0,"hostid":2,"request_delay":60,"result_abort":[],"result_ack":[],"results":[{"app_name":"dock","estimate":3600,"name":"w5_1","platform":"linux","report_deadline":8200,"resent":false,"version_num":102,"wu_name":"w5"}],"rpc_seqno":1,"user_name":"Bob","user_total_credit":0}
+> 1970-01-01T00:33:20Z scheduler {"authenticator":"k2","rpc_seqno":2,"host_info":{"host_cpid":"c2","p_fpops":1000,"m_nbytes":8000,"d_free":9000},"platform_name":"linux","results":[{"name":"w5_1","exit_status":0,"output":"x"}]}
+< 200 {"end_word":"enough","host_total_credit":5000,"hostid":2,"request_delay":60,"result_abort":[],"result_ack":["w5_1"],"results":[],"rpc_seqno":2,"user_name":"Bob","user_total_credit":5000}
+> 1970-01-01T00:35:00Z scheduler {"authenticator":"k1","rpc_seqno":2,"host_info":{"host_cpid":"c1","p_fpops":1000,"m_nbytes":8000,"d_free":9000},"platform_name":"linux","results":[{"name":"w5_0","exit_status":0,"output":"x"}]}
+< 200 {"end_word":"enough","host_total_credit":5000,"hostid":1,"request_delay":60,"result_abort":[],"result_ack":["w5_0"],"results":[],"rpc_seqno":2,"user_name":"Ann","user_total_credit":5000}
 
-/// A workunit of which three results are wanted that agree within two, and its jobs.
-const F1: Unit = Unit {
-    name: "f1",
-    app: "fold",
-    min_quorum: 3,
-    target_nresults: 3,
-    max_error_results: 3,
-    max_total_results: 6,
-    max_success_results: 5,
-};
+= the first report with enough agreement decides
+> 1970-01-01T00:00:00Z import/workunits/u3 "name,app,min_quorum,target_nresults,max_error_results,max_total_results,max_success_results,delay_bound,rsc_fpops_est,rsc_memory_bound,rsc_disk_bound,credit\nf1,fold,3,3,3,6,5,7200,3600000,1000,1000,5000\n"
+< 200 {"batch":"u3","kind":"workunits","rows":1}
+> 1970-01-01T00:16:40Z scheduler {"authenticator":"k1","rpc_seqno":1,"host_info":{"host_cpid":"c1","p_fpops":1000,"m_nbytes":8000,"d_free":9000},"platform_name":"linux","work_req_seconds":3600}
+< 200 {"end_word":"enough","host_total_credit":0,"hostid":1,"request_delay":60,"result_abort":[],"result_ack":[],"results":[{"app_name":"fold","estimate":3600,"name":"f1_0","platform":"linux","report_deadline":8200,"resent":false,"version_num":7,"wu_name":"f1"}],"rpc_seqno":1,"user_name":"Ann","user_total_credit":0}
+> 1970-01-01T00:16:40Z scheduler {"authenticator":"k2","rpc_seqno":1,"host_info":{"host_cpid":"c2","p_fpops":1000,"m_nbytes":8000,"d_free":9000},"platform_name":"linux","work_req_seconds":3600}
+< 200 {"end_word":"enough","host_total_credit":0,"hostid":2,"request_delay":60,"result_abort":[],"result_ack":[],"results":[{"app_name":"fold","estimate":3600,"name":"f1_1","platform":"linux","report_deadline":8200,"resent":false,"version_num":7,"wu_name":"f1"}],"rpc_seqno":1,"user_name":"Bob","user_total_credit":0}
+> 1970-01-01T00:16:40Z scheduler {"authenticator":"k3","rpc_seqno":1,"host_info":{"host_cpid":"c3","p_fpops":1000,"m_nbytes":8000,"d_free":9000},"platform_name":"linux","work_req_seconds":3600}
+< 200 {"end_word":"enough","host_total_credit":0,"hostid":3,"request_delay":60,"result_abort":[],"result_ack":[],"results":[{"app_name":"fold","estimate":3600,"name":"f1_2","platform":"linux","report_deadline":8200,"resent":false,"version_num":7,"wu_name":"f1"}],"rpc_seqno":1,"user_name":"Cid","user_total_credit":0}
+> 1970-01-01T00:33:20Z scheduler {"authenticator":"k1","rpc_seqno":2,"host_info":{"host_cpid":"c1","p_fpops":1000,"m_nbytes":8000,"d_free":9000},"platform_name":"linux","results":[{"name":"f1_0","exit_status":0,"output":"10"}]}
+< 200 {"end_word":"enough","host_total_credit":0,"hostid":1,"request_delay":60,"result_abort":[],"result_ack":["f1_0"],"results":[],"rpc_seqno":2,"user_name":"Ann","user_total_credit":0}
+> 1970-01-01T00:33:20Z scheduler {"authenticator":"k2","rpc_seqno":2,"host_info":{"host_cpid":"c2","p_fpops":1000,"m_nbytes":8000,"d_free":9000},"platform_name":"linux","results":[{"name":"f1_1","exit_status":0,"output":"13"}]}
+< 200 {"end_word":"enough","host_total_credit":0,"hostid":2,"request_delay":60,"result_abort":[],"result_ack":["f1_1"],"results":[],"rpc_seqno":2,"user_name":"Bob","user_total_credit":0}
+> 1970-01-01T00:33:20Z scheduler {"authenticator":"k3","rpc_seqno":2,"host_info":{"host_cpid":"c3","p_fpops":1000,"m_nbytes":8000,"d_free":9000},"platform_name":"linux","results":[{"name":"f1_2","exit_status":0,"output":"12"}]}
+< 200 {"end_word":"enough","host_total_credit":5000,"hostid":3,"request_delay":60,"result_abort":[],"result_ack":["f1_2"],"results":[],"rpc_seqno":2,"user_name":"Cid","user_total_credit":5000}
+> 1970-01-01T00:35:00Z scheduler {"authenticator":"k1","rpc_seqno":3,"host_info":{"host_cpid":"c1","p_fpops":1000,"m_nbytes":8000,"d_free":9000},"platform_name":"linux"}
+< 200 {"end_word":"enough","host_total_credit":5000,"hostid":1,"request_delay":60,"result_abort":[],"result_ack":[],"results":[],"rpc_seqno":3,"user_name":"Ann","user_total_credit":5000}
+> 1970-01-01T00:35:00Z scheduler {"authenticator":"k2","rpc_seqno":3,"host_info":{"host_cpid":"c2","p_fpops":1000,"m_nbytes":8000,"d_free":9000},"platform_name":"linux"}
+< 200 {"end_word":"enough","host_total_credit":0,"hostid":2,"request_delay":60,"result_abort":[],"result_ack":[],"results":[],"rpc_seqno":3,"user_name":"Bob","user_total_credit":0}
+> 1970-01-01T00:35:00Z scheduler {"authenticator":"k3","rpc_seqno":3,"host_info":{"host_cpid":"c3","p_fpops":1000,"m_nbytes":8000,"d_free":9000},"platform_name":"linux"}
+< 200 {"end_word":"enough","host_total_credit":5000,"hostid":3,"request_delay":60,"result_abort":[],"result_ack":[],"results":[],"rpc_seqno":3,"user_name":"Cid","user_total_credit":5000}
 
-const F1_0: Job = Job {
-    unit: "f1",
-    app: "fold",
-    version: 7,
-    ..JOB
-};
+= a report that differs from two others has no credit
+> 1970-01-01T00:00:00Z import/workunits/u3 "name,app,min_quorum,target_nresults,max_error_results,max_total_results,max_success_results,delay_bound,rsc_fpops_est,rsc_memory_bound,rsc_disk_bound,credit\nm1,dock,3,3,3,6,5,7200,3600000,1000,1000,5000\n"
+< 200 {"batch":"u3","kind":"workunits","rows":1}
+> 1970-01-01T00:16:40Z scheduler {"authenticator":"k1","rpc_seqno":1,"host_info":{"host_cpid":"c1","p_fpops":1000,"m_nbytes":8000,"d_free":9000},"platform_name":"linux","work_req_seconds":3600}
+< 200 {"end_word":"enough","host_total_credit":0,"hostid":1,"request_delay":60,"result_abort":[],"result_ack":[],"results":[{"app_name":"dock","estimate":3600,"name":"m1_0","platform":"linux","report_deadline":8200,"resent":false,"version_num":102,"wu_name":"m1"}],"rpc_seqno":1,"user_name":"Ann","user_total_credit":0}
+> 1970-01-01T00:16:40Z scheduler {"authenticator":"k2","rpc_seqno":1,"host_info":{"host_cpid":"c2","p_fpops":1000,"m_nbytes":8000,"d_free":9000},"platform_name":"linux","work_req_seconds":3600}
+< 200 {"end_word":"enough","host_total_credit":0,"hostid":2,"request_delay":60,"result_abort":[],"result_ack":[],"results":[{"app_name":"dock","estimate":3600,"name":"m1_1","platform":"linux","report_deadline":8200,"resent":false,"version_num":102,"wu_name":"m1"}],"rpc_seqno":1,"user_name":"Bob","user_total_credit":0}
+> 1970-01-01T00:16:40Z scheduler {"authenticator":"k3","rpc_seqno":1,"host_info":{"host_cpid":"c3","p_fpops":1000,"m_nbytes":8000,"d_free":9000},"platform_name":"linux","work_req_seconds":3600}
+< 200 {"end_word":"enough","host_total_credit":0,"hostid":3,"request_delay":60,"result_abort":[],"result_ack":[],"results":[{"app_name":"dock","estimate":3600,"name":"m1_2","platform":"linux","report_deadline":8200,"resent":false,"version_num":102,"wu_name":"m1"}],"rpc_seqno":1,"user_name":"Cid","user_total_credit":0}
+> 1970-01-01T00:33:20Z scheduler {"authenticator":"k3","rpc_seqno":2,"host_info":{"host_cpid":"c3","p_fpops":1000,"m_nbytes":8000,"d_free":9000},"platform_name":"linux","results":[{"name":"m1_2","exit_status":0,"output":"x"}]}
+< 200 {"end_word":"enough","host_total_credit":0,"hostid":3,"request_delay":60,"result_abort":[],"result_ack":["m1_2"],"results":[],"rpc_seqno":2,"user_name":"Cid","user_total_credit":0}
+> 1970-01-01T00:33:20Z scheduler {"authenticator":"k1","rpc_seqno":2,"host_info":{"host_cpid":"c1","p_fpops":1000,"m_nbytes":8000,"d_free":9000},"platform_name":"linux","results":[{"name":"m1_0","exit_status":0,"output":"x"}]}
+< 200 {"end_word":"enough","host_total_credit":0,"hostid":1,"request_delay":60,"result_abort":[],"result_ack":["m1_0"],"results":[],"rpc_seqno":2,"user_name":"Ann","user_total_credit":0}
+> 1970-01-01T00:33:20Z scheduler {"authenticator":"k2","rpc_seqno":2,"host_info":{"host_cpid":"c2","p_fpops":1000,"m_nbytes":8000,"d_free":9000},"platform_name":"linux","results":[{"name":"m1_1","exit_status":0,"output":"y"}]}
+< 200 {"end_word":"enough","host_total_credit":0,"hostid":2,"request_delay":60,"result_abort":[],"result_ack":["m1_1"],"results":[],"rpc_seqno":2,"user_name":"Bob","user_total_credit":0}
+> 1970-01-01T00:35:00Z scheduler {"authenticator":"k1","rpc_seqno":3,"host_info":{"host_cpid":"c1","p_fpops":1000,"m_nbytes":8000,"d_free":9000},"platform_name":"linux"}
+< 200 {"end_word":"enough","host_total_credit":5000,"hostid":1,"request_delay":60,"result_abort":[],"result_ack":[],"results":[],"rpc_seqno":3,"user_name":"Ann","user_total_credit":5000}
+> 1970-01-01T00:35:00Z scheduler {"authenticator":"k3","rpc_seqno":3,"host_info":{"host_cpid":"c3","p_fpops":1000,"m_nbytes":8000,"d_free":9000},"platform_name":"linux"}
+< 200 {"end_word":"enough","host_total_credit":5000,"hostid":3,"request_delay":60,"result_abort":[],"result_ack":[],"results":[],"rpc_seqno":3,"user_name":"Cid","user_total_credit":5000}
 
-const F1_1: Job = Job { number: 1, ..F1_0 };
+= two pairs of four decide nothing
+# three have to agree
+> 1970-01-01T00:00:00Z import/workunits/u3 "name,app,min_quorum,target_nresults,max_error_results,max_total_results,max_success_results,delay_bound,rsc_fpops_est,rsc_memory_bound,rsc_disk_bound,credit\nq1,dock,4,4,3,6,5,7200,3600000,1000,1000,5000\n"
+< 200 {"batch":"u3","kind":"workunits","rows":1}
+> 1970-01-01T00:00:00Z account k4
+< 200 {"batch":"k4","kind":"accounts","rows":1}
+> 1970-01-01T00:00:00Z account k5
+< 200 {"batch":"k5","kind":"accounts","rows":1}
+> 1970-01-01T00:16:40Z scheduler {"authenticator":"k1","rpc_seqno":1,"host_info":{"host_cpid":"c1","p_fpops":1000,"m_nbytes":8000,"d_free":9000},"platform_name":"linux","work_req_seconds":3600}
+< 200 {"end_word":"enough","host_total_credit":0,"hostid":1,"request_delay":60,"result_abort":[],"result_ack":[],"results":[{"app_name":"dock","estimate":3600,"name":"q1_0","platform":"linux","report_deadline":8200,"resent":false,"version_num":102,"wu_name":"q1"}],"rpc_seqno":1,"user_name":"Ann","user_total_credit":0}
+> 1970-01-01T00:16:40Z scheduler {"authenticator":"k2","rpc_seqno":1,"host_info":{"host_cpid":"c2","p_fpops":1000,"m_nbytes":8000,"d_free":9000},"platform_name":"linux","work_req_seconds":3600}
+< 200 {"end_word":"enough","host_total_credit":0,"hostid":2,"request_delay":60,"result_abort":[],"result_ack":[],"results":[{"app_name":"dock","estimate":3600,"name":"q1_1","platform":"linux","report_deadline":8200,"resent":false,"version_num":102,"wu_name":"q1"}],"rpc_seqno":1,"user_name":"Bob","user_total_credit":0}
+> 1970-01-01T00:16:40Z scheduler {"authenticator":"k3","rpc_seqno":1,"host_info":{"host_cpid":"c3","p_fpops":1000,"m_nbytes":8000,"d_free":9000},"platform_name":"linux","work_req_seconds":3600}
+< 200 {"end_word":"enough","host_total_credit":0,"hostid":3,"request_delay":60,"result_abort":[],"result_ack":[],"results":[{"app_name":"dock","estimate":3600,"name":"q1_2","platform":"linux","report_deadline":8200,"resent":false,"version_num":102,"wu_name":"q1"}],"rpc_seqno":1,"user_name":"Cid","user_total_credit":0}
+> 1970-01-01T00:16:40Z scheduler {"authenticator":"k4","rpc_seqno":1,"host_info":{"host_cpid":"c4","p_fpops":1000,"m_nbytes":8000,"d_free":9000},"platform_name":"linux","work_req_seconds":3600}
+< 200 {"end_word":"enough","host_total_credit":0,"hostid":4,"request_delay":60,"result_abort":[],"result_ack":[],"results":[{"app_name":"dock","estimate":3600,"name":"q1_3","platform":"linux","report_deadline":8200,"resent":false,"version_num":102,"wu_name":"q1"}],"rpc_seqno":1,"user_name":"k4","user_total_credit":0}
+> 1970-01-01T00:33:20Z scheduler {"authenticator":"k1","rpc_seqno":2,"host_info":{"host_cpid":"c1","p_fpops":1000,"m_nbytes":8000,"d_free":9000},"platform_name":"linux","results":[{"name":"q1_0","exit_status":0,"output":"x"}]}
+< 200 {"end_word":"enough","host_total_credit":0,"hostid":1,"request_delay":60,"result_abort":[],"result_ack":["q1_0"],"results":[],"rpc_seqno":2,"user_name":"Ann","user_total_credit":0}
+> 1970-01-01T00:33:20Z scheduler {"authenticator":"k2","rpc_seqno":2,"host_info":{"host_cpid":"c2","p_fpops":1000,"m_nbytes":8000,"d_free":9000},"platform_name":"linux","results":[{"name":"q1_1","exit_status":0,"output":"x"}]}
+< 200 {"end_word":"enough","host_total_credit":0,"hostid":2,"request_delay":60,"result_abort":[],"result_ack":["q1_1"],"results":[],"rpc_seqno":2,"user_name":"Bob","user_total_credit":0}
+> 1970-01-01T00:33:20Z scheduler {"authenticator":"k3","rpc_seqno":2,"host_info":{"host_cpid":"c3","p_fpops":1000,"m_nbytes":8000,"d_free":9000},"platform_name":"linux","results":[{"name":"q1_2","exit_status":0,"output":"y"}]}
+< 200 {"end_word":"enough","host_total_credit":0,"hostid":3,"request_delay":60,"result_abort":[],"result_ack":["q1_2"],"results":[],"rpc_seqno":2,"user_name":"Cid","user_total_credit":0}
+> 1970-01-01T00:33:20Z scheduler {"authenticator":"k4","rpc_seqno":2,"host_info":{"host_cpid":"c4","p_fpops":1000,"m_nbytes":8000,"d_free":9000},"platform_name":"linux","results":[{"name":"q1_3","exit_status":0,"output":"y"}]}
+< 200 {"end_word":"enough","host_total_credit":0,"hostid":4,"request_delay":60,"result_abort":[],"result_ack":["q1_3"],"results":[],"rpc_seqno":2,"user_name":"k4","user_total_credit":0}
+> 1970-01-01T00:16:40Z scheduler {"authenticator":"k5","rpc_seqno":1,"host_info":{"host_cpid":"c5","p_fpops":1000,"m_nbytes":8000,"d_free":9000},"platform_name":"linux","work_req_seconds":3600}
+< 200 {"end_word":"enough","host_total_credit":0,"hostid":5,"request_delay":60,"result_abort":[],"result_ack":[],"results":[{"app_name":"dock","estimate":3600,"name":"q1_4","platform":"linux","report_deadline":8200,"resent":false,"version_num":102,"wu_name":"q1"}],"rpc_seqno":1,"user_name":"k5","user_total_credit":0}
+> 1970-01-01T00:33:20Z scheduler {"authenticator":"k5","rpc_seqno":2,"host_info":{"host_cpid":"c5","p_fpops":1000,"m_nbytes":8000,"d_free":9000},"platform_name":"linux","results":[{"name":"q1_4","exit_status":0,"output":"x"}]}
+< 200 {"end_word":"enough","host_total_credit":5000,"hostid":5,"request_delay":60,"result_abort":[],"result_ack":["q1_4"],"results":[],"rpc_seqno":2,"user_name":"k5","user_total_credit":5000}
+> 1970-01-01T00:35:00Z scheduler {"authenticator":"k1","rpc_seqno":3,"host_info":{"host_cpid":"c1","p_fpops":1000,"m_nbytes":8000,"d_free":9000},"platform_name":"linux"}
+< 200 {"end_word":"enough","host_total_credit":5000,"hostid":1,"request_delay":60,"result_abort":[],"result_ack":[],"results":[],"rpc_seqno":3,"user_name":"Ann","user_total_credit":5000}
+> 1970-01-01T00:35:00Z scheduler {"authenticator":"k3","rpc_seqno":3,"host_info":{"host_cpid":"c3","p_fpops":1000,"m_nbytes":8000,"d_free":9000},"platform_name":"linux"}
+< 200 {"end_word":"enough","host_total_credit":0,"hostid":3,"request_delay":60,"result_abort":[],"result_ack":[],"results":[],"rpc_seqno":3,"user_name":"Cid","user_total_credit":0}
 
-const F1_2: Job = Job { number: 2, ..F1_0 };
+= a report of another host's job changes nothing
+> 1970-01-01T00:00:00Z import/workunits/u3 "name,app,min_quorum,target_nresults,max_error_results,max_total_results,max_success_results,delay_bound,rsc_fpops_est,rsc_memory_bound,rsc_disk_bound,credit\nw1,dock,2,2,3,5,4,7200,3600000,1000,1000,5000\n"
+< 200 {"batch":"u3","kind":"workunits","rows":1}
+> 1970-01-01T00:16:40Z scheduler {"authenticator":"k1","rpc_seqno":1,"host_info":{"host_cpid":"c1","p_fpops":1000,"m_nbytes":8000,"d_free":9000},"platform_name":"linux","work_req_seconds":3600}
+< 200 {"end_word":"enough","host_total_credit":0,"hostid":1,"request_delay":60,"result_abort":[],"result_ack":[],"results":[{"app_name":"dock","estimate":3600,"name":"w1_0","platform":"linux","report_deadline":8200,"resent":false,"version_num":102,"wu_name":"w1"}],"rpc_seqno":1,"user_name":"Ann","user_total_credit":0}
+> 1970-01-01T00:16:40Z scheduler {"authenticator":"k2","rpc_seqno":1,"host_info":{"host_cpid":"c2","p_fpops":1000,"m_nbytes":8000,"d_free":9000},"platform_name":"linux","results":[{"name":"w1_0","exit_status":0}]}
+< 200 {"end_word":"enough","host_total_credit":0,"hostid":2,"request_delay":60,"result_abort":[],"result_ack":["w1_0"],"results":[],"rpc_seqno":1,"user_name":"Bob","user_total_credit":0}
+> 1970-01-01T00:16:40Z scheduler {"authenticator":"k1","rpc_seqno":2,"host_info":{"host_cpid":"c1","p_fpops":1000,"m_nbytes":8000,"d_free":9000},"platform_name":"linux","other_results":["zz_0","w1_0"]}
+< 200 {"end_word":"enough","host_total_credit":0,"hostid":1,"request_delay":60,"result_abort":["zz_0"],"result_ack":[],"results":[],"rpc_seqno":2,"user_name":"Ann","user_total_credit":0}
 
-/// A workunit of which three results are wanted that are equal, and its jobs.
-const M1: Unit = Unit {
-    name: "m1",
-    app: "dock",
-    ..F1
-};
-
-const M1_0: Job = Job { unit: "m1", ..JOB };
-
-const M1_1: Job = Job { number: 1, ..M1_0 };
-
-const M1_2: Job = Job { number: 2, ..M1_0 };
-
-/// A workunit of which four results are wanted, and its jobs.
-const Q1: Unit = Unit {
-    name: "q1",
-    min_quorum: 4,
-    target_nresults: 4,
-    ..M1
-};
-
-const Q1_0: Job = Job { unit: "q1", ..JOB };
-
-const Q1_1: Job = Job { number: 1, ..Q1_0 };
-
-const Q1_2: Job = Job { number: 2, ..Q1_0 };
-
-const Q1_3: Job = Job { number: 3, ..Q1_0 };
-
-const Q1_4: Job = Job { number: 4, ..Q1_0 };
-
-/// Workunits of which two results are wanted that agree within two, and their jobs.
-const F2: Unit = Unit {
-    name: "f2",
-    app: "fold",
-    ..W1
-};
-
-const F3: Unit = Unit { name: "f3", ..F2 };
-
-const F4: Unit = Unit { name: "f4", ..F2 };
-
-const F2_0: Job = Job { unit: "f2", ..F1_0 };
-
-const F3_0: Job = Job { unit: "f3", ..F1_0 };
-
-const F4_0: Job = Job { unit: "f4", ..F1_0 };
-
-const F2_1: Job = Job { number: 1, ..F2_0 };
-
-const F3_1: Job = Job { number: 1, ..F3_0 };
-
-const F4_1: Job = Job { number: 1, ..F4_0 };
-
-pub const FIRST_ROWS: &[Row] = &[
-    (
-        "a reported job is not lost",
-        &[
-            Step::Units(&[W1]),
-            Step::Asks(ANN, &[JOB]),
-            Step::Call(
-                Call {
-                    moment: 1100,
-                    results: &[("w1_0", 0, "ok")],
-                    ..LISTS_NONE
-                },
-                Reply {
-                    acks: &["w1_0"],
-                    ..REPLY
-                },
-            ),
-        ],
-    ),
-    (
-        "a lost job of a done workunit is not sent again",
-        &[
-            Step::Units(&[W5]),
-            Step::Asks(ANN, &[W5_0]),
-            Step::Asks(BOB, &[W5_1]),
-            Step::Reports(BOB, 2, 2000, ("w5_1", 0, "x"), 5000),
-            Step::Call(LISTS_NONE, REPLY),
-        ],
-    ),
-    (
-        "a report that agrees has credit behind the quorum",
-        &[
-            Step::Units(&[W5]),
-            Step::Asks(ANN, &[W5_0]),
-            Step::Asks(BOB, &[W5_1]),
-            Step::Reports(BOB, 2, 2000, ("w5_1", 0, "x"), 5000),
-            Step::Reports(ANN, 2, 2100, ("w5_0", 0, "x"), 5000),
-        ],
-    ),
-    (
-        "the first report with enough agreement decides",
-        &[
-            Step::Units(&[F1]),
-            Step::Asks(ANN, &[F1_0]),
-            Step::Asks(BOB, &[F1_1]),
-            Step::Asks(CID, &[F1_2]),
-            Step::Reports(ANN, 2, 2000, ("f1_0", 0, "10"), 0),
-            Step::Reports(BOB, 2, 2000, ("f1_1", 0, "13"), 0),
-            Step::Reports(CID, 2, 2000, ("f1_2", 0, "12"), 5000),
-            Step::Call(READS, HAS_CREDIT),
-            Step::Call(Call { host: BOB, ..READS }, REPLY),
-            Step::Call(Call { host: CID, ..READS }, HAS_CREDIT),
-        ],
-    ),
-    (
-        "a report that differs from two others has no credit",
-        &[
-            Step::Units(&[M1]),
-            Step::Asks(ANN, &[M1_0]),
-            Step::Asks(BOB, &[M1_1]),
-            Step::Asks(CID, &[M1_2]),
-            Step::Reports(CID, 2, 2000, ("m1_2", 0, "x"), 0),
-            Step::Reports(ANN, 2, 2000, ("m1_0", 0, "x"), 0),
-            Step::Reports(BOB, 2, 2000, ("m1_1", 0, "y"), 0),
-            Step::Call(READS, HAS_CREDIT),
-            Step::Call(Call { host: CID, ..READS }, HAS_CREDIT),
-        ],
-    ),
-];
-
-pub const SECOND_ROWS: &[Row] = &[
-    (
-        // three have to agree
-        "two pairs of four decide nothing",
-        &[
-            Step::Units(&[Q1]),
-            Step::Line(
-                "1970-01-01T00:00:00Z account k4",
-                "200 {\"batch\":\"k4\",\"kind\":\"accounts\",\"rows\":1}",
-            ),
-            Step::Line(
-                "1970-01-01T00:00:00Z account k5",
-                "200 {\"batch\":\"k5\",\"kind\":\"accounts\",\"rows\":1}",
-            ),
-            Step::Asks(ANN, &[Q1_0]),
-            Step::Asks(BOB, &[Q1_1]),
-            Step::Asks(CID, &[Q1_2]),
-            Step::Asks(DAN, &[Q1_3]),
-            Step::Reports(ANN, 2, 2000, ("q1_0", 0, "x"), 0),
-            Step::Reports(BOB, 2, 2000, ("q1_1", 0, "x"), 0),
-            Step::Reports(CID, 2, 2000, ("q1_2", 0, "y"), 0),
-            Step::Reports(DAN, 2, 2000, ("q1_3", 0, "y"), 0),
-            Step::Asks(EVE, &[Q1_4]),
-            Step::Reports(EVE, 2, 2000, ("q1_4", 0, "x"), 5000),
-            Step::Call(READS, HAS_CREDIT),
-            Step::Call(Call { host: CID, ..READS }, REPLY),
-        ],
-    ),
-    (
-        "a report of another host's job changes nothing",
-        &[
-            Step::Units(&[W1]),
-            Step::Asks(ANN, &[JOB]),
-            Step::Reports(BOB, 1, 1000, ("w1_0", 0, ""), 0),
-            Step::Call(
-                Call {
-                    seqno: 2,
-                    other_results: Some(&["zz_0", "w1_0"]),
-                    ..CALL
-                },
-                Reply {
-                    aborts: &["zz_0"],
-                    ..REPLY
-                },
-            ),
-        ],
-    ),
-];
-
-pub const THIRD_ROWS: &[Row] = &[(
-    "numbers agree that are near, and texts that are equal",
-    &[
-        Step::Units(&[F2, F3, F4]),
-        Step::Call(
-            ASKS_FOR_TWO,
-            Reply {
-                jobs: &[F2_0, F3_0],
-                ..REPLY
-            },
-        ),
-        Step::Call(
-            Call { seqno: 2, ..ASKS },
-            Reply {
-                jobs: &[F4_0],
-                ..REPLY
-            },
-        ),
-        Step::Call(
-            Call {
-                host: BOB,
-                ..ASKS_FOR_TWO
-            },
-            Reply {
-                jobs: &[F2_1, F3_1],
-                ..REPLY
-            },
-        ),
-        Step::Call(
-            Call {
-                host: BOB,
-                seqno: 2,
-                ..ASKS
-            },
-            Reply {
-                jobs: &[F4_1],
-                ..REPLY
-            },
-        ),
-        Step::Reports(ANN, 3, 2000, ("f2_0", 0, "-1"), 0),
-        Step::Reports(ANN, 4, 2000, ("f3_0", 0, "x"), 0),
-        Step::Reports(ANN, 5, 2000, ("f4_0", 0, "01"), 0),
-        Step::Reports(BOB, 3, 2000, ("f2_1", 0, "1"), 5000),
-        Step::Reports(BOB, 4, 2000, ("f3_1", 0, "x"), 10_000),
-        Step::Reports(BOB, 5, 2000, ("f4_1", 0, "1"), 10_000),
-    ],
-)];
+= numbers agree that are near, and texts that are equal
+> 1970-01-01T00:00:00Z import/workunits/u3 "name,app,min_quorum,target_nresults,max_error_results,max_total_results,max_success_results,delay_bound,rsc_fpops_est,rsc_memory_bound,rsc_disk_bound,credit\nf2,fold,2,2,3,5,4,7200,3600000,1000,1000,5000\nf3,fold,2,2,3,5,4,7200,3600000,1000,1000,5000\nf4,fold,2,2,3,5,4,7200,3600000,1000,1000,5000\n"
+< 200 {"batch":"u3","kind":"workunits","rows":3}
+> 1970-01-01T00:16:40Z scheduler {"authenticator":"k1","rpc_seqno":1,"host_info":{"host_cpid":"c1","p_fpops":1000,"m_nbytes":8000,"d_free":9000},"platform_name":"linux","work_req_seconds":7200}
+< 200 {"end_word":"enough","host_total_credit":0,"hostid":1,"request_delay":60,"result_abort":[],"result_ack":[],"results":[{"app_name":"fold","estimate":3600,"name":"f2_0","platform":"linux","report_deadline":8200,"resent":false,"version_num":7,"wu_name":"f2"},{"app_name":"fold","estimate":3600,"name":"f3_0","platform":"linux","report_deadline":8200,"resent":false,"version_num":7,"wu_name":"f3"}],"rpc_seqno":1,"user_name":"Ann","user_total_credit":0}
+> 1970-01-01T00:16:40Z scheduler {"authenticator":"k1","rpc_seqno":2,"host_info":{"host_cpid":"c1","p_fpops":1000,"m_nbytes":8000,"d_free":9000},"platform_name":"linux","work_req_seconds":3600}
+< 200 {"end_word":"enough","host_total_credit":0,"hostid":1,"request_delay":60,"result_abort":[],"result_ack":[],"results":[{"app_name":"fold","estimate":3600,"name":"f4_0","platform":"linux","report_deadline":8200,"resent":false,"version_num":7,"wu_name":"f4"}],"rpc_seqno":2,"user_name":"Ann","user_total_credit":0}
+> 1970-01-01T00:16:40Z scheduler {"authenticator":"k2","rpc_seqno":1,"host_info":{"host_cpid":"c2","p_fpops":1000,"m_nbytes":8000,"d_free":9000},"platform_name":"linux","work_req_seconds":7200}
+< 200 {"end_word":"enough","host_total_credit":0,"hostid":2,"request_delay":60,"result_abort":[],"result_ack":[],"results":[{"app_name":"fold","estimate":3600,"name":"f2_1","platform":"linux","report_deadline":8200,"resent":false,"version_num":7,"wu_name":"f2"},{"app_name":"fold","estimate":3600,"name":"f3_1","platform":"linux","report_deadline":8200,"resent":false,"version_num":7,"wu_name":"f3"}],"rpc_seqno":1,"user_name":"Bob","user_total_credit":0}
+> 1970-01-01T00:16:40Z scheduler {"authenticator":"k2","rpc_seqno":2,"host_info":{"host_cpid":"c2","p_fpops":1000,"m_nbytes":8000,"d_free":9000},"platform_name":"linux","work_req_seconds":3600}
+< 200 {"end_word":"enough","host_total_credit":0,"hostid":2,"request_delay":60,"result_abort":[],"result_ack":[],"results":[{"app_name":"fold","estimate":3600,"name":"f4_1","platform":"linux","report_deadline":8200,"resent":false,"version_num":7,"wu_name":"f4"}],"rpc_seqno":2,"user_name":"Bob","user_total_credit":0}
+> 1970-01-01T00:33:20Z scheduler {"authenticator":"k1","rpc_seqno":3,"host_info":{"host_cpid":"c1","p_fpops":1000,"m_nbytes":8000,"d_free":9000},"platform_name":"linux","results":[{"name":"f2_0","exit_status":0,"output":"-1"}]}
+< 200 {"end_word":"enough","host_total_credit":0,"hostid":1,"request_delay":60,"result_abort":[],"result_ack":["f2_0"],"results":[],"rpc_seqno":3,"user_name":"Ann","user_total_credit":0}
+> 1970-01-01T00:33:20Z scheduler {"authenticator":"k1","rpc_seqno":4,"host_info":{"host_cpid":"c1","p_fpops":1000,"m_nbytes":8000,"d_free":9000},"platform_name":"linux","results":[{"name":"f3_0","exit_status":0,"output":"x"}]}
+< 200 {"end_word":"enough","host_total_credit":0,"hostid":1,"request_delay":60,"result_abort":[],"result_ack":["f3_0"],"results":[],"rpc_seqno":4,"user_name":"Ann","user_total_credit":0}
+> 1970-01-01T00:33:20Z scheduler {"authenticator":"k1","rpc_seqno":5,"host_info":{"host_cpid":"c1","p_fpops":1000,"m_nbytes":8000,"d_free":9000},"platform_name":"linux","results":[{"name":"f4_0","exit_status":0,"output":"01"}]}
+< 200 {"end_word":"enough","host_total_credit":0,"hostid":1,"request_delay":60,"result_abort":[],"result_ack":["f4_0"],"results":[],"rpc_seqno":5,"user_name":"Ann","user_total_credit":0}
+> 1970-01-01T00:33:20Z scheduler {"authenticator":"k2","rpc_seqno":3,"host_info":{"host_cpid":"c2","p_fpops":1000,"m_nbytes":8000,"d_free":9000},"platform_name":"linux","results":[{"name":"f2_1","exit_status":0,"output":"1"}]}
+< 200 {"end_word":"enough","host_total_credit":5000,"hostid":2,"request_delay":60,"result_abort":[],"result_ack":["f2_1"],"results":[],"rpc_seqno":3,"user_name":"Bob","user_total_credit":5000}
+> 1970-01-01T00:33:20Z scheduler {"authenticator":"k2","rpc_seqno":4,"host_info":{"host_cpid":"c2","p_fpops":1000,"m_nbytes":8000,"d_free":9000},"platform_name":"linux","results":[{"name":"f3_1","exit_status":0,"output":"x"}]}
+< 200 {"end_word":"enough","host_total_credit":10000,"hostid":2,"request_delay":60,"result_abort":[],"result_ack":["f3_1"],"results":[],"rpc_seqno":4,"user_name":"Bob","user_total_credit":10000}
+> 1970-01-01T00:33:20Z scheduler {"authenticator":"k2","rpc_seqno":5,"host_info":{"host_cpid":"c2","p_fpops":1000,"m_nbytes":8000,"d_free":9000},"platform_name":"linux","results":[{"name":"f4_1","exit_status":0,"output":"1"}]}
+< 200 {"end_word":"enough","host_total_credit":10000,"hostid":2,"request_delay":60,"result_abort":[],"result_ack":["f4_1"],"results":[],"rpc_seqno":5,"user_name":"Bob","user_total_credit":10000}
+"#;

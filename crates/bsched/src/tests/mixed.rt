@@ -4,7 +4,6 @@
 //! two ticks. What an answer must be is told from the lines, or from the answers before it.
 
 use super::replayed_under;
-use super::rows::instant;
 use commands::default_settings;
 use replay_lines::Ended;
 use std::alloc::Global;
@@ -103,6 +102,15 @@ fn moment_of(round: u32) -> u32 {
 /// The number of a round's new calls.
 fn seqno_of(round: u32) -> u32 {
     round % ROUNDS * 2 + 2
+}
+
+/// A moment of the first days of 1970 as an instant.
+fn instant(alloc: Global, moment: u32) -> Result<String, Fail> {
+    let day = moment / 86_400 % 30 + 1;
+    let hour = moment / 3600 % 24;
+    let minute = moment / 60 % 60;
+    let second = moment % 60;
+    Ok(format!(in alloc; "1970-01-{day:02}T{hour:02}:{minute:02}:{second:02}Z")?)
 }
 
 /// The line of a call.

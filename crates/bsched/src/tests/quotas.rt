@@ -1,268 +1,77 @@
 //! Worked rows of credit, and of the quotas of hosts.
 
-use super::rows::{
-    ANN, ANN_TOO, BOB, CALL, CID, Call, JOB, Job, REPLY, Reply, Row, Step, Unit, W1, W2, W3, W4,
-};
-use super::worked::{ASKS, ASKS_FOR_TWO, D1, HAS_CREDIT, LISTS_NONE, READS, SECOND, W5, W5_0};
+pub const ROWS: &str = r#"
+= errors lower the quota, a valid result doubles it, and a new day begins anew
+# to two, and to one at the least; then one more error comes with a valid result: one at the least, and twice that
+> 1970-01-01T00:00:00Z import/workunits/u3 "name,app,min_quorum,target_nresults,max_error_results,max_total_results,max_success_results,delay_bound,rsc_fpops_est,rsc_memory_bound,rsc_disk_bound,credit\nw1,dock,2,2,3,5,4,7200,3600000,1000,1000,5000\nw2,dock,2,2,3,5,4,7200,3600000,1000,1000,5000\nw3,dock,2,2,3,5,4,7200,3600000,1000,1000,5000\nw4,dock,2,2,3,5,4,7200,3600000,1000,1000,5000\nw5,dock,1,2,3,5,4,7200,3600000,1000,1000,5000\nw6,dock,1,2,3,5,4,7200,3600000,1000,1000,5000\nw7,dock,2,2,3,5,4,7200,3600000,1000,1000,5000\nw8,dock,2,2,3,5,4,7200,3600000,1000,1000,5000\n"
+< 200 {"batch":"u3","kind":"workunits","rows":8}
+> 1970-01-01T00:16:40Z scheduler {"authenticator":"k1","rpc_seqno":1,"host_info":{"host_cpid":"c1","p_fpops":1000,"m_nbytes":8000,"d_free":9000},"platform_name":"linux","work_req_seconds":7200}
+< 200 {"end_word":"enough","host_total_credit":0,"hostid":1,"request_delay":60,"result_abort":[],"result_ack":[],"results":[{"app_name":"dock","estimate":3600,"name":"w1_0","platform":"linux","report_deadline":8200,"resent":false,"version_num":102,"wu_name":"w1"},{"app_name":"dock","estimate":3600,"name":"w2_0","platform":"linux","report_deadline":8200,"resent":false,"version_num":102,"wu_name":"w2"}],"rpc_seqno":1,"user_name":"Ann","user_total_credit":0}
+> 1970-01-01T00:18:20Z scheduler {"authenticator":"k1","rpc_seqno":2,"host_info":{"host_cpid":"c1","p_fpops":1000,"m_nbytes":8000,"d_free":9000},"platform_name":"linux","work_req_seconds":7200,"results":[{"name":"w1_0","exit_status":1},{"name":"w2_0","exit_status":1}]}
+< 200 {"end_word":"daily_quota","host_total_credit":0,"hostid":1,"request_delay":60,"result_abort":[],"result_ack":["w1_0","w2_0"],"results":[],"rpc_seqno":2,"user_name":"Ann","user_total_credit":0}
+> 1970-01-02T00:00:00Z scheduler {"authenticator":"k1","rpc_seqno":3,"host_info":{"host_cpid":"c1","p_fpops":1000,"m_nbytes":8000,"d_free":9000},"platform_name":"linux","work_req_seconds":7200}
+< 200 {"end_word":"enough","host_total_credit":0,"hostid":1,"request_delay":60,"result_abort":[],"result_ack":[],"results":[{"app_name":"dock","estimate":3600,"name":"w3_0","platform":"linux","report_deadline":93600,"resent":false,"version_num":102,"wu_name":"w3"},{"app_name":"dock","estimate":3600,"name":"w4_0","platform":"linux","report_deadline":93600,"resent":false,"version_num":102,"wu_name":"w4"}],"rpc_seqno":3,"user_name":"Ann","user_total_credit":0}
+> 1970-01-03T00:00:00Z scheduler {"authenticator":"k1","rpc_seqno":4,"host_info":{"host_cpid":"c1","p_fpops":1000,"m_nbytes":8000,"d_free":9000},"platform_name":"linux","work_req_seconds":7200,"results":[{"name":"w3_0","exit_status":1},{"name":"w4_0","exit_status":1}]}
+< 200 {"end_word":"daily_quota","host_total_credit":0,"hostid":1,"request_delay":60,"result_abort":[],"result_ack":["w3_0","w4_0"],"results":[{"app_name":"dock","estimate":3600,"name":"w5_0","platform":"linux","report_deadline":180000,"resent":false,"version_num":102,"wu_name":"w5"}],"rpc_seqno":4,"user_name":"Ann","user_total_credit":0}
+> 1970-01-04T00:00:00Z scheduler {"authenticator":"k1","rpc_seqno":5,"host_info":{"host_cpid":"c1","p_fpops":1000,"m_nbytes":8000,"d_free":9000},"platform_name":"linux","work_req_seconds":3600}
+< 200 {"end_word":"enough","host_total_credit":0,"hostid":1,"request_delay":60,"result_abort":[],"result_ack":[],"results":[{"app_name":"dock","estimate":3600,"name":"w6_0","platform":"linux","report_deadline":266400,"resent":false,"version_num":102,"wu_name":"w6"}],"rpc_seqno":5,"user_name":"Ann","user_total_credit":0}
+> 1970-01-05T00:00:00Z scheduler {"authenticator":"k1","rpc_seqno":6,"host_info":{"host_cpid":"c1","p_fpops":1000,"m_nbytes":8000,"d_free":9000},"platform_name":"linux","work_req_seconds":7200,"results":[{"name":"w5_0","exit_status":0,"output":"x"},{"name":"w6_0","exit_status":1}]}
+< 200 {"end_word":"enough","host_total_credit":5000,"hostid":1,"request_delay":60,"result_abort":[],"result_ack":["w5_0","w6_0"],"results":[{"app_name":"dock","estimate":3600,"name":"w7_0","platform":"linux","report_deadline":352800,"resent":false,"version_num":102,"wu_name":"w7"},{"app_name":"dock","estimate":3600,"name":"w8_0","platform":"linux","report_deadline":352800,"resent":false,"version_num":102,"wu_name":"w8"}],"rpc_seqno":6,"user_name":"Ann","user_total_credit":5000}
+> 1970-01-05T00:00:01Z scheduler {"authenticator":"k1","rpc_seqno":7,"host_info":{"host_cpid":"c1","p_fpops":1000,"m_nbytes":8000,"d_free":9000},"platform_name":"linux","work_req_seconds":3600}
+< 200 {"end_word":"daily_quota","host_total_credit":5000,"hostid":1,"request_delay":60,"result_abort":[],"result_ack":[],"results":[],"rpc_seqno":7,"user_name":"Ann","user_total_credit":5000}
 
-/// A second workunit for which one result is enough, and its job.
-const W6: Unit = Unit { name: "w6", ..W5 };
+= late jobs lower the quota, and dropped ones do not
+> 1970-01-01T00:00:00Z import/workunits/u3 "name,app,min_quorum,target_nresults,max_error_results,max_total_results,max_success_results,delay_bound,rsc_fpops_est,rsc_memory_bound,rsc_disk_bound,credit\nw1,dock,2,2,3,5,4,7200,3600000,1000,1000,5000\nw2,dock,2,2,3,5,4,7200,3600000,1000,1000,5000\nw3,dock,2,2,3,5,4,7200,3600000,1000,1000,5000\n"
+< 200 {"batch":"u3","kind":"workunits","rows":3}
+> 1970-01-01T00:16:40Z scheduler {"authenticator":"k1","rpc_seqno":1,"host_info":{"host_cpid":"c1","p_fpops":1000,"m_nbytes":8000,"d_free":9000},"platform_name":"linux","work_req_seconds":7200}
+< 200 {"end_word":"enough","host_total_credit":0,"hostid":1,"request_delay":60,"result_abort":[],"result_ack":[],"results":[{"app_name":"dock","estimate":3600,"name":"w1_0","platform":"linux","report_deadline":8200,"resent":false,"version_num":102,"wu_name":"w1"},{"app_name":"dock","estimate":3600,"name":"w2_0","platform":"linux","report_deadline":8200,"resent":false,"version_num":102,"wu_name":"w2"}],"rpc_seqno":1,"user_name":"Ann","user_total_credit":0}
+> 1970-01-01T00:16:40Z scheduler {"authenticator":"k2","rpc_seqno":1,"host_info":{"host_cpid":"c2","p_fpops":1000,"m_nbytes":8000,"d_free":9000},"platform_name":"linux","work_req_seconds":7200}
+< 200 {"end_word":"enough","host_total_credit":0,"hostid":2,"request_delay":60,"result_abort":[],"result_ack":[],"results":[{"app_name":"dock","estimate":3600,"name":"w1_1","platform":"linux","report_deadline":8200,"resent":false,"version_num":102,"wu_name":"w1"},{"app_name":"dock","estimate":3600,"name":"w2_1","platform":"linux","report_deadline":8200,"resent":false,"version_num":102,"wu_name":"w2"}],"rpc_seqno":1,"user_name":"Bob","user_total_credit":0}
+> 1970-01-01T02:13:20Z scheduler {"authenticator":"k2","rpc_seqno":2,"host_info":{"host_cpid":"c2","p_fpops":499,"m_nbytes":8000,"d_free":9000},"platform_name":"linux","other_results":[]}
+< 200 {"end_word":"enough","host_total_credit":0,"hostid":2,"request_delay":60,"result_abort":[],"result_ack":[],"results":[],"rpc_seqno":2,"user_name":"Bob","user_total_credit":0}
+> 1970-01-01T02:16:41Z tick
+< 200 {"lapsed":2}
+> 1970-01-01T02:30:00Z scheduler {"authenticator":"k1","rpc_seqno":2,"host_info":{"host_cpid":"c1","p_fpops":1000,"m_nbytes":8000,"d_free":9000},"platform_name":"linux","work_req_seconds":3600}
+< 200 {"end_word":"daily_quota","host_total_credit":0,"hostid":1,"request_delay":60,"result_abort":[],"result_ack":[],"results":[],"rpc_seqno":2,"user_name":"Ann","user_total_credit":0}
+> 1970-01-01T02:30:00Z scheduler {"authenticator":"k2","rpc_seqno":3,"host_info":{"host_cpid":"c2","p_fpops":1000,"m_nbytes":8000,"d_free":9000},"platform_name":"linux","work_req_seconds":3600}
+< 200 {"end_word":"enough","host_total_credit":0,"hostid":2,"request_delay":60,"result_abort":[],"result_ack":[],"results":[{"app_name":"dock","estimate":3600,"name":"w3_0","platform":"linux","report_deadline":16200,"resent":false,"version_num":102,"wu_name":"w3"}],"rpc_seqno":3,"user_name":"Bob","user_total_credit":0}
 
-const W6_0: Job = Job { unit: "w6", ..JOB };
+= a report that disagrees behind the quorum has no credit and takes none
+# which lowers the quota to three
+> 1970-01-01T00:00:00Z import/workunits/u3 "name,app,min_quorum,target_nresults,max_error_results,max_total_results,max_success_results,delay_bound,rsc_fpops_est,rsc_memory_bound,rsc_disk_bound,credit\nd1,dock,2,3,3,5,4,7200,3600000,1000,1000,5000\nw1,dock,2,2,3,5,4,7200,3600000,1000,1000,5000\nw2,dock,2,2,3,5,4,7200,3600000,1000,1000,5000\n"
+< 200 {"batch":"u3","kind":"workunits","rows":3}
+> 1970-01-01T00:16:40Z scheduler {"authenticator":"k1","rpc_seqno":1,"host_info":{"host_cpid":"c1","p_fpops":1000,"m_nbytes":8000,"d_free":9000},"platform_name":"linux","work_req_seconds":3600}
+< 200 {"end_word":"enough","host_total_credit":0,"hostid":1,"request_delay":60,"result_abort":[],"result_ack":[],"results":[{"app_name":"dock","estimate":3600,"name":"d1_0","platform":"linux","report_deadline":8200,"resent":false,"version_num":102,"wu_name":"d1"}],"rpc_seqno":1,"user_name":"Ann","user_total_credit":0}
+> 1970-01-01T00:16:40Z scheduler {"authenticator":"k2","rpc_seqno":1,"host_info":{"host_cpid":"c2","p_fpops":1000,"m_nbytes":8000,"d_free":9000},"platform_name":"linux","work_req_seconds":3600}
+< 200 {"end_word":"enough","host_total_credit":0,"hostid":2,"request_delay":60,"result_abort":[],"result_ack":[],"results":[{"app_name":"dock","estimate":3600,"name":"d1_1","platform":"linux","report_deadline":8200,"resent":false,"version_num":102,"wu_name":"d1"}],"rpc_seqno":1,"user_name":"Bob","user_total_credit":0}
+> 1970-01-01T00:16:40Z scheduler {"authenticator":"k3","rpc_seqno":1,"host_info":{"host_cpid":"c3","p_fpops":1000,"m_nbytes":8000,"d_free":9000},"platform_name":"linux","work_req_seconds":3600}
+< 200 {"end_word":"enough","host_total_credit":0,"hostid":3,"request_delay":60,"result_abort":[],"result_ack":[],"results":[{"app_name":"dock","estimate":3600,"name":"d1_2","platform":"linux","report_deadline":8200,"resent":false,"version_num":102,"wu_name":"d1"}],"rpc_seqno":1,"user_name":"Cid","user_total_credit":0}
+> 1970-01-01T00:33:20Z scheduler {"authenticator":"k1","rpc_seqno":2,"host_info":{"host_cpid":"c1","p_fpops":1000,"m_nbytes":8000,"d_free":9000},"platform_name":"linux","results":[{"name":"d1_0","exit_status":0,"output":"ok"}]}
+< 200 {"end_word":"enough","host_total_credit":0,"hostid":1,"request_delay":60,"result_abort":[],"result_ack":["d1_0"],"results":[],"rpc_seqno":2,"user_name":"Ann","user_total_credit":0}
+> 1970-01-01T00:33:20Z scheduler {"authenticator":"k2","rpc_seqno":2,"host_info":{"host_cpid":"c2","p_fpops":1000,"m_nbytes":8000,"d_free":9000},"platform_name":"linux","results":[{"name":"d1_1","exit_status":0,"output":"ok"}]}
+< 200 {"end_word":"enough","host_total_credit":5000,"hostid":2,"request_delay":60,"result_abort":[],"result_ack":["d1_1"],"results":[],"rpc_seqno":2,"user_name":"Bob","user_total_credit":5000}
+> 1970-01-01T00:33:20Z scheduler {"authenticator":"k3","rpc_seqno":2,"host_info":{"host_cpid":"c3","p_fpops":1000,"m_nbytes":8000,"d_free":9000},"platform_name":"linux","results":[{"name":"d1_2","exit_status":0,"output":"no"}]}
+< 200 {"end_word":"enough","host_total_credit":0,"hostid":3,"request_delay":60,"result_abort":[],"result_ack":["d1_2"],"results":[],"rpc_seqno":2,"user_name":"Cid","user_total_credit":0}
+> 1970-01-01T00:16:40Z scheduler {"authenticator":"k3","rpc_seqno":3,"host_info":{"host_cpid":"c3","p_fpops":1000,"m_nbytes":8000,"d_free":9000},"platform_name":"linux","work_req_seconds":7200}
+< 200 {"end_word":"enough","host_total_credit":0,"hostid":3,"request_delay":60,"result_abort":[],"result_ack":[],"results":[{"app_name":"dock","estimate":3600,"name":"w1_0","platform":"linux","report_deadline":8200,"resent":false,"version_num":102,"wu_name":"w1"},{"app_name":"dock","estimate":3600,"name":"w2_0","platform":"linux","report_deadline":8200,"resent":false,"version_num":102,"wu_name":"w2"}],"rpc_seqno":3,"user_name":"Cid","user_total_credit":0}
+> 1970-01-01T00:16:40Z scheduler {"authenticator":"k3","rpc_seqno":4,"host_info":{"host_cpid":"c3","p_fpops":1000,"m_nbytes":8000,"d_free":9000},"platform_name":"linux","work_req_seconds":3600}
+< 200 {"end_word":"daily_quota","host_total_credit":0,"hostid":3,"request_delay":60,"result_abort":[],"result_ack":[],"results":[],"rpc_seqno":4,"user_name":"Cid","user_total_credit":0}
+> 1970-01-01T00:35:00Z scheduler {"authenticator":"k1","rpc_seqno":3,"host_info":{"host_cpid":"c1","p_fpops":1000,"m_nbytes":8000,"d_free":9000},"platform_name":"linux"}
+< 200 {"end_word":"enough","host_total_credit":5000,"hostid":1,"request_delay":60,"result_abort":[],"result_ack":[],"results":[],"rpc_seqno":3,"user_name":"Ann","user_total_credit":5000}
 
-/// Further workunits that want two results.
-const W7: Unit = Unit { name: "w7", ..W1 };
-
-const W8: Unit = Unit { name: "w8", ..W1 };
-
-/// The jobs of the workunit of which three results go out at once.
-const D1_0: Job = Job { unit: "d1", ..JOB };
-
-const D1_1: Job = Job { number: 1, ..D1_0 };
-
-const D1_2: Job = Job { number: 2, ..D1_0 };
-
-/// The first job of the second workunit, and of the third and fourth, these sent at the start of the next day.
-const W2_0: Job = Job { unit: "w2", ..JOB };
-
-const W3_0: Job = Job {
-    unit: "w3",
-    deadline: 93_600,
-    ..JOB
-};
-
-const W4_0: Job = Job { unit: "w4", ..W3_0 };
-
-/// The second job of the second workunit, and jobs sent at the start of the fifth day.
-const W2_1: Job = Job { number: 1, ..W2_0 };
-
-const W7_0: Job = Job {
-    unit: "w7",
-    deadline: 352_800,
-    ..JOB
-};
-
-const W8_0: Job = Job { unit: "w8", ..W7_0 };
-
-/// A reply to a host that got all its quota of the day.
-const HAD_QUOTA: Reply<'static> = Reply {
-    end: "daily_quota",
-    ..REPLY
-};
-
-/// A reply with the jobs of the first two workunits.
-const GETS_TWO: Reply<'static> = Reply {
-    jobs: &[JOB, W2_0],
-    ..REPLY
-};
-
-pub const FIRST_ROWS: &[Row] = &[(
-    // to two, and to one at the least; then one more error comes with a valid result: one at the least, and twice that
-    "errors lower the quota, a valid result doubles it, and a new day begins anew",
-    &[
-        Step::Units(&[W1, W2, W3, W4, W5, W6, W7, W8]),
-        Step::Call(ASKS_FOR_TWO, GETS_TWO),
-        Step::Call(
-            Call {
-                seqno: 2,
-                moment: 1100,
-                results: &[("w1_0", 1, ""), ("w2_0", 1, "")],
-                ..ASKS_FOR_TWO
-            },
-            Reply {
-                acks: &["w1_0", "w2_0"],
-                ..HAD_QUOTA
-            },
-        ),
-        Step::Call(
-            Call {
-                seqno: 3,
-                moment: 86_400,
-                ..ASKS_FOR_TWO
-            },
-            Reply {
-                jobs: &[W3_0, W4_0],
-                ..REPLY
-            },
-        ),
-        Step::Call(
-            Call {
-                seqno: 4,
-                moment: 172_800,
-                results: &[("w3_0", 1, ""), ("w4_0", 1, "")],
-                ..ASKS_FOR_TWO
-            },
-            Reply {
-                acks: &["w3_0", "w4_0"],
-                jobs: &[Job {
-                    deadline: 180_000,
-                    ..W5_0
-                }],
-                ..HAD_QUOTA
-            },
-        ),
-        Step::Call(
-            Call {
-                seqno: 5,
-                moment: 259_200,
-                ..ASKS
-            },
-            Reply {
-                jobs: &[Job {
-                    deadline: 266_400,
-                    ..W6_0
-                }],
-                ..REPLY
-            },
-        ),
-        Step::Call(
-            Call {
-                seqno: 6,
-                moment: 345_600,
-                results: &[("w5_0", 0, "x"), ("w6_0", 1, "")],
-                ..ASKS_FOR_TWO
-            },
-            Reply {
-                acks: &["w5_0", "w6_0"],
-                jobs: &[W7_0, W8_0],
-                ..HAS_CREDIT
-            },
-        ),
-        Step::Call(
-            Call {
-                seqno: 7,
-                moment: 345_601,
-                ..ASKS
-            },
-            Reply {
-                end: "daily_quota",
-                ..HAS_CREDIT
-            },
-        ),
-    ],
-)];
-
-pub const SECOND_ROWS: &[Row] = &[(
-    "late jobs lower the quota, and dropped ones do not",
-    &[
-        Step::Units(&[W1, W2, W3]),
-        Step::Call(ASKS_FOR_TWO, GETS_TWO),
-        Step::Call(
-            Call {
-                host: BOB,
-                ..ASKS_FOR_TWO
-            },
-            Reply {
-                jobs: &[SECOND, W2_1],
-                ..REPLY
-            },
-        ),
-        // too slow for them
-        Step::Call(
-            Call {
-                host: BOB,
-                moment: 8000,
-                p_fpops: 499,
-                ..LISTS_NONE
-            },
-            REPLY,
-        ),
-        Step::Tick(8201, 2),
-        Step::Call(
-            Call {
-                seqno: 2,
-                moment: 9000,
-                ..ASKS
-            },
-            HAD_QUOTA,
-        ),
-        Step::Call(
-            Call {
-                host: BOB,
-                seqno: 3,
-                moment: 9000,
-                ..ASKS
-            },
-            Reply {
-                jobs: &[Job {
-                    deadline: 16_200,
-                    ..W3_0
-                }],
-                ..REPLY
-            },
-        ),
-    ],
-)];
-
-pub const THIRD_ROWS: &[Row] = &[
-    (
-        // which lowers the quota to three
-        "a report that disagrees behind the quorum has no credit and takes none",
-        &[
-            Step::Units(&[D1, W1, W2]),
-            Step::Asks(ANN, &[D1_0]),
-            Step::Asks(BOB, &[D1_1]),
-            Step::Asks(CID, &[D1_2]),
-            Step::Reports(ANN, 2, 2000, ("d1_0", 0, "ok"), 0),
-            Step::Reports(BOB, 2, 2000, ("d1_1", 0, "ok"), 5000),
-            Step::Reports(CID, 2, 2000, ("d1_2", 0, "no"), 0),
-            Step::Call(
-                Call {
-                    host: CID,
-                    seqno: 3,
-                    ..ASKS_FOR_TWO
-                },
-                GETS_TWO,
-            ),
-            Step::Call(
-                Call {
-                    host: CID,
-                    seqno: 4,
-                    ..ASKS
-                },
-                HAD_QUOTA,
-            ),
-            Step::Call(READS, HAS_CREDIT),
-        ],
-    ),
-    (
-        "a user has the credit of all its hosts",
-        &[
-            Step::Units(&[W5, W6]),
-            Step::Asks(ANN, &[W5_0]),
-            Step::Asks(ANN_TOO, &[W6_0]),
-            Step::Reports(ANN, 2, 2000, ("w5_0", 0, "x"), 5000),
-            Step::Call(
-                Call {
-                    host: ANN_TOO,
-                    seqno: 2,
-                    ..CALL
-                },
-                Reply {
-                    user_credit: 5000,
-                    ..REPLY
-                },
-            ),
-            Step::Call(
-                Call {
-                    host: ANN_TOO,
-                    results: &[("w6_0", 0, "y")],
-                    ..READS
-                },
-                Reply {
-                    credit: 5000,
-                    user_credit: 10_000,
-                    acks: &["w6_0"],
-                    ..REPLY
-                },
-            ),
-            Step::Call(
-                READS,
-                Reply {
-                    user_credit: 10_000,
-                    ..HAS_CREDIT
-                },
-            ),
-        ],
-    ),
-];
+= a user has the credit of all its hosts
+> 1970-01-01T00:00:00Z import/workunits/u3 "name,app,min_quorum,target_nresults,max_error_results,max_total_results,max_success_results,delay_bound,rsc_fpops_est,rsc_memory_bound,rsc_disk_bound,credit\nw5,dock,1,2,3,5,4,7200,3600000,1000,1000,5000\nw6,dock,1,2,3,5,4,7200,3600000,1000,1000,5000\n"
+< 200 {"batch":"u3","kind":"workunits","rows":2}
+> 1970-01-01T00:16:40Z scheduler {"authenticator":"k1","rpc_seqno":1,"host_info":{"host_cpid":"c1","p_fpops":1000,"m_nbytes":8000,"d_free":9000},"platform_name":"linux","work_req_seconds":3600}
+< 200 {"end_word":"enough","host_total_credit":0,"hostid":1,"request_delay":60,"result_abort":[],"result_ack":[],"results":[{"app_name":"dock","estimate":3600,"name":"w5_0","platform":"linux","report_deadline":8200,"resent":false,"version_num":102,"wu_name":"w5"}],"rpc_seqno":1,"user_name":"Ann","user_total_credit":0}
+> 1970-01-01T00:16:40Z scheduler {"authenticator":"k1","rpc_seqno":1,"host_info":{"host_cpid":"c9","p_fpops":1000,"m_nbytes":8000,"d_free":9000},"platform_name":"linux","work_req_seconds":3600}
+< 200 {"end_word":"enough","host_total_credit":0,"hostid":2,"request_delay":60,"result_abort":[],"result_ack":[],"results":[{"app_name":"dock","estimate":3600,"name":"w6_0","platform":"linux","report_deadline":8200,"resent":false,"version_num":102,"wu_name":"w6"}],"rpc_seqno":1,"user_name":"Ann","user_total_credit":0}
+> 1970-01-01T00:33:20Z scheduler {"authenticator":"k1","rpc_seqno":2,"host_info":{"host_cpid":"c1","p_fpops":1000,"m_nbytes":8000,"d_free":9000},"platform_name":"linux","results":[{"name":"w5_0","exit_status":0,"output":"x"}]}
+< 200 {"end_word":"enough","host_total_credit":5000,"hostid":1,"request_delay":60,"result_abort":[],"result_ack":["w5_0"],"results":[],"rpc_seqno":2,"user_name":"Ann","user_total_credit":5000}
+> 1970-01-01T00:16:40Z scheduler {"authenticator":"k1","rpc_seqno":2,"host_info":{"host_cpid":"c9","p_fpops":1000,"m_nbytes":8000,"d_free":9000},"platform_name":"linux"}
+< 200 {"end_word":"enough","host_total_credit":0,"hostid":2,"request_delay":60,"result_abort":[],"result_ack":[],"results":[],"rpc_seqno":2,"user_name":"Ann","user_total_credit":5000}
+> 1970-01-01T00:35:00Z scheduler {"authenticator":"k1","rpc_seqno":3,"host_info":{"host_cpid":"c9","p_fpops":1000,"m_nbytes":8000,"d_free":9000},"platform_name":"linux","results":[{"name":"w6_0","exit_status":0,"output":"y"}]}
+< 200 {"end_word":"enough","host_total_credit":5000,"hostid":2,"request_delay":60,"result_abort":[],"result_ack":["w6_0"],"results":[],"rpc_seqno":3,"user_name":"Ann","user_total_credit":10000}
+> 1970-01-01T00:35:00Z scheduler {"authenticator":"k1","rpc_seqno":3,"host_info":{"host_cpid":"c1","p_fpops":1000,"m_nbytes":8000,"d_free":9000},"platform_name":"linux"}
+< 200 {"end_word":"enough","host_total_credit":5000,"hostid":1,"request_delay":60,"result_abort":[],"result_ack":[],"results":[],"rpc_seqno":3,"user_name":"Ann","user_total_credit":10000}
+"#;

@@ -1,6 +1,6 @@
 //! The worked rows with each message sent twice, through the service's `run`: the first answer is thrown away.
 
-use super::rows::{Row, lines_of};
+use super::rows::{NEXT, lines_of, name_of};
 use super::{PROJECT, service_over};
 use commands::default_settings;
 use message_engine::Store;
@@ -52,9 +52,9 @@ fn are_told_again(lines: &str, answers: &[Answer]) -> bool {
 }
 
 /// Whether the messages of a row, each sent twice behind the project's imports, get their first answers again over a store.
-fn is_answered_again<S: Store + Drop>(alloc: Global, store: S, row: &Row) -> Result<bool, Fail> {
+fn is_answered_again<S: Store + Drop>(alloc: Global, store: S, row: &str) -> Result<bool, Fail> {
     let mut service = service_over(alloc, store)?;
-    let lines = format!(in alloc; "{PROJECT}{}", lines_of(alloc, row.1)?)?;
+    let lines = format!(in alloc; "{PROJECT}{}", lines_of(alloc, row)?)?;
     let arrivals = arrivals_of(alloc, service.operator_key(), lines.as_str())?;
     let answers = service.run(alloc, &arrivals)?;
     Ok(answers.len() == arrivals.len() && are_told_again(lines.as_str(), &answers))
@@ -68,11 +68,14 @@ fn settings(alloc: Global) -> Result<Settings, Fail> {
 }
 
 /// The name of the first row in which a message is answered otherwise when it comes again, over tables in memory.
-pub fn first_answered_otherwise(alloc: Global, rows: &[Row]) -> Result<Option<&'static str>, Fail> {
-    for row in rows {
+pub fn first_answered_otherwise(
+    alloc: Global,
+    text: &'static str,
+) -> Result<Option<&'static str>, Fail> {
+    for row in text.split(NEXT).skip(1) {
         let tables = Tables::in_memory(alloc, &settings(alloc)?)?;
         if !is_answered_again(alloc, tables, row)? {
-            return Ok(Some(row.0));
+            return Ok(Some(name_of(row)));
         }
     }
     Ok(None)
@@ -82,7 +85,7 @@ pub fn first_answered_otherwise(alloc: Global, rows: &[Row]) -> Result<Option<&'
 fn is_answered_again_in<S: Alter + Drop>(
     alloc: Global,
     conn: Connection<S>,
-    row: &Row,
+    row: &str,
 ) -> Result<bool, Fail> {
     let tables = Tables::create(alloc, conn, &settings(alloc)?)?;
     is_answered_again(alloc, tables, row)
@@ -91,13 +94,13 @@ fn is_answered_again_in<S: Alter + Drop>(
 /// The name of the first row in which a message is answered otherwise when it comes again, over tables in a file.
 pub fn first_answered_otherwise_in_files(
     rt: &HostRuntime,
-    rows: &[Row],
+    text: &'static str,
 ) -> Result<Option<&'static str>, Fail> {
-    for row in rows {
-        let path = format!(in rt.alloc(); "{}.db", row.0)?;
+    for row in text.split(NEXT).skip(1) {
+        let path = format!(in rt.alloc(); "{}.db", name_of(row))?;
         let conn = Connection::open(rt, path.as_str())?;
         if !is_answered_again_in(rt.alloc(), conn, row)? {
-            return Ok(Some(row.0));
+            return Ok(Some(name_of(row)));
         }
     }
     Ok(None)
