@@ -1,0 +1,4 @@
+pub mod SetRows
+pub mod Pages
+pub mod Leaves
+pub mod OnLeaves

@@ -1,0 +1,214 @@
+-- What reading and putting make of a page.
+use Rattle.std.proofs.Common.{◌≡◌, ℕ, ◌+◌, ◌-◌, Bool, true, false, cond, eqb, List, [], ◌∷◌, ◌++◌, length, take, Option, Some, None, sym, refl, ap, ◌∙◌, subst, arith, length-append}
+use Rattle.std.proofs.lemmas.Bool.{eqb-true}
+use Rattle.std.specs.Prelude.{option_map, unwrap_or, IsSome}
+use Rattle.std.specs.BTreeMap.{BTreeMap, get, is_at}
+use Rattle.std.specs.Map.{lookup}
+use Rattle.std.specs.Ordering.{nat_cmp}
+use Rattle.std.specs.Str.{bytes_eq}
+use Rattle.std.proofs.lemmas.List.Sums.{fold-append}
+use Rattle.sched_book.specs.Desk.{workunit_at, agreement_at, instances_at}
+use Rattle.sched_book.specs.Places.{unit_at, host_at, unit_named, agreement_by, agreement_of}
+use Rattle.sched_book.specs.Reports.{modify_nth}
+use Rattle.sched_book.specs.Delta.{with_instance, set_nth, applied_one, applied}
+use Rattle.sched_book.specs.declared.delta.Change.{Change}
+use Rattle.sched_book.specs.declared.delta.Change.TheVariants as change
+use Rattle.sched_book.specs.declared.instance.Instance.{Instance}
+use Rattle.sched_book.specs.declared.instance.Place.{Place}
+use Rattle.sched_book.specs.declared.instance.UnitBook.{UnitBook}
+use Rattle.sched_book.specs.declared.rows.Agreement.{Agreement}
+use Rattle.sched_book.specs.declared.rows.HostRow.{HostRow}
+use Rattle.sched_book.specs.declared.rows.Workunit.{Workunit}
+use Rattle.sched_book.specs.declared.settings.Settings.{Settings}
+use Rattle.sched_book.specs.declared.world.World.{World}
+use Rattle.sched_book.proofs.PlacesOf.{nth-modify_nth, place_where-modify_nth}
+use Rattle.call_sheet.specs.Sheets.{IsLeafOf, IsLeafAt, IsReadAt, IsHostAt, IsPageOf, HasPlace, with_put, ArePut}
+use Rattle.call_sheet.specs.declared.leaf.Leaf.{Leaf}
+use Rattle.call_sheet.specs.declared.page.Page.{Page}
+use Rattle.call_sheet.proofs.SetRows.{nth-put, nth_found}
+
+-- a map without entries finds nothing
+finds_none : {X : Type 0} (m : BTreeMap ℕ X) (k : ℕ) → m.entries ≡ [] → get nat_cmp m k ≡ None
+finds_none m k empty = ap (λ es. lookup (is_at (nat_cmp k)) es) empty
+
+-- a page on which nothing stands
+pub new_page : (w : World) (s : Settings) (leaves : BTreeMap ℕ Leaf) (hosts : BTreeMap ℕ HostRow) (cs : List Change) → s ≡ w.settings
+    → leaves.entries ≡ [] → hosts.entries ≡ [] → cs ≡ [] → IsPageOf w (record { settings = s; leaves = leaves; hosts = hosts; delta = cs })
+new_page w s leaves hosts cs is no_leaf no_host none =
+    subst (λ (cs : List Change). IsPageOf w (record { settings = s; leaves = leaves; hosts = hosts; delta = cs })) (sym none) (record {
+      settings = is;
+      leaves = λ unit. subst (λ (o : Option Leaf). IsLeafAt w w unit o) (sym (finds_none leaves unit no_leaf)) refl;
+      hosts = λ number. subst (λ (o : Option HostRow). IsHostAt w w number o) (sym (finds_none hosts number no_host)) refl;
+      rest = refl;
+      names = λ name. refl;
+    })
+
+-- a page on which the same is found
+pub same_page : (w : World) (old new : Page) → new.settings ≡ old.settings → ((unit : ℕ) → get nat_cmp new.leaves unit ≡ get nat_cmp old.leaves unit)
+    → ((number : ℕ) → get nat_cmp new.hosts number ≡ get nat_cmp old.hosts number) → new.delta ≡ old.delta → IsPageOf w old → IsPageOf w new
+same_page w old new settings leaves hosts delta page = record {
+  settings = settings ∙ page.settings;
+  leaves = λ unit. subst (λ (cs : List Change). IsLeafAt w (applied w cs) unit (get nat_cmp new.leaves unit)) (sym delta)
+      (subst (λ (o : Option Leaf). IsLeafAt w (applied w old.delta) unit o) (sym (leaves unit)) (page.leaves unit));
+  hosts = λ number. subst (λ (cs : List Change). IsHostAt w (applied w cs) number (get nat_cmp new.hosts number)) (sym delta)
+      (subst (λ (o : Option HostRow). IsHostAt w (applied w old.delta) number o) (sym (hosts number)) (page.hosts number));
+  rest = subst (λ (cs : List Change). applied w cs ≡ record w { units = (applied w cs).units; hosts = (applied w cs).hosts }) (sym delta) page.rest;
+  names = λ name. ap (λ cs. unit_named (applied w cs) name) delta ∙ page.names name;
+}
+
+-- a leaf more
+pub leaf_more : (w : World) (old new : Page) (unit : ℕ) (k : Leaf) → new.settings ≡ old.settings → new.hosts ≡ old.hosts → new.delta ≡ old.delta
+    → ((other : ℕ) → get nat_cmp new.leaves other ≡ cond (eqb unit other) (Some k) (get nat_cmp old.leaves other))
+    → IsLeafAt w (applied w old.delta) unit (Some k) → IsPageOf w old → IsPageOf w new
+leaf_more w old new unit k settings hosts delta leaves leaf page = record {
+  settings = settings ∙ page.settings;
+  leaves = λ other. subst (λ (cs : List Change). IsLeafAt w (applied w cs) other (get nat_cmp new.leaves other)) (sym delta)
+      (subst (λ (o : Option Leaf). IsLeafAt w (applied w old.delta) other o) (sym (leaves other)) (cases other (eqb unit other) refl));
+  hosts = λ number. subst (λ (cs : List Change). IsHostAt w (applied w cs) number (get nat_cmp new.hosts number)) (sym delta)
+      (subst (λ (m : BTreeMap ℕ HostRow). IsHostAt w (applied w old.delta) number (get nat_cmp m number)) (sym hosts) (page.hosts number));
+  rest = subst (λ (cs : List Change). applied w cs ≡ record w { units = (applied w cs).units; hosts = (applied w cs).hosts }) (sym delta) page.rest;
+  names = λ name. ap (λ cs. unit_named (applied w cs) name) delta ∙ page.names name;
+}
+  where
+    cases : (other : ℕ) (b : Bool) → eqb unit other ≡ b → IsLeafAt w (applied w old.delta) other (cond b (Some k) (get nat_cmp old.leaves other))
+    cases other true is = subst (λ (n : ℕ). IsLeafAt w (applied w old.delta) n (Some k)) (eqb-true unit other is) leaf
+    cases other false is = page.leaves other
+
+-- a host that is on the page as it is
+pub host_more : (w : World) (old new : Page) (number : ℕ) (h : HostRow) → new.settings ≡ old.settings → new.leaves ≡ old.leaves → new.delta ≡ old.delta
+    → ((n : ℕ) → get nat_cmp new.hosts n ≡ cond (eqb number n) (Some h) (get nat_cmp old.hosts n))
+    → host_at (applied w old.delta) number ≡ Some h → IsPageOf w old → IsPageOf w new
+host_more w old new number h settings leaves delta hosts is page = record {
+  settings = settings ∙ page.settings;
+  leaves = λ unit. subst (λ (cs : List Change). IsLeafAt w (applied w cs) unit (get nat_cmp new.leaves unit)) (sym delta)
+      (subst (λ (m : BTreeMap ℕ Leaf). IsLeafAt w (applied w old.delta) unit (get nat_cmp m unit)) (sym leaves) (page.leaves unit));
+  hosts = λ n. subst (λ (cs : List Change). IsHostAt w (applied w cs) n (get nat_cmp new.hosts n)) (sym delta)
+      (subst (λ (o : Option HostRow). IsHostAt w (applied w old.delta) n o) (sym (hosts n)) (cases n (eqb number n) refl));
+  rest = subst (λ (cs : List Change). applied w cs ≡ record w { units = (applied w cs).units; hosts = (applied w cs).hosts }) (sym delta) page.rest;
+  names = λ name. ap (λ cs. unit_named (applied w cs) name) delta ∙ page.names name;
+}
+  where
+    cases : (n : ℕ) (b : Bool) → eqb number n ≡ b → IsHostAt w (applied w old.delta) n (cond b (Some h) (get nat_cmp old.hosts n))
+    cases n true same = ap (λ k. host_at (applied w old.delta) k) (sym (eqb-true number n same)) ∙ is
+    cases n false same = page.hosts n
+
+-- a change that was pushed and is taken back
+front : {X : Type 0} (xs ys : List X) → take (length xs) (xs ++ ys) ≡ xs
+front [] ys = refl
+front (x ∷ xs) ys = ap (λ zs. x ∷ zs) (front xs ys)
+
+pub taken_back : {X : Type 0} (xs : List X) (x : X) → take (length (xs ++ x ∷ []) - 1) (xs ++ x ∷ []) ≡ xs
+taken_back xs x =
+    let long : length (xs ++ x ∷ []) ≡ length xs + 1 = length-append xs (x ∷ []) in
+    ap (λ n. take n (xs ++ x ∷ [])) (let same : length (xs ++ x ∷ []) - 1 ≡ length xs = omega arith in same) ∙ front xs (x ∷ [])
+
+one_more : (w : World) (cs : List Change) (c : Change) → applied w (cs ++ c ∷ []) ≡ applied_one (applied w cs) c
+one_more w cs c = fold-append applied_one w cs (c ∷ [])
+
+-- what a leaf is after an instance was put
+leaf_put : (entry present after : World) (unit : ℕ) (p : Place) (x : Instance) (b : Bool) (o : Option Leaf) → (b ≡ true → IsSome o)
+    → unit_at after unit ≡ cond b (option_map (with_instance p.number x) (unit_at present unit)) (unit_at present unit)
+    → IsLeafAt entry present unit o → IsLeafAt entry after unit (cond b (option_map (with_put p x) o) o)
+leaf_put entry present after unit p x false None some is leaf = is ∙ leaf
+leaf_put entry present after unit p x false (Some k) some is leaf = record { before = leaf.before; here = is ∙ leaf.here; agreement = leaf.agreement }
+leaf_put entry present after unit p x true None some is leaf = let never = some refl in absurd cc
+leaf_put entry present after unit p x true (Some k) some is leaf =
+    record { before = leaf.before; here = is ∙ ap (option_map (with_instance p.number x)) leaf.here; agreement = leaf.agreement }
+
+-- an instance is put on its workunit's leaf, and is the last change
+pub instance_put : (w : World) (old new : Page) (p : Place) (x y : Instance) → y ≡ x → new.settings ≡ old.settings → new.hosts ≡ old.hosts
+    → new.delta ≡ old.delta ++ change.Instance p x ∷ [] → ArePut old.leaves new.leaves p y → IsPageOf w old → IsPageOf w new
+instance_put w old new p x y copy settings hosts delta puts page = record {
+  settings = settings ∙ page.settings;
+  leaves = λ unit. subst (λ (o : Option Leaf). IsLeafAt w (applied w new.delta) unit o) (sym (puts.1 unit ∙ ap (λ (z : Instance). cond (eqb p.unit unit) (option_map (with_put p z) (get nat_cmp old.leaves unit)) (get nat_cmp old.leaves unit)) copy))
+      (leaf_put w (applied w old.delta) (applied w new.delta) unit p x (eqb p.unit unit) (get nat_cmp old.leaves unit) (some unit) (units unit) (page.leaves unit));
+  hosts = λ number. subst (λ (v : World). IsHostAt w v number (get nat_cmp new.hosts number)) (sym after)
+      (subst (λ (m : BTreeMap ℕ HostRow). IsHostAt w (applied w old.delta) number (get nat_cmp m number)) (sym hosts) (page.hosts number));
+  rest = subst (λ (v : World). v ≡ record w { units = v.units; hosts = v.hosts }) (sym after)
+      (ap (λ (v : World). record v { units = modify_nth (with_instance p.number x) (applied w old.delta).units p.unit }) page.rest);
+  names = λ name. ap (λ v. unit_named v name) after
+      ∙ place_where-modify_nth (λ (b : UnitBook). bytes_eq b.unit.name name) (with_instance p.number x) (λ b. refl) (applied w old.delta).units p.unit
+      ∙ page.names name;
+}
+  where
+    after : applied w new.delta ≡ applied_one (applied w old.delta) (change.Instance p x)
+    after = ap (applied w) delta ∙ one_more w old.delta (change.Instance p x)
+
+    units : (unit : ℕ) → unit_at (applied w new.delta) unit
+        ≡ cond (eqb p.unit unit) (option_map (with_instance p.number x) (unit_at (applied w old.delta) unit)) (unit_at (applied w old.delta) unit)
+    units unit = ap (λ v. unit_at v unit) after ∙ nth-modify_nth (with_instance p.number x) (applied w old.delta).units p.unit unit
+
+    some : (unit : ℕ) → eqb p.unit unit ≡ true → IsSome (get nat_cmp old.leaves unit)
+    some unit same = subst (λ (n : ℕ). IsSome (get nat_cmp old.leaves n)) (eqb-true p.unit unit same) puts.0
+
+-- a host is put, and is the last change
+pub host_put : (w : World) (old new : Page) (number : ℕ) (h k : HostRow) → k ≡ h → HasPlace (applied w old.delta) number → new.settings ≡ old.settings → new.leaves ≡ old.leaves
+    → new.delta ≡ old.delta ++ change.Host number h ∷ []
+    → ((n : ℕ) → get nat_cmp new.hosts n ≡ cond (eqb number n) (Some k) (get nat_cmp old.hosts n)) → IsPageOf w old → IsPageOf w new
+host_put w old new number h k copy place settings leaves delta hosts page = record {
+  settings = settings ∙ page.settings;
+  leaves = λ unit. subst (λ (m : BTreeMap ℕ Leaf). IsLeafAt w (applied w new.delta) unit (get nat_cmp m unit)) (sym leaves)
+      (same unit (get nat_cmp old.leaves unit) (page.leaves unit));
+  hosts = λ n. subst (λ (o : Option HostRow). IsHostAt w (applied w new.delta) n o) (sym (hosts n ∙ ap (λ (r : HostRow). cond (eqb number n) (Some r) (get nat_cmp old.hosts n)) copy))
+      (cases n (eqb number n) (get nat_cmp old.hosts n) (at n) (page.hosts n));
+  rest = subst (λ (v : World). v ≡ record w { units = v.units; hosts = v.hosts }) (sym after)
+      (ap (λ (v : World). record v { hosts = set_nth (applied w old.delta).hosts number h }) page.rest);
+  names = λ name. ap (λ v. unit_named v name) after ∙ page.names name;
+}
+  where
+    after : applied w new.delta ≡ applied_one (applied w old.delta) (change.Host number h)
+    after = ap (applied w) delta ∙ one_more w old.delta (change.Host number h)
+
+    same : (unit : ℕ) (o : Option Leaf) → IsLeafAt w (applied w old.delta) unit o → IsLeafAt w (applied w new.delta) unit o
+    same unit None leaf = ap (λ v. unit_at v unit) after ∙ leaf
+    same unit (Some k) leaf = record { before = leaf.before; here = ap (λ v. unit_at v unit) after ∙ leaf.here; agreement = leaf.agreement }
+
+    at : (n : ℕ) → host_at (applied w new.delta) n ≡ cond (eqb number n) (Some h) (host_at (applied w old.delta) n)
+    at n = ap (λ v. host_at v n) after ∙ nth-put (applied w old.delta).hosts number h n place.0 place.1
+
+    cases : (n : ℕ) (b : Bool) (o : Option HostRow) → host_at (applied w new.delta) n ≡ cond b (Some h) (host_at (applied w old.delta) n)
+        → IsHostAt w (applied w old.delta) n o → IsHostAt w (applied w new.delta) n (cond b (Some h) o)
+    cases n true o is host = is
+    cases n false None is host = is ∙ host
+    cases n false (Some k) is host = is ∙ host
+
+pub ruleset page_steps = (new_page, same_page, leaf_more, taken_back, instance_put, host_put)
+
+-- a number that a host has is a place
+pub stands_there : (w : World) (number : ℕ) (h : HostRow) → host_at w number ≡ Some h → HasPlace w number
+stands_there w number h found = nth_found w.hosts number h found
+
+-- a leaf as it is read of the world before, of a workunit to which nothing was changed
+pub asked : (entry present : World) (unit : ℕ) (o : Option Leaf) → unit_at present unit ≡ unit_at entry unit → IsReadAt entry entry unit o
+    → IsReadAt entry present unit o
+asked entry present unit None same read = (same ∙ read.0, read.0)
+asked entry present unit (Some k) same read = record { before = read.before; here = same ∙ read.here; agreement = read.agreement }
+
+-- a workunit, its agreement and its instances, read one after another
+pub read_in_turn : (w v u : World) (unit : ℕ) (row : Workunit) (a : Agreement) (before present : List Instance) → v ≡ w → u ≡ v
+    → Some row ≡ workunit_at w unit → Some a ≡ agreement_at v unit → before ≡ instances_at u unit → present ≡ before
+    → IsReadAt w w unit (Some (record { unit = row; agreement = a; before = before; present = present }))
+read_in_turn w v u unit row a before present same next is agrees lists copy =
+    found (unit_at w unit) refl is (agrees ∙ ap (λ (x : World). agreement_at x unit) same)
+    (lists ∙ ap (λ (x : World). instances_at x unit) (next ∙ same))
+  where
+    found : (o : Option UnitBook) → unit_at w unit ≡ o → Some row ≡ option_map (λ (b : UnitBook). b.unit) o → Some a ≡ option_map (agreement_of w) o
+        → before ≡ unwrap_or (option_map (λ (b : UnitBook). b.instances) o) []
+        → IsLeafOf w w unit (record { unit = row; agreement = a; before = before; present = present })
+    found None stands is agrees lists = absurd cc
+    found (Some b) stands is agrees lists =
+        let unit_is : b.unit ≡ row = cc in
+        let agreed : agreement_of w b ≡ a = cc in
+        let whole : b ≡ record { unit = row; instances = before } =
+        ap (λ (r : Workunit). record { unit = r; instances = b.instances }) unit_is ∙ ap (λ (xs : List Instance). record { unit = row; instances = xs }) (sym lists) in
+        record {
+          before = stands ∙ ap (λ (b : UnitBook). Some b) whole;
+          here = stands ∙ ap (λ (b : UnitBook). Some b) (whole ∙ ap (λ (xs : List Instance). record { unit = row; instances = xs }) (sym copy));
+          agreement = ap (λ (r : Workunit). agreement_by w.apps r.app) (sym unit_is) ∙ agreed;
+        }
+
+-- the world with one change more
+pub world_put : (w v : World) (old new : List Change) (c : Change) → v ≡ w → new ≡ old ++ c ∷ [] → applied v new ≡ applied_one (applied w old) c
+world_put w v old new c same is = ap (λ (u : World). applied u new) same ∙ ap (applied w) is ∙ one_more w old c
+
+pub ruleset put_steps = (world_put)

@@ -1,0 +1,131 @@
+//! What a step of a call is generic in.
+
+ghost use Rattle.std.specs.Prelude.{◌≡◌, ◌≤◌, ◌+◌, ◌++◌, List, [], ◌∷◌, Option, None, length, IfOk, OnOk, IfSome, option_map, ℕ};
+ghost use Rattle.std.specs.Option.{option_copied};
+ghost use Rattle.sched_book.specs.Places.{host_at, held_by, unit_at, unit_named};
+ghost use Rattle.sched_book.specs.Desk.{app_by_name};
+ghost use Rattle.sched_book.specs.Delta.{applied, applied_one};
+ghost use Rattle.sched_book.specs.Fits.{version_at};
+ghost use Rattle.sched_book.specs.Trusted.{Trusted};
+ghost use Rattle.sched_book.specs.declared.delta.Change.{Change};
+ghost use Rattle.sched_book.specs.declared.delta.Change.TheVariants as change;
+ghost use Rattle.sched_book.specs.declared.world.World.{World};
+ghost use Rattle.call_sheet.specs.Sheets.{IsLeafAt, IsReadAt, HasPlace, AreAllOf};
+ghost use Rattle.call_sheet.specs.declared.leaf.Leaf.{Leaf};
+
+use crate::leaf::Leaf;
+use sched_book::{App, HostRow, Instance, Place, Placed, Settings, Unavailable, Units, Version};
+use std::alloc::Global;
+use texts::{Listed, Memory};
+
+/// Who stands for the world that a call found with the changes that the call makes.
+///
+/// As [`Units`] it answers for the world with the changes made. What its further calls ask of the world is asked of the one
+/// that the call found, but for workunits and hosts.
+pub trait Draft: Units {
+    /// The world that the call found.
+    ghost entry: { Self → World };
+
+    /// The changes so far.
+    ghost delta: { Self → List Change };
+
+    /// The workunits that were read.
+    ghost kept: { Self → ℕ → Option Leaf };
+
+    /// What a step of the call may do to it.
+    ghost works: { Self → Self → Type 0 };
+
+    /// What the operator chose.
+    fn settings(&self) -> &Settings
+        ensures { Self.well_kept self.now → result.now ≡ (entry self.now).settings };
+
+    /// Reads a workunit, unless it was.
+    fn read(&mut self, alloc: Global, unit: u32) -> Result<(), Unavailable>
+        ensures reads { Self.reads self.old self.new }
+        ensures answer { Trusted Self.Units self.old self.new (
+            OnOk result (IsReadAt (entry self.old) (Self.world self.old) unit (kept self.new unit))) };
+
+    /// The leaf of a workunit that was read.
+    fn leaf(&self, unit: u32) -> Option<&Leaf>
+        ensures { option_copied result ≡ kept self.now unit };
+
+    /// The places of the workunits that were read, in order.
+    fn units(&self, alloc: Global) -> Result<Vec<u32>, Memory>
+        ensures { IfOk result (λ units. AreAllOf (kept self.now) units.items) };
+
+    /// The host of this number, as it is now.
+    fn host(&mut self, alloc: Global, number: u32) -> Result<Option<HostRow>, Unavailable>
+        ensures reads { Self.reads self.old self.new }
+        ensures answer { Trusted Self.Units self.old self.new (IfOk result (λ r. r ≡ host_at (Self.world self.old) number)) };
+
+    /// Puts an instance at a place: over the one that stands there, or as the next of its workunit, which was read.
+    fn put_instance(&mut self, place: Place, row: &Instance) -> Result<(), Unavailable>
+        ensures works { works self.old self.new }
+        ensures put { Trusted Self.Units self.old self.new (
+            OnOk result (Self.world self.new ≡ applied_one (Self.world self.old) (change.Instance place row.now))) }
+        ensures delta { OnOk result (delta self.new ≡ delta self.old ++ change.Instance place row.now ∷ []) };
+
+    /// Puts a host in the place of the one that has this number. It is unavailable where none has.
+    fn put_host(&mut self, alloc: Global, number: u32, row: &HostRow) -> Result<(), Unavailable>
+        ensures works { works self.old self.new }
+        ensures put { Trusted Self.Units self.old self.new (
+            OnOk result (Self.world self.new ≡ applied_one (Self.world self.old) (change.Host number row.now))) }
+        ensures delta { OnOk result (delta self.new ≡ delta self.old ++ change.Host number row.now ∷ []) };
+
+    /// Puts a host behind the others, before any other change, and gives its number; none, where so many stand already.
+    fn add_host(&mut self, row: &HostRow, most: u32) -> Result<Option<u32>, Unavailable>
+        ensures works { works self.old self.new }
+        ensures number { Trusted Self.Units self.old self.new (
+            IfOk result (λ n. IfSome n (λ number. (number ≡ length (entry self.old).hosts + 1) × (number ≤ most)))) }
+        ensures full { Trusted Self.Units self.old self.new (
+            IfOk result (λ n. n ≡ None → (most ≤ length (entry self.old).hosts) × (Self.world self.new ≡ Self.world self.old))) }
+        ensures put { Trusted Self.Units self.old self.new (IfOk result (λ n. IfSome n (λ number.
+            Self.world self.new ≡ applied_one (Self.world self.old) (change.Host number row.now)))) }
+        ensures delta { IfOk result (λ n. IfSome n (λ number. delta self.new ≡ delta self.old ++ change.Host number row.now ∷ [])) };
+
+    /// The places of the instances that the host held when the call came, in order.
+    fn held_before(&mut self, alloc: Global, host: u32) -> Result<Listed<Place>, Unavailable>
+        ensures reads { Self.reads self.old self.new }
+        ensures answer { Trusted Self.Units self.old self.new (IfOk result (λ r. r ≡ held_by (entry self.old) host)) };
+
+    /// The application of this name.
+    fn app_by_name(&mut self, alloc: Global, name: &str) -> Result<Option<Placed<App>>, Unavailable>
+        ensures reads { Self.reads self.old self.new }
+        ensures answer { Trusted Self.Units self.old self.new (IfOk result (λ r. r ≡ app_by_name (entry self.old) name.now)) };
+
+    /// The version that a host runs of the application at this place.
+    fn version_for(
+        &mut self,
+        alloc: Global,
+        host: &HostRow,
+        app: u32,
+    ) -> Result<Option<Version>, Unavailable>
+        ensures reads { Self.reads self.old self.new }
+        ensures answer { Trusted Self.Units self.old self.new (IfOk result (λ r. r ≡ version_at (entry self.old) host.now app)) };
+
+    // It stands for the world that the call found with the changes made.
+    ghost is_applied: { (s : Self) → Self.world s ≡ applied (entry s) (delta s) };
+
+    // The changes are of workunits' instances and of hosts alone, and no workunit gets another name.
+    ghost rest_stays: { (s : Self) → Self.well_kept s → Self.world s ≡ record (entry s) { units = (Self.world s).units; hosts = (Self.world s).hosts } };
+
+    ghost names_stay: { (s : Self) → Self.well_kept s → (name : List ℕ) → unit_named (Self.world s) name ≡ unit_named (entry s) name };
+
+    // What was read is so, and of what was not read nothing was changed.
+    ghost leaves_are: { (s : Self) → Self.well_kept s → (unit : ℕ) → IsLeafAt (entry s) (Self.world s) unit (kept s unit) };
+
+    // Reading is work that changes nothing; work may go on; and work leaves the world that the call found.
+    ghost reads_works: { (s t : Self) → Self.reads s t → works s t };
+
+    ghost reads_delta: { (s t : Self) → Self.reads s t → delta t ≡ delta s };
+
+    ghost works_none: { (s : Self) → works s s };
+
+    ghost works_on: { (r s t : Self) → works r s → works s t → works r t };
+
+    ghost works_honest: { (s t : Self) → works s t → Self.honest t → Self.honest s };
+
+    ghost works_kept: { (s t : Self) → works s t → Self.honest t → Self.well_kept s → Self.well_kept t };
+
+    ghost works_entry: { (s t : Self) → works s t → Self.honest t → Self.well_kept s → entry t ≡ entry s };
+}

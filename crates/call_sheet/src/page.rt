@@ -1,0 +1,141 @@
+//! What a call read, and the changes that it makes.
+
+ghost use Rattle.std.specs.Prelude.{ℕ, ◌≡◌, ◌==◌, ◌++◌, if◌then◌else◌, [], ◌∷◌, Some, IfOk, OnOk, OnErr, option_map, is_some};
+ghost use Rattle.std.specs.BTreeMap.{get};
+ghost use Rattle.std.specs.Option.{option_copied};
+ghost use Rattle.std.specs.Ordering.{nat_cmp};
+ghost use Rattle.sched_book.specs.Delta.{applied};
+ghost use Rattle.sched_book.specs.declared.delta.Change.TheVariants as change;
+ghost use Rattle.sched_book.specs.declared.world.World.{World};
+ghost use Rattle.call_sheet.specs.Sheets.{IsPageOf, IsLeafAt, IsHostAt, HasPlace, ArePut, AreAllOf};
+
+use crate::leaf::Leaf;
+use sched_book::{Change, Delta, HostRow, Instance, Place, Settings, Unavailable, copy_of};
+use std::alloc::Global;
+use std::collections::BTreeMap;
+use texts::{Listed, Memory};
+
+/// The settings, the workunits and the hosts that a call has read, as they are now, and its changes in their order.
+#[derive(Drop)]
+pub struct Page {
+    pub settings: Settings,
+    pub leaves: BTreeMap<u32, Leaf>,
+    pub hosts: BTreeMap<u32, HostRow>,
+    pub delta: Delta,
+}
+
+impl Page {
+    /// The page of a call that has read its settings and nothing else yet.
+    pub fn new(alloc: Global, settings: Settings) -> Page
+        ensures page { (w : World) → settings ≡ w.settings → IsPageOf w result }
+        ensures delta { result.delta ≡ [] }
+    {
+        Page {
+            settings,
+            leaves: BTreeMap::new(alloc),
+            hosts: BTreeMap::new(alloc),
+            delta: Listed::new(alloc),
+        }
+    }
+
+    /// The leaf of a workunit, where it was read and stands.
+    pub fn leaf(&self, unit: u32) -> Option<&Leaf>
+        ensures { option_copied result ≡ get nat_cmp self.now.leaves unit }
+    {
+        self.leaves.get(&unit)
+    }
+
+    /// The places of the workunits that were read and stand, in order.
+    pub fn units(&self, alloc: Global) -> Result<Vec<u32>, Memory>
+        ensures { IfOk result (λ units. AreAllOf (get nat_cmp self.now.leaves) units.items) }
+    {
+        self.leaves.keys().copied().collect(alloc)
+    }
+
+    /// Keeps the leaf of a workunit that was read.
+    #[tactic(auto, using(crate::proofs::Pages::page_steps))]
+    pub fn keep_leaf(&mut self, unit: u32, leaf: Leaf) -> Result<(), Memory>
+        ensures page { OnOk result ((w : World) → IsLeafAt w (applied w self.old.delta) unit (Some leaf) → IsPageOf w self.old → IsPageOf w self.new) }
+        ensures kept { OnOk result (get nat_cmp self.new.leaves unit ≡ Some leaf) }
+        ensures delta { self.new.delta ≡ self.old.delta }
+        ensures err { OnErr result ((w : World) → IsPageOf w self.old → IsPageOf w self.new) }
+    {
+        self.leaves.insert(unit, leaf)?;
+        Ok(())
+    }
+
+    /// The host of this number, where it was read.
+    pub fn host(&self, number: u32) -> Option<&HostRow>
+        ensures { option_copied result ≡ get nat_cmp self.now.hosts number }
+    {
+        self.hosts.get(&number)
+    }
+
+    /// Keeps a host as it is now.
+    pub fn keep_host(&mut self, number: u32, row: HostRow) -> Result<(), Memory>
+        ensures kept { OnOk result ((n : ℕ) → get nat_cmp self.new.hosts n ≡ if number == n then Some row else get nat_cmp self.old.hosts n) }
+        ensures err { OnErr result ((n : ℕ) → get nat_cmp self.new.hosts n ≡ get nat_cmp self.old.hosts n) }
+        ensures leaves { self.new.leaves ≡ self.old.leaves }
+        ensures settings { self.new.settings ≡ self.old.settings }
+        ensures delta { self.new.delta ≡ self.old.delta }
+    {
+        self.hosts.insert(number, row)?;
+        Ok(())
+    }
+
+    /// Puts an instance on the leaf of its workunit.
+    pub(crate) fn put_on_leaf(&mut self, place: Place, row: Instance) -> Result<(), Unavailable>
+        ensures ok { OnOk result (ArePut self.old.leaves self.new.leaves place row) }
+        ensures err { OnErr result ((unit : ℕ) → get nat_cmp self.new.leaves unit ≡ get nat_cmp self.old.leaves unit) }
+        ensures hosts { self.new.hosts ≡ self.old.hosts }
+        ensures settings { self.new.settings ≡ self.old.settings }
+        ensures delta { self.new.delta ≡ self.old.delta }
+    {
+        match self.leaves.get_mut(&place.unit) {
+            None => Err(Unavailable),
+            Some(leaf) => leaf.present.put(place.number, row),
+        }
+    }
+
+    /// Puts an instance at a place: over the one that stands there, or as the next of its workunit, which has to have a
+    /// leaf.
+    #[tactic(auto, using(crate::proofs::Pages::page_steps))]
+    pub fn put_instance(&mut self, place: Place, row: &Instance) -> Result<(), Unavailable>
+        ensures page { (w : World) → IsPageOf w self.old → IsPageOf w self.new }
+        ensures ok { OnOk result (self.new.delta ≡ self.old.delta ++ change.Instance place row.now ∷ []) }
+        ensures err { OnErr result (self.new.delta ≡ self.old.delta) }
+    {
+        let pushed = copy_of(row)?;
+        let put = copy_of(row)?;
+        self.delta.push(Change::Instance { place, row: pushed })?;
+        match self.put_on_leaf(place, put) {
+            Ok(()) => Ok(()),
+            Err(failed) => {
+                self.delta.drop_last();
+                Err(failed)
+            }
+        }
+    }
+
+    /// Puts a host at its number, or at the next.
+    #[tactic(auto, using(crate::proofs::Pages::page_steps))]
+    pub fn put_host(&mut self, number: u32, row: &HostRow) -> Result<(), Memory>
+        ensures page { (w : World) → HasPlace (applied w self.old.delta) number → IsPageOf w self.old → IsPageOf w self.new }
+        ensures ok { OnOk result (self.new.delta ≡ self.old.delta ++ change.Host number row.now ∷ []) }
+        ensures err { OnErr result (self.new.delta ≡ self.old.delta) }
+    {
+        let pushed = copy_of(row)?;
+        let kept = copy_of(row)?;
+        self.delta.push(Change::Host {
+            number,
+            row: pushed,
+        })?;
+        match self.keep_host(number, kept) {
+            Ok(()) => Ok(()),
+            Err(failed) => {
+                self.delta.drop_last();
+                Err(failed)
+            }
+        }
+    }
+}

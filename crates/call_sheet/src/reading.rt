@@ -1,0 +1,131 @@
+//! What a page asks of its desk.
+
+ghost use Rattle.std.specs.Prelude.{◌≡◌, ◌≤◌, ◌+◌, ◌++◌, [], ◌∷◌, None, length, IfOk, OnOk, OnErr, IfSome};
+ghost use Rattle.std.specs.BTreeMap.{get};
+ghost use Rattle.std.specs.Ordering.{nat_cmp};
+ghost use Rattle.sched_book.specs.Places.{host_at};
+ghost use Rattle.sched_book.specs.Delta.{applied};
+ghost use Rattle.sched_book.specs.Trusted.{Trusted};
+ghost use Rattle.sched_book.specs.declared.delta.Change.TheVariants as change;
+ghost use Rattle.call_sheet.specs.Sheets.{IsPageOf, IsReadAt, HasPlace};
+
+use crate::instances::Instances;
+use crate::leaf::Leaf;
+use crate::page::Page;
+use sched_book::{Desk, HostRow, Unavailable, copy_of};
+use std::alloc::Global;
+
+/// Asks for a workunit, its application's agreement and its instances.
+fn ask_leaf<D: Desk>(alloc: Global, desk: &mut D, unit: u32) -> Result<Option<Leaf>, Unavailable>
+    ensures reads { D.reads desk.old desk.new }
+    ensures answer { Trusted D.Units desk.old desk.new (IfOk result (IsReadAt (D.world desk.old) (D.world desk.old) unit)) }
+{
+    let Some(row) = desk.unit(alloc, unit)? else {
+        return Ok(None);
+    };
+    let Some(agreement) = desk.agreement_of(alloc, unit)? else {
+        return Err(Unavailable);
+    };
+    let before = Instances::of(desk.instances_of(alloc, unit)?);
+    let present = before.copied()?;
+    Ok(Some(Leaf {
+        unit: row,
+        agreement,
+        before,
+        present,
+    }))
+}
+
+/// Reads a workunit onto the page, unless it is there.
+pub(crate) fn read_leaf<D: Desk>(
+    alloc: Global,
+    desk: &mut D,
+    page: &mut Page,
+    unit: u32,
+) -> Result<(), Unavailable>
+    ensures reads { D.reads desk.old desk.new }
+    ensures page { Trusted D.Units desk.old desk.new (IsPageOf (D.world desk.old) page.old → IsPageOf (D.world desk.old) page.new) }
+    ensures answer { Trusted D.Units desk.old desk.new (IsPageOf (D.world desk.old) page.old → OnOk result (
+        IsReadAt (D.world desk.old) (applied (D.world desk.old) page.old.delta) unit (get nat_cmp page.new.leaves unit))) }
+    ensures delta { page.new.delta ≡ page.old.delta }
+{
+    if page.leaf(unit).is_some() {
+        return Ok(());
+    }
+    let Some(leaf) = ask_leaf(alloc, desk, unit)? else {
+        return Ok(());
+    };
+    page.keep_leaf(unit, leaf)?;
+    Ok(())
+}
+
+/// The host of this number, as it is now.
+pub(crate) fn read_host<D: Desk>(
+    alloc: Global,
+    desk: &mut D,
+    page: &mut Page,
+    number: u32,
+) -> Result<Option<HostRow>, Unavailable>
+    ensures reads { D.reads desk.old desk.new }
+    ensures page { Trusted D.Units desk.old desk.new (IsPageOf (D.world desk.old) page.old → IsPageOf (D.world desk.old) page.new) }
+    ensures answer { Trusted D.Units desk.old desk.new (IsPageOf (D.world desk.old) page.old →
+        IfOk result (λ r. r ≡ host_at (applied (D.world desk.old) page.old.delta) number)) }
+    ensures delta { page.new.delta ≡ page.old.delta }
+{
+    if let Some(row) = page.host(number) {
+        return Ok(Some(copy_of(row)?));
+    }
+    let Some(row) = desk.host_by_id(alloc, number)? else {
+        return Ok(None);
+    };
+    page.keep_host(number, copy_of(&row)?)?;
+    Ok(Some(row))
+}
+
+/// Puts a host in the place of the one that has this number. It is unavailable where none has.
+pub(crate) fn put_host<D: Desk>(
+    alloc: Global,
+    desk: &mut D,
+    page: &mut Page,
+    number: u32,
+    row: &HostRow,
+) -> Result<(), Unavailable>
+    ensures reads { D.reads desk.old desk.new }
+    ensures page { Trusted D.Units desk.old desk.new (IsPageOf (D.world desk.old) page.old → IsPageOf (D.world desk.old) page.new) }
+    ensures delta { OnOk result (page.new.delta ≡ page.old.delta ++ change.Host number row.now ∷ []) }
+    ensures err { OnErr result (page.new.delta ≡ page.old.delta) }
+{
+    let Some(_) = read_host(alloc, desk, page, number)? else {
+        return Err(Unavailable);
+    };
+    page.put_host(number, row)?;
+    Ok(())
+}
+
+/// Puts a host behind the others, unless so many stand already, and gives its number. It is unavailable behind any other
+/// change.
+pub(crate) fn add_host<D: Desk>(
+    desk: &mut D,
+    page: &mut Page,
+    row: &HostRow,
+    most: u32,
+) -> Result<Option<u32>, Unavailable>
+    ensures reads { D.reads desk.old desk.new }
+    ensures page { Trusted D.Units desk.old desk.new (IsPageOf (D.world desk.old) page.old → IsPageOf (D.world desk.old) page.new) }
+    ensures number { Trusted D.Units desk.old desk.new (
+        IfOk result (λ n. IfSome n (λ number. (number ≡ length (D.world desk.old).hosts + 1) × (number ≤ most)))) }
+    ensures full { Trusted D.Units desk.old desk.new (IfOk result (λ n. n ≡ None → most ≤ length (D.world desk.old).hosts)) }
+    ensures added { IfOk result (λ n. IfSome n (λ number. page.new.delta ≡ page.old.delta ++ change.Host number row.now ∷ [])) }
+    ensures none { IfOk result (λ n. n ≡ None → page.new.delta ≡ page.old.delta) }
+    ensures err { OnErr result (page.new.delta ≡ page.old.delta) }
+{
+    if !page.delta.is_empty() {
+        return Err(Unavailable);
+    }
+    let count = desk.counts()?.hosts;
+    if most <= count {
+        return Ok(None);
+    }
+    page.put_host(count + 1, row)?;
+    Ok(Some(count + 1))
+}

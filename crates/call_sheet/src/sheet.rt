@@ -1,0 +1,196 @@
+//! A desk with the page of a call.
+
+ghost use Rattle.std.specs.Prelude.{◌≡◌};
+
+use crate::draft::Draft;
+use crate::leaf::Leaf;
+use crate::page::Page;
+use crate::reading::{add_host, put_host, read_host, read_leaf};
+use sched_book::{
+    Agreement, App, Desk, HostRow, Instance, Place, Placed, Settings, Unavailable, Units, Version,
+    Workunit, copy_of,
+};
+use std::alloc::Global;
+use texts::{Listed, Memory};
+
+/// A view of a desk and of the page of a call over it, for the length of a step.
+pub struct Sheet<'a, D> {
+    pub desk: &'a mut D,
+    pub page: &'a mut Page,
+}
+
+impl<'a, D> Drop for Sheet<'a, D> {
+    fn drop(self)
+        ensures desk { self.exit.0.now ≡ self.entry.desk.now }
+        ensures page { self.exit.1.0.now ≡ self.entry.page.now }
+    {
+        let Sheet { desk: _, page: _ } = self;
+    }
+}
+
+impl<'a, D: Desk> Units for Sheet<'a, D> {
+    ghost use Rattle.std.specs.Prelude.{◌≡◌};
+    ghost use Rattle.std.proofs.Common.{rules};
+    ghost use Rattle.sched_book.specs.Delta.{applied};
+    ghost use Rattle.call_sheet.specs.Sheets.{IsPageOf};
+
+    ghost world = { λ s. applied (D.world s.desk.now) s.page.now.delta };
+
+    ghost honest = { λ s. D.honest s.desk.now };
+
+    ghost well_kept = { λ s. D.well_kept s.desk.now × IsPageOf (D.world s.desk.now) s.page.now };
+
+    ghost reads = { λ s t. D.reads s.desk.now t.desk.now × (t.page.now.delta ≡ s.page.now.delta)
+        × (D.honest t.desk.now → D.well_kept s.desk.now → IsPageOf (D.world s.desk.now) s.page.now → IsPageOf (D.world s.desk.now) t.page.now)
+        × (t.desk.ghost_name ≡ s.desk.ghost_name) × (t.page.ghost_name ≡ s.page.ghost_name) };
+
+    fn unit_by_name(&mut self, name: &str) -> Result<Option<u32>, Unavailable> {
+        self.desk.unit_by_name(name)
+    }
+
+    fn unit(&mut self, alloc: Global, unit: u32) -> Result<Option<Workunit>, Unavailable> {
+        read_leaf(alloc, self.desk, self.page, unit)?;
+        match self.page.leaf(unit) {
+            None => Ok(None),
+            Some(leaf) => Ok(Some(copy_of(&leaf.unit)?)),
+        }
+    }
+
+    fn agreement_of(&mut self, alloc: Global, unit: u32) -> Result<Option<Agreement>, Unavailable> {
+        read_leaf(alloc, self.desk, self.page, unit)?;
+        match self.page.leaf(unit) {
+            None => Ok(None),
+            Some(leaf) => Ok(Some(leaf.agreement)),
+        }
+    }
+
+    fn instance(
+        &mut self,
+        alloc: Global,
+        unit: u32,
+        number: u32,
+    ) -> Result<Option<Instance>, Unavailable> {
+        read_leaf(alloc, self.desk, self.page, unit)?;
+        match self.page.leaf(unit) {
+            None => Ok(None),
+            Some(leaf) => match leaf.present.as_slice().get(number as usize) {
+                None => Ok(None),
+                Some(row) => Ok(Some(copy_of(row)?)),
+            },
+        }
+    }
+
+    fn instances_of(&mut self, alloc: Global, unit: u32) -> Result<Listed<Instance>, Unavailable> {
+        read_leaf(alloc, self.desk, self.page, unit)?;
+        match self.page.leaf(unit) {
+            None => Ok(Listed::new(alloc)),
+            Some(leaf) => Ok(leaf.present.listed()?),
+        }
+    }
+
+    ghost reads_none = { λ s. (D.reads_none s.desk.now, Prim.search rules, Prim.search rules, Prim.search rules, Prim.search rules) };
+
+    ghost reads_on = { λ a b c h k. (D.reads_on _ _ _ h.0 k.0, Prim.search rules, Prim.search rules, Prim.search rules, Prim.search rules) };
+
+    ghost stays_honest = { λ a b h k. D.stays_honest _ _ h.0 k };
+
+    ghost stays_kept = { λ a b h k l. (D.stays_kept _ _ h.0 k l.0, Prim.search rules) };
+
+    ghost stays_same = { λ a b h k l. Prim.search rules };
+}
+
+impl<'a, D: Desk> Draft for Sheet<'a, D> {
+    ghost use Rattle.std.specs.Prelude.{◌≡◌};
+    ghost use Rattle.std.specs.BTreeMap.{get};
+    ghost use Rattle.std.specs.Ordering.{nat_cmp};
+    ghost use Rattle.std.proofs.Common.{rules, refl};
+    ghost use Rattle.call_sheet.specs.Sheets.{IsPageOf};
+
+    ghost entry = { λ s. D.world s.desk.now };
+
+    ghost delta = { λ s. s.page.now.delta };
+
+    ghost kept = { λ s. get nat_cmp s.page.now.leaves };
+
+    ghost works = { λ s t. D.reads s.desk.now t.desk.now
+        × (D.honest t.desk.now → D.well_kept s.desk.now → IsPageOf (D.world s.desk.now) s.page.now → IsPageOf (D.world s.desk.now) t.page.now)
+        × (t.desk.ghost_name ≡ s.desk.ghost_name) × (t.page.ghost_name ≡ s.page.ghost_name) };
+
+    fn settings(&self) -> &Settings {
+        &self.page.settings
+    }
+
+    fn read(&mut self, alloc: Global, unit: u32) -> Result<(), Unavailable> {
+        read_leaf(alloc, self.desk, self.page, unit)
+    }
+
+    fn leaf(&self, unit: u32) -> Option<&Leaf> {
+        self.page.leaf(unit)
+    }
+
+    fn units(&self, alloc: Global) -> Result<Vec<u32>, Memory> {
+        self.page.units(alloc)
+    }
+
+    fn host(&mut self, alloc: Global, number: u32) -> Result<Option<HostRow>, Unavailable> {
+        read_host(alloc, self.desk, self.page, number)
+    }
+
+    #[tactic(auto, using(crate::proofs::Pages::put_steps))]
+    fn put_instance(&mut self, place: Place, row: &Instance) -> Result<(), Unavailable> {
+        self.page.put_instance(place, row)
+    }
+
+    #[tactic(auto, using(crate::proofs::Pages::put_steps))]
+    fn put_host(&mut self, alloc: Global, number: u32, row: &HostRow) -> Result<(), Unavailable> {
+        put_host(alloc, self.desk, self.page, number, row)
+    }
+
+    #[tactic(auto, using(crate::proofs::Pages::put_steps))]
+    fn add_host(&mut self, row: &HostRow, most: u32) -> Result<Option<u32>, Unavailable> {
+        add_host(self.desk, self.page, row, most)
+    }
+
+    fn held_before(&mut self, alloc: Global, host: u32) -> Result<Listed<Place>, Unavailable> {
+        self.desk.held_by(alloc, host)
+    }
+
+    fn app_by_name(
+        &mut self,
+        alloc: Global,
+        name: &str,
+    ) -> Result<Option<Placed<App>>, Unavailable> {
+        self.desk.app_by_name(alloc, name)
+    }
+
+    fn version_for(
+        &mut self,
+        alloc: Global,
+        host: &HostRow,
+        app: u32,
+    ) -> Result<Option<Version>, Unavailable> {
+        self.desk.version_for(alloc, host, app)
+    }
+
+    ghost is_applied = { λ s. refl };
+
+    ghost rest_stays = { λ s kept. kept.1.rest };
+
+    ghost names_stay = { λ s kept. kept.1.names };
+
+    ghost leaves_are = { λ s kept. kept.1.leaves };
+
+    ghost reads_works = { λ s t h. (h.0, h.2, h.3, h.4) };
+
+    ghost reads_delta = { λ s t h. h.1 };
+
+    ghost works_none = { λ s. (D.reads_none s.desk.now, Prim.search rules, Prim.search rules, Prim.search rules) };
+
+    ghost works_on = { λ r s t h k. (D.reads_on _ _ _ h.0 k.0, Prim.search rules, Prim.search rules, Prim.search rules) };
+
+    ghost works_honest = { λ s t h k. D.stays_honest _ _ h.0 k };
+
+    ghost works_kept = { λ s t h k l. (D.stays_kept _ _ h.0 k l.0, Prim.search rules) };
+
+    ghost works_entry = { λ s t h k l. D.stays_same _ _ h.0 k l.0 };
+}
