@@ -1,100 +1,83 @@
--- The versions that were asked for, and the workunits that the user had, tell what the world says of one workunit.
-use Rattle.std.proofs.Common.{◌≡◌, inl, inr, ℕ, zero, suc, ◌+◌, ◌<◌, ◌≤◌, Bool, true, false, cond, eqb, List, [], ◌∷◌, ◌++◌, length, take, get_or, Option, Some, None, MatchOption, sym, refl, ap, ◌∙◌, subst, arith}
-use Rattle.std.specs.Prelude.{◌||◌, filter_map, slice_get, option_and_then}
-use Rattle.std.specs.List.{cons_option}
-use Rattle.std.proofs.lemmas.Option.{slice_get_cases}
+-- What the desk says of an application by its name, what is known of it, and which workunits the user had.
+use Rattle.std.proofs.Common.{◌≡◌, ℕ, zero, suc, ◌+◌, ◌<◌, Bool, true, false, cond, eqb, List, [], ◌∷◌, Option, Some, None, All, sym, refl, ap, ◌∙◌, arith}
+use Rattle.std.specs.Prelude.{◌||◌, find, slice_get, option_map, option_and_then}
 use Rattle.std.specs.List.{list_any}
 use Rattle.std.specs.Str.{bytes_eq}
-use Rattle.std.proofs.lemmas.Bool.{and_parts, eq-eqb, ne_eqb}
-use Rattle.std.proofs.lemmas.List.{take_more}
-use Rattle.std.proofs.lemmas.List.Elements.{filter_map-append}
+use Rattle.std.proofs.lemmas.Bool.{eq-eqb, ne_eqb}
+use Rattle.std.proofs.lemmas.List.Elements.{All-head, All-tail}
 use Rattle.std.proofs.lemmas.Slice.Eq.{bytes_eq-Decides}
-use Rattle.sched_book.specs.Desk.{units_from}
+use Rattle.sched_book.specs.Desk.{units_from, placed_at, app_by_name}
 use Rattle.sched_book.specs.Fits.{version_among, version_at, version_for}
-use Rattle.sched_book.specs.Laws.{HasNoVersion, IsVersionFor}
+use Rattle.sched_book.specs.Places.{nth, place_where}
+use Rattle.sched_book.specs.declared.desk.Placed.{Placed}
 use Rattle.sched_book.specs.declared.instance.UnitBook.{UnitBook}
 use Rattle.sched_book.specs.declared.rows.App.{App}
 use Rattle.sched_book.specs.declared.rows.HostRow.{HostRow}
 use Rattle.sched_book.specs.declared.rows.Version.{Version}
 use Rattle.sched_book.specs.declared.world.World.{World}
-use Rattle.sched_book.proofs.Newest.{version_is_newest_of_first}
-use Rattle.job_choice.specs.Choosing.{versions_known, version_in}
-use Rattle.job_choice.proofs.Candidates.{found_nth}
+use Rattle.sched_book.proofs.PlacesOf.{find-is}
+use Rattle.job_choice.specs.Choosing.{known_of}
+use Rattle.job_choice.specs.Offered.{IsKnown}
+use Rattle.job_choice.specs.declared.choosing.Known.{Known}
 
 -- Versions.
-same_text : (a b : List ℕ) → bytes_eq a b ≡ true → a ≡ b
-same_text a b h = (bytes_eq-Decides a b).0 h
+module _ (versions : List Version) (platforms : List (List ℕ)) (name : List ℕ) where
+  abbrev named : App → Bool
+  named a = bytes_eq a.name name
 
-self_text : (a b : List ℕ) → a ≡ b → bytes_eq a b ≡ true
-self_text a b h = (bytes_eq-Decides a b).1 h
+  abbrev of_app : App → Option Version
+  of_app a = version_among versions a.name platforms
 
--- a version among some is of the application
-version_app : (vs : List Version) (app : List ℕ) (platforms : List (List ℕ)) (v : Version) → version_among vs app platforms ≡ Some v → v.app ≡ app
-version_app vs app platforms v is =
-    let law : IsVersionFor vs app platforms v =
-    subst (λ o. MatchOption o (HasNoVersion vs app platforms) (IsVersionFor vs app platforms)) is (version_is_newest_of_first vs app platforms) in
-    same_text v.app app (and_parts (bytes_eq v.app app) (bytes_eq v.platform law.platform) law.matches).0
+  -- the first application of the name, where there is one
+  of_first : (apps : List App) → option_and_then of_app (find named apps) ≡ cond (list_any named apps) (version_among versions name platforms) None
+  of_first [] = refl
+  of_first (a ∷ apps) = cases (bytes_eq a.name name) refl (of_first apps)
+    where
+      cases : (b : Bool) → bytes_eq a.name name ≡ b
+          → option_and_then of_app (find named apps) ≡ cond (list_any named apps) (version_among versions name platforms) None
+          → option_and_then of_app (cond b (Some a) (find named apps)) ≡ cond (b || list_any named apps) (version_among versions name platforms) None
+      cases true is later = ap (λ n. version_among versions n platforms) ((bytes_eq-Decides a.name name).0 is)
+      cases false is later = later
 
--- the version known of an application of this name, where there is such an application
-pub version_found : (vs : List Version) (platforms : List (List ℕ)) (apps : List App) (name : List ℕ)
-    → version_in (filter_map (λ (a : App). version_among vs a.name platforms) apps) name
-    ≡ cond (list_any (λ (a : App). bytes_eq a.name name) apps) (version_among vs name platforms) None
-version_found vs platforms [] name = refl
-version_found vs platforms (a ∷ apps) name =
-    by (version_among vs a.name platforms) refl (bytes_eq a.name name) refl (version_found vs platforms apps name)
+-- the place of an application stands for it
+by_place : (w : World) (h : HostRow) (o : Option ℕ)
+    → option_and_then (λ (a : App). version_among w.versions a.name h.platforms) (option_and_then (nth w.apps) o)
+    ≡ option_and_then (λ (a : Placed App). version_at w h a.place) (option_and_then (placed_at w.apps) o)
+by_place w h None = refl
+by_place w h (Some n) = at (nth w.apps n) refl
   where
-    rest : List Version
-    rest = filter_map (λ (a : App). version_among vs a.name platforms) apps
+    at : (o : Option App) → nth w.apps n ≡ o
+        → option_and_then (λ (a : App). version_among w.versions a.name h.platforms) o
+        ≡ option_and_then (λ (a : Placed App). version_at w h a.place) (option_map (λ x. record { place = n; row = x }) o)
+    at None stands = refl
+    at (Some a) stands = sym (ap (option_and_then (λ (a : App). version_among w.versions a.name h.platforms)) stands)
 
-    others : Bool
-    others = list_any (λ (a : App). bytes_eq a.name name) apps
+version_is : (w : World) (h : HostRow) (name : List ℕ) → version_for w h name ≡ option_and_then (λ (a : Placed App). version_at w h a.place) (app_by_name w name)
+version_is w h name =
+    sym (of_first w.versions h.platforms name w.apps)
+    ∙ ap (option_and_then (λ (a : App). version_among w.versions a.name h.platforms)) (find-is (λ (a : App). bytes_eq a.name name) w.apps)
+    ∙ by_place w h (place_where (λ (a : App). bytes_eq a.name name) w.apps)
 
-    none_either : (b : Bool) (o : Option Version) → o ≡ None → cond b o None ≡ o
-    none_either true o none = refl
-    none_either false o none = sym none
+-- there is none where there is no application of the name
+pub version_none : (w : World) (h : HostRow) (name : List ℕ) → app_by_name w name ≡ None → version_for w h name ≡ None
+version_none w h name none = version_is w h name ∙ ap (option_and_then (λ (a : Placed App). version_at w h a.place)) none
 
-    by : (o : Option Version) → version_among vs a.name platforms ≡ o → (t : Bool) → bytes_eq a.name name ≡ t
-        → version_in (filter_map (λ (a : App). version_among vs a.name platforms) apps) name
-        ≡ cond (list_any (λ (a : App). bytes_eq a.name name) apps) (version_among vs name platforms) None
-        → version_in (cons_option o (filter_map (λ (a : App). version_among vs a.name platforms) apps)) name
-        ≡ cond (t || list_any (λ (a : App). bytes_eq a.name name) apps) (version_among vs name platforms) None
-    by None is true named more =
-        let same : version_among vs name platforms ≡ None =
-        ap (λ n. version_among vs n platforms) (sym (same_text a.name name named)) ∙ is in
-        more ∙ none_either (list_any (λ (a : App). bytes_eq a.name name) apps) (version_among vs name platforms) same
-    by None is false named more = more
-    by (Some v) is true named more =
-        let app : v.app ≡ name = version_app vs a.name platforms v is ∙ same_text a.name name named in
-        ap (λ (b : Bool). cond b (Some v) (version_in (filter_map (λ (a : App). version_among vs a.name platforms) apps) name)) (self_text v.app name app)
-        ∙ sym is
-        ∙ ap (λ n. version_among vs n platforms) (same_text a.name name named)
-    by (Some v) is false named more =
-        let other : bytes_eq v.app name ≡ false = ap (λ n. bytes_eq n name) (version_app vs a.name platforms v is) ∙ named in
-        ap (λ (b : Bool). cond b (Some v) (version_in (filter_map (λ (a : App). version_among vs a.name platforms) apps) name)) other
-        ∙ more
+-- or else it is that of the application at the place
+pub version_some : (w : World) (h : HostRow) (name : List ℕ) (a : Placed App) → app_by_name w name ≡ Some a → version_for w h name ≡ version_at w h a.place
+version_some w h name a some = version_is w h name ∙ ap (option_and_then (λ (a : Placed App). version_at w h a.place)) some
 
-pub version_is : (w : World) (h : HostRow) (name : List ℕ) → version_in (versions_known w h) name ≡ version_for w h name
-version_is w h name = version_found w.versions h.platforms w.apps name
-
--- one application more
-pub known_more : (w : World) (h : HostRow) (i : ℕ) (known : List Version) (v : Option Version) → i < length w.apps → v ≡ version_at w h (i + 1)
-    → known ≡ filter_map (λ (a : App). version_among w.versions a.name h.platforms) (take i w.apps)
-    → known ++ cons_option v [] ≡ filter_map (λ (a : App). version_among w.versions a.name h.platforms) (take (i + 1) w.apps)
-known_more w h i known v within is before = elim (slice_get_cases w.apps i).1 [ inl there ↦ at_app there.0 there.2 there.3 | inr past ↦ absurd (let none : length w.apps ≤ i = past.0 in omega arith) ]
+-- what is known of an application is what the world says
+pub known_is : (w : World) (h : HostRow) (name : List ℕ) (known : List Known) (k : Known) → All (IsKnown w h) known → known_of known name ≡ Some k
+    → k.version ≡ version_for w h name
+known_is w h name [] k right found = absurd (let never : None ≡ Some k = found in cc)
+known_is w h name (y ∷ ys) k right found = by (bytes_eq y.app name) refl (known_is w h name ys k (All-tail (IsKnown w h) y ys right)) found
   where
-    one : (o : Option Version) (a : App) → o ≡ version_among w.versions a.name h.platforms
-        → cons_option o [] ≡ filter_map (λ (a : App). version_among w.versions a.name h.platforms) (a ∷ [])
-    one o a is = ap (λ o. cons_option o []) is
-
-    at_app : (a : App) → slice_get w.apps i ≡ Some a → get_or w.apps i a ≡ a
-        → known ++ cons_option v [] ≡ filter_map (λ (a : App). version_among w.versions a.name h.platforms) (take (i + 1) w.apps)
-    at_app a found here =
-        let app : v ≡ version_among w.versions a.name h.platforms =
-        is ∙ ap (option_and_then (λ (a : App). version_among w.versions a.name h.platforms)) (found_nth w.apps (i + 1) i a (omega arith) found) in
-        ap (λ xs. xs ++ cons_option v []) before
-        ∙ ap (λ xs. filter_map (λ (a : App). version_among w.versions a.name h.platforms) (take i w.apps) ++ xs) (one v a app)
-        ∙ sym (filter_map-append (λ (a : App). version_among w.versions a.name h.platforms) (take i w.apps) (a ∷ []))
-        ∙ ap (filter_map (λ (a : App). version_among w.versions a.name h.platforms)) (sym (take_more w.apps i a within ∙ ap (λ y. take i w.apps ++ y ∷ []) here))
+    by : (b : Bool) → bytes_eq y.app name ≡ b → (known_of ys name ≡ Some k → k.version ≡ version_for w h name)
+        → cond b (Some y) (known_of ys name) ≡ Some k → k.version ≡ version_for w h name
+    by true is further found =
+        let same : y ≡ k = (let s : Some y ≡ Some k = found in cc) in
+        ap (λ (k : Known). k.version) (sym same) ∙ All-head (IsKnown w h) y ys right ∙ ap (version_for w h) ((bytes_eq-Decides y.app name).0 is)
+    by false is further found = further found
 
 -- Workunits that the user had.
 none_below : (first : ℕ) (p : UnitBook → Bool) (bs : List UnitBook) (unit : ℕ) → unit < first → list_any (λ u. eqb unit u) (units_from first p bs) ≡ false

@@ -4,4 +4,6 @@ pub mod Greedy
 pub mod Known
 pub mod Only
 pub mod Passing
+pub mod Resuming
 pub mod Taking
+pub mod Turns

@@ -1,5 +1,5 @@
 -- One who takes the candidates in turn, as long as it may, ends with a grant.
-use Rattle.std.proofs.Common.{◌≡◌, ◌⊎◌, inl, inr, ℕ, ◌+◌, ◌-◌, ◌/◌, Bool, true, false, cond, not, eqb, List, [], ◌∷◌, ◌++◌, length, Option, Some, None, All, sym, refl, ap, ◌∙◌, subst, arith}
+use Rattle.std.proofs.Common.{◌≡◌, inl, inr, ℕ, ◌+◌, ◌-◌, ◌/◌, Bool, true, false, cond, not, eqb, List, [], ◌∷◌, ◌++◌, length, Option, Some, None, All, sym, refl, ap, ◌∙◌, subst, arith}
 use Rattle.std.specs.Prelude.{◌&&◌, ◌||◌, nat_eq, nat_le, is_none, filter, option_map, option_and_then, unwrap_or, sum_by, Contains}
 use Rattle.std.specs.List.{list_all}
 use Rattle.std.proofs.lemmas.Bool.{and_parts, and_from, and_cases, or_parts, or_left, both_ways, not-true, not-false, leb-false}
@@ -21,15 +21,16 @@ use Rattle.sched_book.specs.declared.rows.Version.{Version}
 use Rattle.sched_book.specs.declared.world.World.{World}
 use Rattle.sched_book.proofs.Newest.{behind, front_of}
 use Rattle.job_choice.specs.Chosen.{places_of, IsJob, IsChoice}
-use Rattle.job_choice.specs.Choosing.{is_full, end_word_at, has_job_of, is_new_unit, version_in, with_job, after_with, after, Takes, versions_known}
-use Rattle.job_choice.specs.Offered.{HasJust, limits_on, IsBegun, IsOffered, first_place}
+use Rattle.job_choice.specs.Choosing.{is_full, end_word_at, has_job_of, is_new_unit, with_job, after_version}
+use Rattle.job_choice.specs.Offered.{HasJust, limits_on, IsBegun, IsKnown, IsReady, HasChosen, judged, Chooses, first_place}
 use Rattle.job_choice.specs.declared.choosing.Choosing.{Choosing}
+use Rattle.job_choice.specs.declared.choosing.Known.{Known}
 use Rattle.job_choice.specs.declared.choosing.Limits.{Limits}
 use Rattle.job_choice.specs.declared.granted.Grant.{Grant}
 use Rattle.job_choice.specs.declared.granted.Granted.{Granted}
 use Rattle.job_choice.proofs.Candidates.{InWorld, in_world, found_nth, passes_at}
 use Rattle.job_choice.proofs.Greedy.{AreTaken, none_taken, passed_over, taken_on, all_seen, is_grant}
-use Rattle.job_choice.proofs.Known.{version_is, had_at}
+use Rattle.job_choice.proofs.Known.{had_at}
 use Rattle.job_choice.proofs.Passing.{nothing_left, left_reached}
 use Rattle.texts.specs.SeenSet.{has_seen}
 
@@ -53,7 +54,7 @@ stops : (full : Bool) → Stop ≡ cond full Stop GoOn → full ≡ true
 stops true h = refl
 stops false h = absurd cc
 
-goes : (full : Bool) → GoOn ≡ cond full Stop GoOn → full ≡ false
+pub goes : (full : Bool) → GoOn ≡ cond full Stop GoOn → full ≡ false
 goes true h = absurd cc
 goes false h = refl
 
@@ -62,7 +63,6 @@ module _ (w : World) (q : Asking) where
   record IsOn (t : Choosing) (left : List Candidate) : Type 0 where
     host : t.host.now ≡ q.host
     had : HasJust t.had (units_of_user w q.host.account)
-    versions : t.versions ≡ versions_known w q.host
     limits_are : t.limits ≡ limits_on w q.number q.host q.held (q.now / 86400)
     wanted_is : t.wanted ≡ q.asked - seconds_of w q (places_of t.jobs)
     jobs : All (IsJob w q.host) t.jobs
@@ -123,16 +123,13 @@ module _ (w : World) (q : Asking) where
     seconds_is = ap (λ (o : Option UnitBook). unwrap_or (option_map (λ b. estimate b.unit.rsc_fpops_est q.host.p_fpops) o) 0) at
 
     module _ (t : Choosing) (left : List Candidate) (on : IsOn t (c ∷ left)) where
-      version_here : version_in t.versions c.unit.app ≡ version_for w q.host here.book.unit.app
-      version_here =
-          ap (λ vs. version_in vs c.unit.app) on.versions
-          ∙ version_is w q.host c.unit.app
-          ∙ ap (λ u. version_for w q.host u.app) here.row
+      version_here : version_for w t.host.now c.unit.app ≡ version_for w q.host here.book.unit.app
+      version_here = ap (λ h. version_for w h c.unit.app) on.host ∙ ap (λ u. version_for w q.host u.app) here.row
 
       had_here : has_seen nat_eq t.had c.place.unit ≡ user_had w q.host.account here.book
       had_here = on.had c.place.unit ∙ had_at 1 (user_had w q.host.account) w.units here.index here.book c.place.unit here.found here.place
 
-      fits_here : (o : Option Version) → version_in t.versions c.unit.app ≡ o → fits t.host.now c.unit o ≡ unit_fits w q.host here.book
+      fits_here : (o : Option Version) → version_for w t.host.now c.unit.app ≡ o → fits t.host.now c.unit o ≡ unit_fits w q.host here.book
       fits_here o is =
           ap (λ h. fits h c.unit o) on.host ∙ ap (λ u. fits q.host u o) here.row ∙ ap (fits q.host here.book.unit) (sym is ∙ version_here)
 
@@ -145,14 +142,13 @@ module _ (w : World) (q : Asking) where
       left_out over = record {
         host = on.host;
         had = on.had;
-        versions = on.versions;
         limits_are = on.limits_are;
         wanted_is = on.wanted_is;
         jobs = on.jobs;
         taken = passed_over w q (places_of t.jobs) c left on.taken over;
       }
 
-      unfit : (o : Option Version) → version_in t.versions c.unit.app ≡ o → fits t.host.now c.unit o ≡ false → IsOn t left
+      unfit : (o : Option Version) → version_for w t.host.now c.unit.app ≡ o → fits t.host.now c.unit o ≡ false → IsOn t left
       unfit o is misfit = left_out (λ eligible.
           absurd (both_ways (unit_fits w q.host here.book) (sym (fits_here o is) ∙ misfit)
           (and_parts (unit_fits w q.host here.book) (not (user_had w q.host.account here.book)) (sym eligible_is ∙ eligible)).0))
@@ -166,7 +162,7 @@ module _ (w : World) (q : Asking) where
           ])
 
       -- it is taken
-      taken_in : (v : Version) → version_in t.versions c.unit.app ≡ Some v → is_full t ≡ false → is_new_unit t.had t.jobs c.place.unit ≡ true
+      taken_in : (v : Version) → version_for w t.host.now c.unit.app ≡ Some v → is_full t ≡ false → is_new_unit t.had t.jobs c.place.unit ≡ true
           → fits t.host.now c.unit (Some v) ≡ true → IsOn (with_job t c v) left
       taken_in v is room new fit =
           let jobs = places_of t.jobs in
@@ -179,7 +175,6 @@ module _ (w : World) (q : Asking) where
           record {
             host = on.host;
             had = on.had;
-            versions = on.versions;
             limits_are = on.limits_are;
             wanted_is =
                 (let before = on.wanted_is in
@@ -206,24 +201,36 @@ module _ (w : World) (q : Asking) where
           remainder : (now asked before sum one e more : ℕ) → now ≡ asked - (before + sum) → more ≡ sum + one → one ≡ e → now - e ≡ asked - (before + more)
           remainder now asked before sum one e more h k l = omega arith
 
-      step : is_full t ≡ false → IsOn (after t c) left
-      step room = by (version_in t.versions c.unit.app) refl
+      step : is_full t ≡ false → IsOn (judged w t c) left
+      step room = by (is_new_unit t.had t.jobs c.place.unit) (version_for w t.host.now c.unit.app) refl refl
         where
-          with_version : (v : Version) → version_in t.versions c.unit.app ≡ Some v → (new fit : Bool)
-              → is_new_unit t.had t.jobs c.place.unit ≡ new → fits t.host.now c.unit (Some v) ≡ fit
-              → IsOn (cond (new && fit) (with_job t c v) t) left
-          with_version v is true true new fit = taken_in v is room new fit
-          with_version v is true false new fit = unfit (Some v) is fit
-          with_version v is false b new fit = not_new new
+          with_version : (v : Version) → version_for w t.host.now c.unit.app ≡ Some v → (fit : Bool)
+              → is_new_unit t.had t.jobs c.place.unit ≡ true → fits t.host.now c.unit (Some v) ≡ fit
+              → IsOn (cond fit (with_job t c v) t) left
+          with_version v is true new fit = taken_in v is room new fit
+          with_version v is false new fit = unfit (Some v) is fit
 
-          by : (o : Option Version) → version_in t.versions c.unit.app ≡ o → IsOn (after_with t c o) left
-          by None is = unfit None is (and_false (nat_le c.unit.rsc_memory_bound t.host.now.m_nbytes && nat_le c.unit.rsc_disk_bound t.host.now.d_free
+          by : (new : Bool) (o : Option Version) → is_new_unit t.had t.jobs c.place.unit ≡ new → version_for w t.host.now c.unit.app ≡ o
+              → IsOn (cond new (after_version t c o) t) left
+          by false o old is = not_new old
+          by true None new is = unfit None is (and_false (nat_le c.unit.rsc_memory_bound t.host.now.m_nbytes && nat_le c.unit.rsc_disk_bound t.host.now.d_free
               && nat_le (estimate c.unit.rsc_fpops_est t.host.now.p_fpops) c.unit.delay_bound))
             where
               and_false : (b : Bool) → (b && false) ≡ false
               and_false true = refl
               and_false false = refl
-          by (Some v) is = with_version v is (is_new_unit t.had t.jobs c.place.unit) (fits t.host.now c.unit (Some v)) refl refl
+          by true (Some v) new is = with_version v is (fits t.host.now c.unit (Some v)) new refl
+
+  -- whatever is known
+  knowing : (t : Choosing) (known : List Known) (left : List Candidate) → IsOn t left → IsOn (record t { known = known }) left
+  knowing t known left on = record {
+    host = on.host;
+    had = on.had;
+    limits_are = on.limits_are;
+    wanted_is = on.wanted_is;
+    jobs = on.jobs;
+    taken = on.taken;
+  }
 
   -- after the last offer nothing more can be given
   record IsOver (t : Choosing) : Type 0 where
@@ -232,23 +239,17 @@ module _ (w : World) (q : Asking) where
     maximal : is_maximal w q (places_of t.jobs) ≡ true
 
   ends : (left : List Candidate) (old new : Choosing) → IsOn old left → is_full old ≡ false
-      → ((c : Candidate) → Contains left c → InWorld w 1 w.units c) → OffersAll Takes old left new → (new.refused ≡ true) ⊎ IsOver new
+      → ((c : Candidate) → Contains left c → InWorld w 1 w.units c) → OffersAll (Chooses w) old left new → IsOver new
   ends [] old new on room here h =
-      inr (subst IsOver (sym h) (record { left = []; on = on; maximal = all_seen w q (places_of old.jobs) on.taken }))
+      subst IsOver (sym h) (record { left = []; on = on; maximal = all_seen w q (places_of old.jobs) on.taken })
   ends (c ∷ cs) old new on room here h =
       let there = here c (front_of c cs) in
       let later = λ (d : Candidate) (k : Contains cs d). here d (behind c cs d k) in
+      let now = λ (t : Choosing) (is : t ≡ record (judged w old c) { known = t.known }).
+      subst (λ t. IsOn t cs) (sym is) (knowing (judged w old c) t.known cs (step c there old cs on room)) in
       elim h [
-        | inl last ↦ elim last [
-          | inl refused ↦ inl refused.1
-          | inr taken ↦ (let full = stops (is_full new) taken.0 in
-              let now : IsOn new cs = subst (λ t. IsOn t cs) (sym taken.1) (step c there old cs on room) in
-              inr (record { left = cs; on = now; maximal = full_maximal new cs now full }))
-        ]
-        | inr more ↦ elim more.1 [
-          | inl never ↦ absurd (let differ : GoOn ≡ Stop = never.0 in cc)
-          | inr taken ↦ ends cs more.0 new (subst (λ t. IsOn t cs) (sym taken.1) (step c there old cs on room)) (goes (is_full more.0) taken.0) later more.2
-        ]
+        | inl last ↦ record { left = cs; on = now new last.1; maximal = full_maximal new cs (now new last.1) (stops (is_full new) last.0) }
+        | inr more ↦ ends cs more.0 new (now more.0 more.1.1) (goes (is_full more.0) more.1.0) later more.2
       ]
 
   begun : (t : Choosing) → IsBegun w q.host (limits_on w q.number q.host q.held (q.now / 86400)) (q.asked - q.before) t → IsOn t (unsent w first_place)
@@ -257,12 +258,14 @@ module _ (w : World) (q : Asking) where
       record {
         host = h.host;
         had = h.had;
-        versions = h.versions;
         limits_are = h.limits_are;
         wanted_is = h.wanted_is ∙ subst (λ (js : List Granted). q.asked - q.before ≡ q.asked - seconds_of w q (places_of js)) none (let zero_more : q.asked - q.before ≡ q.asked - (q.before + 0) = omega arith in zero_more);
         jobs = subst (All (IsJob w q.host)) none (All-nil (IsJob w q.host));
         taken = subst (λ (js : List Granted). AreTaken w q (places_of js) (unsent w first_place)) none (none_taken w q);
       }
+
+  ready : (t : Choosing) → IsBegun w q.host (limits_on w q.number q.host q.held (q.now / 86400)) (q.asked - q.before) t → IsReady w t
+  ready t h = record { known = subst (All (IsKnown w t.host.now)) (sym h.known) (All-nil (IsKnown w t.host.now)); unjudged = h.unjudged }
 
   choice : (t : Choosing) (g : Grant) → IsOver t → g.jobs ≡ t.jobs → g.end_word ≡ end_word_at t → IsChoice w q g
   choice t g over jobs word = record {
@@ -273,26 +276,23 @@ module _ (w : World) (q : Asking) where
 
   chosen : (old new : Choosing) (g : Grant)
       → IsBegun w q.host (limits_on w q.number q.host q.held (q.now / 86400)) (q.asked - q.before) old
-      → IsOffered w old new → g.jobs ≡ new.jobs → g.end_word ≡ end_word_at new → IsChoice w q g
+      → (IsReady w old → HasChosen w old new) → g.jobs ≡ new.jobs → g.end_word ≡ end_word_at new → IsChoice w q g
   chosen old new g fresh offered jobs word =
       let on = begun old fresh in
-      elim offered [
+      elim (offered (ready old fresh)) [
         | inl none ↦ choice new g
             (subst IsOver (sym none.1) (record { left = unsent w first_place; on = on; maximal = full_maximal old (unsent w first_place) on none.0 })) jobs word
-        | inr all ↦ elim (ends (unsent w first_place) old new on all.0 (λ c k. in_world w first_place 1 w.units c k) all.2) [
-          | inl refused ↦ absurd (both_ways new.refused all.1 refused)
-          | inr over ↦ choice new g over jobs word
-        ]
+        | inr all ↦ choice new g (ends (unsent w first_place) old new on all.0 (λ c k. in_world w first_place 1 w.units c k) all.1) jobs word
       ]
 
   -- the same where the world, the limits and the seconds come by other names
   pub chosen_at : (begun_in offered_in : World) (limits : Limits) (wanted day : ℕ) (old new : Choosing) (g : Grant)
       → begun_in ≡ w → offered_in ≡ w → day ≡ q.now / 86400 → limits ≡ limits_on w q.number q.host q.held day → wanted ≡ q.asked - q.before
-      → IsBegun begun_in q.host limits wanted old → IsOffered offered_in old new → g.jobs ≡ new.jobs → g.end_word ≡ end_word_at new → IsChoice w q g
+      → IsBegun begun_in q.host limits wanted old → (IsReady offered_in old → HasChosen offered_in old new) → g.jobs ≡ new.jobs → g.end_word ≡ end_word_at new → IsChoice w q g
   chosen_at begun_in offered_in limits wanted day old new g same same_later today limits_are wanted_is fresh offered jobs word =
       let known : limits ≡ limits_on w q.number q.host q.held (q.now / 86400) = limits_are ∙ ap (limits_on w q.number q.host q.held) today in
       chosen old new g
       (subst (λ n. IsBegun w q.host (limits_on w q.number q.host q.held (q.now / 86400)) n old) wanted_is
       (subst (λ l. IsBegun w q.host l wanted old) known
       (subst (λ v. IsBegun v q.host limits wanted old) same fresh)))
-      (subst (λ v. IsOffered v old new) same_later offered) jobs word
+      (subst (λ v. IsReady v old → HasChosen v old new) same_later offered) jobs word

@@ -1,14 +1,19 @@
--- What is read of a desk before the choice, and what is offered then.
-use Rattle.std.specs.Prelude.{◌≡◌, ◌⊎◌, ℕ, ◌-◌, ◌==◌, nat_eq, true, false, List, []}
+-- What is read of a desk before the choice, and what is chosen then.
+use Rattle.std.specs.Prelude.{◌≡◌, ◌⊎◌, ℕ, ◌-◌, ◌==◌, nat_eq, true, false, if◌then◌else◌, List, [], ◌∷◌, ◌++◌, All, None}
 use Rattle.std.specs.List.{list_any}
 use Rattle.sched_book.specs.Desk.{units_of_user}
+use Rattle.sched_book.specs.Fits.{version_for}
 use Rattle.sched_book.specs.Offers.{unsent, OffersAll}
 use Rattle.sched_book.specs.Places.{sent_on_day}
+use Rattle.sched_book.specs.declared.desk.Candidate.{Candidate}
+use Rattle.sched_book.specs.declared.desk.Flow.{Flow}
+use Rattle.sched_book.specs.declared.desk.Flow.TheVariants.{GoOn, Stop}
 use Rattle.sched_book.specs.declared.instance.Place.{Place}
 use Rattle.sched_book.specs.declared.rows.HostRow.{HostRow}
 use Rattle.sched_book.specs.declared.world.World.{World}
-use Rattle.job_choice.specs.Choosing.{is_full, versions_known, Takes}
+use Rattle.job_choice.specs.Choosing.{is_full, is_new_unit, after_version}
 use Rattle.job_choice.specs.declared.choosing.Choosing.{Choosing}
+use Rattle.job_choice.specs.declared.choosing.Known.{Known}
 use Rattle.job_choice.specs.declared.choosing.Limits.{Limits}
 use Rattle.texts.specs.SeenSet.{has_seen}
 use Rattle.texts.specs.declared.seen_set.SeenSet.{SeenSet}
@@ -29,16 +34,37 @@ limits_on w number h held day = record {
 pub record IsBegun (w : World) (h : HostRow) (limits : Limits) (wanted : ℕ) (t : Choosing) : Type 0 where
   pub host : t.host.now ≡ h
   pub had : HasJust t.had (units_of_user w h.account)
-  pub versions : t.versions ≡ versions_known w h
+  pub known : t.known ≡ []
   pub limits_are : t.limits ≡ limits
   pub wanted_is : t.wanted ≡ wanted
   pub jobs : t.jobs ≡ []
+  pub unjudged : t.unjudged ≡ None
 
 abbrev pub first_place : Place
 first_place = record { unit = 1; number = 0 }
 
--- Nothing was offered where nothing could be taken; else all candidates, up to the one at which it stopped.
-abbrev pub IsOffered : World → Choosing → Choosing → Type 0
-IsOffered w old new =
+-- It is the version that the host runs of the application.
+abbrev pub IsKnown : World → HostRow → Known → Type 0
+IsKnown w h k = k.version ≡ version_for w h k.app
+
+-- what is known is right, and no candidate is left unjudged
+pub record IsReady (w : World) (t : Choosing) : Type 0 where
+  pub known : All (IsKnown w t.host.now) t.known
+  pub unjudged : t.unjudged ≡ None
+
+abbrev pub with_known : Choosing → Known → Choosing
+with_known t k = record t { known = t.known ++ k ∷ [] }
+
+-- what a candidate leaves, by the version that the host runs in the world
+abbrev pub judged : World → Choosing → Candidate → Choosing
+judged w t c = if is_new_unit t.had t.jobs c.place.unit then after_version t c (version_for w t.host.now c.unit.app) else t
+
+-- The candidate is judged by the world, whatever is known then, and it stops once it is full.
+abbrev pub Chooses : World → Choosing → Candidate → Flow → Choosing → Type 0
+Chooses w old c flow new = (flow ≡ (if is_full new then Stop else GoOn)) × (new ≡ record (judged w old c) { known = new.known })
+
+-- Nothing was chosen where nothing could be taken; else of all candidates, up to the one at which it stopped.
+abbrev pub HasChosen : World → Choosing → Choosing → Type 0
+HasChosen w old new =
     ((is_full old ≡ true) × (new ≡ old))
-    ⊎ ((is_full old ≡ false) × (new.refused ≡ false) × OffersAll Takes old (unsent w first_place) new)
+    ⊎ ((is_full old ≡ false) × OffersAll (Chooses w) old (unsent w first_place) new)

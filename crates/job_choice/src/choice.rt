@@ -2,34 +2,17 @@
 
 ghost use Rattle.std.specs.Prelude.{◌≡◌, ◌-◌, ◌++◌, IfOk, OnOk};
 ghost use Rattle.sched_book.specs.Desk.{units_of_user};
+ghost use Rattle.sched_book.specs.Fits.{version_for};
 ghost use Rattle.sched_book.specs.Trusted.{Trusted};
 ghost use Rattle.job_choice.specs.Chosen.{IsChoice};
-ghost use Rattle.job_choice.specs.Choosing.{versions_known};
-ghost use Rattle.job_choice.specs.Offered.{HasJust, limits_on, IsBegun, IsOffered};
+ghost use Rattle.job_choice.specs.Offered.{HasJust, limits_on, IsBegun, IsReady, with_known, HasChosen};
 
-use crate::choosing::{Choosing, Limits, finish, is_done};
+use crate::choosing::{Choosing, Known, Limits, finish, is_done};
 use crate::granted::Grant;
+use sched_book::limits::MOST_APPS;
 use sched_book::{Desk, HostRow, Moment, Place, Unavailable, Version};
 use std::alloc::Global;
-use texts::{Listed, SeenSet};
-
-/// Asks for the version that the host runs of each application.
-fn read_versions<D: Desk>(
-    alloc: Global,
-    desk: &mut D,
-    host: &HostRow,
-) -> Result<Listed<Version>, Unavailable>
-    ensures reads { D.reads desk.old desk.new }
-    ensures answer { Trusted D.Units desk.old desk.new (
-        IfOk result (λ versions. versions ≡ versions_known (D.world desk.old) host.now)) }
-{
-    let apps = desk.counts()?.apps;
-    let mut versions = Listed::new(alloc);
-    for index in 0..apps {
-        versions.push_some(desk.version_for(alloc, host, index + 1)?)?;
-    }
-    Ok(versions)
-}
+use texts::{Listed, SeenSet, Text};
 
 /// Asks which workunits the user had.
 fn read_had<D: Desk>(alloc: Global, desk: &mut D, account: u32) -> Result<SeenSet<u32>, Unavailable>
@@ -82,39 +65,92 @@ pub(crate) fn begin<'a, D: Desk>(
     ensures answer { Trusted D.Units desk.old desk.new (IfOk result (IsBegun (D.world desk.old) host.now limits wanted)) }
 {
     let had = read_had(alloc, desk, host.account)?;
-    let versions = read_versions(alloc, desk, host)?;
     Ok(Choosing {
         host,
         had,
-        versions,
+        known: Listed::new(alloc),
         limits,
         wanted,
         jobs: Listed::new(alloc),
+        unjudged: None,
         refused: false,
     })
 }
 
-/// Offers the candidates, unless none could be taken.
-fn offer_all<D: Desk>(desk: &mut D, choosing: &mut Choosing) -> Result<(), Unavailable>
+/// Asks for the version that the host runs of the application of this name; none where it doesn't stand.
+#[tactic(auto, using(crate::proofs::Known::version_none))]
+fn version_of<D: Desk>(
+    alloc: Global,
+    desk: &mut D,
+    host: &HostRow,
+    app: &str,
+) -> Result<Option<Version>, Unavailable>
     ensures reads { D.reads desk.old desk.new }
     ensures answer { Trusted D.Units desk.old desk.new (
-        OnOk result (IsOffered (D.world desk.old) choosing.old choosing.new)) }
+        IfOk result (λ version. version ≡ version_for (D.world desk.old) host.now app.now)) }
+{
+    match desk.app_by_name(alloc, app)? {
+        None => Ok(None),
+        Some(app) => desk.version_for(alloc, host, app.place),
+    }
+}
+
+/// Asks about the application of this name, which is known from now on.
+fn learn<D: Desk>(
+    alloc: Global,
+    desk: &mut D,
+    choosing: &mut Choosing,
+    app: Text,
+) -> Result<(), Unavailable>
+    ensures reads { D.reads desk.old desk.new }
+    ensures answer { Trusted D.Units desk.old desk.new (OnOk result (
+        choosing.new ≡ with_known choosing.old (record {
+          app = app;
+          version = version_for (D.world desk.old) choosing.old.host.now app;
+        }))) }
+{
+    let version = version_of(alloc, desk, choosing.host, app.as_str())?;
+    choosing.known.push(Known { app, version })?;
+    Ok(())
+}
+
+/// Offers the candidates, unless none could be taken. Where the offers stop at one whose application is unknown,
+/// it asks about that application, and has them go on from there.
+///
+/// It is unavailable where more applications come up than a world may have.
+fn offer_all<D: Desk>(
+    alloc: Global,
+    desk: &mut D,
+    choosing: &mut Choosing,
+) -> Result<(), Unavailable>
+    ensures reads { D.reads desk.old desk.new }
+    ensures answer { Trusted D.Units desk.old desk.new (
+        OnOk result (IsReady (D.world desk.old) choosing.old → HasChosen (D.world desk.old) choosing.old choosing.new)) }
 {
     if is_done(choosing) {
         return Ok(());
     }
-    desk.unsent_from(Place { unit: 1, number: 0 }, choosing)?;
-    if choosing.refused {
-        return Err(Unavailable);
+    let mut from = Place { unit: 1, number: 0 };
+    for _ in 0..=MOST_APPS {
+        desk.unsent_from(from, choosing)?;
+        if choosing.refused {
+            return Err(Unavailable);
+        }
+        let Some(unjudged) = choosing.unjudged.take() else {
+            return Ok(());
+        };
+        from = unjudged.place;
+        learn(alloc, desk, choosing, unjudged.app)?;
     }
-    Ok(())
+    Err(Unavailable)
 }
 
 /// Chooses jobs for the host of this number, which has this row, asks for `asked` seconds of work, and gets
 /// `before` seconds of it by jobs that are sent to it again.
 ///
 /// `held` is how many jobs it holds. The candidates are offered by place, and no further one once it has enough or
-/// has reached a limit. It is unavailable where memory or the desk is.
+/// has reached a limit. It is unavailable where memory or the desk is, or where candidates of more applications
+/// come up than a world may have.
 pub fn choose<D: Desk>(
     alloc: Global,
     desk: &mut D,
@@ -138,6 +174,6 @@ pub fn choose<D: Desk>(
 {
     let limits = read_limits(alloc, desk, number, host, held, now.day())?;
     let mut choosing = begin(alloc, desk, host, limits, still_wanted(asked, before))?;
-    offer_all(desk, &mut choosing)?;
+    offer_all(alloc, desk, &mut choosing)?;
     Ok(finish(choosing))
 }

@@ -1,15 +1,14 @@
 //! The taker: what is granted so far, and what it still takes.
 
-ghost use Rattle.std.specs.Prelude.{◌≡◌, find, nat_le, OnOk};
+ghost use Rattle.std.specs.Prelude.{◌≡◌, nat_le, OnOk};
 ghost use Rattle.std.specs.Option.{option_copied};
-ghost use Rattle.std.specs.Str.{bytes_eq};
-ghost use Rattle.job_choice.specs.Choosing.{is_full, has_job_of, is_new_unit, end_word_at, after};
+ghost use Rattle.job_choice.specs.Choosing.{is_full, has_job_of, is_new_unit, end_word_at, known_of, after};
 
 use crate::fitting::{fits, seconds_at};
 use crate::granted::{Grant, Granted};
 use rpc_records::EndWord;
-use sched_book::{Candidate, Flow, HostRow, Taker, Version};
-use texts::{Listed, Memory, SeenSet};
+use sched_book::{Candidate, Flow, HostRow, Place, Taker, Version};
+use texts::{Listed, Memory, SeenSet, Text};
 
 /// The most jobs that one reply can grant.
 #[derive(Clone, Copy)]
@@ -22,18 +21,36 @@ pub(crate) struct Limits {
     pub(crate) day: u32,
 }
 
+/// What is known of an application for the host.
+#[derive(Drop)]
+pub(crate) struct Known {
+    /// Its name.
+    pub(crate) app: Text,
+    /// The version that the host runs, where it runs any.
+    pub(crate) version: Option<Version>,
+}
+
+/// The candidate at which the offers stopped, since nothing is known of its application yet.
+#[derive(Drop)]
+pub(crate) struct Unjudged {
+    pub(crate) place: Place,
+    /// The name of its application.
+    pub(crate) app: Text,
+}
+
 /// Who chooses jobs for a host while candidates are offered.
 #[derive(Drop)]
 pub(crate) struct Choosing<'a> {
     pub(crate) host: &'a HostRow,
     /// The workunits of which the user had an instance.
     pub(crate) had: SeenSet<u32>,
-    /// For each application the version that the host runs, where it runs any.
-    pub(crate) versions: Listed<Version>,
+    /// The applications that were asked for so far.
+    pub(crate) known: Listed<Known>,
     pub(crate) limits: Limits,
     /// The seconds that are still asked for.
     pub(crate) wanted: u64,
     pub(crate) jobs: Listed<Granted>,
+    pub(crate) unjudged: Option<Unjudged>,
     /// Memory was refused, and an offer is lost.
     pub(crate) refused: bool,
 }
@@ -102,14 +119,14 @@ fn is_new(had: &SeenSet<u32>, jobs: &[Granted], unit: u32) -> bool
     !had.has(&unit) && !has_job(jobs, unit)
 }
 
-/// The version of the application of this name.
-fn find_version<'a>(versions: &'a [Version], app: &str) -> Option<&'a Version>
-    ensures { option_copied result ≡ find (λ v. bytes_eq v.app app.now) versions.now }
+/// What is known of the application of this name.
+fn find_known<'a>(known: &'a [Known], app: &str) -> Option<&'a Known>
+    ensures { option_copied result ≡ known_of known.now app.now }
 {
-    versions.iter().find(|version| version.app.is(app))
+    known.iter().find(|entry| entry.app.is(app))
 }
 
-/// Takes the candidate if the host may have it.
+/// Takes the candidate if the host may have it, or marks it as unjudged where its application is unknown.
 fn consider(choosing: &mut Choosing, candidate: &Candidate) -> Result<(), Memory>
     ensures { OnOk result (choosing.new ≡ after choosing.old candidate.now) }
 {
@@ -121,7 +138,14 @@ fn consider(choosing: &mut Choosing, candidate: &Candidate) -> Result<(), Memory
     ) {
         return Ok(());
     }
-    let Some(version) = find_version(choosing.versions.as_slice(), unit.app.as_str()) else {
+    let Some(known) = find_known(choosing.known.as_slice(), unit.app.as_str()) else {
+        choosing.unjudged = Some(Unjudged {
+            place: candidate.place,
+            app: unit.app.clone()?,
+        });
+        return Ok(());
+    };
+    let Some(version) = known.version.as_ref() else {
         return Ok(());
     };
     if !fits(choosing.host, unit, Some(version)) {
@@ -148,7 +172,7 @@ impl Taker for Choosing<'_> {
             self.refused = true;
             return Flow::Stop;
         }
-        if is_done(self) {
+        if self.unjudged.is_some() || is_done(self) {
             Flow::Stop
         } else {
             Flow::GoOn

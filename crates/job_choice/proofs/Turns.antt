@@ -1,0 +1,186 @@
+-- Offers in turns, each up to a candidate that could not be judged, are one choice among all candidates.
+use Rattle.std.proofs.Common.{◌≡◌, ◌⊎◌, inl, inr, Bool, true, false, cond, List, [], ◌∷◌, ◌++◌, Option, Some, None, sym, refl, ap, ◌∙◌, subst}
+use Rattle.std.specs.Prelude.{◌||◌, is_some}
+use Rattle.std.proofs.lemmas.Bool.{both_ways}
+use Rattle.std.proofs.lemmas.List.Elements.{All-push}
+use Rattle.sched_book.specs.Fits.{fits, version_for}
+use Rattle.sched_book.specs.Offers.{unsent, OffersAll}
+use Rattle.sched_book.specs.declared.desk.Candidate.{Candidate}
+use Rattle.sched_book.specs.declared.desk.Flow.{Flow}
+use Rattle.sched_book.specs.declared.desk.Flow.TheVariants.{GoOn, Stop}
+use Rattle.sched_book.specs.declared.instance.Place.{Place}
+use Rattle.sched_book.specs.declared.rows.Version.{Version}
+use Rattle.sched_book.specs.declared.world.World.{World}
+use Rattle.job_choice.specs.Choosing.{is_full, is_new_unit, known_of, unjudged_at, with_job, after_version, after_known, after, Takes}
+use Rattle.job_choice.specs.Offered.{first_place, IsKnown, IsReady, with_known, judged, Chooses, HasChosen}
+use Rattle.job_choice.specs.declared.choosing.Choosing.{Choosing}
+use Rattle.job_choice.specs.declared.choosing.Known.{Known}
+use Rattle.job_choice.specs.declared.choosing.Unjudged.{Unjudged}
+use Rattle.job_choice.proofs.Known.{known_is}
+use Rattle.job_choice.proofs.Resuming.{resumed}
+use Rattle.job_choice.proofs.Taking.{goes}
+
+module _ (w : World) where
+  -- A candidate, as it is left by one who is ready.
+  module _ (t : Choosing) (c : Candidate) where
+    stays_ready : IsReady w t → IsReady w (judged w t c)
+    stays_ready ready = by (is_new_unit t.had t.jobs c.place.unit) (version_for w t.host.now c.unit.app)
+      where
+        fit : (b : Bool) (v : Version) → IsReady w (cond b (with_job t c v) t)
+        fit true v = record { known = ready.known; unjudged = ready.unjudged }
+        fit false v = ready
+
+        by : (b : Bool) (o : Option Version) → IsReady w (cond b (after_version t c o) t)
+        by false o = ready
+        by true None = ready
+        by true (Some v) = fit (fits t.host.now c.unit (Some v)) v
+
+    -- it is judged as the world says, or not at all
+    judged_or_not : (new : Choosing) → IsReady w t → new ≡ after t c → (new ≡ judged w t c) ⊎ (new ≡ unjudged_at t c)
+    judged_or_not new ready is = by (is_new_unit t.had t.jobs c.place.unit) (known_of t.known c.unit.app) refl is
+      where
+        by : (b : Bool) (o : Option Known) → known_of t.known c.unit.app ≡ o → new ≡ cond b (after_known t c o) t
+            → (new ≡ cond b (after_version t c (version_for w t.host.now c.unit.app)) t) ⊎ (new ≡ unjudged_at t c)
+        by false o found is = inl is
+        by true None found is = inr is
+        by true (Some k) found is = inl (is ∙ ap (after_version t c) (known_is w t.host.now c.unit.app t.known k ready.known found))
+
+    -- what is known makes no difference to what the world says
+    knows_else : (known later : List Known) → record (judged w (record t { known = known }) c) { known = later } ≡ record (judged w t c) { known = later }
+    knows_else known later = by (is_new_unit t.had t.jobs c.place.unit) (version_for w t.host.now c.unit.app)
+      where
+        fit : (b : Bool) (v : Version)
+            → record (cond b (with_job (record t { known = known }) c v) (record t { known = known })) { known = later } ≡ record (cond b (with_job t c v) t) { known = later }
+        fit true v = refl
+        fit false v = refl
+
+        by : (b : Bool) (o : Option Version)
+            → record (cond b (after_version (record t { known = known }) c o) (record t { known = known })) { known = later } ≡ record (cond b (after_version t c o) t) { known = later }
+        by false o = refl
+        by true None = refl
+        by true (Some v) = fit (fits t.host.now c.unit (Some v)) v
+
+    chooses : (flow : Flow) (new : Choosing) → IsReady w t → flow ≡ cond (is_some new.unjudged || is_full new) Stop GoOn → new ≡ judged w t c
+        → Chooses w t c flow new
+    chooses flow new ready goes_on is =
+        let none : new.unjudged ≡ None = ap (λ (n : Choosing). n.unjudged) is ∙ (stays_ready ready).unjudged in (
+          goes_on ∙ ap (λ (o : Option Unjudged). cond (is_some o || is_full new) Stop GoOn) none,
+          subst (λ (n : Choosing). n ≡ record (judged w t c) { known = n.known }) (sym is) refl,
+        )
+
+  -- with more known it chooses as it would have
+  knows_more : (t : Choosing) (known : List Known) (c : Candidate) (left : List Candidate) (last : Choosing)
+      → OffersAll (Chooses w) (record t { known = known }) (c ∷ left) last → OffersAll (Chooses w) t (c ∷ left) last
+  knows_more t known c left last h = elim h [
+    | inl stopped ↦ inl (stopped.0, stopped.1 ∙ knows_else t c known last.known)
+    | inr more ↦ inr (more.0, (more.1.0, more.1.1 ∙ knows_else t c known more.0.known), more.2)
+  ]
+
+  -- The offers stopped at a candidate that could not be judged; what is chosen from it on is chosen of all.
+  record StoppedAt (old : Choosing) (all : List Candidate) (new : Choosing) : Type 0 where
+    front : List Candidate
+    c : Candidate
+    left : List Candidate
+    parts : all ≡ front ++ c ∷ left
+    before : Choosing
+    is : new ≡ unjudged_at before c
+    ready : IsReady w before
+    room : is_full before ≡ false
+    leads : (last : Choosing) → OffersAll (Chooses w) before (c ∷ left) last → OffersAll (Chooses w) old all last
+
+  -- one turn of offers
+  one_turn : (cs : List Candidate) (old new : Choosing) → IsReady w old → is_full old ≡ false → new.refused ≡ false → OffersAll Takes old cs new
+      → (OffersAll (Chooses w) old cs new × (new.unjudged ≡ None)) ⊎ StoppedAt old cs new
+  one_turn [] old new ready room kept h = inl (h, ap (λ (n : Choosing). n.unjudged) h ∙ ready.unjudged)
+  one_turn (c ∷ cs) old new ready room kept h = elim h [
+    | inl last ↦ elim last [
+      | inl refused ↦ absurd (both_ways new.refused kept refused.1)
+      | inr taken ↦ elim (judged_or_not old c new ready taken.1) [
+        | inl is ↦ inl (inl (chooses old c Stop new ready taken.0 is), ap (λ (n : Choosing). n.unjudged) is ∙ (stays_ready old c ready).unjudged)
+        | inr not_yet ↦ inr (record {
+          front = [];
+          c = c;
+          left = cs;
+          parts = refl;
+          before = old;
+          is = not_yet;
+          ready = ready;
+          room = room;
+          leads = λ last h. h;
+        })
+      ]
+    ]
+    | inr more ↦ elim more.1 [
+      | inl never ↦ absurd (let differ : GoOn ≡ Stop = never.0 in cc)
+      | inr taken ↦ elim (judged_or_not old c more.0 ready taken.1) [
+        | inl is ↦ (let one = chooses old c GoOn more.0 ready taken.0 is in
+            let ready_yet = subst (IsReady w) (sym is) (stays_ready old c ready) in
+            elim (one_turn cs more.0 new ready_yet (goes (is_full more.0) one.0) kept more.2) [
+              | inl all ↦ inl (inr (more.0, one, all.0), all.1)
+              | inr stopped ↦ inr (record {
+                front = c ∷ stopped.front;
+                c = stopped.c;
+                left = stopped.left;
+                parts = ap (λ cs. c ∷ cs) stopped.parts;
+                before = stopped.before;
+                is = stopped.is;
+                ready = stopped.ready;
+                room = stopped.room;
+                leads = λ last h. inr (more.0, one, stopped.leads last h);
+              })
+            ])
+        | inr not_yet ↦ absurd (let differ : GoOn ≡ Stop = subst (λ (n : Choosing). GoOn ≡ cond (is_some n.unjudged || is_full n) Stop GoOn) not_yet taken.0 in cc)
+      ]
+    ]
+  ]
+
+  -- What is chosen from a place on is chosen of all candidates.
+  pub record Resumes (old now : Choosing) (from : Place) : Type 0 where
+    pub ready : IsReady w now
+    pub room : is_full now ≡ false
+    pub leads : (last : Choosing) → OffersAll (Chooses w) now (unsent w from) last → OffersAll (Chooses w) old (unsent w first_place) last
+
+  -- the last turn
+  pub turns_end : (v : World) (old now new : Choosing) (from : Place) (left : Option Unjudged) → v ≡ w → is_full old ≡ false → Resumes old now from
+      → new.refused ≡ false → OffersAll Takes now (unsent v from) new → new.unjudged ≡ None → left ≡ None → HasChosen w old (record new { unjudged = left })
+  turns_end v old now new from left same room on kept h none none_left =
+      let turn = one_turn (unsent w from) now new on.ready on.room kept (subst (λ v. OffersAll Takes now (unsent v from) new) same h) in
+      inr (
+        room,
+        elim turn [
+          | inl all ↦ subst (λ o. OffersAll (Chooses w) old (unsent w first_place) (record new { unjudged = o })) (none ∙ sym none_left) (on.leads new all.0)
+          | inr stopped ↦ absurd (let never : None ≡ Some (record { place = stopped.c.place; app = stopped.c.unit.app }) = sym none ∙ ap (λ (n : Choosing). n.unjudged) stopped.is in cc)
+        ],
+      )
+
+  -- a turn that stopped at a candidate whose application is then known
+  pub turns_go_on : (v u : World) (old now new : Choosing) (from : Place) (left : Option Unjudged) (at : Unjudged) (later : Choosing) → v ≡ w → u ≡ w
+      → Resumes old now from → new.refused ≡ false → OffersAll Takes now (unsent v from) new → new.unjudged ≡ Some at → left ≡ None
+      → later ≡ with_known (record new { unjudged = left }) (record { app = at.app; version = version_for u new.host.now at.app }) → Resumes old later at.place
+  turns_go_on v u old now new from left at later same same_later on kept h some none_left is =
+      let turn = one_turn (unsent w from) now new on.ready on.room kept (subst (λ v. OffersAll Takes now (unsent v from) new) same h) in
+      elim turn [
+        | inl all ↦ absurd (let never : None ≡ Some at = sym all.1 ∙ some in cc)
+        | inr stopped ↦ resumes_at stopped
+      ]
+    where
+      resumes_at : StoppedAt now (unsent w from) new → Resumes old later at.place
+      resumes_at s =
+          let before = s.before in
+          let app = s.c.unit.app in
+          let at_is : at ≡ record { place = s.c.place; app = app } = (let same : Some (record { place = s.c.place; app = app }) ≡ Some at = sym (ap (λ (n : Choosing). n.unjudged) s.is) ∙ some in cc) in
+          let more : Known = record { app = app; version = version_for w before.host.now app } in
+          let now_is : later ≡ with_known before more =
+          is
+          ∙ ap (λ u. with_known (record new { unjudged = left }) (record { app = at.app; version = version_for u new.host.now at.app })) same_later
+          ∙ ap (λ (n : Choosing). with_known (record n { unjudged = left }) (record { app = at.app; version = version_for w n.host.now at.app })) s.is
+          ∙ ap (λ (a : Unjudged). with_known (record before { unjudged = left }) (record { app = a.app; version = version_for w before.host.now a.app })) at_is
+          ∙ ap (λ (o : Option Unjudged). with_known (record before { unjudged = o }) more) (none_left ∙ sym s.ready.unjudged) in
+          subst (λ (t : Choosing). Resumes old t at.place) (sym now_is)
+          (subst (λ (p : Place). Resumes old (with_known before more) p) (sym (ap (λ (a : Unjudged). a.place) at_is))
+          (record {
+            ready = record { known = All-push (IsKnown w before.host.now) before.known more s.ready.known refl; unjudged = s.ready.unjudged };
+            room = s.room;
+            leads = λ last h. on.leads last (s.leads last (knows_more before (before.known ++ more ∷ []) s.c s.left last
+                (subst (λ cs. OffersAll (Chooses w) (with_known before more) cs last) (resumed w from s.front s.c s.left s.parts) h)));
+          }))
