@@ -48,3 +48,5 @@ WentOut-behind a b c head body all is first next =
 pub WentOut-within : (a b : Option (List ℕ)) (head body all : List ℕ) → all ≡ head ++ body → WentOut a b head → WentOut a b all
 WentOut-within a b head body all is first =
     (first.0, first.1 ++ body, is ∙ ap (λ (t : List ℕ). t ++ body) first.2 ∙ append_assoc first.0 first.1 body, first.3)
+
+pub ruleset answer_steps = (answer-parts)

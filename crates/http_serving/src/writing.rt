@@ -1,15 +1,20 @@
 //! The writing of one answer.
 
-ghost use Rattle.std.specs.Prelude.{◌≡◌, OnOk, OnErr};
+ghost use Rattle.std.specs.Prelude.{◌≡◌, ◌++◌, OnOk, OnErr, IfSome};
 ghost use Rattle.std.specs.Io.KnownBytes.{Appends};
 ghost use Rattle.http_responses.specs.Answers.{answer_bytes};
 ghost use Rattle.http_serving.specs.Streams.{WentOut};
 
 use crate::fault::IoFault;
 use crate::streams::Sink;
+use arrayvec::ArrayVec;
 use http_responses::Answer;
 
-/// Writes the head of the answer's response, then its body.
+/// The most bytes that a head and its body have where they go out as one.
+const MOST_AT_ONCE: usize = 4_096;
+
+/// Writes the answer's response, its head and its body in one write where they are short.
+#[tactic(auto, using(crate::proofs::Writings::answer_steps))]
 pub(crate) fn write_answer<W: Sink>(answer: &Answer, writer: &mut W) -> Result<(), IoFault>
     ensures ok { OnOk result (Appends (W.held writer.old) (W.held writer.new) (answer_bytes answer.now)) }
     ensures fault { OnErr result (result ≡ Err IoFault.Write) }
@@ -17,10 +22,33 @@ pub(crate) fn write_answer<W: Sink>(answer: &Answer, writer: &mut W) -> Result<(
     ensures went_out { OnErr result (WentOut (W.held writer.old) (W.held writer.new) (answer_bytes answer.now)) }
 {
     let head = answer.head();
-    match write_whole(writer, head.as_str().as_bytes()) {
-        Ok(()) => write_whole(writer, answer.body().as_bytes()),
-        Err(fault) => Err(fault),
+    let head = head.as_str().as_bytes();
+    let body = answer.body().as_bytes();
+    match together(head, body) {
+        Some(bytes) => write_whole(writer, bytes.as_slice()),
+        None => write_in_turn(head, body, writer),
     }
+}
+
+/// A head with its body behind it, where they are short. It takes no memory.
+fn together(head: &[u8], body: &[u8]) -> Option<ArrayVec<u8, MOST_AT_ONCE>>
+    ensures { IfSome result (λ bytes. bytes.items ≡ head.now ++ body.now) }
+{
+    let mut bytes = ArrayVec::new();
+    bytes.try_extend_from_slice(head).ok()?;
+    bytes.try_extend_from_slice(body).ok()?;
+    Some(bytes)
+}
+
+/// Writes a head, then its body.
+fn write_in_turn<W: Sink>(head: &[u8], body: &[u8], writer: &mut W) -> Result<(), IoFault>
+    ensures ok { OnOk result (Appends (W.held writer.old) (W.held writer.new) (head.now ++ body.now)) }
+    ensures fault { OnErr result (result ≡ Err IoFault.Write) }
+    ensures failed { OnErr result (W.has_failed writer.new) }
+    ensures went_out { OnErr result (WentOut (W.held writer.old) (W.held writer.new) (head.now ++ body.now)) }
+{
+    write_whole(writer, head)?;
+    write_whole(writer, body)
 }
 
 fn write_whole<W: Sink>(writer: &mut W, bytes: &[u8]) -> Result<(), IoFault>
