@@ -3,19 +3,11 @@ use Rattle.std.proofs.Common.{◌≡◌, ℕ, ◌+◌, List, [], ◌++◌, take,
 use Rattle.std.proofs.KnownBytes.{Appends-trans, Appends-kept}
 use Rattle.std.proofs.Math.Seq.{take-add}
 use Rattle.std.specs.Io.KnownBytes.{Appends, Keeps}
-use Rattle.std.specs.Prelude.{Option, Result, Ok, Err, OnOk, OnErr}
+use Rattle.std.specs.Prelude.{Option}
 use Rattle.http_responses.specs.Answers.{answer_bytes, response_of}
 use Rattle.http_responses.specs.Responses.{head_of, response_text}
 use Rattle.http_responses.specs.declared.answer.Answer.{Answer}
 use Rattle.http_serving.specs.Streams.{WentOut}
-
-pub OnOk-map : {A E P Q : Type 0} (r : Result A E) → (P → Q) → OnOk r P → OnOk r Q
-OnOk-map (Ok x) f p = f p
-OnOk-map (Err e) f p = tt
-
-pub OnErr-map : {A E P Q : Type 0} (r : Result A E) → (P → Q) → OnErr r P → OnErr r Q
-OnErr-map (Ok x) f p = tt
-OnErr-map (Err e) f p = f p
 
 -- one write more
 pub Appends-more : (a b c : Option (List ℕ)) (bytes : List ℕ) (n m : ℕ)

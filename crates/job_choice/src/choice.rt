@@ -77,9 +77,13 @@ pub(crate) fn begin<'a, D: Desk>(
     })
 }
 
-/// Asks for the version that the host runs of the application of this name; none where it doesn't stand.
+/// The version that the host runs of the application of this name; none where there is no such application.
+///
+/// # Errors
+///
+/// [`Unavailable`] where memory is wanting or the desk is unavailable.
 #[tactic(auto, using(crate::proofs::Known::version_none))]
-fn version_of<D: Desk>(
+pub fn version_for<D: Desk>(
     alloc: Global,
     desk: &mut D,
     host: &HostRow,
@@ -109,7 +113,7 @@ fn learn<D: Desk>(
           version = version_for (D.world desk.old) choosing.old.host.now app;
         }))) }
 {
-    let version = version_of(alloc, desk, choosing.host, app.as_str())?;
+    let version = version_for(alloc, desk, choosing.host, app.as_str())?;
     choosing.known.push(Known { app, version })?;
     Ok(())
 }

@@ -12,6 +12,6 @@ pub mod fitting;
 pub mod granted;
 pub mod laws;
 
-pub use choice::choose;
+pub use choice::{choose, version_for};
 pub use fitting::{estimate, fits, seconds_at};
 pub use granted::{Grant, Granted};

@@ -5,17 +5,13 @@ use Rattle.std.specs.List.{list_any}
 use Rattle.std.specs.Str.{bytes_eq}
 use Rattle.std.proofs.lemmas.List.Elements.{filter-append}
 use Rattle.sched_book.specs.Places.{nth, places_in, places_among, passes, is_held_by, held_by, name_at}
-use Rattle.sched_book.specs.Delta.{applied_one, applied}
 use Rattle.sched_book.specs.Lost.{is_listed, unlisted, lost}
-use Rattle.sched_book.specs.declared.delta.Change.{Change}
 use Rattle.sched_book.specs.declared.instance.Instance.{Instance}
 use Rattle.sched_book.specs.declared.instance.Place.{Place}
 use Rattle.sched_book.specs.declared.instance.UnitBook.{UnitBook}
-use Rattle.sched_book.specs.declared.settings.Settings.{Settings}
 use Rattle.sched_book.specs.declared.world.World.{World}
 use Rattle.sched_book.proofs.PlacesOf.{nth-suc}
 use Rattle.sched_book.proofs.Recording.{passes-is}
-use Rattle.sched_book.proofs.Fitting as fitting
 use Rattle.texts.specs.SeenSet.{has_seen}
 use Rattle.lost_jobs.specs.Holding.{HoldsNoMore, is_missing}
 use Rattle.texts.specs.declared.seen_set.SeenSet.{SeenSet}
@@ -129,15 +125,7 @@ unlisted_is before after host set names has no_more =
     (filter (passes after (λ b x. is_held_by host x)) (held_by before host))
     ∙ ap (filter (λ p. not (is_listed after names p))) (sym (held_after before after host no_more))
 
--- changes leave the settings
-pub settings_stay : (w : World) (cs : List Change) → (applied w cs).settings ≡ w.settings
-settings_stay w [] = refl
-settings_stay w (c ∷ cs) = settings_stay (applied_one w c) cs ∙ fitting.settings_stay w c
-
--- where lost jobs are sent again, those lost are those not listed
-pub lost_is : (before : World) (cs : List Change) (host : ℕ) (names : List (List ℕ)) → before.settings.resend_lost_results ≡ true
-    → unlisted (applied before cs) host (Some names) ≡ lost (applied before cs) host (Some names)
-lost_is before cs host names resends =
-    let after = applied before cs in
-    sym (ap (λ (s : Settings). cond s.resend_lost_results (unlisted after host (Some names)) []) (settings_stay before cs)
-    ∙ ap (λ (b : Bool). cond b (unlisted after host (Some names)) []) resends)
+-- where lost jobs are sent again, those lost are those not listed; where not, there are none
+pub lost_is : (w : World) (resends : Bool) (host : ℕ) (names : Option (List (List ℕ))) → w.settings.resend_lost_results ≡ resends
+    → lost w host names ≡ cond resends (unlisted w host names) []
+lost_is w resends host names is = ap (λ (b : Bool). cond b (unlisted w host names) []) is

@@ -1,6 +1,5 @@
 pub mod Standing
-pub mod Versions
-pub mod Resent
+pub mod OnLeaves
 pub mod Holding
 pub mod Reported
 pub mod Fated

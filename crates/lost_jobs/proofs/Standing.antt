@@ -2,9 +2,8 @@
 use Rattle.std.proofs.Common.{◌≡◌, Bool, false, [], Option, Some, None, refl, sym, ap, ◌∙◌}
 use Rattle.std.specs.Prelude.{option_map, unwrap_or, MatchOption}
 use Rattle.sched_book.specs.Names.{instance_name}
-use Rattle.sched_book.specs.Places.{unit_at, instance_at, passes, deadline_of, name_at}
+use Rattle.sched_book.specs.Places.{unit_at, instance_at, passes, name_at}
 use Rattle.sched_book.specs.Desk.{workunit_at}
-use Rattle.sched_book.specs.Step.{deadline_at}
 use Rattle.sched_book.specs.declared.instance.Instance.{Instance}
 use Rattle.sched_book.specs.declared.instance.Place.{Place}
 use Rattle.sched_book.specs.declared.instance.UnitBook.{UnitBook}
@@ -28,13 +27,6 @@ told g (Some x) b is = is
 pub passes_told : (w : World) (g : Instance → Bool) (p : Place) (b : Bool) → MatchOption (instance_at w p) (b ≡ false) (λ x. b ≡ g x)
     → b ≡ passes w (λ b x. g x) p
 passes_told w g p b is = told g (instance_at w p) b is ∙ sym (passes-is w g p)
-
--- its deadline
-pub deadline_none : (w : World) (p : Place) → instance_at w p ≡ None → deadline_at w p ≡ 0
-deadline_none w p none = ap (λ o. unwrap_or (option_map (λ (x : Instance). deadline_of x.owner) o) 0) none
-
-pub deadline_some : (w : World) (p : Place) (x : Instance) → instance_at w p ≡ Some x → deadline_at w p ≡ deadline_of x.owner
-deadline_some w p x stands = ap (λ o. unwrap_or (option_map (λ (x : Instance). deadline_of x.owner) o) 0) stands
 
 -- its name
 by_unit : (p : Place) (o : Option UnitBook)

@@ -1,15 +1,18 @@
 //! What the fates of lost jobs change.
 
 ghost use Rattle.std.specs.Prelude.{◌≡◌, List, ◌∷◌, ◌++◌, fold, filter_map, option_map, IfOk, OnOk};
-ghost use Rattle.sched_book.specs.Places.{instance_at};
+ghost use Rattle.std.specs.Option.{option_copied};
 ghost use Rattle.sched_book.specs.Delta.{applied};
 ghost use Rattle.sched_book.specs.Trusted.{Trusted};
 ghost use Rattle.sched_book.specs.declared.instance.Owner.{Owner};
+ghost use Rattle.call_sheet.specs.Sheets.{IsPageOf};
 ghost use Rattle.lost_jobs.specs.Fated.{fated, with_fate, fate_change, AreByPlace};
+ghost use Rattle.lost_jobs.specs.Leaves.{change_on};
 ghost use Rattle.lost_jobs.specs.declared.fates.Fate.{Fate};
 
 use crate::fates::Fate;
-use sched_book::{Change, Delta, Desk, Instance, Lapse, Owner, Patched, Place, Unavailable, Units};
+use call_sheet::{Draft, Leaf, Page, Sheet, put_all};
+use sched_book::{Change, Delta, Desk, Instance, Lapse, Owner, Unavailable};
 use std::alloc::Global;
 use texts::{Listed, Memory};
 
@@ -39,45 +42,89 @@ fn fated(resent: Option<u64>, instance: &Instance) -> Result<Instance, Memory>
     Ok(row)
 }
 
-/// The instance at a place, after changes.
-fn instance_under<D: Desk>(
-    alloc: Global,
-    desk: &mut D,
-    delta: &Delta,
-    place: Place,
-) -> Result<Option<Instance>, Unavailable>
-    ensures reads { D.reads desk.old desk.new }
-    ensures answer { Trusted D.Units desk.old desk.new (
-        IfOk result (λ row. row ≡ instance_at (applied (D.world desk.old) delta.now) place)) }
+/// What a fate changes on a leaf; nothing where no instance stands.
+fn change_on(leaf: Option<&Leaf>, fate: Fate) -> Result<Option<Change>, Memory>
+    ensures { IfOk result (λ change. change ≡ change_on (option_copied leaf.entry) fate) }
 {
-    let mut patched = Patched { desk, delta };
-    patched.instance(alloc, place.unit, place.number)
+    let place = fate.place;
+    let Some(leaf) = leaf else {
+        return Ok(None);
+    };
+    match leaf.present.as_slice().get(place.number as usize) {
+        None => Ok(None),
+        Some(instance) => Ok(Some(Change::Instance {
+            place,
+            row: fated(fate.resent, instance)?,
+        })),
+    }
 }
 
-/// Puts what a fate changes, after the changes before, behind the others.
-fn add_change<D: Desk>(
+/// Puts what a fate changes behind the others.
+#[tactic(auto, using(crate::proofs::OnLeaves::change_steps))]
+fn add_change<S: Draft>(
     alloc: Global,
-    desk: &mut D,
-    delta: &Delta,
+    sheet: &mut S,
     fate: Fate,
     more: &mut Delta,
 ) -> Result<(), Unavailable>
-    ensures reads { D.reads desk.old desk.new }
-    ensures answer { Trusted D.Units desk.old desk.new (OnOk result ((later : List Fate) →
-        more.new ++ filter_map (fate_change (applied (D.world desk.old) delta.now)) later
-        ≡ more.old ++ filter_map (fate_change (applied (D.world desk.old) delta.now)) (fate ∷ later))) }
+    ensures reads { S.reads sheet.old sheet.new }
+    ensures answer { Trusted S.Units sheet.old sheet.new (OnOk result ((later : List Fate) →
+        more.new ++ filter_map (fate_change (S.world sheet.old)) later
+        ≡ more.old ++ filter_map (fate_change (S.world sheet.old)) (fate ∷ later))) }
 {
-    match instance_under(alloc, desk, delta, fate.place)? {
-        None => Ok(()),
-        Some(instance) => {
-            let row = fated(fate.resent, &instance)?;
-            more.push(Change::Instance {
-                place: fate.place,
-                row,
-            })?;
-            Ok(())
-        }
+    sheet.read(alloc, fate.place.unit)?;
+    more.push_some(change_on(sheet.leaf(fate.place.unit), fate)?)?;
+    Ok(())
+}
+
+/// The changes that these fates make.
+fn fate_changes<S: Draft>(
+    alloc: Global,
+    sheet: &mut S,
+    fates: &[Fate],
+) -> Result<Delta, Unavailable>
+    ensures reads { S.reads sheet.old sheet.new }
+    ensures answer { Trusted S.Units sheet.old sheet.new (
+        IfOk result (λ more. more ≡ filter_map (fate_change (S.world sheet.old)) fates.now)) }
+{
+    let mut more = Listed::new(alloc);
+    for fate in fates {
+        add_change(alloc, sheet, *fate, &mut more)?;
     }
+    Ok(more)
+}
+
+/// Puts what these fates change on the sheet of a call. Two fates of one place have to be the same.
+///
+/// # Errors
+///
+/// [`Unavailable`] where memory is wanting or the desk is unavailable.
+pub fn put_fates<S: Draft>(alloc: Global, sheet: &mut S, fates: &[Fate]) -> Result<(), Unavailable>
+    ensures works { S.works sheet.old sheet.new }
+    ensures put { Trusted S.Units sheet.old sheet.new (
+        OnOk result (AreByPlace fates.now → S.world sheet.new ≡ fold with_fate (S.world sheet.old) fates.now)) }
+    ensures delta { Trusted S.Units sheet.old sheet.new (
+        OnOk result (S.delta sheet.new ≡ S.delta sheet.old ++ filter_map (fate_change (S.world sheet.old)) fates.now)) }
+{
+    let more = fate_changes(alloc, sheet, fates)?;
+    put_all(alloc, sheet, more.as_slice())
+}
+
+/// The changes that these fates make over a desk with a page, after changes that are put first.
+fn changes_onto<D: Desk>(
+    alloc: Global,
+    desk: &mut D,
+    page: &mut Page,
+    delta: &Delta,
+    fates: &[Fate],
+) -> Result<Delta, Unavailable>
+    ensures reads { D.reads desk.old desk.new }
+    ensures answer { Trusted D.Units desk.old desk.new (IsPageOf (D.world desk.old) page.old → IfOk result (λ more.
+        more ≡ filter_map (fate_change (applied (applied (D.world desk.old) page.old.delta) delta.now)) fates.now)) }
+{
+    let mut sheet = Sheet { desk, page };
+    put_all(alloc, &mut sheet, delta.as_slice())?;
+    fate_changes(alloc, &mut sheet, fates)
 }
 
 /// The changes that these fates make, after changes. Two fates of one place have to be the same.
@@ -93,9 +140,6 @@ pub fn lost_changes<D: Desk>(
     ensures changes { Trusted D.Units desk.old desk.new (
         IfOk result (λ more. more ≡ filter_map (fate_change (applied (D.world desk.old) delta.now)) fates.now)) }
 {
-    let mut more = Listed::new(alloc);
-    for fate in fates {
-        add_change(alloc, desk, delta, *fate, &mut more)?;
-    }
-    Ok(more)
+    let mut page = Page::new(alloc, desk.settings(alloc)?);
+    changes_onto(alloc, desk, &mut page, delta, fates)
 }

@@ -1,20 +1,20 @@
 //! What becomes of lost jobs.
 
-ghost use Rattle.std.specs.Prelude.{◌≡◌, ◌+◌, ◌++◌, ◌∷◌, [], ◌&&◌, nat_le, map, IfOk, OnOk};
-ghost use Rattle.sched_book.specs.Count.{is_open};
-ghost use Rattle.sched_book.specs.Places.{deadline_of, status_at};
-ghost use Rattle.sched_book.specs.Fits.{fits, version_for};
+ghost use Rattle.std.specs.Prelude.{◌≡◌, ◌+◌, ◌++◌, ◌∷◌, [], Some, nat_le, map, IfOk, OnOk};
+ghost use Rattle.std.specs.Option.{option_copied};
+ghost use Rattle.sched_book.specs.Places.{deadline_of};
+ghost use Rattle.sched_book.specs.Fits.{version_for};
 ghost use Rattle.sched_book.specs.Lost.{deadline_after};
-ghost use Rattle.sched_book.specs.Step.{deadline_at};
 ghost use Rattle.sched_book.specs.Trusted.{Trusted};
-ghost use Rattle.lost_jobs.specs.Fates.{fate, resent_to};
+ghost use Rattle.call_sheet.specs.Sheets.{IsPageOf};
+ghost use Rattle.lost_jobs.specs.Fates.{fate, resent_to, open_job};
+ghost use Rattle.lost_jobs.specs.Leaves.{deadline_on, open_job_on, sent_until};
 
+use call_sheet::{Draft, Leaf, Page, Sheet};
 use job_choice::{fits, seconds_at};
-use sched_book::{
-    Desk, HostRow, Instance, Moment, Place, Unavailable, Version, Workunit, status_at,
-};
+use sched_book::{Desk, HostRow, Instance, Moment, Place, Unavailable, Version, Workunit, copy_of};
 use std::alloc::Global;
-use texts::Listed;
+use texts::{Listed, Memory};
 
 /// What becomes of a lost job.
 #[derive(Clone, Copy)]
@@ -22,6 +22,14 @@ pub struct Fate {
     pub place: Place,
     /// Its deadline where it is sent again, and none where it is dropped.
     pub resent: Option<u64>,
+}
+
+/// A job whose workunit was open when the call came.
+#[derive(Drop)]
+pub(crate) struct OpenJob {
+    pub(crate) unit: Workunit,
+    /// Its deadline, 0 where nobody was given it.
+    pub(crate) deadline: u64,
 }
 
 /// Whether a job that takes so many seconds from now on is done by a deadline.
@@ -55,100 +63,151 @@ fn deadline_of(instance: &Instance) -> u64
     }
 }
 
-/// The same of the instance at a place.
-#[tactic(auto, using(crate::proofs::Standing::deadline_none, crate::proofs::Standing::deadline_some))]
-fn deadline_at<D: Desk>(alloc: Global, desk: &mut D, place: Place) -> Result<u64, Unavailable>
-    ensures reads { D.reads desk.old desk.new }
-    ensures answer { Trusted D.Units desk.old desk.new (
-        IfOk result (λ deadline. deadline ≡ deadline_at (D.world desk.old) place)) }
+/// The same of the instance of a number on a leaf.
+fn deadline_on(leaf: &Leaf, number: u32) -> u64
+    ensures { result ≡ deadline_on (Some leaf.now) number }
 {
-    match desk.instance(alloc, place.unit, place.number)? {
-        None => Ok(0),
-        Some(instance) => Ok(deadline_of(&instance)),
+    match leaf.before.as_slice().get(number as usize) {
+        None => 0,
+        Some(instance) => deadline_of(instance),
     }
+}
+
+/// The job of a number on a leaf, where its workunit was open.
+fn open_job_on(leaf: Option<&Leaf>, number: u32) -> Result<Option<OpenJob>, Memory>
+    ensures { IfOk result (λ job. job ≡ open_job_on (option_copied leaf.entry) number) }
+{
+    match leaf {
+        Some(leaf) if leaf.status_before().is_open() => Ok(Some(OpenJob {
+            unit: copy_of(&leaf.unit)?,
+            deadline: deadline_on(leaf, number),
+        })),
+        _ => Ok(None),
+    }
+}
+
+/// The same of the job at a place.
+#[tactic(auto, using(crate::proofs::OnLeaves::job_steps))]
+fn open_job_at<S: Draft>(
+    alloc: Global,
+    sheet: &mut S,
+    place: Place,
+) -> Result<Option<OpenJob>, Unavailable>
+    ensures reads { S.reads sheet.old sheet.new }
+    ensures answer { Trusted S.Units sheet.old sheet.new (IfOk result (λ job. job ≡ open_job (S.entry sheet.old) place)) }
+{
+    sheet.read(alloc, place.unit)?;
+    Ok(open_job_on(sheet.leaf(place.unit), place.number)?)
 }
 
 /// The version that the host runs of the application of this name; none where there is no such application.
-///
-/// # Errors
-///
-/// [`Unavailable`] where memory is wanting or the desk is unavailable.
-#[tactic(auto, using(crate::proofs::Versions::version_none))]
-pub fn version_for<D: Desk>(
+#[tactic(auto, using(job_choice::proofs::Known::version_none))]
+fn version_on<S: Draft>(
     alloc: Global,
-    desk: &mut D,
+    sheet: &mut S,
     host: &HostRow,
     app: &str,
 ) -> Result<Option<Version>, Unavailable>
-    ensures reads { D.reads desk.old desk.new }
-    ensures answer { Trusted D.Units desk.old desk.new (
-        IfOk result (λ version. version ≡ version_for (D.world desk.old) host.now app.now)) }
+    ensures reads { S.reads sheet.old sheet.new }
+    ensures answer { Trusted S.Units sheet.old sheet.new (
+        IfOk result (λ version. version ≡ version_for (S.entry sheet.old) host.now app.now)) }
 {
-    match desk.app_by_name(alloc, app)? {
+    match sheet.app_by_name(alloc, app)? {
         None => Ok(None),
-        Some(app) => desk.version_for(alloc, host, app.place),
+        Some(app) => sheet.version_for(alloc, host, app.place),
     }
 }
 
-/// Whether the workunit, which stands at this place, is open and fits the host.
-fn is_open_and_fits<D: Desk>(
-    alloc: Global,
-    desk: &mut D,
-    host: &HostRow,
-    unit: &Workunit,
-    place: u32,
-) -> Result<bool, Unavailable>
-    ensures reads { D.reads desk.old desk.new }
-    ensures answer { Trusted D.Units desk.old desk.new (IfOk result (λ can. can ≡
-        (is_open (status_at (D.world desk.old) place) && fits host.now unit.now (version_for (D.world desk.old) host.now unit.now.app)))) }
+/// The deadline to which a job is sent again to a host that runs this version, where it fits the host.
+fn sent_until(host: &HostRow, version: Option<&Version>, now: Moment, job: &OpenJob) -> Option<u64>
+    ensures { result ≡ sent_until host.now (option_copied version.entry) now job.now }
 {
-    if !status_at(alloc, desk, place)?.is_open() {
-        return Ok(false);
+    let unit = &job.unit;
+    if !fits(host, unit, version) {
+        return None;
     }
-    let version = version_for(alloc, desk, host, unit.app.as_str())?;
-    Ok(fits(host, unit, version.as_ref()))
+    let seconds = seconds_at(unit.rsc_fpops_est, host.p_fpops);
+    Some(deadline_after(now, seconds, unit.delay_bound, job.deadline))
 }
 
 /// The deadline to which a lost job is sent again, where it is.
-#[tactic(auto, using(crate::proofs::Resent::resent_none, crate::proofs::Resent::resent_some))]
-fn resent_to<D: Desk>(
+fn resent_to<S: Draft>(
     alloc: Global,
-    desk: &mut D,
+    sheet: &mut S,
     host: &HostRow,
     place: Place,
     now: Moment,
 ) -> Result<Option<u64>, Unavailable>
-    ensures reads { D.reads desk.old desk.new }
-    ensures answer { Trusted D.Units desk.old desk.new (
-        IfOk result (λ deadline. deadline ≡ resent_to (D.world desk.old) host.now now place)) }
+    ensures reads { S.reads sheet.old sheet.new }
+    ensures answer { Trusted S.Units sheet.old sheet.new (
+        IfOk result (λ deadline. deadline ≡ resent_to (S.entry sheet.old) host.now now place)) }
 {
-    let Some(unit) = desk.unit(alloc, place.unit)? else {
+    let Some(job) = open_job_at(alloc, sheet, place)? else {
         return Ok(None);
     };
-    if !is_open_and_fits(alloc, desk, host, &unit, place.unit)? {
-        return Ok(None);
-    }
-    let deadline = deadline_at(alloc, desk, place)?;
-    let seconds = seconds_at(unit.rsc_fpops_est, host.p_fpops);
-    Ok(Some(deadline_after(now, seconds, unit.delay_bound, deadline)))
+    let version = version_on(alloc, sheet, host, job.unit.app.as_str())?;
+    Ok(sent_until(host, version.as_ref(), now, &job))
 }
 
 /// Puts what becomes of a lost job behind the others.
-fn add_fate<D: Desk>(
+fn add_fate<S: Draft>(
     alloc: Global,
-    desk: &mut D,
+    sheet: &mut S,
     host: &HostRow,
     place: Place,
     now: Moment,
     fates: &mut Listed<Fate>,
 ) -> Result<(), Unavailable>
-    ensures reads { D.reads desk.old desk.new }
-    ensures answer { Trusted D.Units desk.old desk.new (
-        OnOk result (fates.new ≡ fates.old ++ fate (D.world desk.old) host.now now place ∷ [])) }
+    ensures reads { S.reads sheet.old sheet.new }
+    ensures answer { Trusted S.Units sheet.old sheet.new (
+        OnOk result (fates.new ≡ fates.old ++ fate (S.entry sheet.old) host.now now place ∷ [])) }
 {
-    let resent = resent_to(alloc, desk, host, place, now)?;
+    let resent = resent_to(alloc, sheet, host, place, now)?;
     fates.push(Fate { place, resent })?;
     Ok(())
+}
+
+/// What becomes of these lost jobs of a host, which has this row now, on the sheet of its call.
+///
+/// A job is sent again where its workunit was open when the call came and fits the host; its deadline then stays where
+/// the host can meet it, or else is as for a new job. The others are dropped.
+///
+/// # Errors
+///
+/// [`Unavailable`] where memory is wanting or the desk is unavailable.
+pub fn fates_on<S: Draft>(
+    alloc: Global,
+    sheet: &mut S,
+    host: &HostRow,
+    lost: &[Place],
+    now: Moment,
+) -> Result<Listed<Fate>, Unavailable>
+    ensures reads { S.reads sheet.old sheet.new }
+    ensures answer { Trusted S.Units sheet.old sheet.new (
+        IfOk result (λ fates. fates ≡ map (fate (S.entry sheet.old) host.now now) lost.now)) }
+{
+    let mut fates = Listed::new(alloc);
+    for place in lost {
+        add_fate(alloc, sheet, host, *place, now, &mut fates)?;
+    }
+    Ok(fates)
+}
+
+/// The same over a desk with a page.
+fn fates_onto<D: Desk>(
+    alloc: Global,
+    desk: &mut D,
+    page: &mut Page,
+    host: &HostRow,
+    lost: &[Place],
+    now: Moment,
+) -> Result<Listed<Fate>, Unavailable>
+    ensures reads { D.reads desk.old desk.new }
+    ensures answer { Trusted D.Units desk.old desk.new (IsPageOf (D.world desk.old) page.old →
+        IfOk result (λ fates. fates ≡ map (fate (D.world desk.old) host.now now) lost.now)) }
+{
+    let mut sheet = Sheet { desk, page };
+    fates_on(alloc, &mut sheet, host, lost, now)
 }
 
 /// What becomes of these lost jobs of a host as it is told now.
@@ -166,9 +225,6 @@ pub fn resend_or_drop<D: Desk>(
     ensures answer { Trusted D.Units desk.old desk.new (
         IfOk result (λ fates. fates ≡ map (fate (D.world desk.old) host.now now) lost.now)) }
 {
-    let mut fates = Listed::new(alloc);
-    for place in lost {
-        add_fate(alloc, desk, host, *place, now, &mut fates)?;
-    }
-    Ok(fates)
+    let mut page = Page::new(alloc, desk.settings(alloc)?);
+    fates_onto(alloc, desk, &mut page, host, lost, now)
 }

@@ -9,6 +9,7 @@ mod missing;
 mod places;
 
 pub use aborted::aborts;
-pub use changes::lost_changes;
-pub use fates::{Fate, resend_or_drop, version_for};
-pub use missing::lost;
+pub use changes::{lost_changes, put_fates};
+pub use fates::{Fate, fates_on, resend_or_drop};
+pub use job_choice::version_for;
+pub use missing::{lost, lost_on};

@@ -1,28 +1,25 @@
 use Rattle.std.proofs.Common.{sym, ap, ◌∙◌}
-use Rattle.std.specs.Prelude.{◌&&◌}
-use Rattle.sched_book.specs.Count.{is_open}
-use Rattle.sched_book.specs.Fits.{fits, version_for}
-use Rattle.sched_book.specs.Places.{status_at}
-use Rattle.sched_book.specs.Step.{deadline_at}
-use Rattle.lost_jobs.proofs.Resent.{resent_read}
+use Rattle.std.specs.Prelude.{option_and_then}
+use Rattle.sched_book.specs.Fits.{version_for}
+use Rattle.lost_jobs.specs.Leaves.{sent_until}
+use Rattle.lost_jobs.proofs.OnLeaves.{until, resent-is}
 use Rattle.lost_jobs.proofs.fates.resent_to.Goals as goal
 
--- the three calls read one world
+-- both calls read one world
 pub returns-clause-answer : goal.returns-clause-answer
 returns-clause-answer g c = λ honest kept.
-    let d = g.met.D.Units in
-    let row = c.in-Some.unit in
-    let honest_2 = d.stays_honest _ _ c.deadline_at.ensures.reads honest in
-    let honest_1 = d.stays_honest _ _ c.is_open_and_fits.ensures.reads honest_2 in
-    let kept_1 = d.stays_kept _ _ c.unit.ensures.reads honest_1 kept in
-    let kept_2 = d.stays_kept _ _ c.is_open_and_fits.ensures.reads honest_2 kept_1 in
-    let same_1 = d.stays_same _ _ c.unit.ensures.reads honest_1 kept in
-    let same_2 = d.stays_same _ _ c.is_open_and_fits.ensures.reads honest_2 kept_1 ∙ same_1 in
-    resent_read (g.D.Units.world c.args.desk.now) c.args.host.now c.args.now c.args.place row c.in_ok-is_open_and_fits.field-0
-    c.in_ok-deadline.deadline c.seconds_at-seconds.result c.deadline_after.result
-    (sym c.in-Some.is ∙ c.in_ok-unit.ensures.answer honest_1 kept)
-    (c.in_ok-is_open_and_fits.ensures.answer honest_2 kept_1
-    ∙ ap (λ w. is_open (status_at w c.args.place.unit) && fits c.args.host.now row (version_for w c.args.host.now row.app)) same_1)
-    c.if-not-branch.false
-    (c.in_ok-deadline.ensures.answer honest kept_2 ∙ ap (λ w. deadline_at w c.args.place) same_2)
-    c.seconds_at-seconds.ensures c.deadline_after.ensures
+    let d = g.met.S.Units in
+    let draft = g.met.S.Draft in
+    let honest_1 = d.stays_honest _ _ c.version_on.ensures.reads honest in
+    let kept_1 = d.stays_kept _ _ c.open_job_at.ensures.reads honest_1 kept in
+    let same = draft.works_entry _ _ (draft.reads_works _ _ c.open_job_at.ensures.reads) honest_1 kept in
+    let entry = g.S.Draft.entry c.args.sheet.now in
+    let host = c.args.host.now in
+    let job = c.in-Some.job in
+    let asked = ap (version_for (g.S.Draft.entry c.open_job_at.new.sheet) host) c.as_str.ensures ∙ ap (λ v. version_for v host job.unit.app) same in
+    let version = c.as_ref.ensures.value ∙ c.in_ok-version.ensures.answer honest kept_1 ∙ asked in
+    let found = sym c.in-Some.is ∙ c.in_ok-job.ensures.answer honest_1 kept in
+    c.sent_until.ensures
+    ∙ ap (λ v. sent_until host v c.args.now job) version
+    ∙ ap (option_and_then (until entry host c.args.now c.args.place)) found
+    ∙ resent-is entry host c.args.now c.args.place

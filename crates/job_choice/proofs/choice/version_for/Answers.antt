@@ -2,7 +2,7 @@ use Rattle.std.proofs.Common.{◌≡◌, sym, ap, ◌∙◌, subst}
 use Rattle.std.specs.Prelude.{IfOk}
 use Rattle.sched_book.specs.Fits.{version_at}
 use Rattle.job_choice.proofs.Known.{version_some}
-use Rattle.job_choice.proofs.choice.version_of.Goals as goal
+use Rattle.job_choice.proofs.choice.version_for.Goals as goal
 
 pub returns-in-Some-clause-answer : goal.returns-in-Some-clause-answer
 returns-in-Some-clause-answer g c = λ honest kept.

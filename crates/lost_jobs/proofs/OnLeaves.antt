@@ -1,0 +1,94 @@
+-- What a leaf says of lost jobs, as the worlds before the call and now say it.
+use Rattle.std.proofs.Common.{◌≡◌, ℕ, Bool, true, false, cond, List, [], Option, Some, None, sym, refl, ap, ap₂, ◌∙◌}
+use Rattle.std.specs.Prelude.{◌&&◌, not, option_map, option_and_then, unwrap_or}
+use Rattle.std.specs.Str.{bytes_eq}
+use Rattle.sched_book.specs.Count.{is_open}
+use Rattle.sched_book.specs.Fits.{version_for, unit_fits, estimate}
+use Rattle.sched_book.specs.Lost.{deadline_after}
+use Rattle.sched_book.specs.Names.{instance_name}
+use Rattle.sched_book.specs.Places.{unit_at, status_at, is_held_by, name_at, deadline_of}
+use Rattle.sched_book.specs.Step.{deadline_at}
+use Rattle.sched_book.specs.declared.delta.Change.TheVariants as change
+use Rattle.sched_book.specs.declared.instance.Instance.{Instance}
+use Rattle.sched_book.specs.declared.instance.Place.{Place}
+use Rattle.sched_book.specs.declared.instance.Status.{Status}
+use Rattle.sched_book.specs.declared.instance.UnitBook.{UnitBook}
+use Rattle.sched_book.specs.declared.rows.HostRow.{HostRow}
+use Rattle.sched_book.specs.declared.rows.Workunit.{Workunit}
+use Rattle.sched_book.specs.declared.world.World.{World}
+use Rattle.sched_book.proofs.Recording.{passes-is}
+use Rattle.call_sheet.specs.Sheets.{IsReadAt}
+use Rattle.call_sheet.specs.declared.leaf.Leaf.{Leaf}
+use Rattle.call_sheet.proofs.OnLeaves.{instance_before-is, instance_now-is, status_before-is}
+use Rattle.texts.specs.SeenSet.{has_seen}
+use Rattle.texts.specs.declared.seen_set.SeenSet.{SeenSet}
+use Rattle.lost_jobs.specs.Fated.{fated, fate_change}
+use Rattle.lost_jobs.specs.Fates.{open_job, resent_to}
+use Rattle.lost_jobs.specs.Holding.{is_missing}
+use Rattle.lost_jobs.specs.Leaves.{name_on, is_missing_on, open_job_on, sent_until, change_on}
+use Rattle.lost_jobs.specs.declared.fates.Fate.{Fate}
+use Rattle.lost_jobs.specs.declared.fates.OpenJob.{OpenJob}
+
+abbrev named_by : ℕ → Option UnitBook → List ℕ
+named_by number o = unwrap_or (option_map (λ (b : UnitBook). instance_name b.unit.name number) o) []
+
+name_on-is : (entry present : World) (p : Place) (o : Option Leaf) → IsReadAt entry present p.unit o → name_on o p.number ≡ name_at present p
+name_on-is entry present p None read = sym (ap (named_by p.number) read.0)
+name_on-is entry present p (Some k) read = sym (ap (named_by p.number) read.here)
+
+-- what the host holds and does not list
+pub missing-is : (host : ℕ) (listed : SeenSet (List ℕ)) (entry present : World) (p : Place) (o : Option Leaf) → IsReadAt entry present p.unit o
+    → is_missing_on host listed o p.number ≡ is_missing present host listed p
+missing-is host listed entry present p o read =
+    ap₂ (λ (held : Bool) (name : List ℕ). held && not (has_seen bytes_eq listed name))
+    (ap (λ (x : Option Instance). unwrap_or (option_map (is_held_by host) x) false) (instance_now-is entry present p o read)
+    ∙ sym (passes-is present (is_held_by host) p))
+    (name_on-is entry present p o read)
+
+pub ruleset missing_steps = (missing-is)
+
+-- a job whose workunit was open
+abbrev made : Workunit → Status → ℕ → Option OpenJob
+made u s deadline = cond (is_open s) (Some (record { unit = u; deadline = deadline })) None
+
+abbrev job_in : World → Place → Option UnitBook → Option OpenJob
+job_in w p o = option_and_then (λ (b : UnitBook). made b.unit (status_at w p.unit) (deadline_at w p)) o
+
+pub job-is : (entry present : World) (p : Place) (o : Option Leaf) → IsReadAt entry present p.unit o → open_job_on o p.number ≡ open_job entry p
+job-is entry present p None read = sym (ap (job_in entry p) read.1)
+job-is entry present p (Some k) read =
+    ap₂ (made k.unit)
+    (status_before-is entry present p.unit (Some k) read)
+    (ap (λ (x : Option Instance). unwrap_or (option_map (λ (x : Instance). deadline_of x.owner) x) 0) (instance_before-is entry present p (Some k) read))
+    ∙ sym (ap (job_in entry p) read.before)
+
+pub ruleset job_steps = (job-is)
+
+-- what a fate changes
+pub change-is : (entry present : World) (f : Fate) (o : Option Leaf) → IsReadAt entry present f.place.unit o → change_on o f ≡ fate_change present f
+change-is entry present f o read =
+    ap (option_map (λ x. change.Instance f.place (fated f.resent x))) (instance_now-is entry present f.place o read)
+
+pub ruleset change_steps = (change-is)
+
+-- a job is sent again where its workunit is open and it fits the host
+module _ (w : World) (h : HostRow) (now : ℕ) (p : Place) where
+  abbrev pub until : OpenJob → Option ℕ
+  until j = sent_until h (version_for w h j.unit.app) now j
+
+  either : (s : Status) (is : Bool) (b : UnitBook) → is_open s ≡ is
+      → option_and_then until (made b.unit s (deadline_at w p))
+      ≡ cond (is && unit_fits w h b) (Some (deadline_after now (estimate b.unit.rsc_fpops_est h.p_fpops) b.unit.delay_bound (deadline_at w p))) None
+  either s true b is = ap (λ t. option_and_then until (cond t (Some (record { unit = b.unit; deadline = deadline_at w p })) None)) is
+  either s false b is = ap (λ t. option_and_then until (cond t (Some (record { unit = b.unit; deadline = deadline_at w p })) None)) is
+
+  by_book : (o : Option UnitBook)
+      → option_and_then until (job_in w p o)
+      ≡ cond (unwrap_or (option_map (λ (b : UnitBook). is_open (status_at w p.unit) && unit_fits w h b) o) false)
+      (Some (deadline_after now (unwrap_or (option_map (λ (b : UnitBook). estimate b.unit.rsc_fpops_est h.p_fpops) o) 0)
+      (unwrap_or (option_map (λ (b : UnitBook). b.unit.delay_bound) o) 0) (deadline_at w p))) None
+  by_book None = refl
+  by_book (Some b) = either (status_at w p.unit) (is_open (status_at w p.unit)) b refl
+
+  pub resent-is : option_and_then until (open_job w p) ≡ resent_to w h now p
+  resent-is = by_book (unit_at w p.unit)

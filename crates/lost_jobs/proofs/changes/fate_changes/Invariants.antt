@@ -1,0 +1,13 @@
+use Rattle.std.proofs.Common.{◌≡◌, ◌++◌, drop}
+use Rattle.std.specs.Prelude.{filter_map}
+use Rattle.lost_jobs.specs.Fated.{fate_change}
+use Rattle.lost_jobs.proofs.changes.fate_changes.Given as goal
+
+-- the changes so far, and those of the fates which are left
+abbrev pub invariant-loop-fate : goal.invariant-loop-fate
+invariant-loop-fate g l = record {
+  reads : g.S.Units.reads l.fn.sheet l.sheet;
+  told : g.S.Units.honest l.sheet → g.S.Units.well_kept l.fn.sheet
+      → l.more ++ filter_map (fate_change (g.S.Units.world l.fn.sheet)) (drop l.fate-index l.fates)
+      ≡ filter_map (fate_change (g.S.Units.world l.fn.sheet)) l.fates;
+}

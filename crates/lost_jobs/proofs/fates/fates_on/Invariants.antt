@@ -1,0 +1,11 @@
+use Rattle.std.proofs.Common.{◌≡◌, take, map}
+use Rattle.lost_jobs.specs.Fates.{fate}
+use Rattle.lost_jobs.proofs.fates.fates_on.Given as goal
+
+-- what becomes of the jobs so far
+abbrev pub invariant-loop-place : goal.invariant-loop-place
+invariant-loop-place g l = record {
+  reads : g.S.Units.reads l.fn.sheet l.sheet;
+  told : g.S.Units.honest l.sheet → g.S.Units.well_kept l.fn.sheet
+      → l.fates ≡ map (fate (g.S.Draft.entry l.fn.sheet) l.host l.now) (take l.place-index l.lost);
+}
