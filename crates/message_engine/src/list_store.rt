@@ -3,9 +3,9 @@
 ghost use Rattle.std.specs.Prelude.{◌≡◌, ℕ, [], ◌∷◌, ◌+◌, ◌<◌, List, length, take, find, reverse, None, Ok, ⊤, IfOk, OnOk, OnErr};
 ghost use Rattle.std.specs.Option.{option_copied};
 ghost use Rattle.sched_book.specs.Delta.{applied};
-ghost use Rattle.sched_book.specs.Desk.{counts, agreement_at};
+ghost use Rattle.sched_book.specs.Desk.{counts, agreement_at, unit_status};
 ghost use Rattle.sched_book.specs.Limits.{AreSettingsInLimits};
-ghost use Rattle.sched_book.specs.Places.{unit_named, known_host, sent_on_day};
+ghost use Rattle.sched_book.specs.Places.{unit_named, known_host, held_by, sent_on_day, host_credit, user_credit};
 ghost use Rattle.sched_book.specs.Step.{empty_world};
 ghost use Rattle.pasts.specs.Answers.{kept_beside_last};
 ghost use Rattle.pasts.specs.declared.kind.Kind.{Kind};
@@ -20,7 +20,7 @@ use pasts::{KeptBatch, Kind};
 use reply_register::Kept;
 use sched_book::{
     Account, Agreement, App, Counts, Delta, Desk, HostRow, Instance, ListDesk, Moment, Place,
-    Placed, Settings, Taker, Unavailable, Units, Version, Workunit,
+    Placed, Settings, Status, Taker, Unavailable, Units, Version, Workunit,
 };
 use std::alloc::Global;
 use texts::{Listed, Memory, Text};
@@ -255,8 +255,22 @@ impl Desk for ListStore {
         self.desk.host_by_id(alloc, host)
     }
 
+    fn status_of(&mut self, unit: u32) -> Result<Option<Status>, Unavailable>
+        ensures reads { self.new ≡ self.old }
+        ensures answer { result ≡ Ok (unit_status (world_of self.old) unit) }
+    {
+        self.desk.status_of(unit)
+    }
+
     fn held_by(&mut self, alloc: Global, host: u32) -> Result<Listed<Place>, Unavailable> {
         self.desk.held_by(alloc, host)
+    }
+
+    fn held_count(&mut self, host: u32) -> Result<u32, Unavailable>
+        ensures reads { self.new ≡ self.old }
+        ensures answer { result ≡ Ok (length (held_by (world_of self.old) host)) }
+    {
+        self.desk.held_count(host)
     }
 
     fn owned_by(&mut self, alloc: Global, host: u32) -> Result<Listed<Place>, Unavailable> {
@@ -272,6 +286,20 @@ impl Desk for ListStore {
 
     fn units_of_user(&mut self, alloc: Global, account: u32) -> Result<Listed<u32>, Unavailable> {
         self.desk.units_of_user(alloc, account)
+    }
+
+    fn credit_of_host(&mut self, host: u32) -> Result<u64, Unavailable>
+        ensures reads { self.new ≡ self.old }
+        ensures answer { result ≡ Ok (host_credit (world_of self.old) host) }
+    {
+        self.desk.credit_of_host(host)
+    }
+
+    fn credit_of_user(&mut self, account: u32) -> Result<u64, Unavailable>
+        ensures reads { self.new ≡ self.old }
+        ensures answer { result ≡ Ok (user_credit (world_of self.old) account) }
+    {
+        self.desk.credit_of_user(account)
     }
 
     fn version_for(

@@ -15,7 +15,7 @@ use Rattle.sched_book.specs.declared.delta.Change.TheVariants as change
 use Rattle.sched_book.specs.declared.instance.UnitBook.{UnitBook}
 use Rattle.sched_book.specs.declared.rows.HostRow.{HostRow}
 use Rattle.sched_book.specs.declared.world.World.{World}
-use Rattle.sched_book.proofs.PlacesOf.{nth-suc, nth-modify_nth}
+use Rattle.sched_book.proofs.PlacesOf.{nth-suc, nth-modify_nth, nth-within}
 use Rattle.sched_book.proofs.Settling.{settlement_is_pointwise}
 use Rattle.quorum_credit.specs.Marks.{charges_in, merits_in, unit_charges, unit_merits}
 use Rattle.quorum_credit.specs.Settling.{is_among, puts_row, TouchJust, with_grown_among, quota_by, with_quotas_by, AreHostsInLimits, AreUnitsInLimits}
@@ -116,20 +116,11 @@ quotas_settle units old changed marks sound touch charged merited =
     ap (λ f. record new { hosts = map f (enumerate_from 1 changed.hosts) }) same
 
 -- the hosts stay within limits
-is_there : {X : Type 0} (xs : List X) (i : ℕ) → i < length xs → is_some (slice_get xs i) ≡ true
-is_there [] i within = absurd (omega arith)
-is_there (x ∷ xs) zero within = refl
-is_there (x ∷ xs) (suc i) within = is_there xs i (omega arith)
-
 pub sound_hosts_in_limits : (w : World) → Sound w → AreHostsInLimits w
 sound_hosts_in_limits w sound host h stands =
     let each = all_nth (IsSoundHost (length w.accounts) w.settings.daily_result_quota) w.hosts host h sound.rows.hosts stands in
     let within = number_within w.hosts host h stands in
-    (stands_at w.accounts h.account each.account.0 each.account.1, each.limits, (let few : length w.hosts ≤ w.settings.max_hosts = sound.rows.host_count in let here : host ≤ length w.hosts = within.1 in omega arith))
-  where
-    stands_at : {X : Type 0} (xs : List X) (n : ℕ) → 1 ≤ n → n ≤ length xs → IsTrue (is_some (nth xs n))
-    stands_at xs zero low high = absurd (omega arith)
-    stands_at xs (suc i) low high = ap is_some (nth-suc xs i) ∙ is_there xs i (omega arith)
+    (nth-within w.accounts h.account each.account.0 each.account.1, each.limits, (let few : length w.hosts ≤ w.settings.max_hosts = sound.rows.host_count in let here : host ≤ length w.hosts = within.1 in omega arith))
 
 hosts_one : (w : World) (c : Change) → puts_row c ≡ true → AreHostsInLimits w → FitsOne w c → AreHostsInLimits (applied_one w c)
 hosts_one w (change.Account a) puts limits fits = absurd cc

@@ -1,74 +1,225 @@
--- Credits, by the steps of a loop over the workunits or the hosts.
-use Rattle.std.proofs.Common.{◌≡◌, ℕ, ◌+◌, ◌<◌, ◌≤◌, Bool, true, false, cond, List, ◌∷◌, length, drop, get_or, sym, refl, ap, ◌∙◌, zero-add}
-use Rattle.std.specs.Prelude.{sum_by, ◌==◌}
+-- Credits: those of what a host or a user was given are the credits of the host and of the user.
+use Rattle.std.proofs.Common.{◌≡◌, ℕ, zero, suc, ◌+◌, ◌*◌, ◌<◌, Bool, true, false, cond, eqb, List, [], ◌∷◌, Option, Some, None, sym, refl, ap, ◌∙◌, arith}
+use Rattle.std.proofs.lemmas.Bool.{eq-eqb}
+use Rattle.std.proofs.lemmas.Bool.Decides.{nat_tests}
+use Rattle.std.proofs.lemmas.List.Sums.{sum_by-cons, sum_by-append}
+use Rattle.std.specs.Prelude.{count_by, sum_by, option_map, option_and_then, unwrap_or, slice_get, ◌&&◌, ◌==◌}
 use Rattle.std.specs.List.{enumerate_from}
-use Rattle.std.proofs.lemmas.List.{drop_all, drop_more}
-use Rattle.std.proofs.lemmas.List.Sums.{sum_by-cons}
-use Rattle.sched_book.specs.Places.{credit_in, host_credit, user_credit}
+use Rattle.sched_book.specs.Count.{is_valid}
+use Rattle.sched_book.specs.Given.{given_as, given_in, given_among}
+use Rattle.sched_book.specs.Places.{nth, unit_at, host_of, option_any, account_at, is_of_user, is_owned_by, book_verdict, credit_by, credit_at, credit_in, host_credit, user_credit}
+use Rattle.sched_book.specs.declared.given.Given.{Given}
+use Rattle.sched_book.specs.declared.instance.Instance.{Instance}
 use Rattle.sched_book.specs.declared.instance.UnitBook.{UnitBook}
 use Rattle.sched_book.specs.declared.rows.HostRow.{HostRow}
 use Rattle.sched_book.specs.declared.world.World.{World}
+use Rattle.sched_book.proofs.PlacesOf.{nth-suc}
 
-at_item : {X : Type 0} (xs : List X) (i : ℕ) (x : X) → i < length xs → x ≡ get_or xs i x → drop i xs ≡ x ∷ drop (i + 1) xs
-at_item xs i x within is = drop_more xs i x within ∙ ap (λ y. y ∷ drop (i + 1) xs) (sym is)
+-- sums
+pub sum_same : {X : Type 0} (f g : X → ℕ) → ((x : X) → f x ≡ g x) → (xs : List X) → sum_by f xs ≡ sum_by g xs
+sum_same f g same xs = let equal : f ≡ g = λ i x. same x i in ap (λ h. sum_by h xs) equal
 
--- the credit of a host from the workunits at index i and on
-unfoldable pub host_credit_from : World → ℕ → ℕ → ℕ
-host_credit_from w host i = sum_by (credit_in w.apps host) (drop i w.units)
+pub sum_zero : {X : Type 0} (f : X → ℕ) → ((x : X) → f x ≡ 0) → (xs : List X) → sum_by f xs ≡ 0
+sum_zero f none [] = refl
+sum_zero f none (x ∷ xs) = sum_by-cons f x xs ∙ ap (λ n. n + sum_by f xs) (none x) ∙ ap (λ n. 0 + n) (sum_zero f none xs)
 
-pub host_credit_from-first : (w : World) (host : ℕ) → host_credit_from w host 0 ≡ host_credit w host
-unfolding host_credit_from
-host_credit_from-first w host = refl
+sum_plus : {X : Type 0} (f g : X → ℕ) (xs : List X) → sum_by f xs + sum_by g xs ≡ sum_by (λ x. f x + g x) xs
+sum_plus f g [] = refl
+sum_plus f g (x ∷ xs) =
+    let left : sum_by f (x ∷ xs) ≡ f x + sum_by f xs = sum_by-cons f x xs in
+    let right : sum_by g (x ∷ xs) ≡ g x + sum_by g xs = sum_by-cons g x xs in
+    let both : sum_by (λ y. f y + g y) (x ∷ xs) ≡ f x + g x + sum_by (λ y. f y + g y) xs = sum_by-cons (λ y. f y + g y) x xs in
+    let rest : sum_by f xs + sum_by g xs ≡ sum_by (λ y. f y + g y) xs = sum_plus f g xs in
+    omega arith
 
-pub host_credit_from-step : (w : World) (host i : ℕ) (b : UnitBook) (credit : ℕ) → i < length w.units → b ≡ get_or w.units i b
-    → credit ≡ credit_in w.apps host b → host_credit_from w host i ≡ credit + host_credit_from w host (i + 1)
-unfolding host_credit_from
-host_credit_from-step w host i b credit within is value =
-    ap (sum_by (credit_in w.apps host)) (at_item w.units i b within is)
-    ∙ sum_by-cons (credit_in w.apps host) b (drop (i + 1) w.units)
-    ∙ ap (λ n. n + host_credit_from w host (i + 1)) (sym value)
+pub exchange : {X Y : Type 0} (f : X → Y → ℕ) (xs : List X) (ys : List Y) → sum_by (λ x. sum_by (f x) ys) xs ≡ sum_by (λ y. sum_by (λ x. f x y) xs) ys
+exchange f [] ys = sym (sum_zero (λ y. 0) (λ y. refl) ys)
+exchange f (x ∷ xs) ys =
+    sum_by-cons (λ x. sum_by (f x) ys) x xs
+    ∙ ap (λ n. sum_by (f x) ys + n) (exchange f xs ys)
+    ∙ sum_plus (f x) (λ y. sum_by (λ x. f x y) xs) ys
+    ∙ sum_same (λ y. f x y + sum_by (λ x. f x y) xs) (λ y. sum_by (λ x. f x y) (x ∷ xs)) (λ y. sym (sum_by-cons (λ x. f x y) x xs)) ys
 
-pub host_credit_from-last : (w : World) (host i : ℕ) → length w.units ≤ i → host_credit_from w host i ≡ 0
-unfolding host_credit_from
-host_credit_from-last w host i past = ap (sum_by (credit_in w.apps host)) (drop_all i w.units past)
+-- so much for each that passes
+pub times : {X : Type 0} (c : ℕ) (t : X → Bool) (hs : List X) → c * count_by t hs ≡ sum_by (λ h. cond (t h) c 0) hs
+times c t [] = omega arith
+times c t (h ∷ hs) =
+    ap (λ n. c * n) (sum_by-cons (λ h. cond {A = ℕ} (t h) 1 0) h hs)
+    ∙ one (t h) (count_by t hs)
+    ∙ ap (λ n. cond (t h) c 0 + n) (times c t hs)
+    ∙ sym (sum_by-cons (λ h. cond (t h) c 0) h hs)
+  where
+    one : (b : Bool) (k : ℕ) → c * (cond {A = ℕ} b 1 0 + k) ≡ cond b c 0 + c * k
+    one true k = omega arith
+    one false k = ap (λ n. c * n) (let same : 0 + k ≡ k = omega arith in same) ∙ (let same : c * k ≡ 0 + c * k = omega arith in same)
 
--- what a host, with its number, adds to the credit of a user
-abbrev credit_of_host : World → ℕ → ℕ × HostRow → ℕ
-credit_of_host w account e = cond (e.1.account == account) (host_credit w e.0) 0
+-- each number stands once among the numbered hosts
+module _ (t : HostRow → Bool) (c : ℕ) where
+  abbrev one_of : ℕ → ℕ × HostRow → ℕ
+  one_of h e = cond (t e.1) (cond (eqb h e.0) c 0) 0
 
--- the credit of a user from the hosts at index i and on
-unfoldable pub user_credit_from : World → ℕ → ℕ → ℕ
-user_credit_from w account i = sum_by (credit_of_host w account) (enumerate_from (i + 1) (drop i w.hosts))
+  none_either : (b : Bool) (n : ℕ) → n ≡ 0 → cond b n 0 ≡ 0
+  none_either true n is = is
+  none_either false n is = refl
 
-pub user_credit_from-first : (w : World) (account : ℕ) → user_credit_from w account 0 ≡ user_credit w account
-unfolding user_credit_from
-user_credit_from-first w account = refl
+  none_before : (xs : List HostRow) (n h : ℕ) → h < n → sum_by (one_of h) (enumerate_from n xs) ≡ 0
+  none_before [] n h less = refl
+  none_before (x ∷ xs) n h less =
+      sum_by-cons (one_of h) (n, x) (enumerate_from (n + 1) xs)
+      ∙ ap (λ k. k + sum_by (one_of h) (enumerate_from (n + 1) xs))
+      (none_either (t x) (cond (eqb h n) c 0) (ap (λ b. cond b c 0) (let other : eqb h n ≡ false = grind (arith, nat_tests) in other)))
+      ∙ ap (λ k. 0 + k) (none_before xs (n + 1) h (let more : h < n + 1 = omega arith in more))
 
-user_credit_from-step : (w : World) (account i : ℕ) (h : HostRow) → i < length w.hosts → h ≡ get_or w.hosts i h
-    → user_credit_from w account i ≡ cond (h.account == account) (host_credit w (i + 1)) 0 + user_credit_from w account (i + 1)
-unfolding user_credit_from
-user_credit_from-step w account i h within is =
-    let rest = enumerate_from (i + 1 + 1) (drop (i + 1) w.hosts) in
-    ap (λ hs. sum_by (credit_of_host w account) (enumerate_from (i + 1) hs)) (at_item w.hosts i h within is)
-    ∙ sum_by-cons (credit_of_host w account) (i + 1, h) rest
+  once : (xs : List HostRow) (n i : ℕ) → sum_by (one_of (n + i)) (enumerate_from n xs) ≡ cond (unwrap_or (option_map t (slice_get xs i)) false) c 0
+  once [] n i = refl
+  once (x ∷ xs) n zero =
+      sum_by-cons (one_of (n + 0)) (n, x) (enumerate_from (n + 1) xs)
+      ∙ ap (λ k. cond (t x) (cond (eqb (n + 0) n) c 0) 0 + k) (none_before xs (n + 1) (n + 0) (let less : n + 0 < n + 1 = omega arith in less))
+      ∙ ap (λ b. cond (t x) (cond b c 0) 0 + 0) (eq-eqb (n + 0) n (let same : n + 0 ≡ n = omega arith in same))
+      ∙ last (cond (t x) c 0)
+    where
+      last : (k : ℕ) → k + 0 ≡ k
+      last k = omega arith
+  once (x ∷ xs) n (suc i) =
+      sum_by-cons (one_of (n + suc i)) (n, x) (enumerate_from (n + 1) xs)
+      ∙ ap (λ k. k + sum_by (one_of (n + suc i)) (enumerate_from (n + 1) xs))
+      (none_either (t x) (cond (eqb (n + suc i) n) c 0) (ap (λ b. cond b c 0) (let other : eqb (n + suc i) n ≡ false = grind (arith, nat_tests) in other)))
+      ∙ first (sum_by (one_of (n + suc i)) (enumerate_from (n + 1) xs))
+      ∙ ap (λ m. sum_by (one_of m) (enumerate_from (n + 1) xs)) (later n i)
+      ∙ once xs (n + 1) i
+    where
+      first : (k : ℕ) → 0 + k ≡ k
+      first k = omega arith
 
-pub user_credit_from-own : (w : World) (account i : ℕ) (h : HostRow) → i < length w.hosts → h ≡ get_or w.hosts i h
-    → (h.account == account) ≡ true → user_credit_from w account i ≡ host_credit w (i + 1) + user_credit_from w account (i + 1)
-user_credit_from-own w account i h within is own =
-    user_credit_from-step w account i h within is
-    ∙ ap (λ (b : Bool). cond b (host_credit w (i + 1)) 0 + user_credit_from w account (i + 1)) own
+      later : (n i : ℕ) → n + suc i ≡ n + 1 + i
+      later n i = omega arith
 
-pub user_credit_from-other : (w : World) (account i : ℕ) (h : HostRow) → i < length w.hosts → h ≡ get_or w.hosts i h
-    → (h.account == account) ≡ false → user_credit_from w account i ≡ user_credit_from w account (i + 1)
-user_credit_from-other w account i h within is other =
-    user_credit_from-step w account i h within is
-    ∙ ap (λ (b : Bool). cond b (host_credit w (i + 1)) 0 + user_credit_from w account (i + 1)) other
-    ∙ zero-add (user_credit_from w account (i + 1))
+  pub of_number : (xs : List HostRow) (h : ℕ) → sum_by (one_of h) (enumerate_from 1 xs) ≡ cond (unwrap_or (option_map t (nth xs h)) false) c 0
+  of_number xs zero = none_before xs 1 0 (let less : 0 < 1 = omega arith in less)
+  of_number xs (suc i) =
+      ap (λ m. sum_by (one_of m) (enumerate_from 1 xs)) (let same : suc i ≡ 1 + i = omega arith in same)
+      ∙ once xs 1 i
+      ∙ ap (λ o. cond (unwrap_or (option_map t o) false) c 0) (sym (nth-suc xs i))
 
-pub user_credit_from-last : (w : World) (account i : ℕ) → length w.hosts ≤ i → user_credit_from w account i ≡ 0
-unfolding user_credit_from
-user_credit_from-last w account i past = ap (λ hs. sum_by (credit_of_host w account) (enumerate_from (i + 1) hs)) (drop_all i w.hosts past)
+-- what was given gives the credits of its instances: those of one workunit, from a number on
+abbrev credit_given : World → Given → ℕ
+credit_given w g = credit_at w g.place
 
-pub ruleset host_credit_steps = (host_credit_from-first, host_credit_from-step, host_credit_from-last)
+-- the credit of an instance, where it passes
+abbrev credit_if : (Instance → Bool) → World → UnitBook → Instance → ℕ
+credit_if p w b x = cond (p x) (credit_by w.apps b x) 0
 
-pub ruleset user_credit_steps = (user_credit_from-first, user_credit_from-own, user_credit_from-other, user_credit_from-last)
+in_unit : (w : World) (p : Instance → Bool) (unit : ℕ) (b : UnitBook) → unit_at w unit ≡ Some b → (number : ℕ) (xs : List Instance)
+    → ((i : ℕ) → slice_get b.instances (number + i) ≡ slice_get xs i)
+    → sum_by (credit_given w) (given_in unit number p xs) ≡ sum_by (credit_if p w b) xs
+in_unit w p unit b stands number [] same = refl
+in_unit w p unit b stands number (x ∷ xs) same =
+    cases (p x) (given_in unit (number + 1) p xs)
+    (in_unit w p unit b stands (number + 1) xs
+    (λ i. ap (slice_get b.instances) (let at : number + 1 + i ≡ number + suc i = omega arith in at) ∙ same (suc i)))
+    ∙ sym (sum_by-cons (credit_if p w b) x xs)
+  where
+    g : Given
+    g = given_as (record { unit = unit; number = number }) x
+
+    here : credit_given w g ≡ credit_by w.apps b x
+    here =
+        ap (λ (o : Option UnitBook). unwrap_or (option_and_then (λ b. option_map (credit_by w.apps b) (slice_get b.instances number)) o) 0) stands
+        ∙ ap (λ (o : Option Instance). unwrap_or (option_map (credit_by w.apps b) o) 0)
+        (ap (slice_get b.instances) (let at : number ≡ number + 0 = omega arith in at) ∙ same 0)
+
+    cases : (t : Bool) (gs : List Given) → sum_by (credit_given w) gs ≡ sum_by (credit_if p w b) xs
+        → sum_by (credit_given w) (cond t (g ∷ gs) gs) ≡ cond t (credit_by w.apps b x) 0 + sum_by (credit_if p w b) xs
+    cases true gs rest =
+        sum_by-cons (credit_given w) g gs
+        ∙ ap (λ n. n + sum_by (credit_given w) gs) here
+        ∙ ap (λ n. credit_by w.apps b x + n) rest
+    cases false gs rest = rest ∙ (let none : sum_by (credit_if p w b) xs ≡ 0 + sum_by (credit_if p w b) xs = omega arith in none)
+
+-- of workunits, from a place on
+among : (w : World) (p : Instance → Bool) (unit : ℕ) (bs : List UnitBook) → ((i : ℕ) → unit_at w (unit + i) ≡ slice_get bs i)
+    → sum_by (credit_given w) (given_among unit p bs) ≡ sum_by (λ b. sum_by (credit_if p w b) b.instances) bs
+among w p unit [] same = refl
+among w p unit (b ∷ bs) same =
+    sum_by-append (credit_given w) (given_in unit 0 p b.instances) (given_among (unit + 1) p bs)
+    ∙ ap (λ n. n + sum_by (credit_given w) (given_among (unit + 1) p bs))
+    (in_unit w p unit b (ap (unit_at w) (let at : unit ≡ unit + 0 = omega arith in at) ∙ same 0) 0 b.instances
+    (λ i. ap (slice_get b.instances) (let at : 0 + i ≡ i = omega arith in at)))
+    ∙ ap (λ n. sum_by (credit_if p w b) b.instances + n)
+    (among w p (unit + 1) bs (λ i. ap (unit_at w) (let at : unit + 1 + i ≡ unit + suc i = omega arith in at) ∙ same (suc i)))
+    ∙ sym (sum_by-cons (λ (b : UnitBook). sum_by (credit_if p w b) b.instances) b bs)
+
+credit_of_given : (w : World) (p : Instance → Bool)
+    → sum_by (credit_given w) (given_among 1 p w.units) ≡ sum_by (λ b. sum_by (credit_if p w b) b.instances) w.units
+credit_of_given w p =
+    among w p 1 w.units (λ i. ap (unit_at w) (let at : 1 + i ≡ suc i = omega arith in at) ∙ nth-suc w.units i)
+
+-- the credit of a host is that of its own instances
+both : (own valid : Bool) (c : ℕ) → cond (own && valid) c 0 ≡ cond own (cond valid c 0) 0
+both true valid c = refl
+both false valid c = refl
+
+host_credit-is : (w : World) (host : ℕ) → host_credit w host ≡ sum_by (λ b. sum_by (credit_if (is_owned_by host) w b) b.instances) w.units
+host_credit-is w host =
+    sum_same (credit_in w.apps host) (λ b. sum_by (credit_if (is_owned_by host) w b) b.instances)
+    (λ b.
+    times b.unit.credit (λ x. is_owned_by host x && is_valid (book_verdict w.apps b x)) b.instances
+    ∙ sum_same (λ x. cond (is_owned_by host x && is_valid (book_verdict w.apps b x)) b.unit.credit 0) (credit_if (is_owned_by host) w b)
+    (λ x. both (is_owned_by host x) (is_valid (book_verdict w.apps b x)) b.unit.credit) b.instances) w.units
+
+-- the credit of a user is that of the instances of the user's hosts
+module _ (w : World) (account : ℕ) where
+  abbrev part : ℕ × HostRow → UnitBook → Instance → ℕ
+  part e b x = cond (e.1.account == account) (credit_if (is_owned_by e.0) w b x) 0
+
+  of_host : (own : Bool) (n : ℕ) → cond own (host_credit w n) 0
+      ≡ sum_by (λ b. sum_by (λ x. cond own (credit_if (is_owned_by n) w b x) 0) b.instances) w.units
+  of_host true n = host_credit-is w n
+  of_host false n =
+      sym (sum_zero (λ (b : UnitBook). sum_by (λ (x : Instance). 0) b.instances) (λ b. sum_zero (λ x. 0) (λ x. refl) b.instances) w.units)
+
+  -- each instance is of one host at most
+  of_instance : (b : UnitBook) (x : Instance) → sum_by (λ e. part e b x) (enumerate_from 1 w.hosts) ≡ credit_if (is_of_user w.hosts account) w b x
+  of_instance b x = cases (host_of x)
+    where
+      c : ℕ
+      c = credit_by w.apps b x
+
+      none : (own : Bool) → cond {A = ℕ} own 0 0 ≡ 0
+      none true = refl
+      none false = refl
+
+      same : (o : Option HostRow) → unwrap_or (option_map (λ (h : HostRow). h.account == account) o) false
+          ≡ option_any (λ n. n == account) (option_map (λ (h : HostRow). h.account) o)
+      same None = refl
+      same (Some h) = refl
+
+      cases : (o : Option ℕ)
+          → sum_by (λ (e : ℕ × HostRow). cond (e.1.account == account) (cond (option_any (λ n. n == e.0) o) c 0) 0) (enumerate_from 1 w.hosts)
+          ≡ cond (option_any (λ n. n == account) (option_and_then (account_at w.hosts) o)) c 0
+      cases None = sum_zero (λ (e : ℕ × HostRow). cond (e.1.account == account) 0 0) (λ e. none (e.1.account == account)) (enumerate_from 1 w.hosts)
+      cases (Some n) =
+          of_number (λ (h : HostRow). h.account == account) c w.hosts n
+          ∙ ap (λ own. cond own c 0) (same (nth w.hosts n))
+
+  user_credit-is : user_credit w account ≡ sum_by (λ b. sum_by (credit_if (is_of_user w.hosts account) w b) b.instances) w.units
+  user_credit-is =
+      let es = enumerate_from 1 w.hosts in
+      sum_same (λ e. cond (e.1.account == account) (host_credit w e.0) 0) (λ e. sum_by (λ b. sum_by (part e b) b.instances) w.units)
+      (λ e. of_host (e.1.account == account) e.0) es
+      ∙ exchange (λ e b. sum_by (part e b) b.instances) es w.units
+      ∙ sum_same (λ b. sum_by (λ e. sum_by (part e b) b.instances) es) (λ b. sum_by (credit_if (is_of_user w.hosts account) w b) b.instances)
+      (λ b.
+      exchange (λ e. part e b) es b.instances
+      ∙ sum_same (λ x. sum_by (λ e. part e b x) es) (credit_if (is_of_user w.hosts account) w b) (of_instance b) b.instances) w.units
+
+-- what the plain desk counts of what it lists
+pub host_credited : (w : World) (host : ℕ) (given : List Given) (credit : ℕ) → given ≡ given_among 1 (is_owned_by host) w.units
+    → credit ≡ sum_by (λ (g : Given). credit_at w g.place) given → credit ≡ host_credit w host
+host_credited w host given credit of_host is =
+    is ∙ ap (sum_by (credit_given w)) of_host ∙ credit_of_given w (is_owned_by host) ∙ sym (host_credit-is w host)
+
+pub user_credited : (w : World) (account : ℕ) (given : List Given) (credit : ℕ) → given ≡ given_among 1 (is_of_user w.hosts account) w.units
+    → credit ≡ sum_by (λ (g : Given). credit_at w g.place) given → credit ≡ user_credit w account
+user_credited w account given credit of_user is =
+    is ∙ ap (sum_by (credit_given w)) of_user ∙ credit_of_given w (is_of_user w.hosts account) ∙ sym (user_credit-is w account)

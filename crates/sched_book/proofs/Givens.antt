@@ -1,17 +1,18 @@
 -- Lists of what each number was given: one instance more, one workunit more, and what they say of a world.
-use Rattle.std.proofs.Common.{◌≡◌, ◌≢◌, ℕ, zero, suc, ◌+◌, ◌*◌, ◌/◌, ◌<◌, ◌≤◌, Bool, true, false, cond, eqb, List, [], ◌∷◌, ◌++◌, length, Option, Some, None, sym, refl, ap, ◌∙◌, arith, append_assoc, append-nil}
-use Rattle.std.proofs.lemmas.Bool.{ne_eqb, eq-eqb}
+use Rattle.std.proofs.Common.{◌≡◌, ◌≢◌, ℕ, zero, suc, ◌+◌, ◌*◌, ◌/◌, ◌<◌, ◌≤◌, Bool, true, false, cond, eqb, List, [], ◌∷◌, ◌++◌, length, get_or, Option, Some, None, sym, refl, ap, ◌∙◌, subst, arith, append_assoc, append-nil}
+use Rattle.std.proofs.lemmas.Bool.{eqb-true, ne_eqb, eq-eqb}
 use Rattle.std.proofs.lemmas.Option.{none-some}
-use Rattle.std.proofs.lemmas.List.{map-append, length-append}
+use Rattle.std.proofs.lemmas.List.{map-append, length-append, length-map}
 use Rattle.std.proofs.lemmas.List.Elements.{filter-append}
-use Rattle.std.proofs.lemmas.List.Sums.{sum_by-cons, sum_by-append}
-use Rattle.std.specs.Prelude.{replicate, map, filter, count_by, sum_by, option_map, option_and_then, unwrap_or, slice_get, ◌&&◌, ◌||◌, ◌==◌, All}
+use Rattle.std.proofs.lemmas.List.Sums.{sum_by-cons, sum_by-append, length-filter}
+use Rattle.std.specs.Prelude.{replicate, map, filter, count_by, sum_by, option_map, option_and_then, unwrap_or, slice_get, ◌&&◌, ◌||◌, ◌==◌, All, IsTrue, IfSome, is_some}
 use Rattle.std.specs.List.{list_any}
 use Rattle.sched_book.specs.Reports.{modify_at, modify_nth}
-use Rattle.sched_book.specs.Places.{nth, owned_by, held_by, sent_on_day, is_owned_by, is_held_by, is_of_user, option_any, was_sent, places_in, places_among}
+use Rattle.sched_book.specs.Places.{nth, owned_by, held_by, sent_on_day, host_of, account_at, is_owned_by, is_held_by, is_of_user, option_any, was_sent, places_in, places_among}
 use Rattle.sched_book.specs.Count.{is_held}
 use Rattle.sched_book.specs.Desk.{units_from, units_of_user}
-use Rattle.sched_book.specs.Given.{map_from, sent_at, given_as, given_in, given_among, is_listed_by, number_by, with_given, lists_by, units_in}
+use Rattle.sched_book.specs.Given.{map_from, sent_at, given_as, given_in, given_among, is_listed_by, number_by, with_given, lists_by, units_in, HasAccountAmong, OwnersStand}
+use Rattle.sched_book.specs.Sound.{HasOwnerAmong}
 use Rattle.sched_book.specs.declared.given.By.{By}
 use Rattle.sched_book.specs.declared.given.By.TheVariants.{Host, User}
 use Rattle.sched_book.specs.declared.given.Given.{Given}
@@ -19,6 +20,7 @@ use Rattle.sched_book.specs.declared.instance.Instance.{Instance}
 use Rattle.sched_book.specs.declared.instance.Owner.{Owner}
 use Rattle.sched_book.specs.declared.instance.Place.{Place}
 use Rattle.sched_book.specs.declared.instance.UnitBook.{UnitBook}
+use Rattle.sched_book.specs.declared.rows.Account.{Account}
 use Rattle.sched_book.specs.declared.rows.HostRow.{HostRow}
 use Rattle.sched_book.specs.declared.world.World.{World}
 use Rattle.sched_book.proofs.PlacesOf.{nth-suc, modify_nth-suc}
@@ -141,6 +143,84 @@ nth-lists_by by hosts bs count (suc i) given is =
         sym (ap (λ o. unwrap_or o given) same)
         ∙ ap (λ ys. ys ++ given_among 1 (is_listed_by by hosts (i + 1)) bs) (empty l refl)
         ∙ ap (λ m. given_among 1 (is_listed_by by hosts m) bs) (let same : i + 1 ≡ suc i = omega arith in same)
+
+-- a number that has no list has no row
+no_row : {X Y : Type 0} (x : X) (ys : List Y) (i : ℕ) → slice_get (replicate (length ys) x) i ≡ None → slice_get ys i ≡ None
+no_row x [] i is = refl
+no_row x (y ∷ ys) zero is = absurd (none-some x (sym is))
+no_row x (y ∷ ys) (suc i) is = no_row x ys i is
+
+pub nth-no_list : {Y : Type 0} (by : By) (hosts : List HostRow) (bs : List UnitBook) (ys : List Y) (n : ℕ)
+    → nth (lists_by by hosts bs (length ys)) n ≡ None → nth ys n ≡ None
+nth-no_list by hosts bs ys zero is = refl
+nth-no_list by hosts bs ys (suc i) is =
+    nth-suc ys i
+    ∙ no_row [] ys i
+    (cases (slice_get (replicate (length ys) []) i)
+    (sym (at (λ n l. l ++ given_among 1 (is_listed_by by hosts n) bs) 1 (replicate (length ys) []) i)
+    ∙ sym (nth-suc (lists_by by hosts bs (length ys)) i) ∙ is))
+  where
+    cases : (o : Option (List Given)) → option_map (λ l. l ++ given_among 1 (is_listed_by by hosts (i + 1)) bs) o ≡ None → o ≡ None
+    cases None same = refl
+    cases (Some l) same = absurd (none-some (l ++ given_among 1 (is_listed_by by hosts (i + 1)) bs) (sym same))
+
+-- where no instance passes nothing was given
+none-in : (p : Instance → Bool) (unit number : ℕ) (xs : List Instance) → All (λ x. p x ≡ false) xs → given_in unit number p xs ≡ []
+none-in p unit number [] none = refl
+none-in p unit number (x ∷ xs) none =
+    let rest = given_in unit (number + 1) p xs in
+    ap (λ (b : Bool). cond b (given_as (record { unit = unit; number = number }) x ∷ rest) rest) (none 0 x (omega arith))
+    ∙ none-in p unit (number + 1) xs (λ k d within. none (suc k) d (omega arith))
+
+none_given : (p : Instance → Bool) (unit : ℕ) (bs : List UnitBook) → All (λ (b : UnitBook). All (λ x. p x ≡ false) b.instances) bs
+    → given_among unit p bs ≡ []
+none_given p unit [] none = refl
+none_given p unit (b ∷ bs) none =
+    ap (λ gs. gs ++ given_among (unit + 1) p bs) (none-in p unit 0 b.instances (none 0 b (omega arith)))
+    ∙ none_given p (unit + 1) bs (λ k d within. none (suc k) d (omega arith))
+
+-- nothing was given to a host that does not stand, nor to a user who does not
+not_standing : {X : Type 0} (xs : List X) (m n : ℕ) → nth xs n ≡ None → IsTrue (is_some (nth xs m)) → eqb m n ≡ false
+not_standing xs m n none stands = cases (eqb m n) refl
+  where
+    cases : (b : Bool) → eqb m n ≡ b → b ≡ false
+    cases false is = refl
+    cases true is =
+        let never : false ≡ true = subst (λ o. IsTrue (is_some o)) (ap (nth xs) (eqb-true m n is) ∙ none) stands in
+        absurd cc
+
+not_owned : (hosts : List HostRow) (n : ℕ) (x : Instance) → nth hosts n ≡ None → HasOwnerAmong hosts x → is_owned_by n x ≡ false
+not_owned hosts n x none owner = cases (host_of x) owner
+  where
+    cases : (o : Option ℕ) → IfSome o (λ host. IsTrue (is_some (nth hosts host))) → option_any (λ m. m == n) o ≡ false
+    cases None owner = refl
+    cases (Some m) owner = not_standing hosts m n none owner
+
+not_of_user : (accounts : List Account) (hosts : List HostRow) (n : ℕ) (x : Instance) → nth accounts n ≡ None → All (HasAccountAmong accounts) hosts
+    → is_of_user hosts n x ≡ false
+not_of_user accounts hosts n x none stand = cases (host_of x)
+  where
+    row : (hs : List HostRow) (i : ℕ) → All (HasAccountAmong accounts) hs
+        → option_any (λ m. m == n) (option_map (λ (h : HostRow). h.account) (slice_get hs i)) ≡ false
+    row [] i all = refl
+    row (h ∷ hs) zero all = not_standing accounts h.account n none (all 0 h (omega arith))
+    row (h ∷ hs) (suc i) all = row hs i (λ k d within. all (suc k) d (omega arith))
+
+    cases : (o : Option ℕ) → option_any (λ m. m == n) (option_and_then (account_at hosts) o) ≡ false
+    cases None = refl
+    cases (Some zero) = refl
+    cases (Some (suc i)) =
+        ap (λ o. option_any (λ m. m == n) (option_map (λ (h : HostRow). h.account) o)) (nth-suc hosts i) ∙ row hosts i stand
+
+pub none_of_host : (w : World) (host : ℕ) → OwnersStand w → nth w.hosts host ≡ None → given_among 1 (is_owned_by host) w.units ≡ []
+none_of_host w host stand none =
+    none_given (is_owned_by host) 1 w.units
+    (λ k d within i x inside. not_owned w.hosts host (get_or (get_or w.units k d).instances i x) none (stand.hosts k d within i x inside))
+
+pub none_of_user : (w : World) (account : ℕ) → OwnersStand w → nth w.accounts account ≡ None → given_among 1 (is_of_user w.hosts account) w.units ≡ []
+none_of_user w account stand none =
+    none_given (is_of_user w.hosts account) 1 w.units
+    (λ k d within i x inside. not_of_user w.accounts w.hosts account (get_or (get_or w.units k d).instances i x) none stand.accounts)
 
 -- the places of what was given are the places of the instances that pass
 places-in : (p : Instance → Bool) (unit number : ℕ) (xs : List Instance) → map (λ (g : Given). g.place) (given_in unit number p xs) ≡ places_in unit number p xs
@@ -305,6 +385,14 @@ pub held_listed : (w : World) (host : ℕ) (given : List Given) (places : List P
     → places ≡ map (λ (g : Given). g.place) (filter (λ (g : Given). g.is_held) given) → places ≡ held_by w host
 held_listed w host given places of_host is =
     is ∙ ap (λ gs. map (λ (g : Given). g.place) (filter (λ (g : Given). g.is_held) gs)) of_host ∙ held_places_of_given host 1 w.units
+
+pub held_counted : (w : World) (host : ℕ) (given : List Given) (count : ℕ) → given ≡ given_among 1 (is_owned_by host) w.units
+    → count ≡ count_by (λ (g : Given). g.is_held) given → count ≡ length (held_by w host)
+held_counted w host given count of_host is =
+    is
+    ∙ sym (length-filter (λ (g : Given). g.is_held) given)
+    ∙ sym (length-map (filter (λ (g : Given). g.is_held) given) (λ (g : Given). g.place))
+    ∙ ap length (held_listed w host given (map (λ (g : Given). g.place) (filter (λ (g : Given). g.is_held) given)) of_host refl)
 
 pub sent_listed : (w : World) (host day : ℕ) (given : List Given) (count : ℕ) → given ≡ given_among 1 (is_owned_by host) w.units
     → count ≡ count_by (λ (g : Given). g.day == day) given → count ≡ sent_on_day w host day

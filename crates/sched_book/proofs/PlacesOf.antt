@@ -1,9 +1,9 @@
 -- Places of a list that grows by one, or of which one element is changed.
-use Rattle.std.proofs.Common.{◌≡◌, ℕ, zero, suc, ◌+◌, ◌-◌, Bool, true, false, cond, eqb, List, [], ◌∷◌, ◌++◌, length, Option, Some, None, sym, refl, ap, ◌∙◌, arith}
+use Rattle.std.proofs.Common.{◌≡◌, ℕ, zero, suc, ◌+◌, ◌-◌, ◌<◌, ◌≤◌, Bool, true, false, cond, eqb, List, [], ◌∷◌, ◌++◌, length, Option, Some, None, sym, refl, ap, ◌∙◌, arith}
 use Rattle.std.proofs.Math.Dec.{eqb-suc-zero, eqb-zero-suc, eqb-suc-suc}
 use Rattle.std.proofs.Math.Numerals.{add-one}
 use Rattle.std.proofs.lemmas.Iterator.Adapters.{position_from-zero}
-use Rattle.std.specs.Prelude.{find, option_map, option_and_then, slice_get}
+use Rattle.std.specs.Prelude.{find, is_some, option_map, option_and_then, slice_get}
 use Rattle.std.specs.Option.{option_or}
 use Rattle.std.specs.List.{position_from}
 use Rattle.sched_book.specs.Places.{nth, place_where}
@@ -14,6 +14,16 @@ pub nth-suc : {X : Type 0} (xs : List X) (i : ℕ) → nth xs (suc i) ≡ slice_
 nth-suc xs i =
     ap (λ (b : Bool). cond b None (slice_get xs (suc i - 1))) (eqb-suc-zero i)
     ∙ ap (slice_get xs) (let same : suc i - 1 ≡ i = omega arith in same)
+
+-- a place within a list
+is_there : {X : Type 0} (xs : List X) (i : ℕ) → i < length xs → is_some (slice_get xs i) ≡ true
+is_there [] i within = absurd (omega arith)
+is_there (x ∷ xs) zero within = refl
+is_there (x ∷ xs) (suc i) within = is_there xs i (omega arith)
+
+pub nth-within : {X : Type 0} (xs : List X) (n : ℕ) → 1 ≤ n → n ≤ length xs → is_some (nth xs n) ≡ true
+nth-within xs zero low high = absurd (omega arith)
+nth-within xs (suc i) low high = ap is_some (nth-suc xs i) ∙ is_there xs i (omega arith)
 
 pub modify_nth-suc : {X : Type 0} (f : X → X) (xs : List X) (i : ℕ) → modify_nth f xs (suc i) ≡ modify_at f xs i
 modify_nth-suc f xs i =

@@ -1,5 +1,5 @@
 -- Changes of a list and of a world, taken back.
-use Rattle.std.proofs.Common.{◌≡◌, ℕ, zero, suc, List, [], ◌∷◌, ◌++◌, length, Some, sym, refl, ap}
+use Rattle.std.proofs.Common.{◌≡◌, ℕ, zero, suc, List, [], ◌∷◌, ◌++◌, Some, sym, refl, ap}
 use Rattle.std.proofs.lemmas.Option.{none-some}
 use Rattle.std.specs.Prelude.{slice_get, slice_set, unwrap_or}
 use Rattle.sched_book.specs.Undo.{undone_one, undone}

@@ -1,13 +1,12 @@
 -- What a desk is asked, beside the words of places, counts and fits.
 use Rattle.std.specs.Prelude.{ℕ, ◌+◌, Bool, if◌then◌else◌, List, [], ◌∷◌, length, find, Option, option_map, option_and_then, unwrap_or}
 use Rattle.std.specs.Str.{bytes_eq}
-use Rattle.sched_book.specs.Places.{nth, place_where, unit_at, user_had, agreement_of, is_held_by, is_owned_by, is_overdue}
+use Rattle.sched_book.specs.Places.{nth, place_where, unit_at, user_had, agreement_of, status_of}
 use Rattle.sched_book.specs.Imports.{is_version}
-use Rattle.sched_book.specs.declared.listings.Listing.{Listing}
-use Rattle.sched_book.specs.declared.listings.Listing.TheVariants.{Held, Owned, Overdue}
 use Rattle.sched_book.specs.declared.desk.Counts.{Counts}
 use Rattle.sched_book.specs.declared.desk.Placed.{Placed}
 use Rattle.sched_book.specs.declared.instance.Instance.{Instance}
+use Rattle.sched_book.specs.declared.instance.Status.{Status}
 use Rattle.sched_book.specs.declared.instance.UnitBook.{UnitBook}
 use Rattle.sched_book.specs.declared.rows.Account.{Account}
 use Rattle.sched_book.specs.declared.rows.Agreement.{Agreement}
@@ -45,6 +44,9 @@ workunit_at w unit = option_map (λ (b : UnitBook). b.unit) (unit_at w unit)
 abbrev pub agreement_at : World → ℕ → Option Agreement
 agreement_at w unit = option_map (agreement_of w) (unit_at w unit)
 
+abbrev pub unit_status : World → ℕ → Option Status
+unit_status w unit = option_map (status_of w) (unit_at w unit)
+
 -- the instances of the workunit at a place, none where none stands
 abbrev pub instances_at : World → ℕ → List Instance
 instances_at w unit = unwrap_or (option_map (λ (b : UnitBook). b.instances) (unit_at w unit)) []
@@ -61,9 +63,3 @@ units_of_user w account = units_from 1 (user_had w account) w.units
 -- the version of an application for a platform with this number
 abbrev pub version_by_key : World → List ℕ → List ℕ → ℕ → Option Version
 version_by_key w app platform version_num = find (is_version app platform version_num) w.versions
-
--- which instances a listing has
-abbrev pub is_listed_in : Listing → Instance → Bool
-is_listed_in (Held host) x = is_held_by host x
-is_listed_in (Owned host) x = is_owned_by host x
-is_listed_in (Overdue now) x = is_overdue now x

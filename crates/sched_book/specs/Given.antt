@@ -1,7 +1,8 @@
 -- What each host and each user was given, listed by number, as the plain desk keeps it beside its world.
-use Rattle.std.specs.Prelude.{◌≡◌, ℕ, ◌+◌, ◌/◌, ◌==◌, Bool, if◌then◌else◌, List, [], ◌∷◌, ◌++◌, length, replicate, Option, Some, None}
+use Rattle.std.specs.Prelude.{◌≡◌, ℕ, ◌+◌, ◌/◌, ◌==◌, Bool, if◌then◌else◌, IsTrue, List, [], ◌∷◌, ◌++◌, length, replicate, All, Option, Some, None, is_some}
 use Rattle.sched_book.specs.Count.{is_held}
-use Rattle.sched_book.specs.Places.{account_at, is_of_user, is_owned_by}
+use Rattle.sched_book.specs.Places.{nth, account_at, is_of_user, is_owned_by}
+use Rattle.sched_book.specs.Sound.{HasOwnerAmong}
 use Rattle.sched_book.specs.declared.given.By.{By}
 use Rattle.sched_book.specs.declared.given.By.TheVariants.{Host, User}
 use Rattle.sched_book.specs.declared.given.Given.{Given}
@@ -10,6 +11,7 @@ use Rattle.sched_book.specs.declared.instance.Instance.{Instance}
 use Rattle.sched_book.specs.declared.instance.Owner.{Owner}
 use Rattle.sched_book.specs.declared.instance.Place.{Place}
 use Rattle.sched_book.specs.declared.instance.UnitBook.{UnitBook}
+use Rattle.sched_book.specs.declared.rows.Account.{Account}
 use Rattle.sched_book.specs.declared.rows.HostRow.{HostRow}
 use Rattle.sched_book.specs.declared.world.World.{World}
 
@@ -67,3 +69,13 @@ units_in last (g ∷ gs) = if g.place.unit == last then units_in last gs else g.
 pub record IsListed (w : World) (lists : Lists) : Type 0 where
   pub of_hosts : lists.by_host ≡ lists_by Host w.hosts w.units (length w.hosts)
   pub of_users : lists.by_user ≡ lists_by User w.hosts w.units (length w.accounts)
+
+-- the account of a host stands
+abbrev pub HasAccountAmong : List Account → HostRow → Type 0
+HasAccountAmong accounts h = IsTrue (is_some (nth accounts h.account))
+
+-- Each instance that was given to a host was given to one that stands, and each host is of an account that stands: so what
+-- the plain desk lists is all that anybody was given.
+pub record OwnersStand (w : World) : Type 0 where
+  pub accounts : All (HasAccountAmong w.accounts) w.hosts
+  pub hosts : All (λ (b : UnitBook). All (HasOwnerAmong w.hosts) b.instances) w.units

@@ -1,7 +1,7 @@
 -- Which list of jobs is a grant. The limits are named as BOINC names them; what they count is this profile's.
-use Rattle.std.specs.Prelude.{ℕ, ◌+◌, ◌/◌, ◌<◌, ◌≤◌, Bool, ◌||◌, ◌==◌, nat_le, if◌then◌else◌, IsTrue, List, length, take, sum_by, filter, All, AllPairs, EachIndex, unwrap_or, option_map}
+use Rattle.std.specs.Prelude.{ℕ, ◌+◌, ◌/◌, ◌<◌, ◌≤◌, Bool, ◌||◌, ◌==◌, nat_le, if◌then◌else◌, IsTrue, List, length, take, sum_by, filter, All, AllPairs, EachIndex}
 use Rattle.std.specs.List.{list_any, list_all}
-use Rattle.sched_book.specs.Places.{places, unit_at, sent_on_day, is_before, is_same}
+use Rattle.sched_book.specs.Places.{places, sent_on_day, is_before, is_same}
 use Rattle.sched_book.specs.Fits.{is_eligible, estimate_at}
 use Rattle.rpc_records.specs.declared.reply.EndWord.{EndWord}
 use Rattle.rpc_records.specs.declared.reply.EndWord.TheVariants.{Enough, ReplyLimit, InProgressLimit, DailyQuota, NoEligibleWork}

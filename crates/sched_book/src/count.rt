@@ -1,17 +1,17 @@
-//! What is counted of a workunit and of a host, from scratch: the plain slow program of the definitions.
+//! What is counted of a workunit and of its instances, from scratch: the plain slow program of the definitions.
 //!
 //! Agreement, the canonical result, need, status, verdict and credit. Nothing here takes memory.
 
-ghost use Rattle.std.specs.Prelude.{◌≡◌, ◌<◌, ◌≤◌, ◌^◌, ◌+◌, ◌*◌, ◌&&◌, length, take, drop, nat_le};
+ghost use Rattle.std.specs.Prelude.{◌≡◌, ◌<◌, ◌≤◌, ◌^◌, ◌+◌, length, take, drop, nat_le, option_map, unwrap_or, slice_get};
 ghost use Rattle.std.specs.List.{prefix_len};
-ghost use Rattle.std.specs.Option.{SomeIff};
 ghost use Rattle.arrayvec.specs.ArrayVec.{array_vec_len};
 ghost use Rattle.sched_book.specs.Count.{agree, output_of, place_of, put_by, good, errors, live, votes, leader, first_leader, canonical, want, need, status, verdict_by, verdict, is_valid};
 ghost use Rattle.sched_book.specs.Limits.{IsBounded};
-ghost use Rattle.sched_book.specs.Places.{agreement_by, book_status, is_owned_by, credit_in, host_credit, user_credit};
+ghost use Rattle.sched_book.specs.Places.{agreement_by, book_status, credit_by, credit_at};
 
-use crate::instance::{Instance, Status, UnitBook, Verdict};
+use crate::instance::{Instance, Place, Status, UnitBook, Verdict};
 use crate::limits::MOST_INSTANCES;
+use crate::look_ups::nth;
 use crate::rows::{Agreement, App, Workunit};
 use crate::whole_numbers::{are_numbers_within, whole_number_of};
 use crate::world::World;
@@ -323,63 +323,30 @@ pub fn is_valid(verdict: Option<Verdict>) -> bool
     }
 }
 
-/// Whether the instance was given to the host of this number, and its result is valid, where `canonical` is the
-/// number of the workunit's canonical result.
-fn is_valid_of(
-    host: u32,
-    agreement: &Agreement,
-    instances: &[Instance],
-    canonical: Option<usize>,
-    instance: &Instance,
-) -> bool
-    ensures { result ≡ (is_owned_by host instance.now && is_valid (verdict_by agreement.now instances.now canonical instance.now)) }
-{
-    instance.is_owned_by(host) && is_valid(verdict_by(agreement, instances, canonical, instance))
-}
-
-/// The millicredits that the host of this number has from one workunit.
-pub fn credit_in(apps: &[App], host: u32, book: &UnitBook) -> u64
+/// The millicredits of the workunit's instance of this number: the workunit's, where its result is valid.
+fn credit_of_number(apps: &[App], book: &UnitBook, number: u32) -> u32
     requires { length book.now.instances ≤ MOST_INSTANCES }
-    ensures value { result ≡ credit_in apps.now host book.now }
-    ensures small { result ≤ 100 * 2 ^ 32 }
+    ensures { result ≡ unwrap_or (option_map (credit_by apps.now book.now) (slice_get book.now.instances number)) 0 }
 {
-    let agreement = agreement_by(apps, book.unit.app.as_str());
     let instances = book.instances.as_slice();
-    let canonical = canonical(&agreement, &book.unit, instances);
-    let valid = instances
-        .iter()
-        .filter(|instance| is_valid_of(host, &agreement, instances, canonical, instance))
-        .count();
-    u64::from(book.unit.credit) * valid as u64
+    let Some(instance) = instances.get(number as usize) else {
+        return 0;
+    };
+    let agreement = agreement_by(apps, book.unit.app.as_str());
+    if is_valid(verdict(&agreement, &book.unit, instances, instance)) {
+        book.unit.credit
+    } else {
+        0
+    }
 }
 
-/// The millicredits of the host of this number: the credits of the workunits of its valid results.
-#[tactic(auto, using(crate::proofs::Credits::host_credit_steps))]
-pub fn host_credit(world: &World, host: u32) -> u64
+/// The millicredits of the instance at a place.
+pub(crate) fn credit_at(world: &World, place: Place) -> u32
     requires { IsBounded world.now }
-    ensures { result ≡ host_credit world.now host }
+    ensures { result ≡ credit_at world.now place }
 {
-    let mut credit = 0;
-    for book in world.units.as_slice() {
-        credit += credit_in(world.apps.as_slice(), host, book);
+    match nth(world.units.as_slice(), place.unit) {
+        None => 0,
+        Some(book) => credit_of_number(world.apps.as_slice(), book, place.number),
     }
-    credit
-}
-
-/// The millicredits of a user: those of the user's hosts together, unless they are past what fits.
-#[tactic(auto, using(crate::proofs::Credits::user_credit_steps))]
-pub fn user_credit(world: &World, account: u32) -> Option<u64>
-    requires { IsBounded world.now }
-    ensures { SomeIff result (user_credit world.now account < 2 ^ 64) (user_credit world.now account) }
-{
-    let mut credit: u64 = 0;
-    for (index, row) in world.hosts.as_slice().iter().enumerate() {
-        if row.account == account {
-            let Some(sum) = credit.checked_add(host_credit(world, index as u32 + 1)) else {
-                return None;
-            };
-            credit = sum;
-        }
-    }
-    Some(credit)
 }

@@ -2,13 +2,13 @@
 
 ghost use Rattle.std.specs.Prelude.{◌≡◌, ◌≤◌, length, IfOk, OnOk, OnErr};
 ghost use Rattle.sched_book.specs.Limits.{most_instances};
-ghost use Rattle.sched_book.specs.Places.{instance_at, host_at, unit_named, known_host, held_by, owned_by, overdue, sent_on_day};
+ghost use Rattle.sched_book.specs.Places.{instance_at, host_at, unit_named, known_host, held_by, owned_by, overdue, sent_on_day, host_credit, user_credit};
 ghost use Rattle.sched_book.specs.Fits.{version_at};
 ghost use Rattle.sched_book.specs.Offers.{unsent, OffersAll, OffersSome};
-ghost use Rattle.sched_book.specs.Desk.{counts, account_by_key, app_by_name, workunit_at, agreement_at, instances_at, units_of_user, version_by_key};
+ghost use Rattle.sched_book.specs.Desk.{counts, account_by_key, app_by_name, workunit_at, agreement_at, unit_status, instances_at, units_of_user, version_by_key};
 ghost use Rattle.sched_book.specs.declared.world.World.{World};
 
-use crate::instance::{Instance, Place};
+use crate::instance::{Instance, Place, Status};
 use crate::moment::Moment;
 use crate::rows::{Account, Agreement, App, HostRow, Version, Workunit};
 use crate::settings::Settings;
@@ -178,10 +178,20 @@ pub trait Desk: Units {
         ensures reads { Self.reads self.old self.new }
         ensures answer { Trusted Self.Units self.old self.new (IfOk result (λ r. r ≡ host_at (Self.world self.old) host)) };
 
+    /// The status of the workunit at this place.
+    fn status_of(&mut self, unit: u32) -> Result<Option<Status>, Unavailable>
+        ensures reads { Self.reads self.old self.new }
+        ensures answer { Trusted Self.Units self.old self.new (IfOk result (λ r. r ≡ unit_status (Self.world self.old) unit)) };
+
     /// The places of the instances that the host holds, in order.
     fn held_by(&mut self, alloc: Global, host: u32) -> Result<Listed<Place>, Unavailable>
         ensures reads { Self.reads self.old self.new }
         ensures answer { Trusted Self.Units self.old self.new (IfOk result (λ r. r ≡ held_by (Self.world self.old) host)) };
+
+    /// How many instances the host holds.
+    fn held_count(&mut self, host: u32) -> Result<u32, Unavailable>
+        ensures reads { Self.reads self.old self.new }
+        ensures answer { Trusted Self.Units self.old self.new (IfOk result (λ r. r ≡ length (held_by (Self.world self.old) host))) };
 
     /// The places of the instances that were given to the host, in order.
     fn owned_by(&mut self, alloc: Global, host: u32) -> Result<Listed<Place>, Unavailable>
@@ -197,6 +207,16 @@ pub trait Desk: Units {
     fn units_of_user(&mut self, alloc: Global, account: u32) -> Result<Listed<u32>, Unavailable>
         ensures reads { Self.reads self.old self.new }
         ensures answer { Trusted Self.Units self.old self.new (IfOk result (λ r. r ≡ units_of_user (Self.world self.old) account)) };
+
+    /// The millicredits of the host.
+    fn credit_of_host(&mut self, host: u32) -> Result<u64, Unavailable>
+        ensures reads { Self.reads self.old self.new }
+        ensures answer { Trusted Self.Units self.old self.new (IfOk result (λ r. r ≡ host_credit (Self.world self.old) host)) };
+
+    /// The millicredits of the user: those of the user's hosts together.
+    fn credit_of_user(&mut self, account: u32) -> Result<u64, Unavailable>
+        ensures reads { Self.reads self.old self.new }
+        ensures answer { Trusted Self.Units self.old self.new (IfOk result (λ r. r ≡ user_credit (Self.world self.old) account)) };
 
     /// The version that a host runs of the application at this place: the newest for the first of the host's
     /// platforms that has any.

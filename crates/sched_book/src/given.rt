@@ -1,15 +1,18 @@
 //! What each host and each user was given, listed by number.
 
-ghost use Rattle.std.specs.Prelude.{◌≡◌, ◌≤◌, ◌==◌, ◌++◌, [], ◌∷◌, List, All, length, map, filter, count_by, replicate, IfOk, OnOk};
+ghost use Rattle.std.specs.Prelude.{◌≡◌, ◌≤◌, ◌==◌, ◌++◌, [], ◌∷◌, List, All, IsTrue, length, map, filter, count_by, sum_by, replicate, IfOk, OnOk};
 ghost use Rattle.sched_book.specs.Reports.{modify_nth};
-ghost use Rattle.sched_book.specs.Given.{map_from, given_in, is_listed_by, number_by, with_given, lists_by, units_in, IsListed};
+ghost use Rattle.sched_book.specs.Given.{map_from, given_in, is_listed_by, number_by, with_given, lists_by, units_in, IsListed, HasAccountAmong, OwnersStand};
 ghost use Rattle.sched_book.specs.Limits.{most_instances, most_workunits, IsBounded};
+ghost use Rattle.sched_book.specs.Places.{account_at, credit_at};
+ghost use Rattle.sched_book.specs.Sound.{HasOwnerAmong};
 ghost use Rattle.sched_book.specs.declared.given.Given.{Given};
 ghost use Rattle.sched_book.specs.declared.instance.UnitBook.{UnitBook};
 
+use crate::count::credit_at;
 use crate::instance::{Instance, Owner, Place, UnitBook};
-use crate::listings::account_of;
-use crate::rows::HostRow;
+use crate::look_ups::nth;
+use crate::rows::{Account, HostRow};
 use crate::world::World;
 use std::alloc::Global;
 use texts::{Listed, Memory};
@@ -44,6 +47,16 @@ fn list_one(lists: &mut [Listed<Given>], number: u32, given: Given) -> Result<()
         lists[index].push(given)?;
     }
     Ok(())
+}
+
+/// The account of the host of a number.
+fn account_of(hosts: &[HostRow], host: u32) -> Option<u32>
+    ensures { result ≡ account_at hosts.now host }
+{
+    match nth(hosts, host) {
+        None => None,
+        Some(row) => Some(row.account),
+    }
 }
 
 /// The number under which an instance of this owner is listed.
@@ -163,6 +176,44 @@ impl Lists {
     }
 }
 
+/// Whether the host that an instance was given to stands.
+fn has_owner_among(hosts: &[HostRow], instance: &Instance) -> bool
+    ensures { IsTrue result → HasOwnerAmong hosts.now instance.now }
+{
+    match &instance.owner {
+        None => true,
+        Some(owner) => nth(hosts, owner.host).is_some(),
+    }
+}
+
+fn have_owners_among(hosts: &[HostRow], instances: &[Instance]) -> bool
+    ensures { IsTrue result → All (HasOwnerAmong hosts.now) instances.now }
+{
+    instances
+        .iter()
+        .all(|instance| has_owner_among(hosts, instance))
+}
+
+fn has_account_among(accounts: &[Account], row: &HostRow) -> bool
+    ensures { IsTrue result → HasAccountAmong accounts.now row.now }
+{
+    nth(accounts, row.account).is_some()
+}
+
+/// Whether each instance that was given to a host was given to one that stands, and each host is of an account that stands.
+pub(crate) fn do_owners_stand(world: &World) -> bool
+    ensures { IsTrue result → OwnersStand world.now }
+{
+    let accounts = world.accounts.as_slice();
+    let hosts = world.hosts.as_slice();
+    hosts.iter().all(|row| has_account_among(accounts, row))
+        && world
+            .units
+            .as_slice()
+            .iter()
+            .all(|book| have_owners_among(hosts, book.instances.as_slice()))
+}
+
 /// The places of these instances, in order.
 pub(crate) fn places_of(alloc: Global, given: &[Given]) -> Result<Listed<Place>, Memory>
     ensures { IfOk result (λ places. places ≡ map (λ (g : Given). g.place) given.now) }
@@ -185,6 +236,27 @@ pub(crate) fn held_places(alloc: Global, given: &[Given]) -> Result<Listed<Place
         }
     }
     Ok(places)
+}
+
+/// How many of these instances are held.
+pub(crate) fn count_held(given: &[Given]) -> usize
+    ensures value { result ≡ count_by (λ (g : Given). g.is_held) given.now }
+    ensures few { result ≤ length given.now }
+{
+    given.iter().filter(|one| one.is_held).count()
+}
+
+/// The millicredits of these instances together.
+pub(crate) fn credit_of(world: &World, given: &[Given]) -> u64
+    requires bounded { IsBounded world.now }
+    requires few { length given.now ≤ 20000000 }
+    ensures { result ≡ sum_by (λ (g : Given). credit_at world.now g.place) given.now }
+{
+    let mut credit = 0;
+    for one in given {
+        credit += u64::from(credit_at(world, one.place));
+    }
+    credit
 }
 
 /// How many of these instances were sent on a day.

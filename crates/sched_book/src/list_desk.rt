@@ -1,27 +1,30 @@
 //! The plain desk, which keeps a world as lists and looks through them.
 
-ghost use Rattle.std.specs.Prelude.{◌≡◌, ◌≤◌, ⊤, length, IfOk, IfSome, OnOk, OnErr};
+ghost use Rattle.std.specs.Prelude.{◌≡◌, ◌≤◌, ⊤, length, IfOk, OnOk, OnErr};
 ghost use Rattle.sched_book.specs.Delta.{applied};
-ghost use Rattle.sched_book.specs.Given.{given_among, IsListed};
+ghost use Rattle.sched_book.specs.Given.{given_among, IsListed, OwnersStand};
 ghost use Rattle.sched_book.specs.Undo.{undone};
 ghost use Rattle.sched_book.specs.Limits.{IsBounded};
-ghost use Rattle.sched_book.specs.Places.{is_owned_by, is_of_user, unit_named, known_host, sent_on_day};
-ghost use Rattle.sched_book.specs.Desk.{counts, agreement_at};
+ghost use Rattle.sched_book.specs.Places.{is_owned_by, is_of_user, unit_named, known_host, held_by, sent_on_day, host_credit, user_credit};
+ghost use Rattle.sched_book.specs.Desk.{counts, agreement_at, unit_status};
 ghost use Rattle.sched_book.specs.Step.{empty_world};
 
 use crate::changing::{Undo, change_all, undo_all};
-use crate::count::agreement_by;
+use crate::count::{agreement_by, book_status};
 use crate::delta::{Change, Delta, is_bounded};
 use crate::desk::{Counts, Desk, Placed, Taker, Unavailable, Units};
-use crate::given::{Given, Lists, count_on_day, held_places, places_of, units_of};
-use crate::instance::{Instance, Place};
-use crate::listings::{Listing, count_sent_on_day, list_places, list_units_of_user};
+use crate::given::{
+    Given, Lists, count_held, count_on_day, credit_of, do_owners_stand, held_places, places_of,
+    units_of,
+};
+use crate::instance::{Instance, Place, Status};
 use crate::look_ups::{
     account_place, app_place, copy_at, copy_instance, copy_nth, copy_of, find_version, host_place,
     nth, unit_place,
 };
 use crate::moment::Moment;
 use crate::offers::offer_all;
+use crate::overdue::list_overdue;
 use crate::rows::{Account, Agreement, App, HostRow, Version, Workunit};
 use crate::settings::Settings;
 use crate::versions::version_of_app;
@@ -41,7 +44,7 @@ pub struct ListDesk {
 }
 
 impl Model for ListDesk {
-    ghost use Rattle.sched_book.specs.Given.{IsListed};
+    ghost use Rattle.sched_book.specs.Given.{IsListed, OwnersStand};
     ghost use Rattle.sched_book.specs.Limits.{IsBounded};
     ghost use Rattle.sched_book.specs.declared.world.World.{World};
 
@@ -49,7 +52,23 @@ impl Model for ListDesk {
 
     ghost view = { λ d. d.world };
 
-    ghost invariant = { λ d. IsBounded d.world × IsListed d.world d.lists };
+    ghost invariant = { λ d. IsBounded d.world × IsListed d.world d.lists × OwnersStand d.world };
+}
+
+/// What each host and each user was given in a world. One that has a list longer than its table may be, or an owner that
+/// does not stand, is refused.
+fn listed(alloc: Global, world: &World) -> Result<Lists, Unavailable>
+    ensures bounded { OnOk result (IsBounded world.now) }
+    ensures owners { OnOk result (OwnersStand world.now) }
+    ensures lists { IfOk result (λ lists. IsListed world.now lists) }
+{
+    if !is_bounded(world) {
+        return Err(Unavailable);
+    }
+    if !do_owners_stand(world) {
+        return Err(Unavailable);
+    }
+    Ok(Lists::of(alloc, world)?)
 }
 
 /// Makes changes, and lists what each host and each user was given then. Where it fails, what was done stands in the log.
@@ -62,13 +81,11 @@ fn remade(
     ensures ok { OnOk result (world.new ≡ applied world.old changes.now) }
     ensures log { undone world.new log.new.items ≡ undone world.old log.old.items }
     ensures bounded { OnOk result (IsBounded world.new) }
+    ensures owners { OnOk result (OwnersStand world.new) }
     ensures lists { IfOk result (λ lists. IsListed world.new lists) }
 {
     change_all(alloc, world, changes, log)?;
-    if !is_bounded(world) {
-        return Err(Unavailable);
-    }
-    Ok(Lists::of(alloc, world)?)
+    listed(alloc, world)
 }
 
 impl ListDesk {
@@ -92,14 +109,11 @@ impl ListDesk {
         })
     }
 
-    /// The desk of a world, where no list of it is longer than its table may be.
+    /// The desk of a world, where no list of it is longer than its table may be, and each owner stands.
     pub fn of(alloc: Global, world: World) -> Result<ListDesk, Unavailable>
         ensures { IfOk result (λ d. d ≡ world) }
     {
-        if !is_bounded(&world) {
-            return Err(Unavailable);
-        }
-        let lists = Lists::of(alloc, &world)?;
+        let lists = listed(alloc, &world)?;
         Ok(ListDesk {
             alloc,
             world,
@@ -123,7 +137,8 @@ impl ListDesk {
         Ok(desk)
     }
 
-    /// Makes all changes, or none. Changes that would make a list longer than its table may be are refused.
+    /// Makes all changes, or none. Changes that would make a list longer than its table may be are refused, and those that
+    /// would give an instance to a host that does not stand, or put a host of an account that does not.
     pub fn apply(&mut self, delta: &Delta) -> Result<(), Unavailable>
         ensures ok { OnOk result (self.new ≡ applied self.old delta.now) }
         ensures err { OnErr result (self.new ≡ self.old) }
@@ -141,24 +156,25 @@ impl ListDesk {
         }
     }
 
-    /// What the host of this number was given, in order; `None` where no host of it stands.
-    fn given_to_host(&self, host: u32) -> Option<&[Given]>
-        ensures value { IfSome result (λ given. given.now ≡ given_among 1 (is_owned_by host) self.now.units) }
-        ensures few { IfSome result (λ given. length given.now ≤ 20000000) }
+    /// What the host of this number was given, in order.
+    fn given_to_host(&self, host: u32) -> &[Given]
+        ensures value { result.now ≡ given_among 1 (is_owned_by host) self.now.units }
+        ensures few { length result.now ≤ 20000000 }
     {
         match nth(self.lists.by_host.as_slice(), host) {
-            None => None,
-            Some(given) => Some(given.as_slice()),
+            None => &[],
+            Some(given) => given.as_slice(),
         }
     }
 
-    /// What the hosts of the account at this place were given, in order; `None` where no account stands there.
-    fn given_to_user(&self, account: u32) -> Option<&[Given]>
-        ensures { IfSome result (λ given. given.now ≡ given_among 1 (is_of_user self.now.hosts account) self.now.units) }
+    /// What the hosts of the account at this place were given, in order.
+    fn given_to_user(&self, account: u32) -> &[Given]
+        ensures value { result.now ≡ given_among 1 (is_of_user self.now.hosts account) self.now.units }
+        ensures few { length result.now ≤ 20000000 }
     {
         match nth(self.lists.by_user.as_slice(), account) {
-            None => None,
-            Some(given) => Some(given.as_slice()),
+            None => &[],
+            Some(given) => given.as_slice(),
         }
     }
 }
@@ -278,20 +294,32 @@ impl Desk for ListDesk {
         Ok(copy_nth(self.world.hosts.as_slice(), host)?)
     }
 
+    fn status_of(&mut self, unit: u32) -> Result<Option<Status>, Unavailable>
+        ensures reads { self.new ≡ self.old }
+        ensures answer { result ≡ Ok (unit_status self.old unit) }
+    {
+        match nth(self.world.units.as_slice(), unit) {
+            None => Ok(None),
+            Some(book) => Ok(Some(book_status(self.world.apps.as_slice(), book))),
+        }
+    }
+
     #[tactic(auto, using(crate::proofs::Givens::held_listed))]
     fn held_by(&mut self, alloc: Global, host: u32) -> Result<Listed<Place>, Unavailable> {
-        if let Some(given) = self.given_to_host(host) {
-            return Ok(held_places(alloc, given)?);
-        }
-        Ok(list_places(alloc, &Listing::Held(host), self.world.units.as_slice())?)
+        Ok(held_places(alloc, self.given_to_host(host))?)
+    }
+
+    #[tactic(auto, using(crate::proofs::Givens::held_counted))]
+    fn held_count(&mut self, host: u32) -> Result<u32, Unavailable>
+        ensures reads { self.new ≡ self.old }
+        ensures answer { result ≡ Ok (length (held_by self.old host)) }
+    {
+        Ok(count_held(self.given_to_host(host)) as u32)
     }
 
     #[tactic(auto, using(crate::proofs::Givens::owned_listed))]
     fn owned_by(&mut self, alloc: Global, host: u32) -> Result<Listed<Place>, Unavailable> {
-        if let Some(given) = self.given_to_host(host) {
-            return Ok(places_of(alloc, given)?);
-        }
-        Ok(list_places(alloc, &Listing::Owned(host), self.world.units.as_slice())?)
+        Ok(places_of(alloc, self.given_to_host(host))?)
     }
 
     #[tactic(auto, using(crate::proofs::Givens::sent_listed))]
@@ -299,23 +327,28 @@ impl Desk for ListDesk {
         ensures reads { self.new ≡ self.old }
         ensures answer { result ≡ Ok (sent_on_day self.old host day) }
     {
-        if let Some(given) = self.given_to_host(host) {
-            return Ok(count_on_day(given, day) as u32);
-        }
-        Ok(count_sent_on_day(self.world.units.as_slice(), host, day))
+        Ok(count_on_day(self.given_to_host(host), day) as u32)
     }
 
     #[tactic(auto, using(crate::proofs::Givens::units_listed))]
     fn units_of_user(&mut self, alloc: Global, account: u32) -> Result<Listed<u32>, Unavailable> {
-        if let Some(given) = self.given_to_user(account) {
-            return Ok(units_of(alloc, given)?);
-        }
-        Ok(list_units_of_user(
-            alloc,
-            self.world.hosts.as_slice(),
-            self.world.units.as_slice(),
-            account,
-        )?)
+        Ok(units_of(alloc, self.given_to_user(account))?)
+    }
+
+    #[tactic(auto, using(crate::proofs::Credits::host_credited))]
+    fn credit_of_host(&mut self, host: u32) -> Result<u64, Unavailable>
+        ensures reads { self.new ≡ self.old }
+        ensures answer { result ≡ Ok (host_credit self.old host) }
+    {
+        Ok(credit_of(&self.world, self.given_to_host(host)))
+    }
+
+    #[tactic(auto, using(crate::proofs::Credits::user_credited))]
+    fn credit_of_user(&mut self, account: u32) -> Result<u64, Unavailable>
+        ensures reads { self.new ≡ self.old }
+        ensures answer { result ≡ Ok (user_credit self.old account) }
+    {
+        Ok(credit_of(&self.world, self.given_to_user(account)))
     }
 
     fn version_for(
@@ -348,7 +381,7 @@ impl Desk for ListDesk {
     }
 
     fn due_before(&mut self, alloc: Global, now: Moment) -> Result<Listed<Place>, Unavailable> {
-        Ok(list_places(alloc, &Listing::Overdue(now), self.world.units.as_slice())?)
+        Ok(list_overdue(alloc, now, self.world.units.as_slice())?)
     }
 
     fn unsent_from<T: Taker>(&mut self, from: Place, taker: &mut T) -> Result<(), Unavailable> {

@@ -3,7 +3,6 @@ use Rattle.std.proofs.Common.{◌≡◌, ℕ, zero, suc, ◌+◌, ◌*◌, ◌<�
 use Rattle.std.specs.Prelude.{◌||◌, ◌==◌, filter_map, sum_by, count_by, option_map, option_and_then, unwrap_or, slice_get}
 use Rattle.std.specs.List.{list_any, list_all, enumerate_from, cons_option}
 use Rattle.std.proofs.lemmas.Bool.{eqb-true, eq-eqb}
-use Rattle.std.proofs.lemmas.Bool.Decides.{nat_tests}
 use Rattle.std.proofs.lemmas.List.Folds.{list_any-append}
 use Rattle.std.proofs.lemmas.List.Sums.{sum_by-cons}
 use Rattle.sched_book.specs.Count.{is_valid}
@@ -19,6 +18,7 @@ use Rattle.sched_book.specs.declared.instance.UnitBook.{UnitBook}
 use Rattle.sched_book.specs.declared.instance.Verdict.{Verdict}
 use Rattle.sched_book.specs.declared.rows.HostRow.{HostRow}
 use Rattle.sched_book.specs.declared.world.World.{World}
+use Rattle.sched_book.proofs.Credits.{sum_same, sum_zero, exchange, times, of_number}
 use Rattle.sched_book.proofs.PlacesOf.{nth-suc}
 use Rattle.quorum_credit.specs.Settling.{is_among, puts_row}
 use Rattle.quorum_credit.specs.Tallies.{number_got, hosts_after, host_by, host_after}
@@ -91,92 +91,6 @@ not_had w account zero b stands none = absurd cc
 not_had w account (suc i) b stands none =
     not_from (user_had w account) w.units 1 i b (sym (nth-suc w.units i) ∙ stands)
     (ap (is_among (units_of_user w account)) (let at : 1 + i ≡ suc i = omega arith in at) ∙ none)
-
--- sums
-sum_same : {X : Type 0} (f g : X → ℕ) → ((x : X) → f x ≡ g x) → (xs : List X) → sum_by f xs ≡ sum_by g xs
-sum_same f g same xs = let equal : f ≡ g = λ i x. same x i in ap (λ h. sum_by h xs) equal
-
-sum_zero : {X : Type 0} (f : X → ℕ) → ((x : X) → f x ≡ 0) → (xs : List X) → sum_by f xs ≡ 0
-sum_zero f none [] = refl
-sum_zero f none (x ∷ xs) = sum_by-cons f x xs ∙ ap (λ n. n + sum_by f xs) (none x) ∙ ap (λ n. 0 + n) (sum_zero f none xs)
-
-sum_plus : {X : Type 0} (f g : X → ℕ) (xs : List X) → sum_by f xs + sum_by g xs ≡ sum_by (λ x. f x + g x) xs
-sum_plus f g [] = refl
-sum_plus f g (x ∷ xs) =
-    let left : sum_by f (x ∷ xs) ≡ f x + sum_by f xs = sum_by-cons f x xs in
-    let right : sum_by g (x ∷ xs) ≡ g x + sum_by g xs = sum_by-cons g x xs in
-    let both : sum_by (λ y. f y + g y) (x ∷ xs) ≡ f x + g x + sum_by (λ y. f y + g y) xs = sum_by-cons (λ y. f y + g y) x xs in
-    let rest : sum_by f xs + sum_by g xs ≡ sum_by (λ y. f y + g y) xs = sum_plus f g xs in
-    omega arith
-
-pub exchange : {X Y : Type 0} (f : X → Y → ℕ) (xs : List X) (ys : List Y) → sum_by (λ x. sum_by (f x) ys) xs ≡ sum_by (λ y. sum_by (λ x. f x y) xs) ys
-exchange f [] ys = sym (sum_zero (λ y. 0) (λ y. refl) ys)
-exchange f (x ∷ xs) ys =
-    sum_by-cons (λ x. sum_by (f x) ys) x xs
-    ∙ ap (λ n. sum_by (f x) ys + n) (exchange f xs ys)
-    ∙ sum_plus (f x) (λ y. sum_by (λ x. f x y) xs) ys
-    ∙ sum_same (λ y. f x y + sum_by (λ x. f x y) xs) (λ y. sum_by (λ x. f x y) (x ∷ xs)) (λ y. sym (sum_by-cons (λ x. f x y) x xs)) ys
-
--- so much for each that passes
-times : (c : ℕ) (t : ℕ → Bool) (hs : List ℕ) → c * count_by t hs ≡ sum_by (λ h. cond (t h) c 0) hs
-times c t [] = omega arith
-times c t (h ∷ hs) =
-    ap (λ n. c * n) (sum_by-cons (λ h. cond {A = ℕ} (t h) 1 0) h hs)
-    ∙ one (t h) (count_by t hs)
-    ∙ ap (λ n. cond (t h) c 0 + n) (times c t hs)
-    ∙ sym (sum_by-cons (λ h. cond (t h) c 0) h hs)
-  where
-    one : (b : Bool) (k : ℕ) → c * (cond {A = ℕ} b 1 0 + k) ≡ cond b c 0 + c * k
-    one true k = omega arith
-    one false k = ap (λ n. c * n) (let same : 0 + k ≡ k = omega arith in same) ∙ (let same : c * k ≡ 0 + c * k = omega arith in same)
-
--- each number stands once among the numbered hosts
-module _ (t : HostRow → Bool) (c : ℕ) where
-  abbrev one_of : ℕ → ℕ × HostRow → ℕ
-  one_of h e = cond (t e.1) (cond (eqb h e.0) c 0) 0
-
-  none_either : (b : Bool) (n : ℕ) → n ≡ 0 → cond b n 0 ≡ 0
-  none_either true n is = is
-  none_either false n is = refl
-
-  none_before : (xs : List HostRow) (n h : ℕ) → h < n → sum_by (one_of h) (enumerate_from n xs) ≡ 0
-  none_before [] n h less = refl
-  none_before (x ∷ xs) n h less =
-      sum_by-cons (one_of h) (n, x) (enumerate_from (n + 1) xs)
-      ∙ ap (λ k. k + sum_by (one_of h) (enumerate_from (n + 1) xs))
-      (none_either (t x) (cond (eqb h n) c 0) (ap (λ b. cond b c 0) (let other : eqb h n ≡ false = grind (arith, nat_tests) in other)))
-      ∙ ap (λ k. 0 + k) (none_before xs (n + 1) h (let more : h < n + 1 = omega arith in more))
-
-  once : (xs : List HostRow) (n i : ℕ) → sum_by (one_of (n + i)) (enumerate_from n xs) ≡ cond (unwrap_or (option_map t (slice_get xs i)) false) c 0
-  once [] n i = refl
-  once (x ∷ xs) n zero =
-      sum_by-cons (one_of (n + 0)) (n, x) (enumerate_from (n + 1) xs)
-      ∙ ap (λ k. cond (t x) (cond (eqb (n + 0) n) c 0) 0 + k) (none_before xs (n + 1) (n + 0) (let less : n + 0 < n + 1 = omega arith in less))
-      ∙ ap (λ b. cond (t x) (cond b c 0) 0 + 0) (eq-eqb (n + 0) n (let same : n + 0 ≡ n = omega arith in same))
-      ∙ last (cond (t x) c 0)
-    where
-      last : (k : ℕ) → k + 0 ≡ k
-      last k = omega arith
-  once (x ∷ xs) n (suc i) =
-      sum_by-cons (one_of (n + suc i)) (n, x) (enumerate_from (n + 1) xs)
-      ∙ ap (λ k. k + sum_by (one_of (n + suc i)) (enumerate_from (n + 1) xs))
-      (none_either (t x) (cond (eqb (n + suc i) n) c 0) (ap (λ b. cond b c 0) (let other : eqb (n + suc i) n ≡ false = grind (arith, nat_tests) in other)))
-      ∙ first (sum_by (one_of (n + suc i)) (enumerate_from (n + 1) xs))
-      ∙ ap (λ m. sum_by (one_of m) (enumerate_from (n + 1) xs)) (later n i)
-      ∙ once xs (n + 1) i
-    where
-      first : (k : ℕ) → 0 + k ≡ k
-      first k = omega arith
-
-      later : (n i : ℕ) → n + suc i ≡ n + 1 + i
-      later n i = omega arith
-
-  of_number : (xs : List HostRow) (h : ℕ) → sum_by (one_of h) (enumerate_from 1 xs) ≡ cond (unwrap_or (option_map t (nth xs h)) false) c 0
-  of_number xs zero = none_before xs 1 0 (let less : 0 < 1 = omega arith in less)
-  of_number xs (suc i) =
-      ap (λ m. sum_by (one_of m) (enumerate_from 1 xs)) (let same : suc i ≡ 1 + i = omega arith in same)
-      ∙ once xs 1 i
-      ∙ ap (λ o. cond (unwrap_or (option_map t o) false) c 0) (sym (nth-suc xs i))
 
 -- what the user has of a workunit
 abbrev user_credit_in : World → ℕ → UnitBook → ℕ

@@ -19,7 +19,7 @@ use Rattle.sched_book.proofs.PlacesOf.{nth-suc}
 use Rattle.sched_book.proofs.Settling.{slice_get-enumerate_from}
 use Rattle.quorum_credit.proofs.ByPlace.{all_get}
 use Rattle.sched_machine.specs.Decisions.{CreditsAddUp}
-use Rattle.sched_machine.proofs.CreditUsers.{exchange}
+use Rattle.sched_book.proofs.Credits.{exchange}
 
 -- sums that are the same at each element
 sum_alike : {X : Type 0} (f g : X → ℕ) (xs : List X) → ((i : ℕ) (x : X) → slice_get xs i ≡ Some x → f x ≡ g x) → sum_by f xs ≡ sum_by g xs

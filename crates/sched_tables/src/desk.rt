@@ -3,7 +3,7 @@
 use crate::tables::Tables;
 use sched_book::{
     Account, Agreement, App, Counts, Desk, HostRow, Instance, Moment, Place, Placed, Settings,
-    Taker, Unavailable, Units, Version, Workunit,
+    Status, Taker, Unavailable, Units, Version, Workunit,
 };
 use sqlite::Alter;
 use std::alloc::Global;
@@ -93,8 +93,16 @@ impl<S: Alter> Desk for Tables<S> {
         self.desk.host_by_id(alloc, host)
     }
 
+    fn status_of(&mut self, unit: u32) -> Result<Option<Status>, Unavailable> {
+        self.desk.status_of(unit)
+    }
+
     fn held_by(&mut self, alloc: Global, host: u32) -> Result<Listed<Place>, Unavailable> {
         self.desk.held_by(alloc, host)
+    }
+
+    fn held_count(&mut self, host: u32) -> Result<u32, Unavailable> {
+        self.desk.held_count(host)
     }
 
     fn owned_by(&mut self, alloc: Global, host: u32) -> Result<Listed<Place>, Unavailable> {
@@ -107,6 +115,14 @@ impl<S: Alter> Desk for Tables<S> {
 
     fn units_of_user(&mut self, alloc: Global, account: u32) -> Result<Listed<u32>, Unavailable> {
         self.desk.units_of_user(alloc, account)
+    }
+
+    fn credit_of_host(&mut self, host: u32) -> Result<u64, Unavailable> {
+        self.desk.credit_of_host(host)
+    }
+
+    fn credit_of_user(&mut self, account: u32) -> Result<u64, Unavailable> {
+        self.desk.credit_of_user(account)
     }
 
     fn version_for(
