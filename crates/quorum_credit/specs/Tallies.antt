@@ -73,12 +73,3 @@ tally_in tallies host = tree.get nat_cmp tallies host
 pub record AreSums (marks sums : List Mark) : Type 0 where
   pub each : All (λ (s : Mark). (s.charges ≡ charges_in marks s.host) × (s.merits ≡ merits_in marks s.host)) sums
   pub others : (host : ℕ) → is_named sums host ≡ false → (charges_in marks host ≡ 0) × (merits_in marks host ≡ 0)
-
--- the change puts a host
-abbrev pub puts_host : Change → Bool
-puts_host (change.Account a) = false
-puts_host (change.App a) = false
-puts_host (change.Version v) = false
-puts_host (change.Workunit u) = false
-puts_host (change.Host n h) = true
-puts_host (change.Instance p x) = false
