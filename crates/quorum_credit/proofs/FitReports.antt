@@ -1,13 +1,13 @@
 -- What reports change fits, in a world whose instances keep within limits.
 use Rattle.std.proofs.Common.{◌≡◌, ℕ, zero, suc, ◌+◌, ◌<◌, ◌≤◌, Bool, true, false, cond, eqb, List, [], ◌∷◌, ◌++◌, length, Option, Some, None, get_or, sym, refl, ap, ◌∙◌, subst, arith, Bor, IfSome}
-use Rattle.std.specs.Prelude.{◌&&◌, ◌==◌, not, All, IsTrue, count_by, is_none, is_some, option_map, option_and_then, unwrap_or, slice_get}
+use Rattle.std.specs.Prelude.{◌&&◌, ◌==◌, All, IsTrue, count_by, is_none, is_some, option_map, option_and_then, unwrap_or, slice_get}
 use Rattle.std.proofs.lemmas.List.Sums.{count_by-le-length, fold-append, sum_by-cons}
 use Rattle.std.proofs.lemmas.Option.{slice_get_within}
 use Rattle.rpc_records.specs.Members.{is_output}
 use Rattle.rpc_records.specs.Ranges.{IsReport}
 use Rattle.rpc_records.specs.declared.request.Report.{Report}
-use Rattle.sched_book.specs.Count.{is_judged, has_failed}
-use Rattle.sched_book.specs.Places.{unit_at, instance_at, place_named, status_at, is_same, option_any, is_owned_by}
+use Rattle.sched_book.specs.Count.{is_judged}
+use Rattle.sched_book.specs.Places.{unit_at, instance_at, is_same, option_any, is_owned_by}
 use Rattle.sched_book.specs.Limits.{most_instances, IsInstanceInLimits}
 use Rattle.sched_book.specs.Sound.{IsBare, HasOwnerAmong, IsSoundUnit, Sound}
 use Rattle.sched_book.specs.Desk.{instances_at}

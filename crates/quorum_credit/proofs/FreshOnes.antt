@@ -1,21 +1,12 @@
 -- New instances of one workunit, as changes.
-use Rattle.std.proofs.Common.{◌≡◌, ℕ, zero, suc, ◌+◌, ◌-◌, ◌<◌, true, List, [], ◌∷◌, ◌++◌, length, Option, Some, None, sym, refl, ap, ◌∙◌, append_assoc, arith}
-use Rattle.std.specs.Prelude.{◌&&◌, option_map, unwrap_or}
-use Rattle.std.specs.List.{list_all}
-use Rattle.std.proofs.lemmas.List.Folds.{list_all-append}
-use Rattle.sched_book.specs.Places.{unit_at, agreement_of}
-use Rattle.sched_book.specs.Desk.{workunit_at, agreement_at, instances_at}
+use Rattle.std.proofs.Common.{◌≡◌, ℕ, suc, ◌+◌, ◌-◌, ◌<◌, List, [], ◌∷◌, ◌++◌, length, Some, sym, ap, ◌∙◌, append_assoc, arith}
 use Rattle.sched_book.specs.Settle.{fresh}
-use Rattle.sched_book.specs.declared.instance.Instance.{Instance}
-use Rattle.sched_book.specs.declared.instance.UnitBook.{UnitBook}
-use Rattle.sched_book.specs.declared.rows.Agreement.{Agreement}
-use Rattle.sched_book.specs.declared.rows.Workunit.{Workunit}
-use Rattle.sched_book.specs.declared.world.World.{World}
 use Rattle.sched_book.specs.declared.delta.Change.{Change}
 use Rattle.sched_book.specs.declared.delta.Change.TheVariants as change
-use Rattle.quorum_credit.specs.Growing.{fresh_changes, growth_of, growth}
+use Rattle.call_sheet.specs.declared.leaf.Leaf.{Leaf}
+use Rattle.quorum_credit.specs.Leaves.{growth_on}
+use Rattle.quorum_credit.specs.Growing.{fresh_changes}
 use Rattle.quorum_credit.specs.Settled.{new_instances}
-use Rattle.quorum_credit.specs.Settling.{puts_row}
 
 -- the instance of the next number stands first
 fresh_next : (unit number end : ℕ) → number < end

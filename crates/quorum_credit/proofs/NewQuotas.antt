@@ -11,7 +11,6 @@ use Rattle.sched_book.specs.Delta.{applied_one, applied, FitsOne, Fits}
 use Rattle.sched_book.specs.declared.delta.Change.{Change}
 use Rattle.sched_book.specs.declared.delta.Change.TheVariants as change
 use Rattle.sched_book.specs.declared.rows.HostRow.{HostRow}
-use Rattle.sched_book.specs.declared.settings.Settings.{Settings}
 use Rattle.sched_book.specs.declared.world.World.{World}
 use Rattle.quorum_credit.specs.Marks.{charges_in, merits_in}
 use Rattle.quorum_credit.specs.Settling.{AreHostsInLimits, quota_by, with_quotas_by, AreQuotasBy}
@@ -177,13 +176,13 @@ all_settings_stay w (c ∷ cs) = all_settings_stay (applied_one w c) cs ∙ sett
 -- they put hosts alone
 hosts_alone : (w v : World) (most : ℕ) (ms : List Mark) → applied v (new_quotas w most ms) ≡ record v { hosts = (applied v (new_quotas w most ms)).hosts }
 hosts_alone w v most [] = refl
-hosts_alone w v most (m ∷ ms) = cases (host_at w m.host)
+hosts_alone w v most (m ∷ ms) = cases (host_at w m.host) (λ z. hosts_alone w z most ms)
   where
-    cases : (o : Option HostRow)
+    cases : (o : Option HostRow) → ((z : World) → applied z (new_quotas w most ms) ≡ record z { hosts = (applied z (new_quotas w most ms)).hosts })
         → applied v (cons_option (option_map (λ h. change.Host m.host (with_quota_by most m h)) o) (new_quotas w most ms))
         ≡ record v { hosts = (applied v (cons_option (option_map (λ h. change.Host m.host (with_quota_by most m h)) o) (new_quotas w most ms))).hosts }
-    cases None = hosts_alone w v most ms
-    cases (Some h) = hosts_alone w (applied_one v (change.Host m.host (with_quota_by most m h))) most ms
+    cases None more = more v
+    cases (Some h) more = more (applied_one v (change.Host m.host (with_quota_by most m h)))
 
 pub are_quotas : (marks sums : List Mark) (w : World) (most : ℕ) (quotas : List Change) → AreSums marks sums → most ≡ w.settings.daily_result_quota
     → quotas ≡ new_quotas w most sums → AreQuotasBy marks w quotas

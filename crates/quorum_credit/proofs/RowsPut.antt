@@ -1,5 +1,5 @@
 -- Changes that leave all tables but those of workunits and hosts, and as many workunits, put hosts and instances alone.
-use Rattle.std.proofs.Common.{◌≡◌, ℕ, suc, ◌+◌, ◌≤◌, true, List, [], ◌∷◌, length, Option, Some, None, sym, refl, ap, ◌∙◌, length-append, arith}
+use Rattle.std.proofs.Common.{◌≡◌, ℕ, suc, ◌+◌, ◌≤◌, true, List, [], ◌∷◌, ◌++◌, length, Option, Some, None, sym, refl, ap, ◌∙◌, length-append, arith}
 use Rattle.std.specs.Prelude.{is_some, slice_get}
 use Rattle.std.specs.List.{list_all}
 use Rattle.sched_book.specs.Places.{nth, unit_at}
@@ -7,7 +7,6 @@ use Rattle.sched_book.specs.Imports.{new_unit}
 use Rattle.sched_book.specs.Delta.{with_instance, applied_one, applied}
 use Rattle.sched_book.specs.declared.delta.Change.{Change}
 use Rattle.sched_book.specs.declared.delta.Change.TheVariants as change
-use Rattle.sched_book.specs.declared.instance.UnitBook.{UnitBook}
 use Rattle.sched_book.specs.declared.world.World.{World}
 use Rattle.sched_book.proofs.PlacesOf.{nth-suc, length-modify_nth}
 use Rattle.call_sheet.specs.Sheets.{IsLeafAt}

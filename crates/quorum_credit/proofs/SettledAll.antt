@@ -4,6 +4,7 @@ use Rattle.std.specs.Prelude.{◌&&◌, ◌||◌, IsTrue, is_some, map, option_m
 use Rattle.std.specs.List.{enumerate_from, list_any, list_all}
 use Rattle.std.proofs.lemmas.Bool.Decides.{nat_tests}
 use Rattle.std.proofs.Math.Seq.{drop-append_seam}
+use Rattle.std.proofs.lemmas.List.Folds.{list_all-append}
 use Rattle.std.proofs.lemmas.List.Sums.{fold-append}
 use Rattle.sched_book.specs.Places.{nth, unit_at}
 use Rattle.sched_book.specs.Delta.{with_instance, applied_one, applied, FitsOne, Fits}
@@ -20,7 +21,7 @@ use Rattle.sched_book.specs.declared.world.World.{World}
 use Rattle.sched_book.proofs.PlacesOf.{nth-suc, nth-modify_nth}
 use Rattle.sched_book.proofs.Settling.{settlement_is_pointwise}
 use Rattle.quorum_credit.specs.Marks.{charges_in, merits_in, unit_charges, unit_merits}
-use Rattle.quorum_credit.specs.Settling.{is_among, puts_row, TouchJust, with_grown_among, quota_by, with_quotas_by, AreHostsInLimits, AreUnitsInLimits, AreQuotasBy}
+use Rattle.quorum_credit.specs.Settling.{is_among, puts_row, TouchJust, with_grown_among, quota_by, with_quotas_by, AreHostsInLimits, AreUnitsInLimits, AreQuotasBy, IsSettlement}
 use Rattle.call_sheet.specs.Sheets.{IsLeafAt, AreAllOf, AreRising}
 use Rattle.call_sheet.specs.declared.leaf.Leaf.{Leaf}
 use Rattle.quorum_credit.specs.Growing.{all_growth}
@@ -263,6 +264,24 @@ pub goes_on : {X : Type 0} (before new more after : List X) → after ≡ (befor
 goes_on before new more after is =
     let all : after ≡ before ++ (new ++ more) = is ∙ append_assoc before new more in
     ap (λ cs. before ++ drop (length before) cs) all ∙ ap (λ cs. before ++ cs) (drop-append_seam before (new ++ more)) ∙ sym all
+
+-- what is handed back of a settlement is what stands behind the changes
+module _ (w : World) (cs more all : List Change) (units : List ℕ) (settlement : IsSettlement w cs all units)
+    (count : ℕ) (long : count ≡ length cs) (behind : more ≡ drop count all) (puts : list_all puts_row all ≡ true) where
+  joined : cs ++ more ≡ all
+  joined = ap (λ ds. cs ++ ds) (behind ∙ ap (λ n. drop n all) long) ∙ settlement.goes_on
+
+  pub joined_put : list_all puts_row (cs ++ more) ≡ true
+  joined_put = ap (list_all puts_row) joined ∙ puts
+
+  just_touched : AreTouched cs units → TouchJust units w (applied w cs)
+  just_touched = touch_just w cs units (both_true _ _ (sym (list_all-append puts_row cs more) ∙ joined_put)).0
+
+  pub joined_settle : Sound w → Fits w cs → AreTouched cs units → applied w (cs ++ more) ≡ settled w (applied w cs)
+  joined_settle sound fits touched = ap (applied w) joined ∙ settlement.settles sound fits (just_touched touched)
+
+  pub joined_fit : Sound w → Fits w cs → AreTouched cs units → Fits w (cs ++ more)
+  joined_fit sound fits touched = subst (Fits w) (sym joined) (settlement.fits sound fits (just_touched touched))
 
 -- The workunits that a call has read are more than it touches.
 pub read_touch : (entry present : World) (kept : ℕ → Option Leaf) (units : List ℕ)

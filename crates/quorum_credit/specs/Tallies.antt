@@ -1,5 +1,5 @@
 -- The hosts that marks speak of, and what changes make of a single host.
-use Rattle.std.specs.Prelude.{◌≡◌, ℕ, ◌+◌, min, max, Bool, true, false, ◌==◌, if◌then◌else◌, List, [], ◌∷◌, filter_map, All, Option, None, Some, option_map}
+use Rattle.std.specs.Prelude.{◌≡◌, ℕ, ◌+◌, min, max, Bool, false, ◌==◌, if◌then◌else◌, List, [], ◌∷◌, filter_map, All, Option, None, Some, option_map}
 use Rattle.std.specs.BTreeMap as tree
 use Rattle.std.specs.BTreeMap.{BTreeMap}
 use Rattle.std.specs.List.{list_any}

@@ -10,8 +10,8 @@ ghost use Rattle.quorum_credit.specs.Settling.{with_grown_among};
 ghost use Rattle.call_sheet.specs.Sheets.{AreRising};
 
 use crate::settlement::new_instances;
-use sched_book::limits::MOST_INSTANCES;
 use call_sheet::{Draft, Leaf, put_all};
+use sched_book::limits::MOST_INSTANCES;
 use sched_book::{Change, Delta, Instance, Place, Unavailable};
 use std::alloc::Global;
 use texts::{Listed, Memory};

@@ -101,11 +101,7 @@ fn put_late<S: Draft>(alloc: Global, sheet: &mut S, place: Place) -> Result<(), 
 /// # Errors
 ///
 /// [`Unavailable`] where memory is wanting or the desk is unavailable.
-pub fn lapse_on<S: Draft>(
-    alloc: Global,
-    sheet: &mut S,
-    places: &[Place],
-) -> Result<(), Unavailable>
+pub fn lapse_on<S: Draft>(alloc: Global, sheet: &mut S, places: &[Place]) -> Result<(), Unavailable>
     ensures works { S.works sheet.old sheet.new }
     ensures lapsed { Trusted S.Units sheet.old sheet.new (
         OnOk result (S.world sheet.new ≡ fold (with_changed (with_lapse lapse.Late)) (S.world sheet.old) places.now)) }

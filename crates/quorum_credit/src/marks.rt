@@ -195,11 +195,7 @@ fn push_marks(
 }
 
 /// Puts what is new of the instances of a leaf behind the other marks.
-fn add_marks_on(
-    alloc: Global,
-    marks: &mut Listed<Mark>,
-    leaf: Option<&Leaf>,
-) -> Result<(), Memory>
+fn add_marks_on(alloc: Global, marks: &mut Listed<Mark>, leaf: Option<&Leaf>) -> Result<(), Memory>
     ensures { OnOk result (marks.new ≡ marks.old ++ marks_on (option_copied leaf.entry)) }
 {
     let Some(leaf) = leaf else {

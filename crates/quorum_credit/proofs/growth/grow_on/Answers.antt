@@ -1,8 +1,7 @@
-use Rattle.std.proofs.Common.{sym, ap, ap₂, ◌∙◌, ◌++◌, List}
+use Rattle.std.proofs.Common.{ap₂, ◌∙◌, ◌++◌, List}
 use Rattle.sched_book.specs.Delta.{applied}
 use Rattle.sched_book.specs.declared.delta.Change.{Change}
 use Rattle.sched_book.specs.declared.world.World.{World}
-use Rattle.quorum_credit.specs.Growing.{all_growth}
 use Rattle.quorum_credit.proofs.Grown.{all_grown_among}
 use Rattle.quorum_credit.proofs.growth.grow_on.Goals as goal
 

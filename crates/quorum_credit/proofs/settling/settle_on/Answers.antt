@@ -1,18 +1,17 @@
-use Rattle.std.proofs.Common.{◌≡◌, ap, ap₂, sym, ◌∙◌, ◌++◌, subst, List}
+use Rattle.std.proofs.Common.{ap, ap₂, ◌∙◌, ◌++◌, subst, List}
 use Rattle.sched_book.specs.Delta.{applied}
 use Rattle.sched_book.specs.declared.delta.Change.{Change}
 use Rattle.sched_book.specs.declared.world.World.{World}
 use Rattle.quorum_credit.specs.Growing.{all_growth}
 use Rattle.quorum_credit.specs.Marking.{marks_of_units}
 use Rattle.quorum_credit.specs.Settling.{AreQuotasBy}
-use Rattle.quorum_credit.specs.declared.marks.Mark.{Mark}
 use Rattle.quorum_credit.proofs.RowsPut.{call_puts}
 use Rattle.quorum_credit.proofs.SettledAll.{AreSteps, marks_hold, settles, settling_fits, goes_on}
 use Rattle.quorum_credit.proofs.settling.settle_on.Given
 use Rattle.quorum_credit.proofs.settling.settle_on.Goals as goal
 
 -- what the steps told, of the world that the call found and of those between
-steps : (g : Given.Over) (c : goal.After-drop-quotas-inside g) → g.S.Units.honest c.put_all.new.sheet → g.S.Units.well_kept c.args.sheet.now
+steps : (g : Given.Over) (c : goal.After-drop-quotas-inside-2 g) → g.S.Units.honest c.put_all.new.sheet → g.S.Units.well_kept c.args.sheet.now
     → AreSteps (g.S.Draft.entry c.args.sheet.now) (g.S.Units.world c.args.sheet.now) (g.S.Units.world c.grow_on.new.sheet) (g.S.Units.world c.put_all.new.sheet)
     (g.S.Draft.delta c.args.sheet.now) (g.S.Draft.delta c.put_all.new.sheet) c.in_ok-quotas.quotas c.args.touched.now c.in_ok-marks.marks
 steps g c honest kept =
