@@ -6,7 +6,7 @@
 //! [`sched_book::count`]; the desk is only read, and what changes is handed back as a delta.
 #![tactic(auto)]
 
-mod changed;
+mod changed_host;
 mod growth;
 mod host_quotas;
 mod late;
@@ -17,10 +17,11 @@ mod settlement;
 mod settling;
 mod touched;
 
-pub use host_quotas::host_under;
-pub use late::{Lapsed, lapse_late};
+pub use changed_host::host_under;
+pub use late::{Lapsed, lapse_late, lapse_on};
+pub use marks::Mark;
 pub use quota::next_quota;
-pub use reports::{Taken, take_reports};
+pub use reports::{Taken, record_on, take_reports};
 pub use settlement::{Settled, Verdicts, agree, canonical, settle};
-pub use settling::{lapse, settle_all};
+pub use settling::{lapse, settle_all, settle_on};
 pub use touched::touched_by;
