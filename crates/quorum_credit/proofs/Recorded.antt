@@ -78,11 +78,7 @@ module _ (entry : World) (host : ℕ) (w : World) (r : Report) (p : Place) where
   pub record_at-is : record_at entry host r w p ≡ put (reported_in host r failed (instances_at w p.unit) p.number)
   record_at-is = at_unit (unit_at w p.unit) refl
 
--- of a report that its instance awaits, and of any other
-pub report_none : (entry : World) (host : ℕ) (w : World) (r : Report) (p : Place)
-    → reported_in host r (has_failed (status_at entry p.unit)) (instances_at w p.unit) p.number ≡ None → w ≡ record_at entry host r w p
-report_none entry host w r p none = sym (record_at-is entry host w r p ∙ ap (put entry host w r p) none)
-
+-- of a report that its instance awaits
 pub report_some : (entry : World) (host : ℕ) (w : World) (r : Report) (p : Place) (x : Instance)
     → reported_in host r (has_failed (status_at entry p.unit)) (instances_at w p.unit) p.number ≡ Some x
     → applied_one w (change.Instance p x) ≡ record_at entry host r w p

@@ -3,11 +3,11 @@
 ghost use Rattle.std.specs.Prelude.{◌≡◌, ◌+◌, ◌-◌, ◌++◌, length, IfOk, OnOk};
 ghost use Rattle.std.specs.Option.{option_copied};
 ghost use Rattle.sched_book.specs.Trusted.{Trusted};
+ghost use Rattle.call_sheet.specs.Sheets.{AreRising};
 ghost use Rattle.quorum_credit.specs.Growing.{fresh_changes, growth, all_growth};
 ghost use Rattle.quorum_credit.specs.Leaves.{growth_on};
 ghost use Rattle.quorum_credit.specs.Settled.{new_instances};
 ghost use Rattle.quorum_credit.specs.Settling.{with_grown_among};
-ghost use Rattle.call_sheet.specs.Sheets.{AreRising};
 
 use crate::settlement::new_instances;
 use call_sheet::{Draft, Leaf, put_all};

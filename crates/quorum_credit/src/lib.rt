@@ -3,7 +3,8 @@
 //! A host reports what its jobs came to. Reports agree or not, enough that agree make a workunit done, and a
 //! workunit that is still open gets the instances that it lacks. BOINC's clients report in scheduler requests;
 //! what is counted, and how a host's daily quota moves, is this profile's. Everything is counted from scratch by
-//! [`sched_book::count`]; the desk is only read, and what changes is handed back as a delta.
+//! [`sched_book::count`]. The steps of a call ([`record_on`], [`lapse_on`], [`settle_on`]) put what changes on its sheet;
+//! what is asked of a desk alone only reads it, and hands back what changes as a delta.
 #![tactic(auto)]
 
 mod changed_host;
