@@ -1,13 +1,13 @@
 -- What reports change fits, in a world whose instances keep within limits.
 use Rattle.std.proofs.Common.{◌≡◌, ℕ, zero, suc, ◌+◌, ◌<◌, ◌≤◌, Bool, true, false, cond, eqb, List, [], ◌∷◌, ◌++◌, length, Option, Some, None, get_or, sym, refl, ap, ◌∙◌, subst, arith, Bor, IfSome}
-use Rattle.std.specs.Prelude.{◌&&◌, ◌==◌, not, All, IsTrue, count_by, is_none, is_some, option_map, option_and_then, unwrap_or, slice_get}
+use Rattle.std.specs.Prelude.{◌&&◌, ◌==◌, All, IsTrue, count_by, is_none, is_some, option_map, option_and_then, unwrap_or, slice_get}
 use Rattle.std.proofs.lemmas.List.Sums.{count_by-le-length, fold-append, sum_by-cons}
 use Rattle.std.proofs.lemmas.Option.{slice_get_within}
 use Rattle.rpc_records.specs.Members.{is_output}
 use Rattle.rpc_records.specs.Ranges.{IsReport}
 use Rattle.rpc_records.specs.declared.request.Report.{Report}
-use Rattle.sched_book.specs.Count.{is_judged, has_failed}
-use Rattle.sched_book.specs.Places.{unit_at, instance_at, place_named, status_at, is_same, option_any, is_owned_by}
+use Rattle.sched_book.specs.Count.{is_judged}
+use Rattle.sched_book.specs.Places.{unit_at, instance_at, is_same, option_any, is_owned_by}
 use Rattle.sched_book.specs.Limits.{most_instances, IsInstanceInLimits}
 use Rattle.sched_book.specs.Sound.{IsBare, HasOwnerAmong, IsSoundUnit, Sound}
 use Rattle.sched_book.specs.Desk.{instances_at}
@@ -23,7 +23,7 @@ use Rattle.sched_book.specs.declared.instance.UnitBook.{UnitBook}
 use Rattle.sched_book.specs.declared.world.World.{World}
 use Rattle.sched_book.proofs.PlacesOf.{nth-modify_nth}
 use Rattle.sched_book.proofs.Recording.{instance_at-with_changed, is_same-true}
-use Rattle.quorum_credit.specs.Taken.{place_among, reported_in, change_by}
+use Rattle.quorum_credit.specs.Taken.{place_among, reported_in}
 use Rattle.quorum_credit.specs.Limited.{IsLimited, FitWithin}
 use Rattle.quorum_credit.proofs.ByPlace.{all_get, all_nth}
 use Rattle.quorum_credit.proofs.Recorded.{with_changed-is}
@@ -178,24 +178,6 @@ module _ (host : ℕ) (r : Report) (short : IsTrue (is_output r.output)) (failed
   pub report_fits : (y : Instance) → reported_in host r failed (instances_at w p.unit) p.number ≡ Some y → FitsAndStays (change.Instance p y)
   report_fits y puts = at_unit (unit_at w p.unit) refl y puts
 
-change_fits : (entry : World) (host : ℕ) (r : Report) → IsTrue (is_output r.output) → (w : World) (c : Change) → IsLimited w → change_by entry host r w ≡ Some c
-    → FitsOne w c × IsLimited (applied_one w c)
-change_fits entry host r short w c limited some = cases (place_named entry r.name) some
-  where
-    puts : (p : Place) (q : Option Instance) → reported_in host r (has_failed (status_at entry p.unit)) (instances_at w p.unit) p.number ≡ q
-        → option_map (change.Instance p) q ≡ Some c → FitsOne w c × IsLimited (applied_one w c)
-    puts p None was is = absurd cc
-    puts p (Some y) was is =
-        let same : change.Instance p y ≡ c = cc in
-        subst (λ d. FitsOne w d × IsLimited (applied_one w d)) same
-        (report_fits host r short (has_failed (status_at entry p.unit)) w p limited y was)
-
-    cases : (o : Option Place)
-        → option_and_then (λ p. option_map (change.Instance p) (reported_in host r (has_failed (status_at entry p.unit)) (instances_at w p.unit) p.number)) o ≡ Some c
-        → FitsOne w c × IsLimited (applied_one w c)
-    cases None is = absurd cc
-    cases (Some p) is = puts p _ refl is
-
 fits_more : (w : World) (cs : List Change) (c : Change) → Fits w cs → FitsOne (applied w cs) c → Fits w (cs ++ c ∷ [])
 fits_more w [] c fits one = (one, tt)
 fits_more w (d ∷ ds) c fits one = (fits.0, fits_more (applied_one w d) ds c fits.1 one)
@@ -211,18 +193,24 @@ fit_more entry cs more c pushed one before =
       limited = subst IsLimited (sym (fold-append applied_one entry cs (c ∷ []))) next.1;
     })
 
-pub fit_none : (w : World) → IsLimited w → FitWithin w []
-fit_none w limited = record { fits = tt; limited = limited }
+-- what a page with no changes of a sound world goes on to fits
+pub page_fits : (w v : World) (before after : List Change) → v ≡ w → before ≡ [] → (FitWithin v before → FitWithin v after) → Sound w → Fits w after
+page_fits w v before after same none more sound =
+    subst (λ u. Fits u after) same
+    (more (record {
+      fits = subst (Fits v) (sym none) tt;
+      limited = subst (λ cs. IsLimited (applied v cs)) (sym none) (limited_from_sound v (subst Sound (sym same) sound));
+    })).fits
 
-pub fit_some : (entry : World) (host : ℕ) (r : Report) (cs more : List Change) (c : Change) → IsTrue (is_output r.output) → Some c ≡ change_by entry host r (applied entry cs)
-    → more ≡ cs ++ c ∷ [] → FitWithin entry cs → FitWithin entry more
-fit_some entry host r cs more c short some pushed =
-    fit_more entry cs more c pushed (λ limited. change_fits entry host r short (applied entry cs) c limited (sym some))
+pub fit_report : (entry w : World) (host : ℕ) (r : Report) (failed : Bool) (p : Place) (y : Instance) (cs more : List Change)
+    → w ≡ applied entry cs → reported_in host r failed (instances_at w p.unit) p.number ≡ Some y → more ≡ cs ++ change.Instance p y ∷ []
+    → IsTrue (is_output r.output) → FitWithin entry cs → FitWithin entry more
+fit_report entry w host r failed p y cs more here puts pushed short =
+    fit_more entry cs more (change.Instance p y) pushed (λ limited.
+    report_fits host r short failed (applied entry cs) p limited y
+    (ap (λ v. reported_in host r failed (instances_at v p.unit) p.number) (sym here) ∙ puts))
 
 -- the report of a number is in range where all are
 pub report_there : (reports : List (Bor Report)) (i : ℕ) (r d : Bor Report) → r ≡ get_or reports i d → i < length reports
     → All (λ r. IsReport r.now) reports → IsReport r.now
 report_there reports i r d is within all = subst (λ (x : Bor Report). IsReport x.now) (sym is) (all i d within)
-
--- for what one report changes
-pub ruleset fit_steps = (fit_none, limited_from_sound)

@@ -18,7 +18,7 @@ use Rattle.sched_book.proofs.Settling.{nth-map}
 use Rattle.quorum_credit.specs.Growing.{fresh_changes, growth_of, growth, all_growth}
 use Rattle.quorum_credit.specs.Settled.{new_instances}
 use Rattle.quorum_credit.specs.Settling.{is_among, TouchJust, grown_among, with_grown_among}
-use Rattle.quorum_credit.specs.Taken.{AreAbove, AreRising}
+use Rattle.call_sheet.specs.Sheets.{AreAbove, AreRising}
 use Rattle.quorum_credit.proofs.ByPlace.{all_nth, same_by_place, nth-map_places}
 
 -- one more instance behind a workunit's own
@@ -168,11 +168,9 @@ grown_at units w n = nth-map_places (grown_among w.apps units) w.units n ∙ cas
     cases false (Some b) = refl
 
 -- the world after the new instances of these workunits
-pub all_grown : (w : World) (units : List ℕ) (more : List Change) → more ≡ all_growth w units → AreRising units
-    → applied w more ≡ with_grown_among units w
-all_grown w units more is rising =
-    ap (applied w) is
-    ∙ all_units w units w
+pub all_grown_among : (w : World) (units : List ℕ) → AreRising units → applied w (all_growth w units) ≡ with_grown_among units w
+all_grown_among w units rising =
+    all_units w units w
     ∙ ap (λ us. record w { units = us })
     (same_by_place (applied w (all_growth w units)).units (with_grown_among units w).units
     (λ n.

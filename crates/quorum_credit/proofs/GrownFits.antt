@@ -20,7 +20,7 @@ use Rattle.sched_book.specs.declared.world.World.{World}
 use Rattle.sched_book.proofs.Patching.{unit_at-applied}
 use Rattle.quorum_credit.specs.Growing.{fresh_changes, growth_of, growth, all_growth}
 use Rattle.quorum_credit.specs.Settling.{is_among, AreUnitsInLimits}
-use Rattle.quorum_credit.specs.Taken.{AreRising}
+use Rattle.call_sheet.specs.Sheets.{AreRising}
 use Rattle.quorum_credit.proofs.Grown.{one_behind, put_behind, above_others, growth_elsewhere}
 
 -- changes that fit behind others that do
@@ -106,5 +106,5 @@ module _ (w : World) (limits : AreUnitsInLimits w) where
       last_true false b is = is
 
 -- the new instances of these workunits fit
-pub all_fit : (w : World) (units : List ℕ) (more : List Change) → more ≡ all_growth w units → AreRising units → AreUnitsInLimits w → Fits w more
-all_fit w units more is rising limits = subst (Fits w) (sym is) (growth_all_fits w limits w units rising (λ n among. refl))
+pub all_fit : (w : World) (units : List ℕ) → AreRising units → AreUnitsInLimits w → Fits w (all_growth w units)
+all_fit w units rising limits = growth_all_fits w limits w units rising (λ n among. refl)

@@ -1,7 +1,6 @@
 -- An instance that lapses late, as a change.
 use Rattle.std.proofs.Common.{◌≡◌, Bool, true, false, cond, List, [], ◌∷◌, ◌++◌, Option, Some, None, sym, refl, ap, ◌∙◌, subst}
 use Rattle.std.specs.Prelude.{◌&&◌, is_none, is_some, option_map, option_and_then, unwrap_or, slice_get}
-use Rattle.std.proofs.lemmas.List.Sums.{fold-append}
 use Rattle.sched_book.specs.Count.{is_held}
 use Rattle.sched_book.specs.Places.{unit_at, instance_at}
 use Rattle.sched_book.specs.Desk.{instances_at}
@@ -50,14 +49,11 @@ never_owned : (o : Option Owner) (b c : Bool) → (is_some o && b && c) ≡ true
 never_owned None b c held none = absurd cc
 never_owned (Some o) b c held none = absurd cc
 
-pub late_is : (entry : World) (cs : List Change) (p : Place) (y : Instance)
-    → Some y ≡ late_in (instances_at (applied entry cs) p.unit) p.number
-    → applied entry (cs ++ change.Instance p y ∷ []) ≡ with_changed (with_lapse Late) (applied entry cs) p
-late_is entry cs p y puts =
-    let w = applied entry cs in
+pub late_is : (w : World) (p : Place) (y : Instance) → Some y ≡ late_in (instances_at w p.unit) p.number
+    → applied_one w (change.Instance p y) ≡ with_changed (with_lapse Late) w p
+late_is w p y puts =
     let found = standing w p y puts in
-    fold-append applied_one entry cs (change.Instance p y ∷ [])
-    ∙ ap (λ z. applied_one w (change.Instance p z)) (sym found.3)
+    ap (λ z. applied_one w (change.Instance p z)) (sym found.3)
     ∙ sym (with_changed-is (with_lapse Late) w p found.1.book found.0 found.1.unit found.1.number)
 
 late_fits_one : (w : World) (p : Place) (y : Instance) → Some y ≡ late_in (instances_at w p.unit) p.number
@@ -79,10 +75,8 @@ late_fits_one w p y puts limited =
       },
     ))
 
-pub late_fits : (entry : World) (cs more : List Change) (p : Place) (y : Instance)
-    → Some y ≡ late_in (instances_at (applied entry cs) p.unit) p.number
-    → more ≡ cs ++ change.Instance p y ∷ [] → FitWithin entry cs → FitWithin entry more
-late_fits entry cs more p y puts pushed = fit_more entry cs more (change.Instance p y) pushed (late_fits_one (applied entry cs) p y puts)
-
--- for one instance that lapses
-pub ruleset late_steps = (late_is)
+pub late_fits : (entry w : World) (cs more : List Change) (p : Place) (y : Instance) → w ≡ applied entry cs
+    → Some y ≡ late_in (instances_at w p.unit) p.number → more ≡ cs ++ change.Instance p y ∷ [] → FitWithin entry cs → FitWithin entry more
+late_fits entry w cs more p y here puts pushed =
+    fit_more entry cs more (change.Instance p y) pushed
+    (late_fits_one (applied entry cs) p y (puts ∙ ap (λ v. late_in (instances_at v p.unit) p.number) here))

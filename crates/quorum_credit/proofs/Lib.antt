@@ -1,5 +1,6 @@
 pub mod FirstNames
 pub mod Recorded
+pub mod OnLeaves
 pub mod Rising
 pub mod FitReports
 pub mod LateOnes
@@ -13,5 +14,5 @@ pub mod GrownFits
 pub mod Marked
 pub mod Sums
 pub mod Numbered
+pub mod RowsPut
 pub mod NewQuotas
-pub mod HostPuts

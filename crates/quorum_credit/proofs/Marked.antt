@@ -4,36 +4,18 @@ use Rattle.std.specs.Prelude.{◌==◌, if◌then◌else◌, sum_by, option_map,
 use Rattle.std.proofs.lemmas.List.Sums.{sum_by-cons, sum_by-append}
 use Rattle.std.proofs.lemmas.Option.{slice_get-map}
 use Rattle.sched_book.specs.Places.{unit_at, agreement_of, book_verdict, passes, places_in, option_any, is_owned_by}
-use Rattle.sched_book.specs.Desk.{workunit_at, agreement_at, instances_at}
+use Rattle.sched_book.specs.Desk.{instances_at}
 use Rattle.sched_book.specs.declared.instance.Instance.{Instance}
 use Rattle.sched_book.specs.declared.instance.Owner.{Owner}
 use Rattle.sched_book.specs.declared.instance.Place.{Place}
 use Rattle.sched_book.specs.declared.instance.UnitBook.{UnitBook}
 use Rattle.sched_book.specs.declared.instance.Verdict.{Verdict}
-use Rattle.sched_book.specs.declared.rows.Agreement.{Agreement}
-use Rattle.sched_book.specs.declared.rows.Workunit.{Workunit}
 use Rattle.sched_book.specs.declared.world.World.{World}
 use Rattle.quorum_credit.specs.Marks.{standing_with, no_standing, standing_in, standing_at, charges_between, merits_between, unit_charges, unit_merits, charges_in, merits_in}
 use Rattle.quorum_credit.specs.Marking.{owned_standing, standings_in, standings_at, standing_of, mark_of, with_mark, marks_from, marks_at, marks_of_units}
 use Rattle.quorum_credit.specs.declared.marks.Mark.{Mark}
 use Rattle.quorum_credit.specs.declared.marks.OwnedStanding.{OwnedStanding}
 use Rattle.quorum_credit.specs.declared.marks.Standing.{Standing}
-
--- of a workunit that was found, with how it is compared and its instances
-pub standings_at-found : (w : World) (unit : ℕ) (a : Agreement) (u : Workunit) (xs : List Instance) → Some u ≡ workunit_at w unit → Some a ≡ agreement_at w unit
-    → xs ≡ instances_at w unit → standings_in a u xs ≡ standings_at w unit
-standings_at-found w unit a u xs row agreement instances = at (unit_at w unit) row agreement instances
-  where
-    at : (o : Option UnitBook) → Some u ≡ option_map (λ (b : UnitBook). b.unit) o → Some a ≡ option_map (agreement_of w) o
-        → xs ≡ unwrap_or (option_map (λ (b : UnitBook). b.instances) o) []
-        → standings_in a u xs ≡ unwrap_or (option_map (λ (b : UnitBook). standings_in (agreement_of w b) b.unit b.instances) o) []
-    at None row agreement instances = absurd cc
-    at (Some b) row agreement instances =
-        let same_unit : u ≡ b.unit = cc in
-        let same_agreement : a ≡ agreement_of w b = cc in
-        ap (λ z. standings_in z u xs) same_agreement
-        ∙ ap (λ z. standings_in (agreement_of w b) z xs) same_unit
-        ∙ ap (standings_in (agreement_of w b) b.unit) instances
 
 -- the listed standings are those of the places
 standing_of-at : (w : World) (unit number : ℕ) → standing_of (standings_at w unit) number ≡ standing_at w (record { unit = unit; number = number })

@@ -1,21 +1,19 @@
 -- The hosts of marks with their new quotas, put as changes.
 use Rattle.std.proofs.Common.{◌≡◌, ℕ, suc, ◌-◌, ◌*◌, ◌^◌, ◌≤◌, Bool, true, false, cond, eqb, List, [], ◌∷◌, length, Option, Some, None, sym, refl, ap, ◌∙◌, subst, arith}
 use Rattle.std.proofs.lemmas.Bool.{eqb-true}
-use Rattle.std.proofs.lemmas.List.Folds.{list_all-append}
 use Rattle.std.proofs.lemmas.Nat.{pow_pos}
 use Rattle.std.proofs.Math.Nat.{one-le-mul}
-use Rattle.std.specs.Prelude.{◌||◌, ◌&&◌, ◌++◌, All, max, map, option_map}
-use Rattle.std.specs.List.{enumerate_from, list_all, cons_option}
+use Rattle.std.specs.Prelude.{◌||◌, All, max, map, option_map}
+use Rattle.std.specs.List.{enumerate_from, cons_option}
 use Rattle.sched_book.specs.Places.{host_at}
 use Rattle.sched_book.specs.Settle.{next_quota}
 use Rattle.sched_book.specs.Delta.{applied_one, applied, FitsOne, Fits}
 use Rattle.sched_book.specs.declared.delta.Change.{Change}
 use Rattle.sched_book.specs.declared.delta.Change.TheVariants as change
 use Rattle.sched_book.specs.declared.rows.HostRow.{HostRow}
-use Rattle.sched_book.specs.declared.settings.Settings.{Settings}
 use Rattle.sched_book.specs.declared.world.World.{World}
 use Rattle.quorum_credit.specs.Marks.{charges_in, merits_in}
-use Rattle.quorum_credit.specs.Settling.{puts_row, AreHostsInLimits, quota_by, with_quotas_by}
+use Rattle.quorum_credit.specs.Settling.{AreHostsInLimits, quota_by, with_quotas_by, AreQuotasBy}
 use Rattle.quorum_credit.specs.Tallies.{with_quota_by, new_quotas, is_named, AreSums}
 use Rattle.quorum_credit.specs.declared.marks.Mark.{Mark}
 use Rattle.sched_book.proofs.Fitting.{settings_stay}
@@ -175,36 +173,23 @@ pub all_settings_stay : (w : World) (cs : List Change) → (applied w cs).settin
 all_settings_stay w [] = refl
 all_settings_stay w (c ∷ cs) = all_settings_stay (applied_one w c) cs ∙ settings_stay w c
 
--- the same after changes
-module _ (w : World) (cs more : List Change) (marks sums : List Mark) (are : AreSums marks sums)
-    (is : more ≡ new_quotas (applied w cs) w.settings.daily_result_quota sums) where
-  after : more ≡ new_quotas (applied w cs) (applied w cs).settings.daily_result_quota sums
-  after = is ∙ ap (λ (s : Settings). new_quotas (applied w cs) s.daily_result_quota sums) (sym (all_settings_stay w cs))
-
-  pub quotas_after : AreHostsInLimits (applied w cs) → applied (applied w cs) more ≡ with_quotas_by marks (applied w cs)
-  quotas_after limits = ap (applied (applied w cs)) after ∙ quotas_are_new marks (applied w cs) sums are limits
-
-  pub fits_after : AreHostsInLimits (applied w cs) → 1 ≤ w.settings.daily_result_quota → Fits (applied w cs) more
-  fits_after limits some =
-      subst (Fits (applied w cs)) (sym after)
-      (quotas_fit (applied w cs) limits (subst (λ (s : Settings). 1 ≤ s.daily_result_quota) (sym (all_settings_stay w cs)) some) sums)
-
 -- they put hosts alone
-quota_puts : (w : World) (most : ℕ) (m : Mark) (cs : List Change) (o : Option HostRow) → list_all puts_row cs ≡ true
-    → list_all puts_row (cons_option (option_map (λ h. change.Host m.host (with_quota_by most m h)) o) cs) ≡ true
-quota_puts w most m cs None put = put
-quota_puts w most m cs (Some h) put = put
+hosts_alone : (w v : World) (most : ℕ) (ms : List Mark) → applied v (new_quotas w most ms) ≡ record v { hosts = (applied v (new_quotas w most ms)).hosts }
+hosts_alone w v most [] = refl
+hosts_alone w v most (m ∷ ms) = cases (host_at w m.host) (λ z. hosts_alone w z most ms)
+  where
+    cases : (o : Option HostRow) → ((z : World) → applied z (new_quotas w most ms) ≡ record z { hosts = (applied z (new_quotas w most ms)).hosts })
+        → applied v (cons_option (option_map (λ h. change.Host m.host (with_quota_by most m h)) o) (new_quotas w most ms))
+        ≡ record v { hosts = (applied v (cons_option (option_map (λ h. change.Host m.host (with_quota_by most m h)) o) (new_quotas w most ms))).hosts }
+    cases None more = more v
+    cases (Some h) more = more (applied_one v (change.Host m.host (with_quota_by most m h)))
 
-pub quotas_put : (w : World) (most : ℕ) (marks : List Mark) → list_all puts_row (new_quotas w most marks) ≡ true
-quotas_put w most [] = refl
-quotas_put w most (m ∷ marks) = quota_puts w most m (new_quotas w most marks) (host_at w m.host) (quotas_put w most marks)
-
--- and behind others that put hosts and instances
-pub all_put : (cs before then : List Change) → list_all puts_row cs ≡ true → list_all puts_row before ≡ true → list_all puts_row then ≡ true
-    → list_all puts_row (cs ++ (before ++ then)) ≡ true
-all_put cs before then first second last =
-    list_all-append puts_row cs (before ++ then)
-    ∙ ap (λ b. b && list_all puts_row (before ++ then)) first
-    ∙ list_all-append puts_row before then
-    ∙ ap (λ b. b && list_all puts_row then) second
-    ∙ last
+pub are_quotas : (marks sums : List Mark) (w : World) (most : ℕ) (quotas : List Change) → AreSums marks sums → most ≡ w.settings.daily_result_quota
+    → quotas ≡ new_quotas w most sums → AreQuotasBy marks w quotas
+are_quotas marks sums w most quotas are limit is =
+    subst (AreQuotasBy marks w) (sym (is ∙ ap (λ n. new_quotas w n sums) limit))
+    (record {
+      quoted = quotas_are_new marks w sums are;
+      fit = λ limits some. quotas_fit w limits some sums;
+      alone = hosts_alone w w w.settings.daily_result_quota sums;
+    })

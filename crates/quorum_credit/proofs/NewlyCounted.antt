@@ -15,7 +15,7 @@ use Rattle.sched_book.specs.declared.world.World.{World}
 use Rattle.sched_book.proofs.PlacesOf.{nth-suc}
 use Rattle.quorum_credit.specs.Marks.{standing_with, no_standing, standing_in, standing_at, one_if_new, charges_between, merits_between, charges_at, merits_at, unit_charges, unit_merits}
 use Rattle.quorum_credit.specs.Settling.{is_among, TouchJust}
-use Rattle.quorum_credit.specs.Taken.{AreAbove, AreRising}
+use Rattle.call_sheet.specs.Sheets.{AreAbove, AreRising}
 use Rattle.quorum_credit.specs.declared.marks.Standing.{Standing}
 
 -- sums of what is equal, and of two

@@ -2,22 +2,20 @@
 use Rattle.std.proofs.Common.{◌≡◌, ℕ, zero, suc, ◌-◌, ◌<◌, Bool, true, false, cond, eqb, List, [], ◌∷◌, ◌++◌, length, Option, Some, None, sym, refl, ap, ◌∙◌}
 use Rattle.std.specs.Prelude.{◌+◌, count_by, option_map, option_and_then, unwrap_or, slice_get, slice_set}
 use Rattle.std.proofs.lemmas.Bool.{lt-ltb}
-use Rattle.std.proofs.lemmas.List.Sums.{fold-append}
 use Rattle.std.proofs.lemmas.Option.{slice_get_within, get_or_from_slice_get}
 use Rattle.rpc_records.specs.declared.request.Report.{Report}
 use Rattle.sched_book.specs.Count.{is_judged, has_failed}
-use Rattle.sched_book.specs.Places.{nth, unit_at, passes, place_named, status_at}
+use Rattle.sched_book.specs.Places.{nth, unit_at, passes, status_at}
 use Rattle.sched_book.specs.Desk.{instances_at}
-use Rattle.sched_book.specs.Delta.{set_at, with_instance, applied_one, applied}
-use Rattle.sched_book.specs.Reports.{modify_at, modify_nth, with_number, with_changed, awaits_report, with_report, judged_place, next_place, record_at, record_one}
-use Rattle.sched_book.specs.declared.delta.Change.{Change}
+use Rattle.sched_book.specs.Delta.{set_at, with_instance, applied_one}
+use Rattle.sched_book.specs.Reports.{modify_at, modify_nth, with_number, with_changed, awaits_report, with_report, judged_place, next_place, record_at}
 use Rattle.sched_book.specs.declared.delta.Change.TheVariants as change
 use Rattle.sched_book.specs.declared.instance.Instance.{Instance}
 use Rattle.sched_book.specs.declared.instance.Place.{Place}
 use Rattle.sched_book.specs.declared.instance.UnitBook.{UnitBook}
 use Rattle.sched_book.specs.declared.world.World.{World}
 use Rattle.sched_book.proofs.Changes.{modify_at-set}
-use Rattle.quorum_credit.specs.Taken.{place_among, reported_in, change_by}
+use Rattle.quorum_credit.specs.Taken.{place_among, reported_in}
 
 -- where an element stands, changing it is putting the changed one
 pub modify_at-put : {X : Type 0} (f : X → X) (xs : List X) (i : ℕ) (x : X) → slice_get xs i ≡ Some x → modify_at f xs i ≡ set_at xs i (f x)
@@ -80,34 +78,8 @@ module _ (entry : World) (host : ℕ) (w : World) (r : Report) (p : Place) where
   pub record_at-is : record_at entry host r w p ≡ put (reported_in host r failed (instances_at w p.unit) p.number)
   record_at-is = at_unit (unit_at w p.unit) refl
 
--- the world after a change, where there is one
-abbrev changed : World → Option Change → World
-changed w None = w
-changed w (Some c) = applied_one w c
-
-put-is : (entry : World) (host : ℕ) (w : World) (r : Report) (p : Place) (o : Option Instance)
-    → put entry host w r p o ≡ changed w (option_map (change.Instance p) o)
-put-is entry host w r p None = refl
-put-is entry host w r p (Some x) = refl
-
-record_one-is : (entry : World) (host : ℕ) (w : World) (r : Report) → record_one entry host w r ≡ changed w (change_by entry host r w)
-record_one-is entry host w r = cases (place_named entry r.name)
-  where
-    cases : (o : Option Place)
-        → unwrap_or (option_map (record_at entry host r w) o) w
-        ≡ changed w (option_and_then (λ p. option_map (change.Instance p) (reported_in host r (has_failed (status_at entry p.unit)) (instances_at w p.unit) p.number)) o)
-    cases None = refl
-    cases (Some p) = record_at-is entry host w r p ∙ put-is entry host w r p (reported_in host r (has_failed (status_at entry p.unit)) (instances_at w p.unit) p.number)
-
-pub take_none : (entry : World) (host : ℕ) (r : Report) (cs : List Change) → change_by entry host r (applied entry cs) ≡ None
-    → applied entry cs ≡ record_one entry host (applied entry cs) r
-take_none entry host r cs none = sym (record_one-is entry host (applied entry cs) r ∙ ap (changed (applied entry cs)) none)
-
-pub take_some : (entry : World) (host : ℕ) (r : Report) (cs : List Change) (c : Change) → change_by entry host r (applied entry cs) ≡ Some c
-    → applied entry (cs ++ c ∷ []) ≡ record_one entry host (applied entry cs) r
-take_some entry host r cs c some =
-    fold-append applied_one entry cs (c ∷ [])
-    ∙ sym (record_one-is entry host (applied entry cs) r ∙ ap (changed (applied entry cs)) some)
-
--- for what one report changes
-pub ruleset taken_steps = (take_none, take_some)
+-- of a report that its instance awaits
+pub report_some : (entry : World) (host : ℕ) (w : World) (r : Report) (p : Place) (x : Instance)
+    → reported_in host r (has_failed (status_at entry p.unit)) (instances_at w p.unit) p.number ≡ Some x
+    → applied_one w (change.Instance p x) ≡ record_at entry host r w p
+report_some entry host w r p x some = sym (record_at-is entry host w r p ∙ ap (put entry host w r p) some)

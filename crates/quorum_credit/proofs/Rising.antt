@@ -8,7 +8,8 @@ use Rattle.std.proofs.lemmas.List.{take_more, take_all}
 use Rattle.std.proofs.lemmas.List.Folds.{list_any-append}
 use Rattle.sched_book.specs.declared.delta.Change.{Change}
 use Rattle.sched_book.specs.declared.delta.Change.TheVariants as change
-use Rattle.quorum_credit.specs.Taken.{AreAbove, AreRising, touches, AreTouched}
+use Rattle.call_sheet.specs.Sheets.{AreAbove, AreRising}
+use Rattle.quorum_credit.specs.Taken.{touches, AreTouched}
 use Rattle.quorum_credit.specs.Touched.{units_with, touched_with}
 
 above_filter : (p : ℕ → Bool) (m : ℕ) (ns : List ℕ) → AreAbove m ns → AreAbove m (filter p ns)

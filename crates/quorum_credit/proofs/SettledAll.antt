@@ -1,8 +1,10 @@
 -- The steps of settlement come to the settled world.
-use Rattle.std.proofs.Common.{◌≡◌, ℕ, zero, suc, ◌<◌, ◌≤◌, Bool, true, false, cond, eqb, List, [], ◌∷◌, ◌++◌, length, Option, Some, None, sym, refl, ap, ◌∙◌, subst, arith}
+use Rattle.std.proofs.Common.{◌≡◌, ℕ, zero, suc, ◌<◌, ◌≤◌, Bool, true, false, cond, eqb, List, [], ◌∷◌, ◌++◌, length, Option, Some, None, drop, sym, refl, ap, ◌∙◌, subst, append_assoc, arith}
 use Rattle.std.specs.Prelude.{◌&&◌, ◌||◌, IsTrue, is_some, map, option_map, slice_get, sum_by}
 use Rattle.std.specs.List.{enumerate_from, list_any, list_all}
 use Rattle.std.proofs.lemmas.Bool.Decides.{nat_tests}
+use Rattle.std.proofs.Math.Seq.{drop-append_seam}
+use Rattle.std.proofs.lemmas.List.Folds.{list_all-append}
 use Rattle.std.proofs.lemmas.List.Sums.{fold-append}
 use Rattle.sched_book.specs.Places.{nth, unit_at}
 use Rattle.sched_book.specs.Delta.{with_instance, applied_one, applied, FitsOne, Fits}
@@ -14,19 +16,25 @@ use Rattle.sched_book.specs.declared.delta.Change.{Change}
 use Rattle.sched_book.specs.declared.delta.Change.TheVariants as change
 use Rattle.sched_book.specs.declared.instance.UnitBook.{UnitBook}
 use Rattle.sched_book.specs.declared.rows.HostRow.{HostRow}
+use Rattle.sched_book.specs.declared.settings.Settings.{Settings}
 use Rattle.sched_book.specs.declared.world.World.{World}
 use Rattle.sched_book.proofs.PlacesOf.{nth-suc, nth-modify_nth}
 use Rattle.sched_book.proofs.Settling.{settlement_is_pointwise}
 use Rattle.quorum_credit.specs.Marks.{charges_in, merits_in, unit_charges, unit_merits}
-use Rattle.quorum_credit.specs.Settling.{is_among, puts_row, TouchJust, with_grown_among, quota_by, with_quotas_by, AreHostsInLimits, AreUnitsInLimits}
-use Rattle.quorum_credit.specs.Taken.{touches, AreTouched, AreRising}
+use Rattle.quorum_credit.specs.Settling.{is_among, puts_row, TouchJust, with_grown_among, quota_by, with_quotas_by, AreHostsInLimits, AreUnitsInLimits, AreQuotasBy, IsSettlement}
+use Rattle.call_sheet.specs.Sheets.{IsLeafAt, AreAllOf, AreRising}
+use Rattle.call_sheet.specs.declared.leaf.Leaf.{Leaf}
+use Rattle.quorum_credit.specs.Growing.{all_growth}
+use Rattle.quorum_credit.specs.Marking.{marks_of_units}
+use Rattle.quorum_credit.specs.Taken.{touches, AreTouched}
 use Rattle.quorum_credit.specs.declared.marks.Mark.{Mark}
 use Rattle.quorum_credit.proofs.ByPlace.{all_nth}
-use Rattle.quorum_credit.proofs.Grown.{grown_sound, others_need_nothing}
+use Rattle.quorum_credit.proofs.Grown.{grown_sound, others_need_nothing, all_grown_among}
 use Rattle.quorum_credit.specs.Tallies.{number_got}
 use Rattle.quorum_credit.proofs.Numbered.{number_within}
-use Rattle.quorum_credit.proofs.Quotas.{nth-set_nth}
-use Rattle.quorum_credit.proofs.GrownFits.{fits_then}
+use Rattle.call_sheet.proofs.SetRows.{nth-set_nth}
+use Rattle.quorum_credit.proofs.GrownFits.{fits_then, all_fit}
+use Rattle.quorum_credit.proofs.Marked.{charges_in-marks, merits_in-marks}
 use Rattle.quorum_credit.proofs.NewQuotas.{all_settings_stay}
 use Rattle.quorum_credit.proofs.NewlyCounted.{charges_touched, merits_touched}
 
@@ -186,72 +194,106 @@ units_in_limits w cs sound puts unit b stands = cases (unit_at w unit) refl (sym
         let same : c.unit ≡ b.unit = cc in
         subst IsUnitInLimits same (all_nth (IsSoundUnit w.hosts w.apps) w.units unit c sound.units is).well.limits
 
--- The three steps: new instances, marks, and quotas, as the functions tell of them.
-pub record AreSteps (w : World) (cs grows quotas : List Change) (units : List ℕ) (marks : List Mark) : Type 0 where
-  pub puts : list_all puts_row cs ≡ true
-  pub grew : AreRising units → applied (applied w cs) grows ≡ with_grown_among units (applied w cs)
-  pub grew_fitting : AreRising units → AreUnitsInLimits (applied w cs) → Fits (applied w cs) grows
-  pub charged : (host : ℕ) → charges_in marks host ≡ sum_by (unit_charges w (applied w (cs ++ grows)) host) units
-  pub merited : (host : ℕ) → merits_in marks host ≡ sum_by (unit_merits w (applied w (cs ++ grows)) host) units
-  pub quoted : AreHostsInLimits (applied w (cs ++ grows))
-      → applied (applied w (cs ++ grows)) quotas ≡ with_quotas_by marks (applied w (cs ++ grows))
-  pub quoted_fitting : AreHostsInLimits (applied w (cs ++ grows)) → 1 ≤ w.settings.daily_result_quota → Fits (applied w (cs ++ grows)) quotas
+-- The three steps of settlement from a world w of a call that found world e: to v by new instances, marks, and to u by
+-- quotas; and the changes before and after.
+pub record AreSteps (e w v u : World) (before after quotas : List Change) (units : List ℕ) (marks : List Mark) : Type 0 where
+  pub here : w ≡ applied e before
+  pub puts : list_all puts_row before ≡ true
+  pub grew : AreRising units → v ≡ with_grown_among units w
+  pub marked : marks ≡ marks_of_units e v units
+  pub quoted : AreQuotasBy marks v quotas
+  pub put : u ≡ applied v quotas
+  pub changes : after ≡ (before ++ all_growth w units) ++ quotas
 
--- the same where each step was told of the world that the one before had left by reading it
-pub steps_in_turn : (w v u : World) (cs grows all quotas : List Change) (units : List ℕ) (marks : List Mark) → v ≡ w → u ≡ v → all ≡ cs ++ grows
-    → list_all puts_row cs ≡ true
-    → (AreRising units → applied (applied w cs) grows ≡ with_grown_among units (applied w cs))
-    → (AreRising units → AreUnitsInLimits (applied w cs) → Fits (applied w cs) grows)
-    → ((host : ℕ) → charges_in marks host ≡ sum_by (unit_charges v (applied v all) host) units)
-    → ((host : ℕ) → merits_in marks host ≡ sum_by (unit_merits v (applied v all) host) units)
-    → (AreHostsInLimits (applied u all) → applied (applied u all) quotas ≡ with_quotas_by marks (applied u all))
-    → (AreHostsInLimits (applied u all) → 1 ≤ u.settings.daily_result_quota → Fits (applied u all) quotas)
-    → AreSteps w cs grows quotas units marks
-steps_in_turn w v u cs grows all quotas units marks first second joined puts grew grew_fitting charged merited quoted quoted_fitting =
-    let last : u ≡ w = second ∙ first in
-    record {
-      puts = puts;
-      grew = grew;
-      grew_fitting = grew_fitting;
-      charged = subst (λ z. (host : ℕ) → charges_in marks host ≡ sum_by (unit_charges z.0 (applied z.0 z.1) host) units) (both first joined) charged;
-      merited = subst (λ z. (host : ℕ) → merits_in marks host ≡ sum_by (unit_merits z.0 (applied z.0 z.1) host) units) (both first joined) merited;
-      quoted = subst (λ z. AreHostsInLimits (applied z.0 z.1) → applied (applied z.0 z.1) quotas ≡ with_quotas_by marks (applied z.0 z.1)) (both last joined) quoted;
-      quoted_fitting = subst (λ z. AreHostsInLimits (applied z.0 z.1) → 1 ≤ z.0.settings.daily_result_quota → Fits (applied z.0 z.1) quotas) (both last joined) quoted_fitting;
-    }
+module _ (e w v u : World) (before after quotas : List Change) (units : List ℕ) (marks : List Mark)
+    (steps : AreSteps e w v u before after quotas units marks) where
+  -- the marks are of all that is new in the end, since quotas alone come behind them
+  pub marks_hold : marks ≡ marks_of_units e u units
+  marks_hold = steps.marked ∙ ap (λ z. marks_of_units e z units) (sym (steps.put ∙ steps.quoted.alone))
+
+  module _ (sound : Sound e) (fits : Fits e before) (just : TouchJust units e w) where
+    -- the first step leaves each open workunit satisfied
+    all_grown : v ≡ with_grown w
+    all_grown = steps.grew just.rising ∙ others_need_nothing units e w sound just
+
+    limits : AreHostsInLimits v
+    limits =
+        subst AreHostsInLimits (sym (all_grown ∙ ap with_grown steps.here))
+        (hosts_in_limits e before steps.puts (sound_hosts_in_limits e sound) fits)
+
+    charged : (host : ℕ) → charges_in marks host ≡ sum_by (unit_charges e v host) units
+    charged host = ap (λ ms. charges_in ms host) steps.marked ∙ charges_in-marks e v units host
+
+    merited : (host : ℕ) → merits_in marks host ≡ sum_by (unit_merits e v host) units
+    merited host = ap (λ ms. merits_in ms host) steps.marked ∙ merits_in-marks e v units host
+
+    -- what the three steps leave is the settled world
+    pub settles : u ≡ settled e w
+    settles =
+        steps.put
+        ∙ steps.quoted.quoted limits
+        ∙ ap (with_quotas_by marks) all_grown
+        ∙ quotas_settle units e w marks sound just
+        (subst (λ z. (host : ℕ) → charges_in marks host ≡ sum_by (unit_charges e z host) units) all_grown charged)
+        (subst (λ z. (host : ℕ) → merits_in marks host ≡ sum_by (unit_merits e z host) units) all_grown merited)
+
+    -- the new instances fit behind the changes before, and lead to v
+    grown_here : applied e (before ++ all_growth w units) ≡ v
+    grown_here =
+        fold-append applied_one e before (all_growth w units)
+        ∙ ap (λ z. applied z (all_growth w units)) (sym steps.here)
+        ∙ all_grown_among w units just.rising
+        ∙ sym (steps.grew just.rising)
+
+    some_quota : 1 ≤ v.settings.daily_result_quota
+    some_quota =
+        subst (λ (s : Settings). 1 ≤ s.daily_result_quota) (sym (ap (λ (z : World). z.settings) all_grown ∙ just.settings)) sound.rows.settings.quota.0
+
+    -- and each change fits
+    pub settling_fits : Fits e after
+    settling_fits =
+        subst (Fits e) (sym steps.changes)
+        (fits_then e (before ++ all_growth w units) quotas
+        (fits_then e before (all_growth w units) fits
+        (subst (λ z. Fits z (all_growth w units)) steps.here
+        (all_fit w units just.rising (subst AreUnitsInLimits (sym steps.here) (units_in_limits e before sound steps.puts)))))
+        (subst (λ z. Fits z quotas) (sym grown_here) (steps.quoted.fit limits some_quota)))
+
+-- changes with some behind them go on
+pub goes_on : {X : Type 0} (before new more after : List X) → after ≡ (before ++ new) ++ more → before ++ drop (length before) after ≡ after
+goes_on before new more after is =
+    let all : after ≡ before ++ (new ++ more) = is ∙ append_assoc before new more in
+    ap (λ cs. before ++ drop (length before) cs) all ∙ ap (λ cs. before ++ cs) (drop-append_seam before (new ++ more)) ∙ sym all
+
+-- what is handed back of a settlement is what stands behind the changes
+module _ (w : World) (cs more all : List Change) (units : List ℕ) (settlement : IsSettlement w cs all units)
+    (count : ℕ) (long : count ≡ length cs) (behind : more ≡ drop count all) (puts : list_all puts_row all ≡ true) where
+  joined : cs ++ more ≡ all
+  joined = ap (λ ds. cs ++ ds) (behind ∙ ap (λ n. drop n all) long) ∙ settlement.goes_on
+
+  pub joined_put : list_all puts_row (cs ++ more) ≡ true
+  joined_put = ap (list_all puts_row) joined ∙ puts
+
+  just_touched : AreTouched cs units → TouchJust units w (applied w cs)
+  just_touched = touch_just w cs units (both_true _ _ (sym (list_all-append puts_row cs more) ∙ joined_put)).0
+
+  pub joined_settle : Sound w → Fits w cs → AreTouched cs units → applied w (cs ++ more) ≡ settled w (applied w cs)
+  joined_settle sound fits touched = ap (applied w) joined ∙ settlement.settles sound fits (just_touched touched)
+
+  pub joined_fit : Sound w → Fits w cs → AreTouched cs units → Fits w (cs ++ more)
+  joined_fit sound fits touched = subst (Fits w) (sym joined) (settlement.fits sound fits (just_touched touched))
+
+-- The workunits that a call has read are more than it touches.
+pub read_touch : (entry present : World) (kept : ℕ → Option Leaf) (units : List ℕ)
+    → present ≡ record entry { units = present.units; hosts = present.hosts }
+    → ((unit : ℕ) → IsLeafAt entry present unit (kept unit)) → AreAllOf kept units → TouchJust units entry present
+read_touch entry present kept units rest leaves all = record {
+  rising = all.rising;
+  settings = ap (λ (w : World). w.settings) rest;
+  apps = ap (λ (w : World). w.apps) rest;
+  others = λ unit other. cases unit (kept unit) (leaves unit) (all.all unit ∙ other);
+}
   where
-    both : {x y : World} {ds es : List Change} → x ≡ y → ds ≡ es → ◌≡◌ {A = World × List Change} (x, ds) (y, es)
-    both here there = λ i. (here i, there i)
-
-module _ (w : World) (cs grows quotas : List Change) (units : List ℕ) (marks : List Mark) (steps : AreSteps w cs grows quotas units marks)
-    (sound : Sound w) (fits : Fits w cs) (touched : AreTouched cs units) where
-  just : TouchJust units w (applied w cs)
-  just = touch_just w cs units steps.puts touched
-
-  split : applied w (cs ++ grows) ≡ applied (applied w cs) grows
-  split = fold-append applied_one w cs grows
-
-  -- the first step leaves each open workunit satisfied
-  all_grown : applied w (cs ++ grows) ≡ with_grown (applied w cs)
-  all_grown = split ∙ steps.grew touched.rising ∙ others_need_nothing units w (applied w cs) sound just
-
-  limits : AreHostsInLimits (applied w (cs ++ grows))
-  limits = subst AreHostsInLimits (sym all_grown) (hosts_in_limits w cs steps.puts (sound_hosts_in_limits w sound) fits)
-
-  -- what the three steps leave is the settled world
-  pub settles : applied w (cs ++ (grows ++ quotas)) ≡ settled w (applied w cs)
-  settles =
-      fold-append applied_one w cs (grows ++ quotas)
-      ∙ fold-append applied_one (applied w cs) grows quotas
-      ∙ ap (λ v. applied v quotas) (sym split)
-      ∙ steps.quoted limits
-      ∙ ap (with_quotas_by marks) all_grown
-      ∙ quotas_settle units w (applied w cs) marks sound just
-      (subst (λ v. (host : ℕ) → charges_in marks host ≡ sum_by (unit_charges w v host) units) all_grown steps.charged)
-      (subst (λ v. (host : ℕ) → merits_in marks host ≡ sum_by (unit_merits w v host) units) all_grown steps.merited)
-
-  -- and each change fits
-  pub settling_fits : Fits w (cs ++ (grows ++ quotas))
-  settling_fits =
-      fits_then w cs (grows ++ quotas) fits
-      (fits_then (applied w cs) grows quotas (steps.grew_fitting touched.rising (units_in_limits w cs sound steps.puts))
-      (subst (λ v. Fits v quotas) split (steps.quoted_fitting limits sound.rows.settings.quota.0)))
+    cases : (unit : ℕ) (o : Option Leaf) → IsLeafAt entry present unit o → is_some o ≡ false → unit_at present unit ≡ unit_at entry unit
+    cases unit None leaf none = leaf
+    cases unit (Some k) leaf none = absurd cc

@@ -8,3 +8,4 @@ pub mod Settling
 pub mod Tallies
 pub mod Growing
 pub mod Marking
+pub mod Leaves

@@ -1,9 +1,11 @@
 -- The steps from the world with its changes to the settled one. Of the workunits only those that the changes touch are looked at.
-use Rattle.std.specs.Prelude.{◌≡◌, ℕ, ◌≤◌, ◌==◌, Bool, true, false, if◌then◌else◌, List, map, Some, is_some, IsTrue}
+use Rattle.std.specs.Prelude.{◌≡◌, ℕ, ◌≤◌, ◌==◌, ◌++◌, Bool, true, false, if◌then◌else◌, List, length, drop, map, Some, is_some, IsTrue}
 use Rattle.std.specs.List.{enumerate_from, list_any}
+use Rattle.sched_book.specs.Delta.{applied, Fits}
 use Rattle.sched_book.specs.Limits.{IsUnitInLimits, IsHostInLimits}
 use Rattle.sched_book.specs.Places.{nth, unit_at, host_at}
-use Rattle.sched_book.specs.Settle.{grown, next_quota}
+use Rattle.sched_book.specs.Settle.{grown, next_quota, settled}
+use Rattle.sched_book.specs.Sound.{Sound}
 use Rattle.sched_book.specs.declared.delta.Change.{Change}
 use Rattle.sched_book.specs.declared.delta.Change.TheVariants as change
 use Rattle.sched_book.specs.declared.instance.UnitBook.{UnitBook}
@@ -11,7 +13,7 @@ use Rattle.sched_book.specs.declared.rows.App.{App}
 use Rattle.sched_book.specs.declared.rows.HostRow.{HostRow}
 use Rattle.sched_book.specs.declared.world.World.{World}
 use Rattle.quorum_credit.specs.Marks.{charges_in, merits_in}
-use Rattle.quorum_credit.specs.Taken.{AreRising}
+use Rattle.call_sheet.specs.Sheets.{AreRising}
 use Rattle.quorum_credit.specs.declared.marks.Mark.{Mark}
 
 -- the place is one of these
@@ -58,3 +60,19 @@ quota_by marks limit e =
 
 abbrev pub with_quotas_by : List Mark → World → World
 with_quotas_by marks w = record w { hosts = map (quota_by marks w.settings.daily_result_quota) (enumerate_from 1 w.hosts) }
+
+-- These changes give the hosts the quotas that the marks leave them, and change nothing else.
+pub record AreQuotasBy (marks : List Mark) (w : World) (quotas : List Change) : Type 0 where
+  pub quoted : AreHostsInLimits w → applied w quotas ≡ with_quotas_by marks w
+  pub fit : AreHostsInLimits w → 1 ≤ w.settings.daily_result_quota → Fits w quotas
+  pub alone : applied w quotas ≡ record w { hosts = (applied w quotas).hosts }
+
+-- the later changes are the earlier ones with some behind them
+abbrev pub GoesOn : List Change → List Change → Type 0
+GoesOn earlier later = earlier ++ drop (length earlier) later ≡ later
+
+-- These changes are others with their settlement behind them, where no workunits but these are touched.
+pub record IsSettlement (w : World) (changes all : List Change) (units : List ℕ) : Type 0 where
+  pub goes_on : GoesOn changes all
+  pub settles : Sound w → Fits w changes → TouchJust units w (applied w changes) → applied w all ≡ settled w (applied w changes)
+  pub fits : Sound w → Fits w changes → TouchJust units w (applied w changes) → Fits w all

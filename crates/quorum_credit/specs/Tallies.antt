@@ -1,5 +1,5 @@
 -- The hosts that marks speak of, and what changes make of a single host.
-use Rattle.std.specs.Prelude.{◌≡◌, ℕ, ◌+◌, min, max, Bool, true, false, ◌==◌, if◌then◌else◌, List, [], ◌∷◌, filter_map, All, Option, None, Some, option_map}
+use Rattle.std.specs.Prelude.{◌≡◌, ℕ, ◌+◌, min, max, Bool, false, ◌==◌, if◌then◌else◌, List, [], ◌∷◌, filter_map, All, Option, None, Some, option_map}
 use Rattle.std.specs.BTreeMap as tree
 use Rattle.std.specs.BTreeMap.{BTreeMap}
 use Rattle.std.specs.List.{list_any}
@@ -73,12 +73,3 @@ tally_in tallies host = tree.get nat_cmp tallies host
 pub record AreSums (marks sums : List Mark) : Type 0 where
   pub each : All (λ (s : Mark). (s.charges ≡ charges_in marks s.host) × (s.merits ≡ merits_in marks s.host)) sums
   pub others : (host : ℕ) → is_named sums host ≡ false → (charges_in marks host ≡ 0) × (merits_in marks host ≡ 0)
-
--- the change puts a host
-abbrev pub puts_host : Change → Bool
-puts_host (change.Account a) = false
-puts_host (change.App a) = false
-puts_host (change.Version v) = false
-puts_host (change.Workunit u) = false
-puts_host (change.Host n h) = true
-puts_host (change.Instance p x) = false

@@ -1,19 +1,18 @@
-//! The instances that workunits need after changes.
+//! The instances that workunits need.
 
-ghost use Rattle.std.specs.Prelude.{◌≡◌, ◌≤◌, ◌+◌, ◌-◌, ◌++◌, true, length, IfOk, IfSome, OnOk};
-ghost use Rattle.std.specs.List.{list_all};
-ghost use Rattle.sched_book.specs.Delta.{applied, Fits};
+ghost use Rattle.std.specs.Prelude.{◌≡◌, ◌+◌, ◌-◌, ◌++◌, length, IfOk, OnOk};
+ghost use Rattle.std.specs.Option.{option_copied};
 ghost use Rattle.sched_book.specs.Trusted.{Trusted};
+ghost use Rattle.call_sheet.specs.Sheets.{AreRising};
 ghost use Rattle.quorum_credit.specs.Growing.{fresh_changes, growth, all_growth};
+ghost use Rattle.quorum_credit.specs.Leaves.{growth_on};
 ghost use Rattle.quorum_credit.specs.Settled.{new_instances};
-ghost use Rattle.quorum_credit.specs.Settling.{AreUnitsInLimits, puts_row, with_grown_among};
-ghost use Rattle.quorum_credit.specs.Taken.{AreRising};
+ghost use Rattle.quorum_credit.specs.Settling.{with_grown_among};
 
 use crate::settlement::new_instances;
+use call_sheet::{Draft, Leaf, put_all};
 use sched_book::limits::MOST_INSTANCES;
-use sched_book::{
-    Agreement, Change, Delta, Desk, Instance, Patched, Place, Unavailable, Units, Workunit,
-};
+use sched_book::{Change, Delta, Instance, Place, Unavailable};
 use std::alloc::Global;
 use texts::{Listed, Memory};
 
@@ -24,55 +23,21 @@ struct Numbers {
     end: u32,
 }
 
-/// The numbers of the instances that a workunit with these is to get; none where they would be too many.
-fn numbers_for(agreement: &Agreement, unit: &Workunit, instances: &[Instance]) -> Option<Numbers>
-    requires { length instances.now ≤ MOST_INSTANCES }
-    ensures first { IfSome result (λ numbers. numbers.first ≡ length instances.now) }
-    ensures end { IfSome result (λ numbers. numbers.end ≡ length instances.now + new_instances agreement.now unit.now instances.now) }
+/// The numbers of the instances that the workunit of a leaf is to get. Where they would be too many it is refused.
+fn numbers_on(leaf: &Leaf) -> Result<Numbers, Unavailable>
+    ensures first { IfOk result (λ numbers. numbers.first ≡ length leaf.now.present) }
+    ensures end { IfOk result (λ numbers. numbers.end ≡ length leaf.now.present + new_instances leaf.now.agreement leaf.now.unit leaf.now.present) }
 {
-    let count = new_instances(agreement, unit, instances);
+    let instances = leaf.present.as_slice();
+    let count = new_instances(&leaf.agreement, &leaf.unit, instances);
     if count > MOST_INSTANCES - instances.len() {
-        return None;
+        // Not met by workunits within limits: an open one has and needs at most `max_total_results`, which is at most 100.
+        return Err(Unavailable);
     }
-    Some(Numbers {
+    Ok(Numbers {
         first: instances.len() as u32,
         end: (instances.len() + count) as u32,
     })
-}
-
-/// The numbers of the instances that the workunit at a place is to get. A place where none stands is refused.
-fn numbers_at<U: Units>(alloc: Global, units: &mut U, unit: u32) -> Result<Numbers, Unavailable>
-    ensures reads { U.reads units.old units.new }
-    ensures answer { Trusted U.Units units.old units.new (IfOk result (λ numbers.
-        fresh_changes unit numbers.first (numbers.end - numbers.first) ≡ growth (U.world units.old) unit)) }
-{
-    let Some(row) = units.unit(alloc, unit)? else {
-        return Err(Unavailable);
-    };
-    let Some(agreement) = units.agreement_of(alloc, unit)? else {
-        return Err(Unavailable);
-    };
-    let instances = units.instances_of(alloc, unit)?;
-    match numbers_for(&agreement, &row, instances.as_slice()) {
-        // Not met by workunits within limits: an open one has and needs at most `max_total_results`, which is at most 100.
-        None => Err(Unavailable),
-        Some(numbers) => Ok(numbers),
-    }
-}
-
-/// The numbers of the instances that the workunit at a place is to get after changes.
-fn numbers_under<D: Desk>(
-    alloc: Global,
-    desk: &mut D,
-    delta: &Delta,
-    unit: u32,
-) -> Result<Numbers, Unavailable>
-    ensures reads { D.reads desk.old desk.new }
-    ensures answer { Trusted D.Units desk.old desk.new (IfOk result (λ numbers.
-        fresh_changes unit numbers.first (numbers.end - numbers.first) ≡ growth (applied (D.world desk.old) delta.now) unit)) }
-{
-    let mut patched = Patched { desk, delta };
-    numbers_at(alloc, &mut patched, unit)
 }
 
 /// Puts instances of these numbers that nobody was given behind the changes so far.
@@ -92,42 +57,63 @@ fn push_fresh(more: &mut Delta, unit: u32, first: u32, end: u32) -> Result<(), M
     Ok(())
 }
 
-/// Puts the instances that the workunit at a place is to get after changes behind those of others.
-#[tactic(auto, using(crate::proofs::FreshOnes::fresh_puts_behind))]
-fn grow_one<D: Desk>(
-    alloc: Global,
-    desk: &mut D,
-    delta: &Delta,
-    unit: u32,
-    more: &mut Delta,
-) -> Result<(), Unavailable>
-    ensures reads { D.reads desk.old desk.new }
-    ensures answer { Trusted D.Units desk.old desk.new (
-        OnOk result (more.new ≡ more.old ++ growth (applied (D.world desk.old) delta.now) unit)) }
-    ensures puts { OnOk result (list_all puts_row more.old ≡ true → list_all puts_row more.new ≡ true) }
+/// Puts the instances that the workunit of a leaf is to get behind those of others. Where none stands it is refused.
+#[tactic(auto, using(crate::proofs::FreshOnes::growth_steps))]
+fn add_growth_on(more: &mut Delta, unit: u32, leaf: Option<&Leaf>) -> Result<(), Unavailable>
+    ensures { OnOk result (more.new ≡ more.old ++ growth_on unit (option_copied leaf.entry)) }
 {
-    let numbers = numbers_under(alloc, desk, delta, unit)?;
+    let Some(leaf) = leaf else {
+        return Err(Unavailable);
+    };
+    let numbers = numbers_on(leaf)?;
     push_fresh(more, unit, numbers.first, numbers.end)?;
     Ok(())
 }
 
-/// The new instances of these workunits after changes: for each that is open, those that it lacks, numbered on.
-pub(crate) fn grow_touched<D: Desk>(
+/// Puts the instances that the workunit at a place is to get behind those of others.
+#[tactic(auto, using(crate::proofs::OnLeaves::growth_steps))]
+fn add_growth<S: Draft>(
     alloc: Global,
-    desk: &mut D,
-    delta: &Delta,
+    sheet: &mut S,
+    unit: u32,
+    more: &mut Delta,
+) -> Result<(), Unavailable>
+    ensures reads { S.reads sheet.old sheet.new }
+    ensures answer { Trusted S.Units sheet.old sheet.new (OnOk result (more.new ≡ more.old ++ growth (S.world sheet.old) unit)) }
+{
+    sheet.read(alloc, unit)?;
+    add_growth_on(more, unit, sheet.leaf(unit))
+}
+
+/// The new instances of these workunits: for each that is open, those that it lacks, numbered on.
+fn growth_in_turn<S: Draft>(
+    alloc: Global,
+    sheet: &mut S,
     touched: &[u32],
 ) -> Result<Delta, Unavailable>
-    ensures reads { D.reads desk.old desk.new }
-    ensures grown { Trusted D.Units desk.old desk.new (IfOk result (λ more.
-        AreRising touched.now → applied (applied (D.world desk.old) delta.now) more ≡ with_grown_among touched.now (applied (D.world desk.old) delta.now))) }
-    ensures fits { Trusted D.Units desk.old desk.new (IfOk result (λ more.
-        AreRising touched.now → AreUnitsInLimits (applied (D.world desk.old) delta.now) → Fits (applied (D.world desk.old) delta.now) more)) }
-    ensures puts { IfOk result (λ more. list_all puts_row more ≡ true) }
+    ensures reads { S.reads sheet.old sheet.new }
+    ensures answer { Trusted S.Units sheet.old sheet.new (IfOk result (λ more. more ≡ all_growth (S.world sheet.old) touched.now)) }
 {
     let mut more = Listed::new(alloc);
     for unit in touched {
-        grow_one(alloc, desk, delta, *unit, &mut more)?;
+        add_growth(alloc, sheet, *unit, &mut more)?;
     }
     Ok(more)
+}
+
+/// Gives these workunits the instances that they need, on the sheet of a call.
+pub(crate) fn grow_on<S: Draft>(
+    alloc: Global,
+    sheet: &mut S,
+    touched: &[u32],
+) -> Result<(), Unavailable>
+    ensures works { S.works sheet.old sheet.new }
+    ensures grown { Trusted S.Units sheet.old sheet.new (OnOk result (AreRising touched.now →
+        S.world sheet.new ≡ with_grown_among touched.now (S.world sheet.old))) }
+    ensures delta { Trusted S.Units sheet.old sheet.new (OnOk result (
+        S.delta sheet.new ≡ S.delta sheet.old ++ all_growth (S.world sheet.old) touched.now)) }
+{
+    let more = growth_in_turn(alloc, sheet, touched)?;
+    put_all(alloc, sheet, more.as_slice())?;
+    Ok(())
 }

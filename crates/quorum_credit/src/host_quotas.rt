@@ -1,114 +1,19 @@
 //! The quotas of hosts after settlement.
 
-ghost use Rattle.std.specs.Prelude.{◌≡◌, ℕ, ◌<◌, ◌≤◌, ◌+◌, ◌-◌, ◌^◌, ◌==◌, true, if◌then◌else◌, None, Some, [], ◌∷◌, ◌++◌, length, filter, IfOk, OnOk};
+ghost use Rattle.std.specs.Prelude.{◌≡◌, ℕ, ◌==◌, if◌then◌else◌, None, Some, [], ◌∷◌, ◌++◌, IfOk, OnOk};
 ghost use Rattle.std.specs.BTreeMap as tree;
-ghost use Rattle.std.specs.List.{list_all};
 ghost use Rattle.std.specs.Ordering.{nat_cmp};
-ghost use Rattle.sched_book.specs.Places.{host_at};
-ghost use Rattle.sched_book.specs.Delta.{applied, Fits};
 ghost use Rattle.sched_book.specs.Trusted.{Trusted};
-ghost use Rattle.quorum_credit.specs.Settling.{puts_row, AreHostsInLimits, with_quotas_by};
-ghost use Rattle.quorum_credit.specs.Tallies.{number_got, hosts_after, host_by, host_after, with_quota_by, new_quota, new_quotas, tally_with, tally_after, tally_in, puts_host, AreSums};
+ghost use Rattle.quorum_credit.specs.Settling.{AreQuotasBy};
+ghost use Rattle.quorum_credit.specs.Tallies.{with_quota_by, new_quota, new_quotas, tally_with, tally_after, tally_in, AreSums};
 
 use crate::marks::Mark;
 use crate::quota::next_quota;
-use sched_book::{Change, Delta, Desk, HostRow, Unavailable, copy_of};
+use call_sheet::Draft;
+use sched_book::{Change, Delta, HostRow, Unavailable};
 use std::alloc::Global;
 use std::collections::BTreeMap;
 use texts::{Listed, Memory};
-
-/// The number that a host gets that is put at a number, where so many stand: a new one is the next.
-fn number_got(count: u64, number: u32) -> u64
-    requires { count < 2 ^ 64 - 1 }
-    ensures { result ≡ number_got count number }
-{
-    u64::from(number).min(count + 1)
-}
-
-/// How many hosts stand after a change.
-fn count_with(count: u64, change: &Change) -> u64
-    requires { count < 2 ^ 64 - 1 }
-    ensures value { result ≡ hosts_after count change.now }
-    ensures step { result ≤ count + 1 }
-{
-    match change {
-        Change::Host { number, row: _ } => count.max(number_got(count, *number)),
-        _ => count,
-    }
-}
-
-/// What one change makes of the host of a number, where `count` hosts stand before it.
-fn change_host(
-    number: u32,
-    count: u64,
-    host: Option<HostRow>,
-    change: &Change,
-) -> Result<Option<HostRow>, Memory>
-    requires { count < 2 ^ 64 - 1 }
-    ensures { IfOk result (λ r. r ≡ host_by number count host change.now) }
-{
-    match change {
-        Change::Host { number: at, row } => {
-            if *at != 0 && number_got(count, *at) == u64::from(number) {
-                return Ok(Some(copy_of(row)?));
-            }
-            Ok(host)
-        }
-        _ => Ok(host),
-    }
-}
-
-/// What changes make of the host of a number, where `count` hosts stand before them.
-fn change_host_in_turn(
-    number: u32,
-    count: u32,
-    host: Option<HostRow>,
-    changes: &[Change],
-) -> Result<Option<HostRow>, Memory>
-    ensures { IfOk result (λ r. r ≡ host_after number count host changes.now) }
-{
-    let mut count = u64::from(count);
-    let mut host = host;
-    for change in changes {
-        host = change_host(number, count, host, change)?;
-        count = count_with(count, change);
-    }
-    Ok(host)
-}
-
-/// The host of a number, and what changes make of it.
-fn read_changed_host<D: Desk>(
-    alloc: Global,
-    desk: &mut D,
-    delta: &Delta,
-    number: u32,
-) -> Result<Option<HostRow>, Unavailable>
-    ensures reads { D.reads desk.old desk.new }
-    ensures answer { Trusted D.Units desk.old desk.new (IfOk result (λ r.
-        r ≡ host_after number (length (D.world desk.old).hosts) (host_at (D.world desk.old) number) delta.now)) }
-{
-    let count = desk.counts()?.hosts;
-    let host = desk.host_by_id(alloc, number)?;
-    Ok(change_host_in_turn(number, count, host, delta.as_slice())?)
-}
-
-/// The host of a number, after changes.
-///
-/// # Errors
-///
-/// [`Unavailable`] where memory is wanting or the desk is unavailable.
-pub fn host_under<D: Desk>(
-    alloc: Global,
-    desk: &mut D,
-    delta: &Delta,
-    number: u32,
-) -> Result<Option<HostRow>, Unavailable>
-    ensures reads { D.reads desk.old desk.new }
-    ensures answer { Trusted D.Units desk.old desk.new (
-        IfOk result (λ r. r ≡ host_at (applied (D.world desk.old) delta.now) number)) }
-{
-    read_changed_host(alloc, desk, delta, number)
-}
 
 /// The host with the quota that one mark leaves it.
 fn with_quota_by(limit: u32, mark: &Mark, host: HostRow) -> HostRow
@@ -120,19 +25,18 @@ fn with_quota_by(limit: u32, mark: &Mark, host: HostRow) -> HostRow
     }
 }
 
-/// The host of a mark with its new quota, after changes.
-fn new_quota<D: Desk>(
+/// The host of a mark with its new quota.
+fn new_quota<S: Draft>(
     alloc: Global,
-    desk: &mut D,
-    delta: &Delta,
+    sheet: &mut S,
     limit: u32,
     mark: &Mark,
 ) -> Result<Option<Change>, Unavailable>
-    ensures reads { D.reads desk.old desk.new }
-    ensures answer { Trusted D.Units desk.old desk.new (
-        IfOk result (λ change. change ≡ new_quota (applied (D.world desk.old) delta.now) limit mark.now)) }
+    ensures reads { S.reads sheet.old sheet.new }
+    ensures answer { Trusted S.Units sheet.old sheet.new (
+        IfOk result (λ change. change ≡ new_quota (S.world sheet.old) limit mark.now)) }
 {
-    match host_under(alloc, desk, delta, mark.host)? {
+    match sheet.host(alloc, mark.host)? {
         None => Ok(None),
         Some(host) => Ok(Some(Change::Host {
             number: mark.host,
@@ -142,19 +46,18 @@ fn new_quota<D: Desk>(
 }
 
 /// Puts the host of a mark with its new quota behind the others. A host that does not stand is refused.
-fn put_quota<D: Desk>(
+fn add_quota<S: Draft>(
     alloc: Global,
-    desk: &mut D,
-    delta: &Delta,
+    sheet: &mut S,
     limit: u32,
     quotas: &mut Delta,
     mark: &Mark,
 ) -> Result<(), Unavailable>
-    ensures reads { D.reads desk.old desk.new }
-    ensures answer { Trusted D.Units desk.old desk.new (OnOk result
-        (quotas.new ≡ quotas.old ++ new_quotas (applied (D.world desk.old) delta.now) limit (mark.now ∷ []))) }
+    ensures reads { S.reads sheet.old sheet.new }
+    ensures answer { Trusted S.Units sheet.old sheet.new (
+        OnOk result (quotas.new ≡ quotas.old ++ new_quotas (S.world sheet.old) limit (mark.now ∷ []))) }
 {
-    match new_quota(alloc, desk, delta, limit, mark)? {
+    match new_quota(alloc, sheet, limit, mark)? {
         None => Err(Unavailable),
         Some(change) => {
             quotas.push(change)?;
@@ -164,20 +67,19 @@ fn put_quota<D: Desk>(
 }
 
 /// The hosts of these marks with their new quotas, in their order.
-fn quotas_in_turn<D: Desk>(
+fn quotas_in_turn<S: Draft>(
     alloc: Global,
-    desk: &mut D,
-    delta: &Delta,
+    sheet: &mut S,
     limit: u32,
     marks: &[Mark],
 ) -> Result<Delta, Unavailable>
-    ensures reads { D.reads desk.old desk.new }
-    ensures answer { Trusted D.Units desk.old desk.new (IfOk result (λ quotas.
-        quotas ≡ new_quotas (applied (D.world desk.old) delta.now) limit marks.now)) }
+    ensures reads { S.reads sheet.old sheet.new }
+    ensures answer { Trusted S.Units sheet.old sheet.new (
+        IfOk result (λ quotas. quotas ≡ new_quotas (S.world sheet.old) limit marks.now)) }
 {
     let mut quotas = Listed::new(alloc);
     for mark in marks {
-        put_quota(alloc, desk, delta, limit, &mut quotas, mark)?;
+        add_quota(alloc, sheet, limit, &mut quotas, mark)?;
     }
     Ok(quotas)
 }
@@ -249,78 +151,17 @@ fn sums_of(alloc: Global, marks: &[Mark]) -> Result<Vec<Mark>, Unavailable>
     Ok(sums_in(alloc, &tallies)?)
 }
 
-/// Puts a change behind the others, where it puts a host.
-fn add_host_put(puts: &mut Delta, change: &Change) -> Result<(), Memory>
-    ensures { OnOk result (puts.new ≡ puts.old ++ filter puts_host (change.now ∷ [])) }
-{
-    match change {
-        Change::Host { number, row } => puts.push(Change::Host {
-            number: *number,
-            row: copy_of(row)?,
-        }),
-        _ => Ok(()),
-    }
-}
-
-/// Those of the changes that put hosts, which alone tell what hosts stand after them.
-fn host_puts(alloc: Global, changes: &[Change]) -> Result<Delta, Memory>
-    ensures { IfOk result (λ puts. puts ≡ filter puts_host changes.now) }
-{
-    let mut puts = Listed::new(alloc);
-    for change in changes {
-        add_host_put(&mut puts, change)?;
-    }
-    Ok(puts)
-}
-
-/// The hosts of these marks, after changes, with their new quotas. For each of them only the changes that put hosts
-/// are gone through.
-fn quotas_under<D: Desk>(
+/// The hosts that these marks speak of, each with the quota that the marks leave it.
+pub(crate) fn new_quotas<S: Draft>(
     alloc: Global,
-    desk: &mut D,
-    delta: &Delta,
-    limit: u32,
+    sheet: &mut S,
     marks: &[Mark],
 ) -> Result<Delta, Unavailable>
-    ensures reads { D.reads desk.old desk.new }
-    ensures answer { Trusted D.Units desk.old desk.new (IfOk result (λ quotas.
-        quotas ≡ new_quotas (applied (D.world desk.old) delta.now) limit marks.now)) }
-{
-    let puts = host_puts(alloc, delta.as_slice())?;
-    quotas_in_turn(alloc, desk, &puts, limit, marks)
-}
-
-/// The same under the limit that the settings give.
-fn quotas_by<D: Desk>(
-    alloc: Global,
-    desk: &mut D,
-    delta: &Delta,
-    marks: &[Mark],
-) -> Result<Delta, Unavailable>
-    ensures reads { D.reads desk.old desk.new }
-    ensures answer { Trusted D.Units desk.old desk.new (IfOk result (λ quotas. quotas ≡
-        new_quotas (applied (D.world desk.old) delta.now) (D.world desk.old).settings.daily_result_quota marks.now)) }
-{
-    let limit = desk.settings(alloc)?.daily_result_quota;
-    quotas_under(alloc, desk, delta, limit, marks)
-}
-
-/// The hosts that these marks speak of, after changes, each with the quota that the marks leave it.
-pub(crate) fn new_quotas<D: Desk>(
-    alloc: Global,
-    desk: &mut D,
-    delta: &Delta,
-    marks: &[Mark],
-) -> Result<Delta, Unavailable>
-    ensures reads { D.reads desk.old desk.new }
-    ensures quotas { Trusted D.Units desk.old desk.new (IfOk result (λ more.
-        AreHostsInLimits (applied (D.world desk.old) delta.now) →
-        applied (applied (D.world desk.old) delta.now) more ≡ with_quotas_by marks.now (applied (D.world desk.old) delta.now))) }
-    ensures fits { Trusted D.Units desk.old desk.new (IfOk result (λ more.
-        AreHostsInLimits (applied (D.world desk.old) delta.now) → (1 ≤ (D.world desk.old).settings.daily_result_quota) →
-        Fits (applied (D.world desk.old) delta.now) more)) }
-    ensures puts { Trusted D.Units desk.old desk.new (IfOk result (λ more. list_all puts_row more ≡ true)) }
+    ensures reads { S.reads sheet.old sheet.new }
+    ensures answer { Trusted S.Units sheet.old sheet.new (
+        IfOk result (λ quotas. AreQuotasBy marks.now (S.world sheet.old) quotas)) }
 {
     let sums = sums_of(alloc, marks)?;
-    quotas_by(alloc, desk, delta, sums.as_slice())
+    let limit = sheet.settings().daily_result_quota;
+    quotas_in_turn(alloc, sheet, limit, sums.as_slice())
 }

@@ -1,6 +1,7 @@
 //! Instances whose deadline went by.
 
 ghost use Rattle.std.specs.Prelude.{◌≡◌, length, fold, IfOk, OnOk};
+ghost use Rattle.std.specs.Option.{option_copied};
 ghost use Rattle.sched_book.specs.Places.{overdue};
 ghost use Rattle.sched_book.specs.Desk.{instances_at};
 ghost use Rattle.sched_book.specs.Reports.{with_changed};
@@ -10,13 +11,15 @@ ghost use Rattle.sched_book.specs.Delta.{applied, Fits};
 ghost use Rattle.sched_book.specs.Sound.{Sound};
 ghost use Rattle.sched_book.specs.Trusted.{Trusted};
 ghost use Rattle.sched_book.specs.declared.instance.Lapse.TheVariants as lapse;
+ghost use Rattle.call_sheet.specs.Sheets.{IsPageOf};
 ghost use Rattle.quorum_credit.specs.Late.{late_in};
-ghost use Rattle.quorum_credit.specs.Limited.{IsLimited, FitWithin};
+ghost use Rattle.quorum_credit.specs.Leaves.{late_on};
+ghost use Rattle.quorum_credit.specs.Limited.{FitWithin};
 ghost use Rattle.quorum_credit.specs.Taken.{AreTouched};
 
-use crate::changed::instances_under;
 use crate::touched::touched_by;
-use sched_book::{Change, Delta, Desk, Instance, Lapse, Moment, Place, Unavailable, copy_of};
+use call_sheet::{Draft, Leaf, Page, Sheet};
+use sched_book::{Delta, Desk, Instance, Lapse, Moment, Place, Unavailable, copy_of};
 use std::alloc::Global;
 use texts::{Listed, Memory};
 
@@ -50,66 +53,86 @@ fn late_in(instances: &[Instance], number: u32) -> Result<Option<Instance>, Memo
     }
 }
 
-/// The instance at a place, late, where a host holds it after changes.
-fn late_at<D: Desk>(
-    alloc: Global,
-    desk: &mut D,
-    delta: &Delta,
-    place: Place,
-) -> Result<Option<Instance>, Unavailable>
-    ensures reads { D.reads desk.old desk.new }
-    ensures answer { Trusted D.Units desk.old desk.new (
-        IfOk result (λ row. row ≡ late_in (instances_at (applied (D.world desk.old) delta.now) place.unit) place.number)) }
+/// The instance of this number on a leaf, late, where a host holds it.
+fn late_on(leaf: Option<&Leaf>, number: u32) -> Result<Option<Instance>, Memory>
+    ensures { IfOk result (λ row. row ≡ late_on (option_copied leaf.entry) number) }
 {
-    let instances = instances_under(alloc, desk, delta, place.unit)?;
-    Ok(late_in(instances.as_slice(), place.number)?)
+    match leaf {
+        None => Ok(None),
+        Some(leaf) => late_in(leaf.present.as_slice(), number),
+    }
 }
 
-/// Puts the lapse of one instance behind the changes so far. An instance that no host holds is refused.
-#[tactic(auto, using(crate::proofs::LateOnes::late_steps))]
-fn put_late<D: Desk>(
+/// The instance at a place, late, where a host holds it.
+#[tactic(auto, using(crate::proofs::OnLeaves::late_steps))]
+fn late_at<S: Draft>(
     alloc: Global,
-    desk: &mut D,
-    delta: &mut Delta,
+    sheet: &mut S,
     place: Place,
-) -> Result<(), Unavailable>
-    ensures reads { D.reads desk.old desk.new }
-    ensures answer { Trusted D.Units desk.old desk.new (
-        OnOk result (applied (D.world desk.old) delta.new ≡ with_changed (with_lapse lapse.Late) (applied (D.world desk.old) delta.old) place)) }
-    ensures fits { Trusted D.Units desk.old desk.new (
-        OnOk result (FitWithin (D.world desk.old) delta.old → FitWithin (D.world desk.old) delta.new)) }
+) -> Result<Option<Instance>, Unavailable>
+    ensures reads { S.reads sheet.old sheet.new }
+    ensures answer { Trusted S.Units sheet.old sheet.new (
+        IfOk result (λ row. row ≡ late_in (instances_at (S.world sheet.old) place.unit) place.number)) }
 {
-    match late_at(alloc, desk, delta, place)? {
+    sheet.read(alloc, place.unit)?;
+    Ok(late_on(sheet.leaf(place.unit), place.number)?)
+}
+
+/// Puts the lapse of the instance at a place. An instance that no host holds is refused.
+fn put_late<S: Draft>(alloc: Global, sheet: &mut S, place: Place) -> Result<(), Unavailable>
+    ensures works { S.works sheet.old sheet.new }
+    ensures put { Trusted S.Units sheet.old sheet.new (
+        OnOk result (S.world sheet.new ≡ with_changed (with_lapse lapse.Late) (S.world sheet.old) place)) }
+    ensures fits { Trusted S.Units sheet.old sheet.new (OnOk result (
+        FitWithin (S.entry sheet.old) (S.delta sheet.old) → FitWithin (S.entry sheet.old) (S.delta sheet.new))) }
+{
+    match late_at(alloc, sheet, place)? {
         None => Err(Unavailable),
         Some(row) => {
-            delta.push(Change::Instance { place, row })?;
+            sheet.put_instance(place, &row)?;
             Ok(())
         }
     }
 }
 
-/// The lapses of the instances at these places, in their order.
-#[tactic(auto, using(crate::proofs::FitReports::fit_steps))]
-fn late_in_turn<D: Desk>(
+/// Lets the instances at these places lapse late, in their order, on the sheet of a call. An instance that no host holds is
+/// refused.
+///
+/// # Errors
+///
+/// [`Unavailable`] where memory is wanting or the desk is unavailable.
+pub fn lapse_on<S: Draft>(alloc: Global, sheet: &mut S, places: &[Place]) -> Result<(), Unavailable>
+    ensures works { S.works sheet.old sheet.new }
+    ensures lapsed { Trusted S.Units sheet.old sheet.new (
+        OnOk result (S.world sheet.new ≡ fold (with_changed (with_lapse lapse.Late)) (S.world sheet.old) places.now)) }
+    ensures fits { Trusted S.Units sheet.old sheet.new (OnOk result (
+        FitWithin (S.entry sheet.old) (S.delta sheet.old) → FitWithin (S.entry sheet.old) (S.delta sheet.new))) }
+{
+    for place in places {
+        put_late(alloc, sheet, *place)?;
+    }
+    Ok(())
+}
+
+/// The same over a desk with a page.
+fn lapse_onto<D: Desk>(
     alloc: Global,
     desk: &mut D,
+    page: &mut Page,
     places: &[Place],
-) -> Result<Delta, Unavailable>
+) -> Result<(), Unavailable>
     ensures reads { D.reads desk.old desk.new }
-    ensures answer { Trusted D.Units desk.old desk.new (IfOk result (λ delta.
-        applied (D.world desk.old) delta ≡ fold (with_changed (with_lapse lapse.Late)) (D.world desk.old) places.now)) }
-    ensures fits { Trusted D.Units desk.old desk.new (
-        IfOk result (λ delta. IsLimited (D.world desk.old) → FitWithin (D.world desk.old) delta)) }
+    ensures lapsed { Trusted D.Units desk.old desk.new (IsPageOf (D.world desk.old) page.old → OnOk result (
+        applied (D.world desk.old) page.new.delta
+        ≡ fold (with_changed (with_lapse lapse.Late)) (applied (D.world desk.old) page.old.delta) places.now)) }
+    ensures fits { Trusted D.Units desk.old desk.new (IsPageOf (D.world desk.old) page.old → OnOk result (
+        FitWithin (D.world desk.old) page.old.delta → FitWithin (D.world desk.old) page.new.delta)) }
 {
-    let mut delta = Listed::new(alloc);
-    for place in places {
-        put_late(alloc, desk, &mut delta, *place)?;
-    }
-    Ok(delta)
+    let mut sheet = Sheet { desk, page };
+    lapse_on(alloc, &mut sheet, places)
 }
 
 /// Lets each held instance whose deadline is before this moment lapse late.
-#[tactic(auto, using(crate::proofs::FitReports::fit_steps))]
 pub fn lapse_late<D: Desk>(alloc: Global, desk: &mut D, now: Moment) -> Result<Lapsed, Unavailable>
     ensures reads { D.reads desk.old desk.new }
     ensures delta { Trusted D.Units desk.old desk.new (
@@ -120,12 +143,14 @@ pub fn lapse_late<D: Desk>(alloc: Global, desk: &mut D, now: Moment) -> Result<L
         IfOk result (λ late. late.count ≡ length (overdue (D.world desk.old) now))) }
     ensures touched { IfOk result (λ late. AreTouched late.delta late.touched) }
 {
+    let mut page = Page::new(alloc, desk.settings(alloc)?);
     let places = desk.due_before(alloc, now)?;
     let Ok(count) = u32::try_from(places.len()) else {
         // Not met in a sound world, where no more than 20,000,000 are overdue: `sched_book::laws::instances_are_few`.
         return Err(Unavailable);
     };
-    let delta = late_in_turn(alloc, desk, places.as_slice())?;
+    lapse_onto(alloc, desk, &mut page, places.as_slice())?;
+    let Page { delta, .. } = page;
     let touched = touched_by(alloc, delta.as_slice())?;
     Ok(Lapsed {
         delta,

@@ -3,10 +3,11 @@
 //! A host reports what its jobs came to. Reports agree or not, enough that agree make a workunit done, and a
 //! workunit that is still open gets the instances that it lacks. BOINC's clients report in scheduler requests;
 //! what is counted, and how a host's daily quota moves, is this profile's. Everything is counted from scratch by
-//! [`sched_book::count`]; the desk is only read, and what changes is handed back as a delta.
+//! [`sched_book::count`]. The steps of a call ([`record_on`], [`lapse_on`], [`settle_on`]) put what changes on its sheet;
+//! what is asked of a desk alone only reads it, and hands back what changes as a delta.
 #![tactic(auto)]
 
-mod changed;
+mod changed_host;
 mod growth;
 mod host_quotas;
 mod late;
@@ -17,10 +18,11 @@ mod settlement;
 mod settling;
 mod touched;
 
-pub use host_quotas::host_under;
-pub use late::{Lapsed, lapse_late};
+pub use changed_host::host_under;
+pub use late::{Lapsed, lapse_late, lapse_on};
+pub use marks::Mark;
 pub use quota::next_quota;
-pub use reports::{Taken, take_reports};
+pub use reports::{Taken, record_on, take_reports};
 pub use settlement::{Settled, Verdicts, agree, canonical, settle};
-pub use settling::{lapse, settle_all};
+pub use settling::{lapse, settle_all, settle_on};
 pub use touched::touched_by;

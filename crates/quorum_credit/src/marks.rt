@@ -1,19 +1,18 @@
 //! What settlement counts for the hosts of instances, and against them.
 
-ghost use Rattle.std.specs.Prelude.{◌≡◌, ◌≤◌, List, ◌++◌, ℕ, length, map, sum_by, IfOk, OnOk};
+ghost use Rattle.std.specs.Prelude.{◌≡◌, ◌≤◌, List, ◌++◌, length, IfOk, OnOk};
+ghost use Rattle.std.specs.Option.{option_copied};
 ghost use Rattle.sched_book.specs.Count.{is_invalid};
 ghost use Rattle.sched_book.specs.Limits.{most_instances};
 ghost use Rattle.sched_book.specs.Settle.{is_late};
-ghost use Rattle.sched_book.specs.Delta.{applied};
 ghost use Rattle.sched_book.specs.Trusted.{Trusted};
-ghost use Rattle.quorum_credit.specs.Marks.{standing_with, one_if_new, charges_between, merits_between, unit_charges, unit_merits, charges_in, merits_in};
-ghost use Rattle.quorum_credit.specs.Marking.{owned_standing, standings_by, standings_in, standings_at, standing_of, mark_of, with_mark, marks_from, marks_at};
+ghost use Rattle.quorum_credit.specs.Leaves.{marks_on};
+ghost use Rattle.quorum_credit.specs.Marks.{standing_with, one_if_new, charges_between, merits_between};
+ghost use Rattle.quorum_credit.specs.Marking.{owned_standing, standings_by, standings_in, standing_of, mark_of, with_mark, marks_from, marks_at, marks_of_units};
 ghost use Rattle.quorum_credit.specs.declared.marks.Mark.{Mark};
 
-use sched_book::{
-    Agreement, Delta, Desk, Instance, Lapse, Owner, Patched, Unavailable, Units, Verdict, Workunit,
-    count,
-};
+use call_sheet::{Draft, Leaf};
+use sched_book::{Agreement, Instance, Lapse, Owner, Unavailable, Verdict, Workunit, count};
 use std::alloc::Global;
 use texts::{Listed, Memory};
 
@@ -29,7 +28,7 @@ pub(crate) struct Standing {
 
 /// What is new of one instance of a host.
 #[derive(Clone, Copy, Debug, PartialEq, Eq)]
-pub(crate) struct Mark {
+pub struct Mark {
     pub host: u32,
     /// How much counts against the host.
     pub charges: u32,
@@ -107,40 +106,6 @@ fn standings_in(
 {
     let canonical = count::canonical(agreement, unit, instances);
     standings_by(alloc, agreement, instances, canonical)
-}
-
-/// How the instances of the workunit at a place stand; none where it does not stand.
-fn standings_at<D: Units>(
-    alloc: Global,
-    desk: &mut D,
-    unit: u32,
-) -> Result<Vec<OwnedStanding>, Unavailable>
-    ensures reads { D.reads desk.old desk.new }
-    ensures answer { Trusted D.Units desk.old desk.new (IfOk result (λ rows. rows.items ≡ standings_at (D.world desk.old) unit)) }
-{
-    let Some(row) = desk.unit(alloc, unit)? else {
-        return Ok(Vec::new(alloc));
-    };
-    let Some(agreement) = desk.agreement_of(alloc, unit)? else {
-        return Ok(Vec::new(alloc));
-    };
-    let instances = desk.instances_of(alloc, unit)?;
-    Ok(standings_in(alloc, &agreement, &row, instances.as_slice())?)
-}
-
-/// How the instances of the workunit at a place stand after changes; none where it does not stand.
-fn standings_under<D: Desk>(
-    alloc: Global,
-    desk: &mut D,
-    delta: &Delta,
-    unit: u32,
-) -> Result<Vec<OwnedStanding>, Unavailable>
-    ensures reads { D.reads desk.old desk.new }
-    ensures answer { Trusted D.Units desk.old desk.new (
-        IfOk result (λ rows. rows.items ≡ standings_at (applied (D.world desk.old) delta.now) unit)) }
-{
-    let mut patched = Patched { desk, delta };
-    standings_at(alloc, &mut patched, unit)
 }
 
 /// How the instance of a number stands among these.
@@ -229,40 +194,49 @@ fn push_marks(
     Ok(())
 }
 
-/// Puts the marks of the workunit at a place behind the others.
-fn mark_unit<D: Desk>(
-    alloc: Global,
-    desk: &mut D,
-    delta: &Delta,
-    marks: &mut Listed<Mark>,
-    unit: u32,
-) -> Result<(), Unavailable>
-    ensures reads { D.reads desk.old desk.new }
-    ensures answer { Trusted D.Units desk.old desk.new (
-        OnOk result (marks.new ≡ marks.old ++ marks_at (D.world desk.old) (applied (D.world desk.old) delta.now) unit)) }
+/// Puts what is new of the instances of a leaf behind the other marks.
+fn add_marks_on(alloc: Global, marks: &mut Listed<Mark>, leaf: Option<&Leaf>) -> Result<(), Memory>
+    ensures { OnOk result (marks.new ≡ marks.old ++ marks_on (option_copied leaf.entry)) }
 {
-    let old = standings_at(alloc, desk, unit)?;
-    let new = standings_under(alloc, desk, delta, unit)?;
+    let Some(leaf) = leaf else {
+        return Ok(());
+    };
+    let old = standings_in(alloc, &leaf.agreement, &leaf.unit, leaf.before.as_slice())?;
+    let new = standings_in(alloc, &leaf.agreement, &leaf.unit, leaf.present.as_slice())?;
     push_marks(marks, old.as_slice(), new.as_slice())?;
     Ok(())
 }
 
-/// What is new of the instances of these workunits after changes: a mark for each that has a host.
-pub(crate) fn marks_of_touched<D: Desk>(
+/// Puts what is new of the instances of the workunit at a place behind the other marks.
+#[tactic(auto, using(crate::proofs::OnLeaves::marks_steps))]
+fn add_marks<S: Draft>(
     alloc: Global,
-    desk: &mut D,
-    delta: &Delta,
-    touched: &[u32],
+    sheet: &mut S,
+    marks: &mut Listed<Mark>,
+    unit: u32,
+) -> Result<(), Unavailable>
+    ensures reads { S.reads sheet.old sheet.new }
+    ensures answer { Trusted S.Units sheet.old sheet.new (
+        OnOk result (marks.new ≡ marks.old ++ marks_at (S.entry sheet.old) (S.world sheet.old) unit)) }
+{
+    sheet.read(alloc, unit)?;
+    add_marks_on(alloc, marks, sheet.leaf(unit))?;
+    Ok(())
+}
+
+/// What is new of the instances of these workunits since the call came: a mark for each that has a host.
+pub(crate) fn marks_of_units<S: Draft>(
+    alloc: Global,
+    sheet: &mut S,
+    units: &[u32],
 ) -> Result<Listed<Mark>, Unavailable>
-    ensures reads { D.reads desk.old desk.new }
-    ensures charges { Trusted D.Units desk.old desk.new (IfOk result (λ marks. (host : ℕ) →
-        charges_in marks host ≡ sum_by (unit_charges (D.world desk.old) (applied (D.world desk.old) delta.now) host) touched.now)) }
-    ensures merits { Trusted D.Units desk.old desk.new (IfOk result (λ marks. (host : ℕ) →
-        merits_in marks host ≡ sum_by (unit_merits (D.world desk.old) (applied (D.world desk.old) delta.now) host) touched.now)) }
+    ensures reads { S.reads sheet.old sheet.new }
+    ensures answer { Trusted S.Units sheet.old sheet.new (
+        IfOk result (λ marks. marks ≡ marks_of_units (S.entry sheet.old) (S.world sheet.old) units.now)) }
 {
     let mut marks = Listed::new(alloc);
-    for unit in touched {
-        mark_unit(alloc, desk, delta, &mut marks, *unit)?;
+    for unit in units {
+        add_marks(alloc, sheet, &mut marks, *unit)?;
     }
     Ok(marks)
 }

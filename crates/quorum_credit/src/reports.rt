@@ -1,26 +1,26 @@
 //! The reports of a call.
 
 ghost use Rattle.std.specs.Prelude.{◌≡◌, All, ◌==◌, ◌+◌, ◌≤◌, length, map, count_by, fold, IfOk, OnOk};
+ghost use Rattle.std.specs.Option.{option_copied};
 ghost use Rattle.rpc_records.specs.Ranges.{IsReport};
 ghost use Rattle.rpc_records.specs.declared.request.Report.{Report};
 ghost use Rattle.sched_book.specs.Count.{is_judged, has_failed};
 ghost use Rattle.sched_book.specs.Limits.{most_instances};
 ghost use Rattle.sched_book.specs.Places.{status_at};
 ghost use Rattle.sched_book.specs.Desk.{instances_at};
-ghost use Rattle.sched_book.specs.Reports.{first_reports, outcome_of, with_report, record_one, recorded};
+ghost use Rattle.sched_book.specs.Reports.{first_reports, outcome_of, with_report, record_at, record_one, recorded};
 ghost use Rattle.sched_book.specs.Delta.{applied, Fits};
 ghost use Rattle.sched_book.specs.Sound.{Sound};
 ghost use Rattle.sched_book.specs.Trusted.{Trusted};
-ghost use Rattle.quorum_credit.specs.Limited.{IsLimited, FitWithin};
-ghost use Rattle.quorum_credit.specs.Taken.{place_among, reported_in, change_by, AreTouched};
+ghost use Rattle.call_sheet.specs.Sheets.{IsPageOf};
+ghost use Rattle.quorum_credit.specs.Leaves.{reported_on};
+ghost use Rattle.quorum_credit.specs.Limited.{FitWithin};
+ghost use Rattle.quorum_credit.specs.Taken.{place_among, reported_in, AreTouched};
 
-use crate::changed::instances_under;
 use crate::touched::touched_by;
+use call_sheet::{Draft, Leaf, Page, Sheet, place_before};
 use rpc_records::{Report, Request};
-use sched_book::{
-    Change, Delta, Desk, Instance, Outcome, Place, Unavailable, first_of_each, place_named,
-    status_at,
-};
+use sched_book::{Delta, Desk, Instance, Outcome, Place, Unavailable, first_of_each};
 use std::alloc::Global;
 use texts::{Listed, Memory, Text};
 
@@ -114,90 +114,149 @@ fn reported_in(
     }
 }
 
-/// The instance at a place with one report more, where it awaits it from this host, after changes. The report is
-/// judged where the workunit had not failed before them.
-fn reported_at<D: Desk>(
+/// The instance of this number on a leaf with one report more, where it awaits it from this host. The report is judged
+/// where the workunit had not failed before the call.
+fn reported_on(
+    host: u32,
+    report: &Report,
+    leaf: Option<&Leaf>,
+    number: u32,
+) -> Result<Option<Instance>, Memory>
+    ensures { IfOk result (λ row. row ≡ reported_on host report.now (option_copied leaf.entry) number) }
+{
+    let Some(leaf) = leaf else {
+        return Ok(None);
+    };
+    let failed = leaf.status_before().has_failed();
+    reported_in(host, report, failed, leaf.present.as_slice(), number)
+}
+
+/// The instance at a place with one report more, where it awaits it from this host.
+#[tactic(auto, using(crate::proofs::OnLeaves::reported_steps))]
+fn reported_at<S: Draft>(
     alloc: Global,
-    desk: &mut D,
-    delta: &Delta,
+    sheet: &mut S,
     host: u32,
     report: &Report,
     place: Place,
 ) -> Result<Option<Instance>, Unavailable>
-    ensures reads { D.reads desk.old desk.new }
-    ensures answer { Trusted D.Units desk.old desk.new (IfOk result (λ row. row ≡
-        reported_in host report.now (has_failed (status_at (D.world desk.old) place.unit))
-        (instances_at (applied (D.world desk.old) delta.now) place.unit) place.number)) }
+    ensures reads { S.reads sheet.old sheet.new }
+    ensures answer { Trusted S.Units sheet.old sheet.new (IfOk result (λ row. row ≡
+        reported_in host report.now (has_failed (status_at (S.entry sheet.old) place.unit))
+        (instances_at (S.world sheet.old) place.unit) place.number)) }
 {
-    let failed = status_at(alloc, desk, place.unit)?.has_failed();
-    let instances = instances_under(alloc, desk, delta, place.unit)?;
-    Ok(reported_in(host, report, failed, instances.as_slice(), place.number)?)
+    sheet.read(alloc, place.unit)?;
+    Ok(reported_on(host, report, sheet.leaf(place.unit), place.number)?)
 }
 
-/// What one report changes, after changes.
-fn change_by<D: Desk>(
+/// Puts what one report changes of the instance at a place.
+fn put_report<S: Draft>(
     alloc: Global,
-    desk: &mut D,
-    delta: &Delta,
+    sheet: &mut S,
     host: u32,
     report: &Report,
-) -> Result<Option<Change>, Unavailable>
-    ensures reads { D.reads desk.old desk.new }
-    ensures answer { Trusted D.Units desk.old desk.new (IfOk result (λ change.
-        change ≡ change_by (D.world desk.old) host report.now (applied (D.world desk.old) delta.now))) }
-{
-    let Some(place) = place_named(alloc, desk, report.name.as_str())? else {
-        return Ok(None);
-    };
-    match reported_at(alloc, desk, delta, host, report, place)? {
-        None => Ok(None),
-        Some(row) => Ok(Some(Change::Instance { place, row })),
-    }
-}
-
-/// Puts what one report changes behind the changes so far.
-#[tactic(auto, using(crate::proofs::Recorded::taken_steps))]
-fn take_report<D: Desk>(
-    alloc: Global,
-    desk: &mut D,
-    delta: &mut Delta,
-    host: u32,
-    report: &Report,
+    place: Place,
 ) -> Result<(), Unavailable>
-    ensures reads { D.reads desk.old desk.new }
-    ensures answer { Trusted D.Units desk.old desk.new (
-        OnOk result (applied (D.world desk.old) delta.new ≡ record_one (D.world desk.old) host (applied (D.world desk.old) delta.old) report.now)) }
-    ensures fits { Trusted D.Units desk.old desk.new (
-        OnOk result (IsReport report.now → FitWithin (D.world desk.old) delta.old → FitWithin (D.world desk.old) delta.new)) }
+    ensures works { S.works sheet.old sheet.new }
+    ensures put { Trusted S.Units sheet.old sheet.new (
+        OnOk result (S.world sheet.new ≡ record_at (S.entry sheet.old) host report.now (S.world sheet.old) place)) }
+    ensures fits { Trusted S.Units sheet.old sheet.new (OnOk result (IsReport report.now →
+        FitWithin (S.entry sheet.old) (S.delta sheet.old) → FitWithin (S.entry sheet.old) (S.delta sheet.new))) }
 {
-    match change_by(alloc, desk, delta, host, report)? {
+    match reported_at(alloc, sheet, host, report, place)? {
         None => Ok(()),
-        Some(change) => {
-            delta.push(change)?;
+        Some(row) => {
+            sheet.put_instance(place, &row)?;
             Ok(())
         }
     }
 }
 
-/// What these reports change, in their order.
-#[tactic(auto, using(crate::proofs::FitReports::fit_steps))]
-fn take_in_turn<D: Desk>(
+/// Puts what one report changes.
+fn take_report<S: Draft>(
     alloc: Global,
-    desk: &mut D,
+    sheet: &mut S,
+    host: u32,
+    report: &Report,
+) -> Result<(), Unavailable>
+    ensures works { S.works sheet.old sheet.new }
+    ensures taken { Trusted S.Units sheet.old sheet.new (
+        OnOk result (S.world sheet.new ≡ record_one (S.entry sheet.old) host (S.world sheet.old) report.now)) }
+    ensures fits { Trusted S.Units sheet.old sheet.new (OnOk result (IsReport report.now →
+        FitWithin (S.entry sheet.old) (S.delta sheet.old) → FitWithin (S.entry sheet.old) (S.delta sheet.new))) }
+{
+    match place_before(alloc, sheet, report.name.as_str())? {
+        None => Ok(()),
+        Some(place) => put_report(alloc, sheet, host, report, place),
+    }
+}
+
+/// Puts what these reports change, in their order.
+fn take_in_turn<S: Draft>(
+    alloc: Global,
+    sheet: &mut S,
     host: u32,
     reports: &[&Report],
-) -> Result<Delta, Unavailable>
-    ensures reads { D.reads desk.old desk.new }
-    ensures answer { Trusted D.Units desk.old desk.new (IfOk result (λ delta.
-        applied (D.world desk.old) delta ≡ fold (record_one (D.world desk.old) host) (D.world desk.old) (map (λ r. r.now) reports.now))) }
-    ensures fits { Trusted D.Units desk.old desk.new (
-        IfOk result (λ delta. All (λ r. IsReport r.now) reports.now → IsLimited (D.world desk.old) → FitWithin (D.world desk.old) delta)) }
+) -> Result<(), Unavailable>
+    ensures works { S.works sheet.old sheet.new }
+    ensures taken { Trusted S.Units sheet.old sheet.new (OnOk result (
+        S.world sheet.new ≡ fold (record_one (S.entry sheet.old) host) (S.world sheet.old) (map (λ r. r.now) reports.now))) }
+    ensures fits { Trusted S.Units sheet.old sheet.new (OnOk result (All (λ r. IsReport r.now) reports.now →
+        FitWithin (S.entry sheet.old) (S.delta sheet.old) → FitWithin (S.entry sheet.old) (S.delta sheet.new))) }
 {
-    let mut delta = Listed::new(alloc);
     for report in reports {
-        take_report(alloc, desk, &mut delta, host, report)?;
+        take_report(alloc, sheet, host, report)?;
     }
-    Ok(delta)
+    Ok(())
+}
+
+/// Puts what the reports of a call from the host of this number change on the sheet of the call, and gives the names that
+/// are acknowledged, each once, in the order of their first places.
+///
+/// Of each name the first report counts. It is recorded where the host was given the instance and did not report
+/// it yet, also after a lapse; it is judged where the workunit had not failed before the call, and then gets the
+/// next place among the workunit's judged reports. Every name is acknowledged, whatever became of its report.
+///
+/// # Errors
+///
+/// [`Unavailable`] where memory is wanting or the desk is unavailable.
+pub fn record_on<S: Draft>(
+    alloc: Global,
+    sheet: &mut S,
+    host: u32,
+    request: &Request,
+) -> Result<Listed<Text>, Unavailable>
+    ensures works { S.works sheet.old sheet.new }
+    ensures recorded { Trusted S.Units sheet.old sheet.new (OnOk result (
+        S.world sheet.new ≡ fold (record_one (S.entry sheet.old) host) (S.world sheet.old) (first_reports request.now.results))) }
+    ensures acked { IfOk result (λ acked. acked ≡ map (λ (r : Report). r.name) (first_reports request.now.results)) }
+    ensures fits { Trusted S.Units sheet.old sheet.new (OnOk result (All IsReport request.now.results →
+        FitWithin (S.entry sheet.old) (S.delta sheet.old) → FitWithin (S.entry sheet.old) (S.delta sheet.new))) }
+{
+    let firsts = first_of_each(alloc, request.results.as_slice())?;
+    let acked = names_of(alloc, firsts.as_slice())?;
+    take_in_turn(alloc, sheet, host, firsts.as_slice())?;
+    Ok(acked)
+}
+
+/// The same over a desk with a page.
+fn record_onto<D: Desk>(
+    alloc: Global,
+    desk: &mut D,
+    page: &mut Page,
+    host: u32,
+    request: &Request,
+) -> Result<Listed<Text>, Unavailable>
+    ensures reads { D.reads desk.old desk.new }
+    ensures recorded { Trusted D.Units desk.old desk.new (IsPageOf (D.world desk.old) page.old → OnOk result (
+        applied (D.world desk.old) page.new.delta
+        ≡ fold (record_one (D.world desk.old) host) (applied (D.world desk.old) page.old.delta) (first_reports request.now.results))) }
+    ensures acked { IfOk result (λ acked. acked ≡ map (λ (r : Report). r.name) (first_reports request.now.results)) }
+    ensures fits { Trusted D.Units desk.old desk.new (IsPageOf (D.world desk.old) page.old → OnOk result (All IsReport request.now.results →
+        FitWithin (D.world desk.old) page.old.delta → FitWithin (D.world desk.old) page.new.delta)) }
+{
+    let mut sheet = Sheet { desk, page };
+    record_on(alloc, &mut sheet, host, request)
 }
 
 /// Takes the reports of a call from the host of this number.
@@ -205,7 +264,6 @@ fn take_in_turn<D: Desk>(
 /// Of each name the first report counts. It is recorded where the host was given the instance and did not report
 /// it yet, also after a lapse; it is judged where the workunit had not failed before the call, and then gets the
 /// next place among the workunit's judged reports. Every name is acknowledged, whatever became of its report.
-#[tactic(auto, using(crate::proofs::FitReports::fit_steps))]
 pub fn take_reports<D: Desk>(
     alloc: Global,
     desk: &mut D,
@@ -220,9 +278,9 @@ pub fn take_reports<D: Desk>(
         IfOk result (λ taken. All IsReport request.now.results → Sound (D.world desk.old) → Fits (D.world desk.old) taken.delta)) }
     ensures touched { IfOk result (λ taken. AreTouched taken.delta taken.touched) }
 {
-    let firsts = first_of_each(alloc, request.results.as_slice())?;
-    let acked = names_of(alloc, firsts.as_slice())?;
-    let delta = take_in_turn(alloc, desk, host, firsts.as_slice())?;
+    let mut page = Page::new(alloc, desk.settings(alloc)?);
+    let acked = record_onto(alloc, desk, &mut page, host, request)?;
+    let Page { delta, .. } = page;
     let touched = touched_by(alloc, delta.as_slice())?;
     Ok(Taken {
         delta,

@@ -1,62 +1,79 @@
 //! The settlement of the workunits that changes touch.
 
-ghost use Rattle.std.specs.Prelude.{◌≡◌, ◌++◌, true, IfOk, OnOk};
+ghost use Rattle.std.specs.Prelude.{◌≡◌, ◌++◌, true, drop, IfOk, OnOk};
 ghost use Rattle.std.specs.List.{list_all};
 ghost use Rattle.sched_book.specs.Delta.{applied, Fits};
 ghost use Rattle.sched_book.specs.Settle.{settled};
 ghost use Rattle.sched_book.specs.Sound.{Sound};
 ghost use Rattle.sched_book.specs.Step.{lapsed};
 ghost use Rattle.sched_book.specs.Trusted.{Trusted};
-ghost use Rattle.quorum_credit.specs.Settling.{puts_row};
+ghost use Rattle.call_sheet.specs.Sheets.{IsPageOf};
+ghost use Rattle.quorum_credit.specs.Marking.{marks_of_units};
+ghost use Rattle.quorum_credit.specs.Settling.{puts_row, TouchJust, GoesOn, IsSettlement};
 ghost use Rattle.quorum_credit.specs.Taken.{AreTouched};
 
-use crate::growth::grow_touched;
+use crate::growth::grow_on;
 use crate::host_quotas::new_quotas;
 use crate::late::{Lapsed, lapse_late};
-use crate::marks::marks_of_touched;
-use sched_book::{Change, Delta, Desk, Moment, Unavailable, copy_of};
+use crate::marks::{Mark, marks_of_units};
+use call_sheet::{Draft, Page, Sheet, put_all};
+use sched_book::{Delta, Desk, Moment, Unavailable};
 use std::alloc::Global;
-use texts::Listed;
+use texts::{Listed, Memory};
 
-/// A copy of a change that puts a host or an instance; any other is refused.
-fn copied_change(change: &Change) -> Result<Change, Unavailable>
-    ensures copy { IfOk result (λ copy. copy ≡ change.now) }
-    ensures puts { OnOk result (puts_row change.now ≡ true) }
+/// Settles these workunits on the sheet of a call: each open one gets the instances that it lacks, and each of their hosts
+/// the quota that follows from what is new, of which the marks tell. No workunit but these may have been changed.
+///
+/// # Errors
+///
+/// [`Unavailable`] where memory is wanting or the desk is unavailable.
+pub fn settle_on<S: Draft>(
+    alloc: Global,
+    sheet: &mut S,
+    touched: &[u32],
+) -> Result<Listed<Mark>, Unavailable>
+    ensures works { S.works sheet.old sheet.new }
+    ensures settled { Trusted S.Units sheet.old sheet.new (OnOk result (
+        Sound (S.entry sheet.old) → Fits (S.entry sheet.old) (S.delta sheet.old) → TouchJust touched.now (S.entry sheet.old) (S.world sheet.old) →
+        S.world sheet.new ≡ settled (S.entry sheet.old) (S.world sheet.old))) }
+    ensures fits { Trusted S.Units sheet.old sheet.new (OnOk result (
+        Sound (S.entry sheet.old) → Fits (S.entry sheet.old) (S.delta sheet.old) → TouchJust touched.now (S.entry sheet.old) (S.world sheet.old) →
+        Fits (S.entry sheet.old) (S.delta sheet.new))) }
+    ensures marks { Trusted S.Units sheet.old sheet.new (
+        IfOk result (λ marks. marks ≡ marks_of_units (S.entry sheet.old) (S.world sheet.new) touched.now)) }
+    ensures delta { Trusted S.Units sheet.old sheet.new (OnOk result (GoesOn (S.delta sheet.old) (S.delta sheet.new))) }
 {
-    match change {
-        Change::Host { number, row } => Ok(Change::Host {
-            number: *number,
-            row: copy_of(row)?,
-        }),
-        Change::Instance { place, row } => Ok(Change::Instance {
-            place: *place,
-            row: copy_of(row)?,
-        }),
-        _ => Err(Unavailable),
-    }
+    grow_on(alloc, sheet, touched)?;
+    let marks = marks_of_units(alloc, sheet, touched)?;
+    let quotas = new_quotas(alloc, sheet, marks.as_slice())?;
+    put_all(alloc, sheet, quotas.as_slice())?;
+    Ok(marks)
 }
 
-/// Puts copies of changes behind others. Any but those that put a host or an instance is refused.
-fn push_copies(delta: &mut Delta, changes: &[Change]) -> Result<(), Unavailable>
-    ensures pushed { OnOk result (delta.new ≡ delta.old ++ changes.now) }
-    ensures puts { OnOk result (list_all puts_row changes.now ≡ true) }
+/// The same over a desk with a page, after changes that are put first.
+fn settle_onto<D: Desk>(
+    alloc: Global,
+    desk: &mut D,
+    page: &mut Page,
+    delta: &Delta,
+    touched: &[u32],
+) -> Result<(), Unavailable>
+    ensures reads { D.reads desk.old desk.new }
+    ensures page { Trusted D.Units desk.old desk.new (IsPageOf (D.world desk.old) page.old → IsPageOf (D.world desk.old) page.new) }
+    ensures settled { Trusted D.Units desk.old desk.new (IsPageOf (D.world desk.old) page.old → OnOk result (
+        IsSettlement (D.world desk.old) (page.old.delta ++ delta.now) page.new.delta touched.now)) }
 {
-    for change in changes {
-        delta.push(copied_change(change)?)?;
-    }
+    let mut sheet = Sheet { desk, page };
+    put_all(alloc, &mut sheet, delta.as_slice())?;
+    settle_on(alloc, &mut sheet, touched)?;
     Ok(())
 }
 
-/// Copies of changes, one list behind the other.
-fn joined(alloc: Global, first: &Delta, then: &Delta) -> Result<Delta, Unavailable>
-    ensures joined { IfOk result (λ delta. delta ≡ first.now ++ then.now) }
-    ensures puts { OnOk result (list_all puts_row first.now ≡ true) }
-    ensures puts_then { OnOk result (list_all puts_row then.now ≡ true) }
+/// The changes of a list that stand behind so many.
+fn behind(alloc: Global, delta: Delta, count: usize) -> Result<Delta, Memory>
+    ensures { IfOk result (λ more. more ≡ drop count delta) }
 {
-    let mut delta = Listed::new(alloc);
-    push_copies(&mut delta, first.as_slice())?;
-    push_copies(&mut delta, then.as_slice())?;
-    Ok(delta)
+    Ok(Listed::of(delta.into_vec().into_iter().skip(count).collect(alloc)?))
 }
 
 /// Settles the workunits that changes touch, which stand at these places: the further changes that give each open
@@ -82,12 +99,9 @@ pub fn settle_all<D: Desk>(
         Fits (D.world desk.old) (delta.now ++ more))) }
     ensures puts { Trusted D.Units desk.old desk.new (IfOk result (λ more. list_all puts_row (delta.now ++ more) ≡ true)) }
 {
-    let mut more = grow_touched(alloc, desk, delta, touched)?;
-    let all = joined(alloc, delta, &more)?;
-    let marks = marks_of_touched(alloc, desk, &all, touched)?;
-    let quotas = new_quotas(alloc, desk, &all, marks.as_slice())?;
-    more.append(quotas)?;
-    Ok(more)
+    let mut page = Page::new(alloc, desk.settings(alloc)?);
+    settle_onto(alloc, desk, &mut page, delta, touched)?;
+    Ok(behind(alloc, page.delta, delta.len())?)
 }
 
 /// Lets each held instance whose deadline is before this moment lapse late, and settles their workunits.

@@ -28,7 +28,8 @@ use Rattle.sched_book.specs.declared.rows.Workunit.{Workunit}
 use Rattle.sched_book.specs.declared.world.World.{World}
 use Rattle.sched_book.proofs.PlacesOf.{nth-suc}
 use Rattle.quorum_credit.specs.Settling.{is_among, puts_row}
-use Rattle.quorum_credit.specs.Taken.{AreAbove, AreRising, touches}
+use Rattle.call_sheet.specs.Sheets.{AreAbove, AreRising}
+use Rattle.quorum_credit.specs.Taken.{touches}
 use Rattle.quorum_credit.proofs.NewlyCounted.{sum_from, from_zero, sum_of_some}
 use Rattle.quorum_credit.proofs.SettledAll.{others_stay}
 use Rattle.sched_machine.specs.Credits.{awarded, award_in, award_at, share, share_at, with_place, with_change, units_with}

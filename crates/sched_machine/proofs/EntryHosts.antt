@@ -24,7 +24,7 @@ use Rattle.quorum_credit.specs.Tallies.{number_got}
 use Rattle.quorum_credit.proofs.ByPlace.{same_by_place, all_nth}
 use Rattle.quorum_credit.proofs.GrownFits.{fits_then}
 use Rattle.quorum_credit.proofs.Numbered.{number_within}
-use Rattle.quorum_credit.proofs.Quotas.{nth-set_nth}
+use Rattle.call_sheet.proofs.SetRows.{nth-set_nth}
 use Rattle.sched_machine.specs.Calling.{IsCalling}
 use Rattle.sched_machine.specs.declared.caller.Calling.{Calling}
 use Rattle.sched_machine.proofs.RowsListed.{place_found}

@@ -1,37 +1,16 @@
-use Rattle.std.proofs.Common.{◌≡◌, ◌≤◌, true, ap, sym, ◌∙◌, subst}
+use Rattle.std.proofs.Common.{sym, ap, ◌∙◌, subst}
 use Rattle.std.proofs.lemmas.Result.{IfOk-weaker}
-use Rattle.std.specs.List.{list_all}
-use Rattle.sched_book.specs.Delta.{applied, Fits}
-use Rattle.quorum_credit.specs.Settling.{puts_row, AreHostsInLimits, with_quotas_by}
-use Rattle.quorum_credit.specs.Tallies.{new_quotas, AreSums}
-use Rattle.quorum_credit.proofs.NewQuotas.{quotas_after, fits_after, quotas_put}
+use Rattle.quorum_credit.specs.Tallies.{AreSums}
+use Rattle.quorum_credit.proofs.NewQuotas.{are_quotas}
 use Rattle.quorum_credit.proofs.host_quotas.new_quotas.Goals as goal
 
-pub returns-clause-quotas : goal.returns-clause-quotas
-returns-clause-quotas g c = λ honest kept.
-    let w = g.D.Units.world c.args.desk.now in
-    let cs = c.args.delta.now in
+pub returns-clause-answer : goal.returns-clause-answer
+returns-clause-answer g c = λ honest kept.
+    let marks = c.args.marks.now in
     let sums = c.as_slice.result.now in
-    IfOk-weaker c.quotas_by.result (λ more. more ≡ new_quotas (applied w cs) w.settings.daily_result_quota sums)
-    (λ more. AreHostsInLimits (applied w cs) → applied (applied w cs) more ≡ with_quotas_by c.args.marks.now (applied w cs))
-    (λ more is. quotas_after w cs more c.args.marks.now sums (subst (AreSums c.args.marks.now) (sym c.as_slice.ensures.value) c.in_ok-sums.ensures) is)
-    (c.quotas_by.ensures.answer honest kept)
-
-pub returns-clause-fits : goal.returns-clause-fits
-returns-clause-fits g c = λ honest kept.
-    let w = g.D.Units.world c.args.desk.now in
-    let cs = c.args.delta.now in
-    let sums = c.as_slice.result.now in
-    IfOk-weaker c.quotas_by.result (λ more. more ≡ new_quotas (applied w cs) w.settings.daily_result_quota sums)
-    (λ more. AreHostsInLimits (applied w cs) → 1 ≤ w.settings.daily_result_quota → Fits (applied w cs) more)
-    (λ more is. fits_after w cs more c.args.marks.now sums (subst (AreSums c.args.marks.now) (sym c.as_slice.ensures.value) c.in_ok-sums.ensures) is)
-    (c.quotas_by.ensures.answer honest kept)
-
-pub returns-clause-puts : goal.returns-clause-puts
-returns-clause-puts g c = λ honest kept.
-    let w = g.D.Units.world c.args.desk.now in
-    let cs = c.args.delta.now in
-    let sums = c.as_slice.result.now in
-    IfOk-weaker c.quotas_by.result (λ more. more ≡ new_quotas (applied w cs) w.settings.daily_result_quota sums) (λ more. list_all puts_row more ≡ true)
-    (λ more is. ap (list_all puts_row) is ∙ quotas_put (applied w cs) w.settings.daily_result_quota sums)
-    (c.quotas_by.ensures.answer honest kept)
+    let w = g.S.Units.world c.args.sheet.now in
+    let limit = ap (λ s. s.daily_result_quota) (c.settings.ensures kept ∙ sym (ap (λ v. v.settings) (g.met.S.Draft.rest_stays _ kept))) in
+    IfOk-weaker c.quotas_in_turn.result _ _
+    (λ quotas is.
+    are_quotas marks sums w _ quotas (subst (AreSums marks) (sym c.as_slice.ensures.value) c.in_ok-sums.ensures) limit is)
+    (c.quotas_in_turn.ensures.answer honest kept)

@@ -1,12 +1,15 @@
-use Rattle.std.proofs.Common.{subst}
-use Rattle.quorum_credit.specs.Limited.{IsLimited, FitWithin}
-use Rattle.quorum_credit.proofs.FitReports.{limited_from_sound}
+use Rattle.std.proofs.Common.{sym, ap, ◌∙◌}
+use Rattle.quorum_credit.proofs.FitReports.{page_fits}
 use Rattle.quorum_credit.proofs.late.lapse_late.Goals as goal
 
 pub returns-clause-fits : goal.returns-clause-fits
-returns-clause-fits g c = λ honest kept sound.
-    let honest_before = g.met.D.Units.stays_honest _ _ c.late_in_turn.ensures.reads honest in
-    let kept_before = g.met.D.Units.stays_kept _ _ c.due_before.ensures.reads honest_before kept in
-    let same = g.met.D.Units.stays_same _ _ c.due_before.ensures.reads honest_before kept in
-    let fit = subst (λ w. IsLimited w → FitWithin w c.in_ok-delta.delta) same (c.in_ok-delta.ensures.fits honest kept_before) in
-    (fit (limited_from_sound (g.D.Units.world c.args.desk.now) sound)).fits
+returns-clause-fits g c = λ honest kept.
+    let d = g.met.D.Units in
+    let honest_2 = d.stays_honest _ _ c.lapse_onto.ensures.reads honest in
+    let honest_1 = d.stays_honest _ _ c.due_before.ensures.reads honest_2 in
+    let kept_1 = d.stays_kept _ _ c.settings.ensures.reads honest_1 kept in
+    let kept_2 = d.stays_kept _ _ c.due_before.ensures.reads honest_2 kept_1 in
+    let here_1 = d.stays_same _ _ c.settings.ensures.reads honest_1 kept in
+    let here = d.stays_same _ _ c.due_before.ensures.reads honest_2 kept_1 ∙ here_1 in
+    let page = c.new-page.ensures.page _ (c.in_ok-settings.ensures.answer honest_1 kept ∙ ap (λ v. v.settings) (sym here)) in
+    page_fits _ _ _ _ here c.new-page.ensures.delta (c.in_ok-lapse_onto.ensures.fits honest kept_2 page)

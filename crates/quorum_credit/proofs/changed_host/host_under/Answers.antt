@@ -1,6 +1,6 @@
 use Rattle.std.proofs.Common.{◌≡◌, IfOk, sym, subst}
 use Rattle.quorum_credit.proofs.Quotas.{host_at-applied}
-use Rattle.quorum_credit.proofs.host_quotas.host_under.Goals as goal
+use Rattle.quorum_credit.proofs.changed_host.host_under.Goals as goal
 
 pub returns-clause-answer : goal.returns-clause-answer
 returns-clause-answer g c = λ honest kept.

@@ -1,6 +1,6 @@
 use Rattle.std.proofs.Common.{◌≡◌, ◌≤◌, ◌+◌, ◌^◌, drop}
 use Rattle.quorum_credit.specs.Tallies.{host_after}
-use Rattle.quorum_credit.proofs.host_quotas.change_host_in_turn.Given as goal
+use Rattle.quorum_credit.proofs.changed_host.change_host_in_turn.Given as goal
 
 -- the changes so far, and those which are left
 abbrev pub invariant-loop-change : goal.invariant-loop-change

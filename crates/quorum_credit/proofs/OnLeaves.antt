@@ -1,0 +1,66 @@
+-- What a leaf says, as the worlds before the call and now say it.
+use Rattle.std.proofs.Common.{◌≡◌, ℕ, List, [], length, Option, Some, None, sym, ap, ap₂, ◌∙◌}
+use Rattle.std.specs.Prelude.{option_map, unwrap_or}
+use Rattle.rpc_records.specs.declared.request.Report.{Report}
+use Rattle.sched_book.specs.Count.{has_failed}
+use Rattle.sched_book.specs.Desk.{instances_at}
+use Rattle.sched_book.specs.Places.{status_at, agreement_by, agreement_of}
+use Rattle.sched_book.specs.declared.instance.Instance.{Instance}
+use Rattle.sched_book.specs.declared.instance.Place.{Place}
+use Rattle.sched_book.specs.declared.instance.Status.{Status}
+use Rattle.sched_book.specs.declared.instance.UnitBook.{UnitBook}
+use Rattle.sched_book.specs.declared.rows.Agreement.{Agreement}
+use Rattle.sched_book.specs.declared.world.World.{World}
+use Rattle.call_sheet.specs.Sheets.{IsReadAt}
+use Rattle.call_sheet.specs.declared.leaf.Leaf.{Leaf}
+use Rattle.call_sheet.proofs.OnLeaves.{instances_now-is, status_before-is}
+use Rattle.quorum_credit.specs.Growing.{fresh_changes, growth_of, growth}
+use Rattle.quorum_credit.specs.Late.{late_in}
+use Rattle.quorum_credit.specs.Leaves.{reported_on, late_on, growth_on, marks_on}
+use Rattle.quorum_credit.specs.Marking.{standings_in, marks_from, marks_at}
+use Rattle.quorum_credit.specs.Settled.{new_instances}
+use Rattle.quorum_credit.specs.Taken.{reported_in}
+use Rattle.quorum_credit.specs.declared.marks.OwnedStanding.{OwnedStanding}
+
+pub reported-is : (host : ℕ) (r : Report) (entry present : World) (p : Place) (o : Option Leaf) → IsReadAt entry present p.unit o
+    → reported_on host r o p.number ≡ reported_in host r (has_failed (status_at entry p.unit)) (instances_at present p.unit) p.number
+reported-is host r entry present p o read =
+    ap₂ (λ (s : Status) (xs : List Instance). reported_in host r (has_failed s) xs p.number)
+    (status_before-is entry present p.unit o read) (instances_now-is entry present p.unit o read)
+
+pub ruleset reported_steps = (reported-is)
+
+pub late-is : (entry present : World) (p : Place) (o : Option Leaf) → IsReadAt entry present p.unit o
+    → late_on o p.number ≡ late_in (instances_at present p.unit) p.number
+late-is entry present p o read = ap (λ (xs : List Instance). late_in xs p.number) (instances_now-is entry present p.unit o read)
+
+pub ruleset late_steps = (late-is)
+
+-- the agreement of a workunit is as it was, since the applications are
+agreed : (entry present : World) (k : Leaf) → present ≡ record entry { units = present.units; hosts = present.hosts }
+    → agreement_by entry.apps k.unit.app ≡ k.agreement → agreement_by present.apps k.unit.app ≡ k.agreement
+agreed entry present k rest agreement = ap (λ (v : World). agreement_by v.apps k.unit.app) rest ∙ agreement
+
+pub growth-is : (entry present : World) (unit : ℕ) (o : Option Leaf) → present ≡ record entry { units = present.units; hosts = present.hosts }
+    → IsReadAt entry present unit o → growth_on unit o ≡ growth present unit
+growth-is entry present unit None rest read = sym (ap (λ (b : Option UnitBook). unwrap_or (option_map (growth_of present unit) b) []) read.0)
+growth-is entry present unit (Some k) rest read =
+    ap (λ (a : Agreement). fresh_changes unit (length k.present) (new_instances a k.unit k.present)) (sym (agreed entry present k rest read.agreement))
+    ∙ sym (ap (λ (b : Option UnitBook). unwrap_or (option_map (growth_of present unit) b) []) read.here)
+
+pub ruleset growth_steps = (growth-is)
+
+abbrev standings_of : World → Option UnitBook → List OwnedStanding
+standings_of w o = unwrap_or (option_map (λ (b : UnitBook). standings_in (agreement_of w b) b.unit b.instances) o) []
+
+pub marks-is : (entry present : World) (unit : ℕ) (o : Option Leaf) → present ≡ record entry { units = present.units; hosts = present.hosts }
+    → IsReadAt entry present unit o → marks_on o ≡ marks_at entry present unit
+marks-is entry present unit None rest read =
+    sym (ap₂ (λ (old new : List OwnedStanding). marks_from old 0 new)
+    (ap (standings_of entry) read.1) (ap (standings_of present) read.0))
+marks-is entry present unit (Some k) rest read =
+    sym (ap₂ (λ (old new : List OwnedStanding). marks_from old 0 new)
+    (ap (standings_of entry) read.before ∙ ap (λ a. standings_in a k.unit k.before) read.agreement)
+    (ap (standings_of present) read.here ∙ ap (λ a. standings_in a k.unit k.present) (agreed entry present k rest read.agreement)))
+
+pub ruleset marks_steps = (marks-is)

@@ -1,0 +1,11 @@
+use Rattle.std.proofs.Common.{◌≡◌, ◌++◌, drop}
+use Rattle.quorum_credit.specs.Growing.{all_growth}
+use Rattle.quorum_credit.proofs.growth.growth_in_turn.Given as goal
+
+-- the new instances so far, and those of the workunits which are left
+abbrev pub invariant-loop-unit : goal.invariant-loop-unit
+invariant-loop-unit g l = record {
+  reads : g.S.Units.reads l.fn.sheet l.sheet;
+  told : g.S.Units.honest l.sheet → g.S.Units.well_kept l.fn.sheet
+      → l.more ++ all_growth (g.S.Units.world l.fn.sheet) (drop l.unit-index l.touched) ≡ all_growth (g.S.Units.world l.fn.sheet) l.touched;
+}

@@ -1,0 +1,33 @@
+-- One lapse more: the sheet is of the call that it was of at the beginning.
+use Rattle.std.proofs.Common.{◌+◌, drop, sym, ap, ◌∙◌, subst}
+use Rattle.std.specs.Prelude.{fold}
+use Rattle.std.proofs.lemmas.List.{at_drop_more}
+use Rattle.sched_book.specs.Reports.{with_changed}
+use Rattle.sched_book.specs.Lost.{with_lapse}
+use Rattle.sched_book.specs.declared.instance.Lapse.TheVariants.{Late}
+use Rattle.quorum_credit.specs.Limited.{FitWithin}
+use Rattle.quorum_credit.proofs.late.lapse_on.Goals as goal
+
+pub loop-place-preserved : goal.loop-place-preserved
+loop-place-preserved g c =
+    let draft = g.met.S.Draft in
+    let inv = c.loop-place.invariant in
+    let places = c.args.places.now in
+    let i = c.loop-place.place-index in
+    let step = with_changed (with_lapse Late) in
+    let so_far = g.S.Units.world c.loop-place.sheet in
+    record {
+      works = draft.works_on _ _ _ inv.works c.put_late.ensures.works;
+      told = λ honest kept.
+          let before = draft.works_honest _ _ c.put_late.ensures.works honest in
+          let well = draft.works_kept _ _ inv.works before kept in
+          ap (λ w. fold step w (drop (i + 1) places)) (c.in_ok-put_late.ensures.put honest well)
+          ∙ sym (at_drop_more (fold step so_far) places i _ c.loop-place-test.true)
+          ∙ inv.told before kept;
+      fits = λ honest kept fit.
+          let before = draft.works_honest _ _ c.put_late.ensures.works honest in
+          let well = draft.works_kept _ _ inv.works before kept in
+          subst (λ w. FitWithin w (g.S.Draft.delta c.loop-place.sheet) → FitWithin w (g.S.Draft.delta c.put_late.new.sheet))
+          (draft.works_entry _ _ inv.works before kept)
+          (c.in_ok-put_late.ensures.fits honest well) (inv.fits before kept fit);
+    }

@@ -1,0 +1,18 @@
+use Rattle.std.proofs.Common.{◌≡◌, drop}
+use Rattle.std.specs.Prelude.{fold}
+use Rattle.sched_book.specs.Reports.{with_changed}
+use Rattle.sched_book.specs.Lost.{with_lapse}
+use Rattle.sched_book.specs.declared.instance.Lapse.TheVariants.{Late}
+use Rattle.quorum_credit.specs.Limited.{FitWithin}
+use Rattle.quorum_credit.proofs.late.lapse_on.Given as goal
+
+-- what those lapses make of the world which are left, and that the changes so far fit
+abbrev pub invariant-loop-place : goal.invariant-loop-place
+invariant-loop-place g l = record {
+  works : g.S.Draft.works l.fn.sheet l.sheet;
+  told : g.S.Units.honest l.sheet → g.S.Units.well_kept l.fn.sheet
+      → fold (with_changed (with_lapse Late)) (g.S.Units.world l.sheet) (drop l.place-index l.places)
+      ≡ fold (with_changed (with_lapse Late)) (g.S.Units.world l.fn.sheet) l.places;
+  fits : g.S.Units.honest l.sheet → g.S.Units.well_kept l.fn.sheet
+      → FitWithin (g.S.Draft.entry l.fn.sheet) (g.S.Draft.delta l.fn.sheet) → FitWithin (g.S.Draft.entry l.fn.sheet) (g.S.Draft.delta l.sheet);
+}

@@ -1,0 +1,32 @@
+-- What the leaf of a workunit says of its reports, its new instances and its marks.
+use Rattle.std.specs.Prelude.{ℕ, List, [], length, Option, None, Some}
+use Rattle.rpc_records.specs.declared.request.Report.{Report}
+use Rattle.sched_book.specs.Count.{has_failed}
+use Rattle.sched_book.specs.declared.delta.Change.{Change}
+use Rattle.sched_book.specs.declared.instance.Instance.{Instance}
+use Rattle.call_sheet.specs.Sheets.{instances_now, status_before}
+use Rattle.call_sheet.specs.declared.leaf.Leaf.{Leaf}
+use Rattle.quorum_credit.specs.Growing.{fresh_changes}
+use Rattle.quorum_credit.specs.Late.{late_in}
+use Rattle.quorum_credit.specs.Marking.{standings_in, marks_from}
+use Rattle.quorum_credit.specs.Settled.{new_instances}
+use Rattle.quorum_credit.specs.Taken.{reported_in}
+use Rattle.quorum_credit.specs.declared.marks.Mark.{Mark}
+
+-- the instance of a number with one report more, where it awaits it from the host
+abbrev pub reported_on : ℕ → Report → Option Leaf → ℕ → Option Instance
+reported_on host r k number = reported_in host r (has_failed (status_before k)) (instances_now k) number
+
+-- the instance of a number, late, where a host holds it
+abbrev pub late_on : Option Leaf → ℕ → Option Instance
+late_on k number = late_in (instances_now k) number
+
+-- the changes that give the workunit at a place the instances that it lacks now
+abbrev pub growth_on : ℕ → Option Leaf → List Change
+growth_on unit None = []
+growth_on unit (Some k) = fresh_changes unit (length k.present) (new_instances k.agreement k.unit k.present)
+
+-- what is new of the workunit's instances since the call came
+abbrev pub marks_on : Option Leaf → List Mark
+marks_on None = []
+marks_on (Some k) = marks_from (standings_in k.agreement k.unit k.before) 0 (standings_in k.agreement k.unit k.present)
