@@ -1,17 +1,18 @@
 -- The line of an instance, from what is told of its workunit, and the lines of places, one place at a time.
-use Rattle.std.proofs.Common.{◌≡◌, ℕ, ◌+◌, ◌<◌, List, [], ◌∷◌, ◌++◌, length, get_or, drop, Option, None, Some, refl, sym, ap, ◌∙◌, append_assoc}
-use Rattle.std.specs.Prelude.{option_map, option_and_then, unwrap_or}
+use Rattle.std.proofs.Common.{◌≡◌, ℕ, ◌+◌, ◌<◌, List, [], ◌∷◌, ◌++◌, length, get_or, drop, Option, None, Some, true, refl, sym, ap, ◌∙◌, append_assoc}
+use Rattle.std.specs.Prelude.{is_some, option_map, option_and_then, unwrap_or}
 use Rattle.std.specs.List.{cons_option}
 use Rattle.std.proofs.lemmas.List.{drop_more}
 use Rattle.sched_book.specs.Desk.{workunit_at, agreement_at, instances_at}
-use Rattle.sched_book.specs.Places.{unit_at, agreement_of}
+use Rattle.sched_book.specs.Places.{unit_at, host_at, agreement_of, owned_by}
 use Rattle.sched_book.specs.declared.instance.Instance.{Instance}
 use Rattle.sched_book.specs.declared.instance.Place.{Place}
 use Rattle.sched_book.specs.declared.instance.UnitBook.{UnitBook}
 use Rattle.sched_book.specs.declared.rows.Agreement.{Agreement}
+use Rattle.sched_book.specs.declared.rows.HostRow.{HostRow}
 use Rattle.sched_book.specs.declared.rows.Workunit.{Workunit}
 use Rattle.sched_book.specs.declared.world.World.{World}
-use Rattle.office_files.specs.Statements.{line_in, line_at, lines_at}
+use Rattle.office_files.specs.Statements.{line_in, line_at, lines_at, text_of_lines, statement_of}
 use Rattle.office_files.specs.declared.statement.line.Line.{Line}
 
 pub same_item : {X : Type 0} (x y : X) → Some x ≡ Some y → x ≡ y
@@ -55,3 +56,10 @@ one_more w places i p lines o within is line =
     ∙ ap (λ r. lines ++ r) (put_first (line_at w p) (lines_at w (drop (i + 1) places)))
     ∙ ap (λ r. lines ++ (cons_option r [] ++ lines_at w (drop (i + 1) places))) (sym line)
     ∙ sym (append_assoc lines (cons_option o []) (lines_at w (drop (i + 1) places)))
+
+-- the statement of a host that stands
+pub stated : (w : World) (host : ℕ) (o : Option HostRow) (lines : List Line) (text : List ℕ) → o ≡ host_at w host → is_some o ≡ true
+    → text ≡ text_of_lines lines → lines ≡ lines_at w (owned_by w host) → Some text ≡ statement_of w host
+stated w host None lines text found stands told are = cc
+stated w host (Some h) lines text found stands told are =
+    ap Some (told ∙ ap text_of_lines are) ∙ ap (option_map (λ (h : HostRow). text_of_lines (lines_at w (owned_by w host)))) found
