@@ -2,8 +2,8 @@
 
 ghost use Rattle.std.specs.Prelude.{◌≡◌, ◌≤◌, ◌+◌, ◌++◌, List, [], ◌∷◌, Option, None, length, IfOk, OnOk, IfSome, option_map, ℕ};
 ghost use Rattle.std.specs.Option.{option_copied};
-ghost use Rattle.sched_book.specs.Places.{host_at, held_by, unit_at, unit_named};
-ghost use Rattle.sched_book.specs.Desk.{app_by_name};
+ghost use Rattle.sched_book.specs.Places.{host_at, held_by, unit_at, unit_named, host_credit, user_credit};
+ghost use Rattle.sched_book.specs.Desk.{account_by_key, app_by_name};
 ghost use Rattle.sched_book.specs.Delta.{applied, applied_one};
 ghost use Rattle.sched_book.specs.Fits.{version_at};
 ghost use Rattle.sched_book.specs.Trusted.{Trusted};
@@ -14,7 +14,7 @@ ghost use Rattle.call_sheet.specs.Sheets.{IsLeafAt, IsReadAt, HasPlace, AreAllOf
 ghost use Rattle.call_sheet.specs.declared.leaf.Leaf.{Leaf};
 
 use crate::leaf::Leaf;
-use sched_book::{App, HostRow, Instance, Place, Placed, Settings, Unavailable, Units, Version};
+use sched_book::{Account, App, HostRow, Instance, Place, Placed, Settings, Unavailable, Units, Version};
 use std::alloc::Global;
 use texts::{Listed, Memory};
 
@@ -87,6 +87,21 @@ pub trait Draft: Units {
     fn held_before(&mut self, alloc: Global, host: u32) -> Result<Listed<Place>, Unavailable>
         ensures reads { Self.reads self.old self.new }
         ensures answer { Trusted Self.Units self.old self.new (IfOk result (λ r. r ≡ held_by (entry self.old) host)) };
+
+    /// The account that has this authenticator.
+    fn account_by_key(&mut self, alloc: Global, authenticator: &str) -> Result<Option<Placed<Account>>, Unavailable>
+        ensures reads { Self.reads self.old self.new }
+        ensures answer { Trusted Self.Units self.old self.new (IfOk result (λ r. r ≡ account_by_key (entry self.old) authenticator.now)) };
+
+    /// The millicredits that the host had when the call came.
+    fn credit_of_host(&mut self, host: u32) -> Result<u64, Unavailable>
+        ensures reads { Self.reads self.old self.new }
+        ensures answer { Trusted Self.Units self.old self.new (IfOk result (λ r. r ≡ host_credit (entry self.old) host)) };
+
+    /// The millicredits that the user had when the call came.
+    fn credit_of_user(&mut self, account: u32) -> Result<u64, Unavailable>
+        ensures reads { Self.reads self.old self.new }
+        ensures answer { Trusted Self.Units self.old self.new (IfOk result (λ r. r ≡ user_credit (entry self.old) account)) };
 
     /// The application of this name.
     fn app_by_name(&mut self, alloc: Global, name: &str) -> Result<Option<Placed<App>>, Unavailable>

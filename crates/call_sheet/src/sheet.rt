@@ -7,7 +7,7 @@ use crate::leaf::Leaf;
 use crate::page::Page;
 use crate::reading::{add_host, put_host, read_host, read_leaf};
 use sched_book::{
-    Agreement, App, Desk, HostRow, Instance, Place, Placed, Settings, Unavailable, Units, Version,
+    Account, Agreement, App, Desk, HostRow, Instance, Place, Placed, Settings, Unavailable, Units, Version,
     Workunit, copy_of,
 };
 use std::alloc::Global;
@@ -153,6 +153,22 @@ impl<'a, D: Desk> Draft for Sheet<'a, D> {
 
     fn held_before(&mut self, alloc: Global, host: u32) -> Result<Listed<Place>, Unavailable> {
         self.desk.held_by(alloc, host)
+    }
+
+    fn account_by_key(
+        &mut self,
+        alloc: Global,
+        authenticator: &str,
+    ) -> Result<Option<Placed<Account>>, Unavailable> {
+        self.desk.account_by_key(alloc, authenticator)
+    }
+
+    fn credit_of_host(&mut self, host: u32) -> Result<u64, Unavailable> {
+        self.desk.credit_of_host(host)
+    }
+
+    fn credit_of_user(&mut self, account: u32) -> Result<u64, Unavailable> {
+        self.desk.credit_of_user(account)
     }
 
     fn app_by_name(

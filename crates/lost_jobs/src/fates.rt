@@ -100,9 +100,14 @@ fn open_job_at<S: Draft>(
     Ok(open_job_on(sheet.leaf(place.unit), place.number)?)
 }
 
-/// The version that the host runs of the application of this name; none where there is no such application.
+/// The version that the host runs of the application of this name, on the sheet of its call; none where there is no such
+/// application.
+///
+/// # Errors
+///
+/// [`Unavailable`] where memory is wanting or the desk is unavailable.
 #[tactic(auto, using(job_choice::proofs::Known::version_none))]
-fn version_on<S: Draft>(
+pub fn version_on<S: Draft>(
     alloc: Global,
     sheet: &mut S,
     host: &HostRow,

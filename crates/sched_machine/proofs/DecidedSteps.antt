@@ -102,7 +102,7 @@ eligible_free w h p eligible y stands =
     none_free (Some o) b is = absurd cc
 
 -- what a fold of changes leaves beside workunits
-hosts_granted : (host now : ℕ) (jobs : List Place) (w : World) → (granted w host now jobs).hosts ≡ w.hosts
+pub hosts_granted : (host now : ℕ) (jobs : List Place) (w : World) → (granted w host now jobs).hosts ≡ w.hosts
 hosts_granted host now [] w = refl
 hosts_granted host now (p ∷ jobs) w = hosts_granted host now jobs (grant_one host now w p)
 

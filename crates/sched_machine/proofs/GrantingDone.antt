@@ -1,9 +1,7 @@
 -- Jobs given to a host, as changes of what stood before any of them was given.
 use Rattle.std.proofs.Common.{◌≡◌, ℕ, ◌+◌, ◌≤◌, Bool, true, false, cond, eqb, List, [], ◌∷◌, ◌++◌, map, Option, Some, None, sym, refl, ap, ◌∙◌, subst, arith}
-use Rattle.std.specs.Prelude.{◌&&◌, IsTrue, is_some, option_map, option_and_then, unwrap_or, slice_get}
-use Rattle.std.specs.List.{list_all}
+use Rattle.std.specs.Prelude.{IsTrue, is_some, option_map, option_and_then, unwrap_or, slice_get}
 use Rattle.std.proofs.lemmas.List.{map-append}
-use Rattle.std.proofs.lemmas.List.Folds.{list_all-append}
 use Rattle.sched_book.specs.Places.{unit_at, instance_at, host_at, is_same}
 use Rattle.sched_book.specs.Delta.{applied_one, applied, FitsOne, Fits}
 use Rattle.sched_book.specs.Lost.{delay_at}
@@ -21,7 +19,7 @@ use Rattle.sched_book.specs.declared.world.World.{World}
 use Rattle.sched_book.proofs.PlacesOf.{nth-modify_nth}
 use Rattle.sched_book.proofs.Recording.{instance_at-with_changed}
 use Rattle.quorum_credit.specs.Limited.{IsLimited, FitWithin}
-use Rattle.quorum_credit.specs.Settling.{AreUnitsInLimits, puts_row}
+use Rattle.quorum_credit.specs.Settling.{AreUnitsInLimits}
 use Rattle.quorum_credit.proofs.FitReports.{done_fits}
 use Rattle.quorum_credit.proofs.Recorded.{with_changed-is}
 use Rattle.sched_machine.specs.Granting.{owner_for, given_at, given_change}
@@ -30,10 +28,7 @@ use Rattle.sched_machine.specs.Granting.{owner_for, given_at, given_change}
 pub given_behind : (cs : List Change) (c : Change) → map Some (cs ++ c ∷ []) ≡ map Some cs ++ Some c ∷ []
 given_behind cs c = map-append Some cs (c ∷ [])
 
-pub puts_behind : (cs : List Change) (p : Place) (x : Instance) → list_all puts_row cs ≡ true → list_all puts_row (cs ++ change.Instance p x ∷ []) ≡ true
-puts_behind cs p x before = list_all-append puts_row cs (change.Instance p x ∷ []) ∙ ap (λ b. b && true) before
-
-pub ruleset push_steps = (given_behind, puts_behind)
+pub ruleset push_steps = (given_behind)
 
 -- an owner over an owner is the owner
 owner_over : (o r : Owner) (s : Bool) (x : Option Instance)

@@ -30,8 +30,8 @@ use Rattle.lost_jobs.proofs.Standing.{name_none, name_some}
 use Rattle.quorum_credit.proofs.ByPlace.{nth-map_places}
 use Rattle.sched_machine.proofs.AlikeLists.{along_nth}
 use Rattle.sched_machine.proofs.AlikeSettled.{before_settlement}
-use Rattle.sched_machine.proofs.JobsSaid.{said_is, said_some}
-use Rattle.sched_machine.proofs.SettledAsking.{SameRow, rows_settled}
+use Rattle.sched_machine.proofs.JobsSaid.{job_at_some}
+use Rattle.sched_machine.proofs.SettledRows.{SameRow, rows_settled}
 use Rattle.sched_machine.proofs.UnitsGiven.{first_true}
 
 -- what a list holds, of which some elements give something
@@ -143,8 +143,7 @@ module _ (w : World) (c : Caller) (r : Request) (now : ℕ) (jobs : List Place) 
       → (j : Job) × (job_at after h resent p ≡ Some j) × (j.name ≡ name_at w p)
   said_of h resent p runs = (
     job_of (instance_name runs.unit.name p.number) (deadline_at after p) h resent runs.unit runs.version,
-    sym (said_is after [] h resent p refl)
-        ∙ said_some after after h resent p runs.unit runs.version (row_stays p.unit ∙ runs.stands) (version_stays h runs.unit.app ∙ runs.found),
+    job_at_some after h resent p runs.unit runs.version (row_stays p.unit ∙ runs.stands) (version_stays h runs.unit.app ∙ runs.found),
     sym (name_some w p runs.unit runs.stands),
   )
 
@@ -206,7 +205,7 @@ module _ (w : World) (c : Caller) (r : Request) (now : ℕ) (jobs : List Place) 
           ∙ is)
 
   -- the host that asks for jobs has the platforms that its call names
-  platforms_stay : (asking_of w c r now).host.platforms ≡ (host_at_entry w c r).platforms
+  pub platforms_stay : (asking_of w c r now).host.platforms ≡ (host_at_entry w c r).platforms
   platforms_stay =
       ap (λ o. (unwrap_or o (host_at_entry w c r)).platforms)
       (nth-map_places (with_quota (at_entry w c r) (with_grown (after_lost w c r now))) (after_lost w c r now).hosts (host_number w c)

@@ -49,15 +49,38 @@ module _ (w : World) (c : Caller) (r : Request) where
     pub lost_resent : (fates : List Fate) → fates ≡ fates_known w c r now → resent_places fates ≡ resent_of w c r
     lost_resent fates known = ap resent_places known ∙ resent_are w (host_at_entry w c r) now (lost_of w c r)
 
--- the fates of what the call's host is known to have lost
-pub fates_are : (w : World) (k : Calling) (r : Request) (now : ℕ) (changes : List Change) (places : List Place) (fates : List Fate)
-    → (HoldsNoMore w (applied w changes) k.number → places ≡ lost (applied w changes) k.number r.other_results)
-    → fates ≡ map (fate w k.host now) places → IsCalling w r k → applied w changes ≡ after_reports w k.caller r → fates ≡ fates_known w k.caller r now
-fates_are w k r now changes places fates found known is reported =
-    let no_more : HoldsNoMore w (applied w changes) k.number =
-    subst (λ v. HoldsNoMore w v k.number) (sym reported)
-    (subst (λ n. HoldsNoMore w (after_reports w k.caller r) n) (sym is.number) (host_holds_no_more w k.caller r)) in
-    known
-    ∙ ap (λ h. map (fate w h now) places) is.host
-    ∙ ap (map (fate w (host_at_entry w k.caller r) now))
-    (found no_more ∙ ap (λ v. lost v k.number r.other_results) reported ∙ ap (λ n. lost (after_reports w k.caller r) n r.other_results) is.number)
+-- What the steps told by which a call's lost jobs were found and their fates put: the call found the world w, its reports left
+-- v, and the fates u.
+pub record AreLost (w v u : World) (r : Request) (k : Calling) (now : ℕ) (places : List Place) (fates : List Fate) (before after : List Change) : Type 0 where
+  pub found : HoldsNoMore w v k.number → places ≡ lost v k.number r.other_results
+  pub told : fates ≡ map (fate w k.host now) places
+  pub here : v ≡ applied w before
+  pub there : u ≡ applied w after
+  pub put : after ≡ before ++ filter_map (fate_change v) fates
+
+module _ (w v u : World) (r : Request) (k : Calling) (now : ℕ) (places : List Place) (fates : List Fate) (before after : List Change)
+    (are : AreLost w v u r k now places fates before after) (calling : IsCalling w r k) (reported : v ≡ after_reports w k.caller r) where
+  no_more : HoldsNoMore w v k.number
+  no_more =
+      subst (λ z. HoldsNoMore w z k.number) (sym reported)
+      (subst (λ n. HoldsNoMore w (after_reports w k.caller r) n) (sym calling.number) (host_holds_no_more w k.caller r))
+
+  -- the fates are those of what the host lost
+  pub fates_are : fates ≡ fates_known w k.caller r now
+  fates_are =
+      are.told
+      ∙ ap (λ h. map (fate w h now) places) calling.host
+      ∙ ap (map (fate w (host_at_entry w k.caller r) now))
+      (are.found no_more ∙ ap (λ z. lost z k.number r.other_results) reported ∙ ap (λ n. lost (after_reports w k.caller r) n r.other_results) calling.number)
+
+  pub before_is : applied w before ≡ after_reports w k.caller r
+  before_is = sym are.here ∙ reported
+
+  pub put_is : after ≡ before ++ filter_map (fate_change (applied w before)) fates
+  put_is = are.put ∙ ap (λ z. before ++ filter_map (fate_change z) fates) are.here
+
+  pub left_known : u ≡ after_lost w k.caller r now
+  left_known = are.there ∙ lost_left w k.caller r now before after fates before_is fates_are put_is
+
+  pub resent_known : (resent : List Place) → resent ≡ resent_places fates → resent ≡ resent_of w k.caller r
+  resent_known resent is = is ∙ lost_resent w k.caller r now fates fates_are

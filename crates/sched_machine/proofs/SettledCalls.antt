@@ -1,28 +1,54 @@
--- A call up to its settlement, from what its parts tell of the worlds that they read, which are one.
-use Rattle.std.proofs.Common.{◌≡◌, ℕ, List, ap, ◌∙◌, subst}
+-- A call up to its settlement, from what its parts tell.
+use Rattle.std.proofs.Common.{◌≡◌, ℕ, List, [], map, sym, ap, ap₂, ◌∙◌, subst}
+use Rattle.std.specs.Prelude.{fold}
+use Rattle.rpc_records.specs.declared.request.Report.{Report}
 use Rattle.rpc_records.specs.declared.request.Request.{Request}
 use Rattle.sched_book.specs.Delta.{applied, Fits}
+use Rattle.sched_book.specs.Reports.{record_one, first_reports}
 use Rattle.sched_book.specs.Settle.{settled}
 use Rattle.sched_book.specs.Sound.{Sound}
-use Rattle.sched_book.specs.Step.{after_reports, after_lost, after_settlement}
+use Rattle.sched_book.specs.Step.{at_entry, after_reports, after_lost, after_settlement, resent_of}
 use Rattle.sched_book.specs.declared.delta.Change.{Change}
+use Rattle.sched_book.specs.declared.instance.Place.{Place}
 use Rattle.sched_book.specs.declared.world.World.{World}
-use Rattle.sched_machine.specs.Calling.{IsCalling}
+use Rattle.quorum_credit.specs.Limited.{IsLimited, FitWithin}
+use Rattle.quorum_credit.specs.Settling.{AreMarks}
+use Rattle.quorum_credit.proofs.FitReports.{limited_from_sound}
+use Rattle.sched_machine.specs.Calling.{IsCalling, IsEntered}
+use Rattle.sched_machine.specs.Prepared.{IsSettledCall}
 use Rattle.sched_machine.specs.declared.caller.Calling.{Calling}
+use Rattle.sched_machine.specs.declared.settlement.SettledCall.{SettledCall}
+use Rattle.sched_machine.proofs.RowsEntry.{entry_keeps_sound}
 
--- settlement looks at the workunits, the applications and the settings of the world before, which entry leaves
-pub settles_call : (w v u : World) (r : Request) (k : Calling) (now : ℕ) (reported lost all : List Change) → v ≡ w → u ≡ v → IsCalling w r k
-    → applied w reported ≡ after_reports w k.caller r
-    → Fits w reported
-    → (IsCalling v r k → applied v reported ≡ after_reports v k.caller r → applied v lost ≡ after_lost v k.caller r now)
-    → (IsCalling v r k → applied v reported ≡ after_reports v k.caller r → Fits v reported → Fits v lost)
-    → (Sound u → Fits u lost → applied u all ≡ settled u (applied u lost))
-    → applied w all ≡ after_settlement w k.caller r now
-settles_call w v u r k now reported lost all first second calling known fits lost_known lost_fits settles =
-    let then : applied w lost ≡ after_lost w k.caller r now =
-    subst (λ (z : World). IsCalling z r k → applied z reported ≡ after_reports z k.caller r → applied z lost ≡ after_lost z k.caller r now) first lost_known calling known in
-    let then_fits : Fits w lost =
-    subst (λ (z : World). IsCalling z r k → applied z reported ≡ after_reports z k.caller r → Fits z reported → Fits z lost) first lost_fits calling known fits in
-    let last : applied w all ≡ settled w (applied w lost) =
-    subst (λ (z : World). Sound z → Fits z lost → applied z all ≡ settled z (applied z lost)) (second ∙ first) settles calling.sound then_fits in
-    last ∙ ap (settled w) then
+-- before any change nothing is out of its limits in a sound world
+pub nothing_put_within : (w : World) (changes : List Change) → changes ≡ [] → Sound w → FitWithin w changes
+nothing_put_within w changes none sound =
+    subst (FitWithin w) (sym none) (let within : FitWithin w [] = record { fits = tt; limited = limited_from_sound w sound } in within)
+
+module _ (w v : World) (r : Request) (k : Calling) (changes : List Change) (entered : IsEntered w r k v changes) where
+  -- what was put fits, and leaves a world within limits
+  pub entered_within : v ≡ applied w changes → FitWithin w changes
+  entered_within here = record {
+    fits = entered.fits;
+    limited = subst IsLimited (sym entered.left ∙ here)
+        (limited_from_sound (at_entry w k.caller r)
+        (entry_keeps_sound w k.caller r entered.calling.sound entered.calling.admitted.caller entered.calling.room entered.calling.admitted.limits));
+  }
+
+  -- reports look at the workunits and the applications of the world before, which entry leaves
+  pub reports_known : (u : World) → u ≡ fold (record_one w k.number) v (first_reports r.results) → u ≡ after_reports w k.caller r
+  reports_known u is =
+      is ∙ ap₂ (λ (n : ℕ) (z : World). fold (record_one w n) z (first_reports r.results)) entered.calling.number entered.left
+
+-- so does settlement
+pub settled_call : (w v u : World) (r : Request) (k : Calling) (now : ℕ) (done : SettledCall) (changes : List Change)
+    → v ≡ after_lost w k.caller r now → u ≡ settled w v → Fits w changes
+    → done.acked ≡ map (λ (x : Report). x.name) (first_reports r.results) → done.resent ≡ resent_of w k.caller r → AreMarks w u done.marks
+    → IsSettledCall w r k now done u changes
+settled_call w v u r k now done changes left settles fits acked resent marks = record {
+  left = settles ∙ ap (settled w) left;
+  fits = fits;
+  acked = acked;
+  resent = resent;
+  marks = marks;
+}

@@ -1,15 +1,19 @@
--- What a call's host holds, and the seconds of the jobs that are sent again.
-use Rattle.std.specs.Prelude.{ℕ, ◌+◌, Bool, List, filter_map, Option, Some, None, if◌then◌else◌}
+-- What a call's host holds, and which of its lost jobs are sent again.
+use Rattle.std.specs.Prelude.{ℕ, ◌+◌, Bool, true, false, List, filter_map, Option, Some, None, if◌then◌else◌, option_map, unwrap_or, slice_get}
 use Rattle.sched_book.specs.Places.{passes, is_held_by}
 use Rattle.sched_book.specs.declared.instance.Place.{Place}
-use Rattle.sched_book.specs.declared.rows.HostRow.{HostRow}
 use Rattle.sched_book.specs.declared.world.World.{World}
 use Rattle.lost_jobs.specs.declared.fates.Fate.{Fate}
-use Rattle.sched_book.specs.Fits.{estimate_at}
+use Rattle.call_sheet.specs.declared.leaf.Leaf.{Leaf}
 
 -- the host holds the instance at a place
 abbrev pub holds : World → ℕ → Place → Bool
 holds w host p = passes w (λ b x. is_held_by host x) p
+
+-- the host still holds the instance of a number that it held when the call came, by the leaf of its workunit
+abbrev pub still_holds : Option Leaf → ℕ → ℕ → Bool
+still_holds None host number = true
+still_holds (Some k) host number = unwrap_or (option_map (is_held_by host) (slice_get k.present number)) false
 
 -- one more where it is held
 abbrev pub count_with : ℕ → Bool → ℕ
@@ -23,11 +27,3 @@ place_resent (Some deadline) p = Some p
 -- those of all of them
 abbrev pub resent_places : List Fate → List Place
 resent_places fates = filter_map (λ (f : Fate). place_resent f.resent f.place) fates
-
--- the seconds of a lost job where it is sent again, and none where it is dropped
-abbrev pub seconds_of : Option ℕ → ℕ → ℕ
-seconds_of None seconds = 0
-seconds_of (Some deadline) seconds = seconds
-
-abbrev pub fate_seconds : World → HostRow → Fate → ℕ
-fate_seconds w h f = seconds_of f.resent (estimate_at w h f.place)

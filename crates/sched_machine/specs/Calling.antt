@@ -1,10 +1,12 @@
 -- A call that is acted on.
-use Rattle.std.specs.Prelude.{◌≡◌, ◌≤◌, length, None}
+use Rattle.std.specs.Prelude.{◌≡◌, ◌≤◌, List, length, None}
 use Rattle.rpc_records.specs.Ranges.{IsInRange}
 use Rattle.rpc_records.specs.declared.request.Request.{Request}
+use Rattle.sched_book.specs.Delta.{Fits}
 use Rattle.sched_book.specs.Imports.{AreChecked}
 use Rattle.sched_book.specs.Sound.{Sound}
-use Rattle.sched_book.specs.Step.{IsCaller, HasRoom, host_number, host_at_entry}
+use Rattle.sched_book.specs.Step.{IsCaller, HasRoom, host_number, at_entry, host_at_entry}
+use Rattle.sched_book.specs.declared.delta.Change.{Change}
 use Rattle.sched_book.specs.declared.machine.Call.{Call}
 use Rattle.sched_book.specs.declared.machine.Call.TheVariants as call
 use Rattle.sched_book.specs.declared.machine.Caller.{Caller}
@@ -33,6 +35,12 @@ pub record IsCalling (w : World) (r : Request) (k : Calling) : Type 0 where
   pub room : HasRoom w k.caller
   pub number : k.number ≡ host_number w k.caller
   pub host : k.host ≡ host_at_entry w k.caller r
+
+-- Its host's row was put: the world is that at entry, and what was put fits.
+pub record IsEntered (w : World) (r : Request) (k : Calling) (v : World) (changes : List Change) : Type 0 where
+  pub calling : IsCalling w r k
+  pub left : v ≡ at_entry w k.caller r
+  pub fits : Fits w changes
 
 -- a call has no room for its host
 abbrev pub IsFull : World → Call → Type 0

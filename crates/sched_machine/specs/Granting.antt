@@ -1,19 +1,24 @@
 -- Jobs that are given to a host, as changes of a world, and what a reply says of them.
-use Rattle.std.specs.Prelude.{ℕ, ◌+◌, Bool, Option, option_map, option_and_then}
+use Rattle.std.specs.Prelude.{◌≡◌, ℕ, ◌+◌, Bool, List, All, Option, None, Some, option_map, option_and_then, unwrap_or}
 use Rattle.rpc_records.specs.declared.reply.Job.{Job}
 use Rattle.sched_book.specs.Names.{instance_name}
 use Rattle.sched_book.specs.Fits.{version_for}
-use Rattle.sched_book.specs.Places.{instance_at}
+use Rattle.sched_book.specs.Places.{unit_at, instance_at, deadline_of}
 use Rattle.sched_book.specs.Desk.{workunit_at}
-use Rattle.sched_book.specs.Step.{with_owner, deadline_at, job_of}
+use Rattle.sched_book.specs.Step.{with_owner, job_of}
 use Rattle.sched_book.specs.declared.delta.Change.{Change}
 use Rattle.sched_book.specs.declared.delta.Change.TheVariants as change
 use Rattle.sched_book.specs.declared.instance.Instance.{Instance}
 use Rattle.sched_book.specs.declared.instance.Owner.{Owner}
 use Rattle.sched_book.specs.declared.instance.Place.{Place}
 use Rattle.sched_book.specs.declared.rows.HostRow.{HostRow}
+use Rattle.sched_book.specs.declared.instance.UnitBook.{UnitBook}
+use Rattle.sched_book.specs.declared.rows.Version.{Version}
 use Rattle.sched_book.specs.declared.rows.Workunit.{Workunit}
 use Rattle.sched_book.specs.declared.world.World.{World}
+use Rattle.job_choice.specs.declared.granted.Granted.{Granted}
+use Rattle.call_sheet.specs.Sheets.{instance_now}
+use Rattle.call_sheet.specs.declared.leaf.Leaf.{Leaf}
 
 -- the owner that a host becomes at a moment, with a delay for its deadline
 abbrev pub owner_for : ℕ → ℕ → ℕ → Owner
@@ -28,8 +33,18 @@ given_at w host now p =
 abbrev pub given_change : World → ℕ → ℕ → Place → Option Change
 given_change w host now p = option_map (change.Instance p) (given_at w host now p)
 
--- what a reply says of the job at a place in a world, with the version by the world before
-abbrev pub job_after : World → World → HostRow → Bool → Place → Option Job
-job_after before w h resent p =
-    option_and_then (λ (u : Workunit). option_map (job_of (instance_name u.name p.number) (deadline_at w p) h resent u) (version_for before h u.app))
-    (workunit_at w p.unit)
+-- the version that the host runs of the application of the workunit at a place
+abbrev pub version_at_unit : World → HostRow → ℕ → Option Version
+version_at_unit w h unit = option_and_then (λ (b : UnitBook). version_for w h b.unit.app) (unit_at w unit)
+
+-- what a reply says of the instance of a number on a leaf, to a host that runs this version
+abbrev pub job_on : Option Leaf → ℕ → HostRow → Bool → Option Version → Option Job
+job_on None number h resent v = None
+job_on (Some k) number h resent v =
+    option_map
+    (job_of (instance_name k.unit.name number) (unwrap_or (option_map (λ (x : Instance). deadline_of x.owner) (instance_now (Some k) number)) 0) h resent k.unit)
+    v
+
+-- the version of each job is the one that the host runs
+abbrev pub AreRunBy : World → HostRow → List Granted → Type 0
+AreRunBy w h jobs = All (λ (j : Granted). Some j.version ≡ version_at_unit w h j.place.unit) jobs

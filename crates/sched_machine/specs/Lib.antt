@@ -1,7 +1,6 @@
 pub mod Laws
 pub mod Admission
 pub mod Alike
-pub mod Credits
 pub mod Asked
 pub mod Granting
 pub mod Calling
@@ -11,3 +10,7 @@ pub mod Decisions
 pub mod Held
 pub mod Bounds
 pub mod Stretches
+pub mod Lapsing
+pub mod Prepared
+pub mod Replying
+pub mod Totals

@@ -3,18 +3,16 @@
 
 mod admission;
 mod caller;
-mod changed;
-mod credits;
-mod grant;
-mod held;
 mod imports;
+mod jobs;
 pub mod laws;
 mod lost;
 mod owners;
+mod preparing;
 mod reply;
-mod reports;
 mod settlement;
 mod steps;
+mod totals;
 
 pub use admission::{Refused, admit};
 pub use sched_book::{Answered, Call, Caller};

@@ -1,18 +1,20 @@
-//! The host that is given jobs becomes their owner: the changes.
+//! The host that is given jobs becomes their owner.
 
-ghost use Rattle.std.specs.Prelude.{◌≡◌, [], ◌∷◌, ◌++◌, true, map, is_some, Some, IsTrue, IfOk, OnOk};
-ghost use Rattle.std.specs.List.{list_all};
+ghost use Rattle.std.specs.Prelude.{◌≡◌, [], ◌∷◌, ◌++◌, map, is_some, Some, IsTrue, IfOk, OnOk};
 ghost use Rattle.sched_book.specs.Places.{host_at};
 ghost use Rattle.sched_book.specs.Delta.{applied, Fits};
 ghost use Rattle.sched_book.specs.Sound.{Sound};
 ghost use Rattle.sched_book.specs.Step.{with_owner, granted};
 ghost use Rattle.sched_book.specs.Trusted.{Trusted};
+ghost use Rattle.job_choice.specs.Chosen.{places_of};
+ghost use Rattle.job_choice.specs.declared.granted.Granted.{Granted};
 ghost use Rattle.quorum_credit.specs.Limited.{IsLimited, FitWithin};
-ghost use Rattle.quorum_credit.specs.Settling.{AreUnitsInLimits, puts_row};
+ghost use Rattle.quorum_credit.specs.Settling.{AreUnitsInLimits};
 ghost use Rattle.sched_machine.specs.Granting.{owner_for, given_at, given_change};
 
-use crate::changed::{instance_under, unit_under};
-use sched_book::{Change, Delta, Desk, Instance, Moment, Owner, Place, Unavailable};
+use call_sheet::{Draft, put_all};
+use job_choice::Granted;
+use sched_book::{Change, Delta, Instance, Moment, Owner, Place, Unavailable, Units};
 use std::alloc::Global;
 use texts::{Listed, Memory};
 
@@ -36,23 +38,21 @@ fn with_owner(instance: &Instance, owner: Owner) -> Result<Instance, Memory>
     Ok(row)
 }
 
-/// The instance at a place after changes, given to a host; none where none stands.
-fn given_under<D: Desk>(
+/// The instance at a place, given to a host; none where none stands.
+fn given_at<U: Units>(
     alloc: Global,
-    desk: &mut D,
-    delta: &Delta,
+    units: &mut U,
     host: u32,
     now: Moment,
     place: Place,
 ) -> Result<Option<Instance>, Unavailable>
-    ensures reads { D.reads desk.old desk.new }
-    ensures answer { Trusted D.Units desk.old desk.new (
-        IfOk result (λ row. row ≡ given_at (applied (D.world desk.old) delta.now) host now place)) }
+    ensures reads { U.reads units.old units.new }
+    ensures answer { Trusted U.Units units.old units.new (IfOk result (λ row. row ≡ given_at (U.world units.old) host now place)) }
 {
-    let Some(unit) = unit_under(alloc, desk, delta, place.unit)? else {
+    let Some(unit) = units.unit(alloc, place.unit)? else {
         return Ok(None);
     };
-    match instance_under(alloc, desk, delta, place)? {
+    match units.instance(alloc, place.unit, place.number)? {
         None => Ok(None),
         Some(instance) => Ok(Some(with_owner(&instance, owner_for(host, now, unit.delay_bound))?)),
     }
@@ -60,21 +60,19 @@ fn given_under<D: Desk>(
 
 /// Puts the change that gives an instance to a host behind the others. A place where none stands is refused.
 #[tactic(auto, using(crate::proofs::GrantingDone::push_steps))]
-fn push_given<D: Desk>(
+fn push_given<U: Units>(
     alloc: Global,
-    desk: &mut D,
-    delta: &Delta,
+    units: &mut U,
     host: u32,
     now: Moment,
     place: Place,
     more: &mut Delta,
 ) -> Result<(), Unavailable>
-    ensures reads { D.reads desk.old desk.new }
-    ensures answer { Trusted D.Units desk.old desk.new (OnOk result (map Some more.new ≡
-        map Some more.old ++ given_change (applied (D.world desk.old) delta.now) host now place ∷ [])) }
-    ensures puts { OnOk result (list_all puts_row more.old ≡ true → list_all puts_row more.new ≡ true) }
+    ensures reads { U.reads units.old units.new }
+    ensures answer { Trusted U.Units units.old units.new (OnOk result (map Some more.new ≡
+        map Some more.old ++ given_change (U.world units.old) host now place ∷ [])) }
 {
-    match given_under(alloc, desk, delta, host, now, place)? {
+    match given_at(alloc, units, host, now, place)? {
         None => Err(Unavailable),
         Some(row) => {
             more.push(Change::Instance { place, row })?;
@@ -83,48 +81,44 @@ fn push_given<D: Desk>(
     }
 }
 
-/// The changes that give these instances to a host, after changes. A place where none stands is refused.
-fn grant_changes<D: Desk>(
+/// The changes that give these jobs to a host. A place where no instance stands is refused.
+fn grant_changes<U: Units>(
     alloc: Global,
-    desk: &mut D,
-    delta: &Delta,
+    units: &mut U,
     host: u32,
     now: Moment,
-    jobs: &[Place],
+    jobs: &[Granted],
 ) -> Result<Delta, Unavailable>
-    ensures reads { D.reads desk.old desk.new }
-    ensures answer { Trusted D.Units desk.old desk.new (IfOk result (λ more.
-        applied (applied (D.world desk.old) delta.now) more ≡ granted (applied (D.world desk.old) delta.now) host now jobs.now)) }
-    ensures fits { Trusted D.Units desk.old desk.new (IfOk result (λ more.
-        IsLimited (applied (D.world desk.old) delta.now) → AreUnitsInLimits (applied (D.world desk.old) delta.now)
-        → IsTrue (is_some (host_at (applied (D.world desk.old) delta.now) host)) → FitWithin (applied (D.world desk.old) delta.now) more)) }
-    ensures puts { IfOk result (λ more. list_all puts_row more ≡ true) }
+    ensures reads { U.reads units.old units.new }
+    ensures answer { Trusted U.Units units.old units.new (IfOk result (λ more.
+        applied (U.world units.old) more ≡ granted (U.world units.old) host now (places_of jobs.now))) }
+    ensures fits { Trusted U.Units units.old units.new (IfOk result (λ more.
+        IsLimited (U.world units.old) → AreUnitsInLimits (U.world units.old)
+        → IsTrue (is_some (host_at (U.world units.old) host)) → FitWithin (U.world units.old) more)) }
 {
     let mut more = Listed::new(alloc);
-    for place in jobs {
-        push_given(alloc, desk, delta, host, now, *place, &mut more)?;
+    for job in jobs {
+        push_given(alloc, units, host, now, job.place, &mut more)?;
     }
     Ok(more)
 }
 
-/// Puts behind changes what gives these instances to a host. A place where none stands is refused.
-pub(crate) fn give<D: Desk>(
+/// Gives these jobs to a host on the sheet of its call. A place where no instance stands is refused.
+pub(crate) fn give<S: Draft>(
     alloc: Global,
-    desk: &mut D,
+    sheet: &mut S,
     host: u32,
     now: Moment,
-    jobs: &[Place],
-    delta: &mut Delta,
+    jobs: &[Granted],
 ) -> Result<(), Unavailable>
-    ensures reads { D.reads desk.old desk.new }
-    ensures left { Trusted D.Units desk.old desk.new (OnOk result (
-        applied (D.world desk.old) delta.new ≡ granted (applied (D.world desk.old) delta.old) host now jobs.now)) }
-    ensures fits { Trusted D.Units desk.old desk.new (OnOk result (Sound (applied (D.world desk.old) delta.old) →
-        IsTrue (is_some (host_at (applied (D.world desk.old) delta.old) host)) →
-        Fits (D.world desk.old) delta.old → Fits (D.world desk.old) delta.new)) }
-    ensures puts { OnOk result (list_all puts_row delta.old ≡ true → list_all puts_row delta.new ≡ true) }
+    ensures works { S.works sheet.old sheet.new }
+    ensures left { Trusted S.Units sheet.old sheet.new (
+        OnOk result (S.world sheet.new ≡ granted (S.world sheet.old) host now (places_of jobs.now))) }
+    ensures fits { Trusted S.Units sheet.old sheet.new (OnOk result (Sound (S.world sheet.old) →
+        IsTrue (is_some (host_at (S.world sheet.old) host)) →
+        Fits (S.entry sheet.old) (S.delta sheet.old) → Fits (S.entry sheet.old) (S.delta sheet.new))) }
 {
-    let more = grant_changes(alloc, desk, delta, host, now, jobs)?;
-    delta.append(more)?;
+    let more = grant_changes(alloc, sheet, host, now, jobs)?;
+    put_all(alloc, sheet, more.as_slice())?;
     Ok(())
 }

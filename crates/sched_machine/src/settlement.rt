@@ -1,143 +1,92 @@
 //! The settlement of all that a call or a tick changes, and what a call comes to up to there.
 
-ghost use Rattle.std.specs.Prelude.{◌≡◌, true, map, IfOk, OnOk};
-ghost use Rattle.std.specs.List.{list_all};
-ghost use Rattle.rpc_records.specs.declared.request.Report.{Report};
-ghost use Rattle.sched_book.specs.Delta.{applied, Fits};
+ghost use Rattle.std.specs.Prelude.{◌≡◌, [], IfOk, OnOk};
+ghost use Rattle.sched_book.specs.Delta.{Fits};
+ghost use Rattle.sched_book.specs.Places.{held_by};
 ghost use Rattle.sched_book.specs.Settle.{settled};
 ghost use Rattle.sched_book.specs.Sound.{Sound};
 ghost use Rattle.sched_book.specs.Trusted.{Trusted};
-ghost use Rattle.sched_book.specs.Lost.{aborts};
-ghost use Rattle.sched_book.specs.Reports.{first_reports};
-ghost use Rattle.sched_book.specs.Step.{after_settlement, resent_of};
-ghost use Rattle.quorum_credit.specs.Settling.{puts_row};
-ghost use Rattle.sched_machine.specs.Asked.{resent_places};
-ghost use Rattle.sched_machine.specs.Calling.{IsCalling};
+ghost use Rattle.quorum_credit.specs.Settling.{AreMarks};
+ghost use Rattle.sched_machine.specs.Calling.{IsEntered};
+ghost use Rattle.sched_machine.specs.Lapsing.{lapsed_at};
+ghost use Rattle.sched_machine.specs.Prepared.{IsSettledCall};
 
 use crate::caller::Calling;
 use crate::lost::lose;
-use crate::reports::{Recorded, record_reports};
-use lost_jobs::{Fate, aborts};
-use quorum_credit::{settle_all, touched_by};
+use call_sheet::Draft;
+use quorum_credit::{Mark, lapse_on, record_on, settle_on};
 use rpc_records::Request;
-use sched_book::{Delta, Desk, Moment, Patched, Unavailable};
+use sched_book::{Moment, Place, Unavailable};
 use std::alloc::Global;
 use texts::{Listed, Text};
 
-/// Puts behind changes what settles the workunits that they touch.
-pub(crate) fn settle<D: Desk>(
-    alloc: Global,
-    desk: &mut D,
-    delta: &mut Delta,
-) -> Result<(), Unavailable>
-    ensures reads { D.reads desk.old desk.new }
-    ensures left { Trusted D.Units desk.old desk.new (OnOk result (Sound (D.world desk.old) → Fits (D.world desk.old) delta.old →
-        applied (D.world desk.old) delta.new ≡ settled (D.world desk.old) (applied (D.world desk.old) delta.old))) }
-    ensures fits { Trusted D.Units desk.old desk.new (OnOk result (Sound (D.world desk.old) → Fits (D.world desk.old) delta.old →
-        Fits (D.world desk.old) delta.new)) }
-    ensures puts { Trusted D.Units desk.old desk.new (OnOk result (list_all puts_row delta.new ≡ true)) }
+/// Settles the workunits that a call or a tick has read, and tells what is new in them. No other is touched.
+pub(crate) fn settle<S: Draft>(alloc: Global, sheet: &mut S) -> Result<Listed<Mark>, Unavailable>
+    ensures works { S.works sheet.old sheet.new }
+    ensures settled { Trusted S.Units sheet.old sheet.new (OnOk result (
+        Sound (S.entry sheet.old) → Fits (S.entry sheet.old) (S.delta sheet.old) →
+        S.world sheet.new ≡ settled (S.entry sheet.old) (S.world sheet.old))) }
+    ensures fits { Trusted S.Units sheet.old sheet.new (OnOk result (
+        Sound (S.entry sheet.old) → Fits (S.entry sheet.old) (S.delta sheet.old) → Fits (S.entry sheet.old) (S.delta sheet.new))) }
+    ensures marks { Trusted S.Units sheet.old sheet.new (IfOk result (λ marks.
+        Sound (S.entry sheet.old) → Fits (S.entry sheet.old) (S.delta sheet.old) → AreMarks (S.entry sheet.old) (S.world sheet.new) marks)) }
 {
-    let touched = touched_by(alloc, delta.as_slice())?;
-    let more = settle_all(alloc, desk, delta, touched.as_slice())?;
-    delta.append(more)?;
+    let touched = sheet.units(alloc)?;
+    let marks = settle_on(alloc, sheet, touched.as_slice())?;
+    Ok(marks)
+}
+
+/// Lets the instances at these places lapse late, in their order, and settles their workunits, before any other change. An
+/// instance that no host holds is refused.
+pub(crate) fn lapse<S: Draft>(
+    alloc: Global,
+    sheet: &mut S,
+    places: &[Place],
+) -> Result<(), Unavailable>
+    ensures works { S.works sheet.old sheet.new }
+    ensures left { Trusted S.Units sheet.old sheet.new (OnOk result (S.delta sheet.old ≡ [] → Sound (S.entry sheet.old) →
+        S.world sheet.new ≡ settled (S.entry sheet.old) (lapsed_at (S.entry sheet.old) places.now))) }
+    ensures fits { Trusted S.Units sheet.old sheet.new (OnOk result (S.delta sheet.old ≡ [] → Sound (S.entry sheet.old) →
+        Fits (S.entry sheet.old) (S.delta sheet.new))) }
+{
+    lapse_on(alloc, sheet, places)?;
+    settle(alloc, sheet)?;
     Ok(())
 }
 
 /// What a call comes to up to settlement.
 #[derive(Drop)]
-struct Settled {
-    delta: Delta,
-    acked: Listed<Text>,
-    fates: Listed<Fate>,
-}
-
-/// What a call comes to before new jobs are chosen.
-#[derive(Drop)]
-pub(crate) struct Prepared {
-    /// All changes up to settlement.
-    pub(crate) delta: Delta,
-    /// The names that are acknowledged.
+pub(crate) struct SettledCall {
+    /// The names that are acknowledged, in their order.
     pub(crate) acked: Listed<Text>,
-    /// The names that the client may forget.
-    pub(crate) aborted: Listed<Text>,
-    /// What becomes of each lost job.
-    pub(crate) fates: Listed<Fate>,
+    /// The places of the jobs that are sent again.
+    pub(crate) resent: Listed<Place>,
+    /// What is new of each instance, for and against its host.
+    pub(crate) marks: Listed<Mark>,
 }
 
-/// The names of a call's list that its client may forget, after changes.
-fn aborts_after<D: Desk>(
+/// Takes the reports of a call whose host was put, sends its lost jobs again or drops them, and settles what all this
+/// touches.
+pub(crate) fn settle_call<S: Draft>(
     alloc: Global,
-    desk: &mut D,
-    delta: &Delta,
-    host: u32,
-    request: &Request,
-) -> Result<Listed<Text>, Unavailable>
-    ensures reads { D.reads desk.old desk.new }
-    ensures answer { Trusted D.Units desk.old desk.new (IfOk result (λ names.
-        names ≡ aborts (applied (D.world desk.old) delta.now) host request.now.other_results)) }
-{
-    let mut patched = Patched { desk, delta };
-    aborts(alloc, &mut patched, host, request)
-}
-
-/// Takes the reports of a call, sends its lost jobs again or drops them, and settles what all this touches.
-fn settle_call<D: Desk>(
-    alloc: Global,
-    desk: &mut D,
+    sheet: &mut S,
     call: &Calling,
+    held: &[Place],
     request: &Request,
     now: Moment,
-) -> Result<Settled, Unavailable>
-    ensures reads { D.reads desk.old desk.new }
-    ensures left { Trusted D.Units desk.old desk.new (IfOk result (λ settled. IsCalling (D.world desk.old) request.now call.now →
-        applied (D.world desk.old) settled.delta ≡ after_settlement (D.world desk.old) call.now.caller request.now now)) }
-    ensures fits { Trusted D.Units desk.old desk.new (IfOk result (λ settled. IsCalling (D.world desk.old) request.now call.now →
-        Fits (D.world desk.old) settled.delta)) }
-    ensures puts { Trusted D.Units desk.old desk.new (IfOk result (λ settled. list_all puts_row settled.delta ≡ true)) }
-    ensures acked { IfOk result (λ settled. settled.acked ≡ map (λ (r : Report). r.name) (first_reports request.now.results)) }
-    ensures resent { Trusted D.Units desk.old desk.new (IfOk result (λ settled. IsCalling (D.world desk.old) request.now call.now →
-        resent_places settled.fates ≡ resent_of (D.world desk.old) call.now.caller request.now)) }
+) -> Result<SettledCall, Unavailable>
+    ensures works { S.works sheet.old sheet.new }
+    ensures settled { Trusted S.Units sheet.old sheet.new (IfOk result (λ done.
+        IsEntered (S.entry sheet.old) request.now call.now (S.world sheet.old) (S.delta sheet.old) →
+        held.now ≡ held_by (S.entry sheet.old) call.now.number →
+        IsSettledCall (S.entry sheet.old) request.now call.now now done (S.world sheet.new) (S.delta sheet.new))) }
 {
-    let Recorded { mut delta, acked } = record_reports(alloc, desk, call, request)?;
-    let fates = lose(alloc, desk, call, request, now, &mut delta)?;
-    settle(alloc, desk, &mut delta)?;
-    Ok(Settled {
-        delta,
+    let acked = record_on(alloc, sheet, call.number, request)?;
+    let resent = lose(alloc, sheet, call, held, request, now)?;
+    let marks = settle(alloc, sheet)?;
+    Ok(SettledCall {
         acked,
-        fates,
-    })
-}
-
-/// The same, with the names that the client may forget then.
-pub(crate) fn prepare<D: Desk>(
-    alloc: Global,
-    desk: &mut D,
-    call: &Calling,
-    request: &Request,
-    now: Moment,
-) -> Result<Prepared, Unavailable>
-    ensures reads { D.reads desk.old desk.new }
-    ensures left { Trusted D.Units desk.old desk.new (IfOk result (λ prepared. IsCalling (D.world desk.old) request.now call.now →
-        applied (D.world desk.old) prepared.delta ≡ after_settlement (D.world desk.old) call.now.caller request.now now)) }
-    ensures fits { Trusted D.Units desk.old desk.new (IfOk result (λ prepared. IsCalling (D.world desk.old) request.now call.now →
-        Fits (D.world desk.old) prepared.delta)) }
-    ensures puts { Trusted D.Units desk.old desk.new (IfOk result (λ prepared. list_all puts_row prepared.delta ≡ true)) }
-    ensures acked { IfOk result (λ prepared. prepared.acked ≡ map (λ (r : Report). r.name) (first_reports request.now.results)) }
-    ensures aborted { Trusted D.Units desk.old desk.new (IfOk result (λ prepared.
-        prepared.aborted ≡ aborts (applied (D.world desk.old) prepared.delta) call.now.number request.now.other_results)) }
-    ensures resent { Trusted D.Units desk.old desk.new (IfOk result (λ prepared. IsCalling (D.world desk.old) request.now call.now →
-        resent_places prepared.fates ≡ resent_of (D.world desk.old) call.now.caller request.now)) }
-{
-    let Settled {
-        delta,
-        acked,
-        fates,
-    } = settle_call(alloc, desk, call, request, now)?;
-    let aborted = aborts_after(alloc, desk, &delta, call.number, request)?;
-    Ok(Prepared {
-        delta,
-        acked,
-        aborted,
-        fates,
+        resent,
+        marks,
     })
 }

@@ -1,76 +1,156 @@
 //! One step of the job machine: a call, an import or a tick.
 
-ghost use Rattle.std.specs.Prelude.{IfOk, IsErrOf};
+ghost use Rattle.std.specs.Prelude.{◌≡◌, [], is_some, IsTrue, IfOk, OnOk, IsErrOf};
 ghost use Rattle.sched_book.specs.Delta.{applied, Fits};
 ghost use Rattle.sched_book.specs.Imports.{AreChecked};
+ghost use Rattle.sched_book.specs.Places.{host_at};
+ghost use Rattle.sched_book.specs.Settle.{settled};
 ghost use Rattle.sched_book.specs.Sound.{Sound};
 ghost use Rattle.sched_book.specs.declared.world.World.{World};
-ghost use Rattle.sched_book.specs.Step.{HasRoom, RpcStep, TickStep, ImportStep, Step};
+ghost use Rattle.sched_book.specs.Step.{IsCaller, HasRoom, granted, RpcStep, TickStep, ImportStep, Step};
 ghost use Rattle.sched_book.specs.Trusted.{Trusted};
-ghost use Rattle.sched_machine.specs.Calling.{LacksRoom, IsAdmitted, IsCalling, IsFull, MayBeHeard};
+ghost use Rattle.job_choice.specs.Chosen.{IsChoice, places_of};
+ghost use Rattle.call_sheet.specs.Sheets.{IsPageOf};
+ghost use Rattle.sched_machine.specs.Calling.{LacksRoom, IsAdmitted, IsFull, MayBeHeard};
+ghost use Rattle.sched_machine.specs.Granting.{AreRunBy};
+ghost use Rattle.sched_machine.specs.Lapsing.{lapsed_at};
+ghost use Rattle.sched_machine.specs.Prepared.{IsReady, asking_by};
+ghost use Rattle.sched_machine.specs.Replying.{IsTold, IsGranted};
 ghost use Rattle.sched_machine.specs.declared.admission.Refused.TheVariants as refused;
 
 use crate::admission::Refused;
-use crate::caller::{Calling, calling_of};
-use crate::grant::{NewJobs, give_jobs};
 use crate::imports::{changes_of, row_count};
-use crate::lost::resent_places;
-use crate::reply::{Said, reply_to};
-use crate::settlement::{Prepared, prepare, settle};
-use quorum_credit::{Lapsed, lapse_late};
-use rpc_records::{Reply, Request};
-use sched_book::{Answered, Call, Caller, Delta, Desk, Moment, Rows, Unavailable};
+use crate::preparing::{Ready, prepare};
+use crate::reply::{Told, conclude, reply_of};
+use crate::settlement::lapse;
+use call_sheet::{Page, Sheet};
+use job_choice::{Grant, Granted, choose};
+use rpc_records::{EndWord, Reply, Request};
+use sched_book::{Answered, Call, Caller, Delta, Desk, Moment, Place, Rows, Unavailable};
 use std::alloc::Global;
 
-/// Acts on a call: its changes and its reply.
+/// Acts on a call up to where new jobs are chosen, over a desk with the page of the call.
+fn prepare_onto<D: Desk>(
+    alloc: Global,
+    desk: &mut D,
+    page: &mut Page,
+    caller: &Caller,
+    request: &Request,
+    now: Moment,
+) -> Result<Ready, Refused>
+    ensures reads { D.reads desk.old desk.new }
+    ensures page { Trusted D.Units desk.old desk.new (IsPageOf (D.world desk.old) page.old → IsPageOf (D.world desk.old) page.new) }
+    ensures ready { Trusted D.Units desk.old desk.new (IsPageOf (D.world desk.old) page.old → IfOk result (λ ready. page.old.delta ≡ [] →
+        Sound (D.world desk.old) → IsAdmitted (D.world desk.old) caller.now request.now →
+        IsReady (D.world desk.old) request.now now ready (applied (D.world desk.old) page.new.delta) page.new.delta)) }
+    ensures caller { IfOk result (λ ready. ready.call.caller ≡ caller.now) }
+    ensures room { Trusted D.Units desk.old desk.new (IsPageOf (D.world desk.old) page.old → IfOk result (λ ready. HasRoom (D.world desk.old) caller.now)) }
+    ensures full { Trusted D.Units desk.old desk.new (IsPageOf (D.world desk.old) page.old → IsErrOf result refused.HostsFull →
+        LacksRoom (D.world desk.old) caller.now) }
+    ensures known { (IsErrOf result refused.BadAccount → ⊥) × (IsErrOf result refused.BadHost → ⊥) }
+{
+    let mut sheet = Sheet { desk, page };
+    prepare(alloc, &mut sheet, caller, request, now)
+}
+
+/// Chooses new jobs for the host of a call. The candidates are read as they were before the call: for its host they are the
+/// same.
+fn choose_jobs<D: Desk>(
+    alloc: Global,
+    desk: &mut D,
+    ready: &Ready,
+    request: &Request,
+    now: Moment,
+) -> Result<Grant, Unavailable>
+    ensures reads { D.reads desk.old desk.new }
+    ensures answer { Trusted D.Units desk.old desk.new (IfOk result (λ grant.
+        IsChoice (D.world desk.old) (asking_by ready.now request.now now) grant)) }
+{
+    let wish = &ready.prepared.wish;
+    choose(
+        alloc,
+        desk,
+        ready.call.number,
+        &wish.row,
+        wish.before,
+        wish.held,
+        request.asked,
+        now,
+    )
+}
+
+/// Gives new jobs to the host of a call, over a desk with the page of the call.
+fn conclude_onto<D: Desk>(
+    alloc: Global,
+    desk: &mut D,
+    page: &mut Page,
+    ready: &Ready,
+    request: &Request,
+    now: Moment,
+    jobs: &[Granted],
+) -> Result<Told, Unavailable>
+    ensures reads { D.reads desk.old desk.new }
+    ensures left { Trusted D.Units desk.old desk.new (IsPageOf (D.world desk.old) page.old → OnOk result (
+        applied (D.world desk.old) page.new.delta
+        ≡ granted (applied (D.world desk.old) page.old.delta) ready.now.call.number now (places_of jobs.now))) }
+    ensures fits { Trusted D.Units desk.old desk.new (IsPageOf (D.world desk.old) page.old → OnOk result (
+        Sound (applied (D.world desk.old) page.old.delta) →
+        IsTrue (is_some (host_at (applied (D.world desk.old) page.old.delta) ready.now.call.number)) →
+        Fits (D.world desk.old) page.old.delta → Fits (D.world desk.old) page.new.delta)) }
+    ensures told { Trusted D.Units desk.old desk.new (IsPageOf (D.world desk.old) page.old → IfOk result (λ told.
+        IsCaller (D.world desk.old) ready.now.call.caller request.now → AreRunBy (D.world desk.old) ready.now.call.host jobs.now →
+        IsTold (D.world desk.old) (applied (D.world desk.old) page.new.delta) ready.now (places_of jobs.now) told)) }
+{
+    let mut sheet = Sheet { desk, page };
+    conclude(alloc, &mut sheet, ready, request, now, jobs)
+}
+
+/// Chooses new jobs for the host of a call and gives them to it: what the reply says of them, and why there are no more.
+fn grant_onto<D: Desk>(
+    alloc: Global,
+    desk: &mut D,
+    page: &mut Page,
+    ready: &Ready,
+    request: &Request,
+    now: Moment,
+) -> Result<(Told, EndWord), Unavailable>
+    ensures reads { D.reads desk.old desk.new }
+    ensures step { Trusted D.Units desk.old desk.new (IsPageOf (D.world desk.old) page.old → IfOk result (λ told.
+        IsReady (D.world desk.old) request.now now ready.now (applied (D.world desk.old) page.old.delta) page.old.delta →
+        IsGranted (D.world desk.old) request.now now ready.now (applied (D.world desk.old) page.new.delta) page.new.delta told.0 told.1)) }
+{
+    let grant = choose_jobs(alloc, desk, ready, request, now)?;
+    let told = conclude_onto(alloc, desk, page, ready, request, now, grant.jobs.as_slice())?;
+    Ok((told, grant.end_word))
+}
+
+/// Acts on a call with a page that has nothing on it yet: its changes are on the page then, and its reply.
 fn act<D: Desk>(
     alloc: Global,
     desk: &mut D,
-    call: &Calling,
+    page: &mut Page,
+    caller: &Caller,
     request: &Request,
     now: Moment,
-) -> Result<(Delta, Reply), Unavailable>
+) -> Result<Reply, Refused>
     ensures reads { D.reads desk.old desk.new }
-    ensures step { Trusted D.Units desk.old desk.new (IfOk result (λ done. IsCalling (D.world desk.old) request.now call.now →
-        RpcStep (D.world desk.old) call.now.caller request.now now (applied (D.world desk.old) done.0) done.1)) }
-    ensures fits { Trusted D.Units desk.old desk.new (IfOk result (λ done. IsCalling (D.world desk.old) request.now call.now →
-        Fits (D.world desk.old) done.0)) }
+    ensures step { Trusted D.Units desk.old desk.new (IsPageOf (D.world desk.old) page.old → IfOk result (λ reply. page.old.delta ≡ [] →
+        Sound (D.world desk.old) → IsAdmitted (D.world desk.old) caller.now request.now →
+        RpcStep (D.world desk.old) caller.now request.now now (applied (D.world desk.old) page.new.delta) reply)) }
+    ensures fits { Trusted D.Units desk.old desk.new (IsPageOf (D.world desk.old) page.old → IfOk result (λ reply. page.old.delta ≡ [] →
+        Sound (D.world desk.old) → IsAdmitted (D.world desk.old) caller.now request.now → Fits (D.world desk.old) page.new.delta)) }
+    ensures room { Trusted D.Units desk.old desk.new (IsPageOf (D.world desk.old) page.old → IfOk result (λ reply. HasRoom (D.world desk.old) caller.now)) }
+    ensures full { Trusted D.Units desk.old desk.new (IsPageOf (D.world desk.old) page.old → IsErrOf result refused.HostsFull →
+        LacksRoom (D.world desk.old) caller.now) }
+    ensures known { (IsErrOf result refused.BadAccount → ⊥) × (IsErrOf result refused.BadHost → ⊥) }
 {
-    let Prepared {
-        mut delta,
-        acked,
-        aborted,
-        fates,
-    } = prepare(alloc, desk, call, request, now)?;
-    let NewJobs { places, end_word } = give_jobs(
-        alloc,
-        desk,
-        call,
-        request,
-        now,
-        fates.as_slice(),
-        &mut delta,
-    )?;
-    let resent = resent_places(alloc, fates.as_slice())?;
-    let said = Said {
-        acked,
-        aborted,
-        end_word,
-    };
-    let reply = reply_to(
-        alloc,
-        desk,
-        call,
-        request,
-        said,
-        resent.as_slice(),
-        places.as_slice(),
-        &delta,
-    )?;
-    Ok((delta, reply))
+    let request_delay = page.settings.request_delay;
+    let ready = prepare_onto(alloc, desk, page, caller, request, now)?;
+    let (told, end_word) = grant_onto(alloc, desk, page, &ready, request, now)?;
+    Ok(reply_of(ready, told, end_word, request, request_delay))
 }
 
-/// A call of a host, unless it is of a new one and no more may stand.
+/// A call of a host, unless it is of a new one and no more may stand: its changes and its reply.
 fn hear_call<D: Desk>(
     alloc: Global,
     desk: &mut D,
@@ -88,8 +168,9 @@ fn hear_call<D: Desk>(
     ensures full { Trusted D.Units desk.old desk.new (IsErrOf result refused.HostsFull → LacksRoom (D.world desk.old) caller.now) }
     ensures known { (IsErrOf result refused.BadAccount → ⊥) × (IsErrOf result refused.BadHost → ⊥) }
 {
-    let call = calling_of(alloc, desk, caller, request)?;
-    Ok(act(alloc, desk, &call, request, now)?)
+    let mut page = Page::new(alloc, desk.settings(alloc)?);
+    let reply = act(alloc, desk, &mut page, caller, request, now)?;
+    Ok((page.delta, reply))
 }
 
 /// Adds the rows of an import.
@@ -101,6 +182,25 @@ fn hear_import(alloc: Global, rows: &Rows) -> Result<(Delta, u32), Unavailable>
     Ok((delta, row_count(rows)?))
 }
 
+/// Lets the instances at these places lapse, which a tick finds overdue, and settles their workunits, over a desk with a
+/// page that has nothing on it yet.
+fn lapse_onto<D: Desk>(
+    alloc: Global,
+    desk: &mut D,
+    page: &mut Page,
+    places: &[Place],
+) -> Result<(), Unavailable>
+    ensures reads { D.reads desk.old desk.new }
+    ensures left { Trusted D.Units desk.old desk.new (IsPageOf (D.world desk.old) page.old → OnOk result (
+        page.old.delta ≡ [] → Sound (D.world desk.old) →
+        applied (D.world desk.old) page.new.delta ≡ settled (D.world desk.old) (lapsed_at (D.world desk.old) places.now))) }
+    ensures fits { Trusted D.Units desk.old desk.new (IsPageOf (D.world desk.old) page.old → OnOk result (
+        page.old.delta ≡ [] → Sound (D.world desk.old) → Fits (D.world desk.old) page.new.delta)) }
+{
+    let mut sheet = Sheet { desk, page };
+    lapse(alloc, &mut sheet, places)
+}
+
 /// Lets time go by.
 fn hear_tick<D: Desk>(alloc: Global, desk: &mut D, now: Moment) -> Result<(Delta, u32), Unavailable>
     ensures reads { D.reads desk.old desk.new }
@@ -108,13 +208,14 @@ fn hear_tick<D: Desk>(alloc: Global, desk: &mut D, now: Moment) -> Result<(Delta
         TickStep (D.world desk.old) now (applied (D.world desk.old) done.0) done.1)) }
     ensures fits { Trusted D.Units desk.old desk.new (IfOk result (λ done. Sound (D.world desk.old) → Fits (D.world desk.old) done.0)) }
 {
-    let Lapsed {
-        mut delta,
-        count,
-        touched: _,
-    } = lapse_late(alloc, desk, now)?;
-    settle(alloc, desk, &mut delta)?;
-    Ok((delta, count))
+    let mut page = Page::new(alloc, desk.settings(alloc)?);
+    let places = desk.due_before(alloc, now)?;
+    let Ok(count) = u32::try_from(places.len()) else {
+        // Not met in a sound world, where no more than 20,000,000 are overdue: `sched_book::laws::instances_are_few`.
+        return Err(Unavailable);
+    };
+    lapse_onto(alloc, desk, &mut page, places.as_slice())?;
+    Ok((page.delta, count))
 }
 
 /// One step of the job machine: what a call, an import or the time changes, and the answer. The desk is only read.

@@ -1,40 +1,59 @@
-use Rattle.std.proofs.Common.{rules, ◌∙◌, ◌++◌, ap, filter_map}
+use Rattle.std.proofs.Common.{◌≡◌, rules, ◌++◌, filter_map, map, sym, ap, ap₂, ◌∙◌, subst, List}
 use Rattle.sched_book.specs.Delta.{applied}
+use Rattle.sched_book.specs.Places.{held_by}
+use Rattle.sched_book.specs.declared.delta.Change.{Change}
+use Rattle.sched_book.specs.declared.world.World.{World}
 use Rattle.lost_jobs.specs.Fated.{fate_change}
+use Rattle.lost_jobs.specs.Fates.{fate}
+use Rattle.lost_jobs.specs.declared.fates.Fate.{Fate}
+use Rattle.sched_machine.specs.Asked.{resent_places}
 use Rattle.sched_machine.proofs.JobsFit.{lost_fit}
-use Rattle.sched_machine.proofs.JobsLost.{lost_left, lost_resent}
+use Rattle.sched_machine.proofs.JobsLost.{AreLost, fates_are, before_is, put_is, left_known, resent_known}
+use Rattle.sched_machine.proofs.lost.lose.Given
 use Rattle.sched_machine.proofs.lost.lose.Goals as goal
 
--- both calls read one world
+-- what the steps told, of the world that the call found and of those between
+lost : (g : Given.Over) (c : goal.After-drop-lost-inside-2 g) → g.S.Units.honest c.put_fates.new.sheet → g.S.Units.well_kept c.args.sheet.now
+    → c.args.held.now ≡ held_by (g.S.Draft.entry c.args.sheet.now) c.args.call.now.number
+    → AreLost (g.S.Draft.entry c.args.sheet.now) (g.S.Units.world c.args.sheet.now) (g.S.Units.world c.put_fates.new.sheet)
+    c.args.request.now c.args.call.now c.args.now c.in_ok-lost.lost.items c.in_ok-fates.fates.items
+    (g.S.Draft.delta c.args.sheet.now) (g.S.Draft.delta c.put_fates.new.sheet)
+lost g c honest kept held =
+    let u = g.met.S.Units in
+    let draft = g.met.S.Draft in
+    let world = g.S.Units.world in
+    let honest_2 = draft.works_honest _ _ c.put_fates.ensures.works honest in
+    let honest_1 = u.stays_honest _ _ c.fates_on.ensures.reads honest_2 in
+    let kept_1 = u.stays_kept _ _ c.lost_on.ensures.reads honest_1 kept in
+    let kept_2 = u.stays_kept _ _ c.fates_on.ensures.reads honest_2 kept_1 in
+    let same_1 = u.stays_same _ _ c.lost_on.ensures.reads honest_1 kept in
+    let same = u.stays_same _ _ c.fates_on.ensures.reads honest_2 kept_1 ∙ same_1 in
+    let entry_1 = draft.works_entry _ _ (draft.reads_works _ _ c.lost_on.ensures.reads) honest_1 kept in
+    let entry_2 = draft.works_entry _ _ (draft.reads_works _ _ c.fates_on.ensures.reads) honest_2 kept_1 ∙ entry_1 in
+    let entry = draft.works_entry _ _ c.put_fates.ensures.works honest kept_2 ∙ entry_2 in
+    let delta = draft.reads_delta _ _ c.fates_on.ensures.reads ∙ draft.reads_delta _ _ c.lost_on.ensures.reads in
+    record {
+      found = c.in_ok-lost.ensures.answer honest_1 kept held;
+      told = c.in_ok-fates.ensures.answer honest_2 kept_1
+          ∙ ap₂ (λ (e : World) ps. map (fate e c.args.call.now.host c.args.now) ps) entry_1 c.as_slice.ensures;
+      here = draft.is_applied c.args.sheet.now;
+      there = draft.is_applied c.put_fates.new.sheet ∙ ap (λ (e : World). applied e (g.S.Draft.delta c.put_fates.new.sheet)) entry;
+      put = c.in_ok-put_fates.ensures.delta honest kept_2
+          ∙ ap₂ (λ (ds : List Change) (fs : List Fate). ds ++ filter_map (fate_change (world c.fates_on.new.sheet)) fs) delta c.as_slice-2.ensures
+          ∙ ap (λ (w : World). g.S.Draft.delta c.args.sheet.now ++ filter_map (fate_change w) c.in_ok-fates.fates.items) same;
+    }
+
 pub returns-clause-left : goal.returns-clause-left
-returns-clause-left g c = λ honest kept is reported.
-    let honest_before = g.met.D.Units.stays_honest _ _ c.push_fates.ensures.reads honest in
-    let kept_before = g.met.D.Units.stays_kept _ _ c.fates_of.ensures.reads honest_before kept in
-    let same = g.met.D.Units.stays_same _ _ c.fates_of.ensures.reads honest_before kept in
-    let w = g.D.Units.world c.args.desk.now in
-    let before = c.args.delta.now in
-    lost_left w c.args.call.now.caller c.args.request.now c.args.now before c.push_fates.new.delta c.in_ok-fates.fates reported
-    (c.in_ok-fates.ensures.answer honest_before kept is reported)
-    (c.in_ok-push_fates.ensures.changes honest kept_before
-    ∙ ap (λ v. before ++ filter_map (fate_change (applied v before)) c.as_slice.result.now) same
-    ∙ ap (λ fates. before ++ filter_map (fate_change (applied w before)) fates) c.as_slice.ensures)
+returns-clause-left g c = λ honest kept calling held reported. left_known _ _ _ _ _ _ _ _ _ _ (lost g c honest kept held) calling reported
 
 pub returns-clause-fits : goal.returns-clause-fits
-returns-clause-fits g c = λ honest kept is reported fits.
-    let honest_before = g.met.D.Units.stays_honest _ _ c.push_fates.ensures.reads honest in
-    let kept_before = g.met.D.Units.stays_kept _ _ c.fates_of.ensures.reads honest_before kept in
-    let same = g.met.D.Units.stays_same _ _ c.fates_of.ensures.reads honest_before kept in
-    let w = g.D.Units.world c.args.desk.now in
-    let before = c.args.delta.now in
-    lost_fit w c.args.call.now c.args.request.now c.args.now before c.push_fates.new.delta c.in_ok-fates.fates (search rules) is reported
-    (c.in_ok-fates.ensures.answer honest_before kept is reported)
-    (c.in_ok-push_fates.ensures.changes honest kept_before
-    ∙ ap (λ v. before ++ filter_map (fate_change (applied v before)) c.as_slice.result.now) same
-    ∙ ap (λ fates. before ++ filter_map (fate_change (applied w before)) fates) c.as_slice.ensures)
-    fits
+returns-clause-fits g c = λ honest kept calling held reported fits.
+    let are = lost g c honest kept held in
+    lost_fit _ _ _ c.args.now _ _ _ (search rules) calling
+    (before_is _ _ _ _ _ _ _ _ _ _ are calling reported) (fates_are _ _ _ _ _ _ _ _ _ _ are calling reported)
+    (put_is _ _ _ _ _ _ _ _ _ _ are calling reported) fits
 
 pub returns-clause-resent : goal.returns-clause-resent
-returns-clause-resent g c = λ honest kept is reported.
-    let honest_before = g.met.D.Units.stays_honest _ _ c.push_fates.ensures.reads honest in
-    lost_resent (g.D.Units.world c.args.desk.now) c.args.call.now.caller c.args.request.now c.args.now c.in_ok-fates.fates
-    (c.in_ok-fates.ensures.answer honest_before kept is reported)
+returns-clause-resent g c = λ honest kept calling held reported.
+    resent_known _ _ _ _ _ _ _ _ _ _ (lost g c honest kept held) calling reported _
+    (c.in_ok-resent.ensures ∙ ap resent_places c.as_slice-3.ensures)

@@ -1,16 +1,13 @@
-use Rattle.std.proofs.Common.{◌≡◌, ◌++◌, true, Some, map, drop}
-use Rattle.std.specs.List.{list_all}
-use Rattle.sched_book.specs.Delta.{applied}
-use Rattle.quorum_credit.specs.Settling.{puts_row}
+use Rattle.std.proofs.Common.{◌≡◌, ◌++◌, Some, map, drop}
+use Rattle.job_choice.specs.Chosen.{places_of}
 use Rattle.sched_machine.specs.Granting.{given_change}
 use Rattle.sched_machine.proofs.owners.grant_changes.Given as goal
 
 -- the changes so far, and those of the jobs which are left
-abbrev pub invariant-loop-place : goal.invariant-loop-place
-invariant-loop-place g l = record {
-  reads : g.D.Units.reads l.fn.desk l.desk;
-  known : g.D.Units.honest l.desk → g.D.Units.well_kept l.fn.desk
-      → map Some l.more ++ map (given_change (applied (g.D.Units.world l.fn.desk) l.delta) l.host l.now) (drop l.place-index l.jobs)
-      ≡ map (given_change (applied (g.D.Units.world l.fn.desk) l.delta) l.host l.now) l.jobs;
-  puts : list_all puts_row l.more ≡ true;
+abbrev pub invariant-loop-job : goal.invariant-loop-job
+invariant-loop-job g l = record {
+  reads : g.U.Units.reads l.fn.units l.units;
+  known : g.U.Units.honest l.units → g.U.Units.well_kept l.fn.units
+      → map Some l.more ++ map (given_change (g.U.Units.world l.fn.units) l.host l.now) (places_of (drop l.job-index l.jobs))
+      ≡ map (given_change (g.U.Units.world l.fn.units) l.host l.now) (places_of l.jobs);
 }

@@ -8,7 +8,7 @@ use Rattle.sched_machine.proofs.reply.user_name.Goals as goal
 
 pub returns-clause-answer : goal.returns-clause-answer
 returns-clause-answer g c = λ honest kept caller.
-    let w = g.D.Units.world c.args.desk.now in
+    let w = g.S.Draft.entry c.args.sheet.now in
     c.in_ok-name_of.ensures
     ∙ ap (λ found. unwrap_or (option_map (λ (account : Placed Account). account.row.name) found) [])
     (c.in_ok-found.ensures.answer honest kept ∙ ap (account_by_key w) c.as_str.ensures)

@@ -1,19 +1,32 @@
-use Rattle.std.proofs.Common.{sym, ap, subst, ◌∙◌}
-use Rattle.sched_book.specs.Delta.{applied, Fits}
-use Rattle.quorum_credit.specs.Taken.{AreTouched}
+use Rattle.std.proofs.Common.{sym, ap, subst}
+use Rattle.quorum_credit.specs.Settling.{TouchJust}
+use Rattle.quorum_credit.proofs.SettledAll.{read_touch, settled_touch_just}
+use Rattle.sched_machine.proofs.settlement.settle.Given
 use Rattle.sched_machine.proofs.settlement.settle.Goals as goal
 
--- the workunits that are settled are those that the changes touch
-pub returns-clause-left : goal.returns-clause-left
-returns-clause-left g c = λ honest kept sound fits.
-    let w = g.D.Units.world c.args.desk.now in
-    let touched = subst (λ units. AreTouched c.args.delta.now units) (sym c.as_slice-2.ensures)
-    (subst (λ changes. AreTouched changes c.in_ok-touched.touched) c.as_slice.ensures c.in_ok-touched.ensures) in
-    ap (applied w) c.in_ok-append.ensures ∙ c.in_ok-more.ensures.settled honest kept sound fits touched
+-- no workunit is touched but those that were read
+touched : (g : Given.Over) (c : goal.After-drop-touched-2 g) → g.S.Units.well_kept c.args.sheet.now
+    → TouchJust c.as_slice.result.now (g.S.Draft.entry c.args.sheet.now) (g.S.Units.world c.args.sheet.now)
+touched g c kept =
+    let draft = g.met.S.Draft in
+    let sheet = c.args.sheet.now in
+    subst (λ units. TouchJust units (g.S.Draft.entry sheet) (g.S.Units.world sheet)) (sym c.as_slice.ensures.value)
+    (read_touch (g.S.Draft.entry sheet) (g.S.Units.world sheet) (g.S.Draft.kept sheet) c.in_ok-touched.touched.items
+    (draft.rest_stays sheet kept) (draft.leaves_are sheet kept) c.in_ok-touched.ensures)
+
+pub returns-clause-settled : goal.returns-clause-settled
+returns-clause-settled g c = λ honest kept sound fits. c.in_ok-marks.ensures.settled honest kept sound fits (touched g c kept)
 
 pub returns-clause-fits : goal.returns-clause-fits
-returns-clause-fits g c = λ honest kept sound fits.
-    let w = g.D.Units.world c.args.desk.now in
-    let touched = subst (λ units. AreTouched c.args.delta.now units) (sym c.as_slice-2.ensures)
-    (subst (λ changes. AreTouched changes c.in_ok-touched.touched) c.as_slice.ensures c.in_ok-touched.ensures) in
-    subst (Fits w) (sym c.in_ok-append.ensures) (c.in_ok-more.ensures.fits honest kept sound fits touched)
+returns-clause-fits g c = λ honest kept sound fits. c.in_ok-marks.ensures.fits honest kept sound fits (touched g c kept)
+
+pub returns-clause-marks : goal.returns-clause-marks
+returns-clause-marks g c = λ honest kept sound fits.
+    let entry = g.S.Draft.entry c.args.sheet.now in
+    let just = touched g c kept in
+    record {
+      units = c.as_slice.result.now;
+      just = subst (TouchJust c.as_slice.result.now entry) (sym (c.in_ok-marks.ensures.settled honest kept sound fits just))
+          (settled_touch_just c.as_slice.result.now entry (g.S.Units.world c.args.sheet.now) sound just);
+      are = c.in_ok-marks.ensures.marks honest kept;
+    }

@@ -1,15 +1,45 @@
-use Rattle.sched_machine.proofs.SettledCalls.{settles_call}
+use Rattle.std.proofs.Common.{◌≡◌, sym, ap, ap₂, ◌∙◌, subst}
+use Rattle.sched_book.specs.Delta.{Fits}
+use Rattle.sched_book.specs.Places.{held_by}
+use Rattle.sched_book.specs.Settle.{settled}
+use Rattle.sched_book.specs.Sound.{Sound}
+use Rattle.sched_book.specs.Step.{after_reports, after_lost, resent_of}
+use Rattle.sched_book.specs.declared.world.World.{World}
+use Rattle.quorum_credit.specs.Settling.{AreMarks}
+use Rattle.sched_machine.specs.Calling.{IsCalling}
+use Rattle.sched_machine.proofs.SettledCalls.{entered_within, reports_known, settled_call}
 use Rattle.sched_machine.proofs.settlement.settle_call.Goals as goal
 
-pub returns-clause-left : goal.returns-clause-left
-returns-clause-left g c = λ honest kept calling.
-    let honest_2 = g.met.D.Units.stays_honest _ _ c.settle.ensures.reads honest in
-    let honest_1 = g.met.D.Units.stays_honest _ _ c.lose.ensures.reads honest_2 in
-    let kept_1 = g.met.D.Units.stays_kept _ _ c.record_reports.ensures.reads honest_1 kept in
-    let kept_2 = g.met.D.Units.stays_kept _ _ c.lose.ensures.reads honest_2 kept_1 in
-    let same_1 = g.met.D.Units.stays_same _ _ c.record_reports.ensures.reads honest_1 kept in
-    let same_2 = g.met.D.Units.stays_same _ _ c.lose.ensures.reads honest_2 kept_1 in
-    settles_call _ _ _ _ _ _ c.in_ok-delta.field-0.delta c.lose.new.delta c.settle.new.delta same_1 same_2 calling
-    (c.in_ok-delta.ensures.left honest_1 kept calling) (c.in_ok-delta.ensures.fits honest_1 kept calling)
-    (c.in_ok-fates.ensures.left honest_2 kept_1) (c.in_ok-fates.ensures.fits honest_2 kept_1)
-    (c.in_ok-settle.ensures.left honest kept_2)
+pub returns-clause-settled : goal.returns-clause-settled
+returns-clause-settled g c = λ honest kept entered held.
+    let draft = g.met.S.Draft in
+    let world = g.S.Units.world in
+    let delta = g.S.Draft.delta in
+    let sheet = c.args.sheet.now in
+    let w = g.S.Draft.entry sheet in
+    let k = c.args.call.now in
+    let r = c.args.request.now in
+    let honest_2 = draft.works_honest _ _ c.settle.ensures.works honest in
+    let honest_1 = draft.works_honest _ _ c.lose.ensures.works honest_2 in
+    let kept_1 = draft.works_kept _ _ c.record_on.ensures.works honest_1 kept in
+    let kept_2 = draft.works_kept _ _ c.lose.ensures.works honest_2 kept_1 in
+    let entry_1 = draft.works_entry _ _ c.record_on.ensures.works honest_1 kept in
+    let entry_2 = draft.works_entry _ _ c.lose.ensures.works honest_2 kept_1 ∙ entry_1 in
+    let calling = entered.calling in
+    let reported = reports_known w (world sheet) r k (delta sheet) entered (world c.record_on.new.sheet) (c.in_ok-acked.ensures.recorded honest_1 kept) in
+    let within = c.in_ok-acked.ensures.fits honest_1 kept calling.admitted.limits.results
+    (entered_within w (world sheet) r k (delta sheet) entered (draft.is_applied sheet)) in
+    let lost = subst (λ (e : World). IsCalling e r k → c.args.held.now ≡ held_by e k.number → world c.record_on.new.sheet ≡ after_reports e k.caller r
+    → world c.lose.new.sheet ≡ after_lost e k.caller r c.args.now) entry_1 (c.in_ok-resent.ensures.left honest_2 kept_1) calling held reported in
+    let fits = subst (λ (e : World). IsCalling e r k → c.args.held.now ≡ held_by e k.number → world c.record_on.new.sheet ≡ after_reports e k.caller r
+    → Fits e (delta c.record_on.new.sheet) → Fits e (delta c.lose.new.sheet)) entry_1 (c.in_ok-resent.ensures.fits honest_2 kept_1) calling held reported within.fits in
+    let resent = subst (λ (e : World). IsCalling e r k → c.args.held.now ≡ held_by e k.number → world c.record_on.new.sheet ≡ after_reports e k.caller r
+    → c.in_ok-resent.resent ≡ resent_of e k.caller r) entry_1 (c.in_ok-resent.ensures.resent honest_2 kept_1) calling held reported in
+    let settles = subst (λ (e : World). Sound e → Fits e (delta c.lose.new.sheet) → world c.settle.new.sheet ≡ settled e (world c.lose.new.sheet)) entry_2
+    (c.in_ok-marks.ensures.settled honest kept_2) calling.sound fits in
+    let fits_then = subst (λ (e : World). Sound e → Fits e (delta c.lose.new.sheet) → Fits e (delta c.settle.new.sheet)) entry_2
+    (c.in_ok-marks.ensures.fits honest kept_2) calling.sound fits in
+    let marks = subst (λ (e : World). Sound e → Fits e (delta c.lose.new.sheet) → AreMarks e (world c.settle.new.sheet) c.in_ok-marks.marks) entry_2
+    (c.in_ok-marks.ensures.marks honest kept_2) calling.sound fits in
+    settled_call w (world c.lose.new.sheet) (world c.settle.new.sheet) r k c.args.now _ (delta c.settle.new.sheet)
+    lost settles fits_then c.in_ok-acked.ensures.acked resent marks

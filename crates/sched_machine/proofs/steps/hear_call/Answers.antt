@@ -1,0 +1,28 @@
+use Rattle.std.proofs.Common.{◌≡◌, sym, ap, ◌∙◌, subst}
+use Rattle.sched_book.specs.Delta.{applied, Fits}
+use Rattle.sched_book.specs.Sound.{Sound}
+use Rattle.sched_book.specs.Step.{RpcStep}
+use Rattle.sched_book.specs.declared.world.World.{World}
+use Rattle.sched_machine.specs.Calling.{IsAdmitted}
+use Rattle.sched_machine.proofs.steps.hear_call.Goals as goal
+
+pub returns-clause-step : goal.returns-clause-step
+returns-clause-step g c = λ honest kept.
+    let d = g.met.D.Units in
+    let honest_1 = d.stays_honest _ _ c.act.ensures.reads honest in
+    let kept_1 = d.stays_kept _ _ c.settings.ensures.reads honest_1 kept in
+    let here = d.stays_same _ _ c.settings.ensures.reads honest_1 kept in
+    let page = c.new-page.ensures.page _ (c.in_ok-settings.ensures.answer honest_1 kept ∙ ap (λ (v : World). v.settings) (sym here)) in
+    subst (λ (e : World). Sound e → IsAdmitted e c.args.caller.now c.args.request.now
+    → RpcStep e c.args.caller.now c.args.request.now c.args.now (applied e c.act.new.page.delta) c.in_ok-reply.reply) here
+    (c.in_ok-reply.ensures.step honest kept_1 page c.new-page.ensures.delta)
+
+pub returns-clause-fits : goal.returns-clause-fits
+returns-clause-fits g c = λ honest kept.
+    let d = g.met.D.Units in
+    let honest_1 = d.stays_honest _ _ c.act.ensures.reads honest in
+    let kept_1 = d.stays_kept _ _ c.settings.ensures.reads honest_1 kept in
+    let here = d.stays_same _ _ c.settings.ensures.reads honest_1 kept in
+    let page = c.new-page.ensures.page _ (c.in_ok-settings.ensures.answer honest_1 kept ∙ ap (λ (v : World). v.settings) (sym here)) in
+    subst (λ (e : World). Sound e → IsAdmitted e c.args.caller.now c.args.request.now → Fits e c.act.new.page.delta) here
+    (c.in_ok-reply.ensures.fits honest kept_1 page c.new-page.ensures.delta)

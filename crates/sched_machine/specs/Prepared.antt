@@ -1,0 +1,51 @@
+-- What a call comes to before new jobs are chosen.
+use Rattle.std.specs.Prelude.{◌≡◌, ℕ, List, length, map, sum_by, unwrap_or}
+use Rattle.rpc_records.specs.declared.request.Report.{Report}
+use Rattle.rpc_records.specs.declared.request.Request.{Request}
+use Rattle.sched_book.specs.Delta.{Fits}
+use Rattle.sched_book.specs.Fits.{estimate_at}
+use Rattle.sched_book.specs.Grant.{Asking}
+use Rattle.sched_book.specs.Lost.{aborts}
+use Rattle.sched_book.specs.Places.{host_at, held_by}
+use Rattle.sched_book.specs.Reports.{first_reports}
+use Rattle.sched_book.specs.Step.{after_settlement, resent_of}
+use Rattle.sched_book.specs.declared.delta.Change.{Change}
+use Rattle.sched_book.specs.declared.world.World.{World}
+use Rattle.quorum_credit.specs.Settling.{AreMarks}
+use Rattle.sched_machine.specs.Calling.{IsCalling}
+use Rattle.sched_machine.specs.declared.caller.Calling.{Calling}
+use Rattle.sched_machine.specs.declared.preparing.Prepared.{Prepared}
+use Rattle.sched_machine.specs.declared.preparing.Ready.{Ready}
+use Rattle.sched_machine.specs.declared.settlement.SettledCall.{SettledCall}
+
+-- The reports of a call were taken, its lost jobs were sent again or dropped, and all this was settled: the world v is left
+-- by changes that fit.
+pub record IsSettledCall (w : World) (r : Request) (k : Calling) (now : ℕ) (done : SettledCall) (v : World) (changes : List Change) : Type 0 where
+  pub left : v ≡ after_settlement w k.caller r now
+  pub fits : Fits w changes
+  pub acked : done.acked ≡ map (λ (x : Report). x.name) (first_reports r.results)
+  pub resent : done.resent ≡ resent_of w k.caller r
+  pub marks : AreMarks w v done.marks
+
+-- The same, with the names that the client may forget, and what the host asks for.
+pub record IsPrepared (w : World) (r : Request) (k : Calling) (now : ℕ) (p : Prepared) (v : World) (changes : List Change) : Type 0 where
+  pub settled : IsSettledCall w r k now p.settled v changes
+  pub aborted : p.aborted ≡ aborts v k.number r.other_results
+  pub row : p.wish.row ≡ unwrap_or (host_at v k.number) k.host
+  pub held : p.wish.held ≡ length (held_by v k.number)
+  pub before : p.wish.before ≡ sum_by (estimate_at v k.host) p.settled.resent
+
+pub record IsReady (w : World) (r : Request) (now : ℕ) (ready : Ready) (v : World) (changes : List Change) : Type 0 where
+  pub calling : IsCalling w r ready.call
+  pub prepared : IsPrepared w r ready.call now ready.prepared v changes
+
+-- what is asked of the choice of new jobs
+abbrev pub asking_by : Ready → Request → ℕ → Asking
+asking_by ready r now = record {
+  number = ready.call.number;
+  host = ready.prepared.wish.row;
+  before = ready.prepared.wish.before;
+  held = ready.prepared.wish.held;
+  asked = r.asked;
+  now = now;
+}

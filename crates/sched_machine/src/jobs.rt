@@ -1,0 +1,170 @@
+//! What a reply says of jobs.
+
+ghost use Rattle.std.specs.Prelude.{◌≡◌, [], ◌++◌, true, false, filter_map, option_map, option_and_then, unwrap_or, IfOk, OnOk};
+ghost use Rattle.std.specs.Option.{option_copied};
+ghost use Rattle.std.specs.List.{cons_option};
+ghost use Rattle.sched_book.specs.Places.{deadline_of};
+ghost use Rattle.sched_book.specs.Step.{job_at, job_of};
+ghost use Rattle.sched_book.specs.Trusted.{Trusted};
+ghost use Rattle.sched_book.specs.declared.instance.Instance.{Instance};
+ghost use Rattle.job_choice.specs.Chosen.{places_of};
+ghost use Rattle.job_choice.specs.declared.granted.Granted.{Granted};
+ghost use Rattle.call_sheet.specs.Sheets.{instance_now};
+ghost use Rattle.sched_machine.specs.Granting.{version_at_unit, job_on, AreRunBy};
+
+use call_sheet::{Draft, Leaf};
+use job_choice::{Granted, seconds_at};
+use lost_jobs::version_on;
+use rpc_records::Job;
+use sched_book::{HostRow, Place, Unavailable, Version, Workunit, instance_name};
+use std::alloc::Global;
+use texts::{Listed, Memory, Text};
+
+/// The deadline of the instance of a number on a leaf, 0 where there is none or nobody was given it.
+fn deadline_on(leaf: &Leaf, number: u32) -> u64
+    ensures { result ≡ unwrap_or (option_map (λ (x : Instance). deadline_of x.owner) (instance_now (Some leaf.now) number)) 0 }
+{
+    match leaf.present.as_slice().get(number as usize) {
+        None => 0,
+        Some(instance) => match &instance.owner {
+            None => 0,
+            Some(owner) => owner.deadline,
+        },
+    }
+}
+
+/// What a reply says of a job of this name and deadline.
+fn job_of(
+    name: Text,
+    deadline: u64,
+    host: &HostRow,
+    resent: bool,
+    unit: &Workunit,
+    version: &Version,
+) -> Result<Job, Memory>
+    ensures { IfOk result (λ job. job ≡ job_of name deadline host.now resent unit.now version.now) }
+{
+    Ok(Job {
+        app_name: unit.app.clone()?,
+        estimate: seconds_at(unit.rsc_fpops_est, host.p_fpops),
+        name,
+        platform: version.platform.clone()?,
+        report_deadline: deadline,
+        resent,
+        version_num: version.version_num,
+        wu_name: unit.name.clone()?,
+    })
+}
+
+/// What a reply says of the instance of a number on a leaf to a host that runs this version; nothing where the workunit does
+/// not stand or the host runs none.
+fn job_on(
+    alloc: Global,
+    leaf: Option<&Leaf>,
+    number: u32,
+    host: &HostRow,
+    resent: bool,
+    version: Option<&Version>,
+) -> Result<Option<Job>, Memory>
+    ensures { IfOk result (λ job. job ≡ job_on (option_copied leaf.entry) number host.now resent (option_copied version.entry)) }
+{
+    let Some(leaf) = leaf else {
+        return Ok(None);
+    };
+    let Some(version) = version else {
+        return Ok(None);
+    };
+    let deadline = deadline_on(leaf, number);
+    let name = instance_name(alloc, leaf.unit.name.as_str(), number)?;
+    Ok(Some(job_of(name, deadline, host, resent, &leaf.unit, version)?))
+}
+
+/// Puts what a reply says of the instance at a place behind the others, to a host that runs this version.
+fn add_job<S: Draft>(
+    alloc: Global,
+    sheet: &mut S,
+    host: &HostRow,
+    resent: bool,
+    place: Place,
+    version: Option<&Version>,
+    jobs: &mut Listed<Job>,
+) -> Result<(), Unavailable>
+    ensures reads { S.reads sheet.old sheet.new }
+    ensures answer { Trusted S.Units sheet.old sheet.new (OnOk result (
+        option_copied version.entry ≡ version_at_unit (S.entry sheet.old) host.now place.unit →
+        jobs.new ≡ jobs.old ++ cons_option (job_at (S.world sheet.old) host.now resent place) [])) }
+{
+    sheet.read(alloc, place.unit)?;
+    let job = job_on(alloc, sheet.leaf(place.unit), place.number, host, resent, version)?;
+    jobs.push_some(job)?;
+    Ok(())
+}
+
+/// The version that the host runs of the application of the workunit at a place.
+fn version_at_unit<S: Draft>(
+    alloc: Global,
+    sheet: &mut S,
+    host: &HostRow,
+    unit: u32,
+) -> Result<Option<Version>, Unavailable>
+    ensures reads { S.reads sheet.old sheet.new }
+    ensures answer { Trusted S.Units sheet.old sheet.new (
+        IfOk result (λ version. version ≡ version_at_unit (S.entry sheet.old) host.now unit)) }
+{
+    match sheet.unit(alloc, unit)? {
+        None => Ok(None),
+        Some(unit) => version_on(alloc, sheet, host, unit.app.as_str()),
+    }
+}
+
+/// Puts what a reply says of a job that is sent again behind the others.
+fn add_resent<S: Draft>(
+    alloc: Global,
+    sheet: &mut S,
+    host: &HostRow,
+    place: Place,
+    jobs: &mut Listed<Job>,
+) -> Result<(), Unavailable>
+    ensures reads { S.reads sheet.old sheet.new }
+    ensures answer { Trusted S.Units sheet.old sheet.new (
+        OnOk result (jobs.new ≡ jobs.old ++ cons_option (job_at (S.world sheet.old) host.now true place) [])) }
+{
+    let version = version_at_unit(alloc, sheet, host, place.unit)?;
+    add_job(alloc, sheet, host, true, place, version.as_ref(), jobs)
+}
+
+/// What a reply says of the jobs at these places, which are sent again, in their order.
+pub(crate) fn resent_jobs<S: Draft>(
+    alloc: Global,
+    sheet: &mut S,
+    host: &HostRow,
+    places: &[Place],
+) -> Result<Listed<Job>, Unavailable>
+    ensures reads { S.reads sheet.old sheet.new }
+    ensures answer { Trusted S.Units sheet.old sheet.new (
+        IfOk result (λ jobs. jobs ≡ filter_map (job_at (S.world sheet.old) host.now true) places.now)) }
+{
+    let mut jobs = Listed::new(alloc);
+    for place in places {
+        add_resent(alloc, sheet, host, *place, &mut jobs)?;
+    }
+    Ok(jobs)
+}
+
+/// Puts what a reply says of new jobs behind the others, in their order.
+pub(crate) fn add_granted<S: Draft>(
+    alloc: Global,
+    sheet: &mut S,
+    host: &HostRow,
+    granted: &[Granted],
+    jobs: &mut Listed<Job>,
+) -> Result<(), Unavailable>
+    ensures reads { S.reads sheet.old sheet.new }
+    ensures answer { Trusted S.Units sheet.old sheet.new (OnOk result (AreRunBy (S.entry sheet.old) host.now granted.now →
+        jobs.new ≡ jobs.old ++ filter_map (job_at (S.world sheet.old) host.now false) (places_of granted.now))) }
+{
+    for job in granted {
+        add_job(alloc, sheet, host, false, job.place, Some(&job.version), jobs)?;
+    }
+    Ok(())
+}

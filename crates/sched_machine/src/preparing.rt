@@ -1,0 +1,210 @@
+//! What a call comes to before new jobs are chosen, and what is asked of their choice.
+
+ghost use Rattle.std.specs.Prelude.{◌≡◌, [], length, sum_by, unwrap_or, count_by, IfOk, IsErrOf};
+ghost use Rattle.std.specs.Option.{option_copied};
+ghost use Rattle.sched_book.specs.Fits.{estimate_at};
+ghost use Rattle.sched_book.specs.Places.{host_at, held_by};
+ghost use Rattle.sched_book.specs.Sound.{Sound};
+ghost use Rattle.sched_book.specs.Step.{HasRoom};
+ghost use Rattle.sched_book.specs.Trusted.{Trusted};
+ghost use Rattle.lost_jobs.specs.Holding.{HoldsNoMore};
+ghost use Rattle.sched_machine.specs.Asked.{still_holds, count_with};
+ghost use Rattle.sched_machine.specs.Calling.{IsAdmitted, IsEntered, LacksRoom};
+ghost use Rattle.sched_machine.specs.Prepared.{IsPrepared, IsReady};
+ghost use Rattle.sched_machine.specs.declared.admission.Refused.TheVariants as refused;
+
+use crate::admission::Refused;
+use crate::caller::{Calling, enter};
+use crate::settlement::{SettledCall, settle_call};
+use call_sheet::{Draft, Leaf};
+use job_choice::seconds_at;
+use lost_jobs::aborts;
+use quorum_credit::Mark;
+use rpc_records::Request;
+use sched_book::{Caller, HostRow, Moment, Place, Unavailable};
+use std::alloc::Global;
+use texts::{Listed, Text};
+
+/// Whether the host still holds an instance that it held when the call came, by the leaf of its workunit. Of a workunit
+/// that was not read nothing was changed.
+fn still_holds(leaf: Option<&Leaf>, host: u32, number: u32) -> bool
+    ensures { result ≡ still_holds (option_copied leaf.entry) host number }
+{
+    match leaf {
+        None => true,
+        Some(leaf) => match leaf.present.as_slice().get(number as usize) {
+            None => false,
+            Some(instance) => instance.is_held_by(host),
+        },
+    }
+}
+
+/// One more where a place is held.
+fn count_with(count: u32, held: bool) -> Result<u32, Unavailable>
+    ensures { IfOk result (λ sum. sum ≡ count_with count held) }
+{
+    if !held {
+        return Ok(count);
+    }
+    match count.checked_add(1) {
+        // Not met in a sound world, where no host holds more than 20,000,000: `sched_book::laws::instances_are_few`.
+        None => Err(Unavailable),
+        Some(sum) => Ok(sum),
+    }
+}
+
+/// How many of the instances that the host held when the call came it still holds.
+fn held_now<S: Draft>(sheet: &S, host: u32, held: &[Place]) -> Result<u32, Unavailable>
+    ensures { IfOk result (λ count. count ≡ count_by (λ (p : Place). still_holds (S.kept sheet.now p.unit) host p.number) held.now) }
+{
+    let mut count: u32 = 0;
+    for place in held {
+        count = count_with(count, still_holds(sheet.leaf(place.unit), host, place.number))?;
+    }
+    Ok(count)
+}
+
+/// The seconds that the job at a place takes the host; none where no workunit stands.
+#[tactic(auto, using(crate::proofs::AskedSeconds::estimate_none, crate::proofs::AskedSeconds::estimate_some))]
+fn estimate_at<S: Draft>(
+    alloc: Global,
+    sheet: &mut S,
+    host: &HostRow,
+    place: Place,
+) -> Result<u64, Unavailable>
+    ensures reads { S.reads sheet.old sheet.new }
+    ensures answer { Trusted S.Units sheet.old sheet.new (
+        IfOk result (λ seconds. seconds ≡ estimate_at (S.world sheet.old) host.now place)) }
+{
+    match sheet.unit(alloc, place.unit)? {
+        None => Ok(0),
+        Some(unit) => Ok(seconds_at(unit.rsc_fpops_est, host.p_fpops)),
+    }
+}
+
+/// The seconds of the jobs at these places. A sum past 64 bits is refused.
+fn seconds_of<S: Draft>(
+    alloc: Global,
+    sheet: &mut S,
+    host: &HostRow,
+    places: &[Place],
+) -> Result<u64, Unavailable>
+    ensures reads { S.reads sheet.old sheet.new }
+    ensures answer { Trusted S.Units sheet.old sheet.new (
+        IfOk result (λ seconds. seconds ≡ sum_by (estimate_at (S.world sheet.old) host.now) places.now)) }
+{
+    let mut seconds: u64 = 0;
+    for place in places {
+        let more = estimate_at(alloc, sheet, host, *place)?;
+        let Some(sum) = seconds.checked_add(more) else {
+            // Not met in a sound world, where these are at most 2 * 10^15: `laws::resent_seconds_are_bounded`.
+            return Err(Unavailable);
+        };
+        seconds = sum;
+    }
+    Ok(seconds)
+}
+
+/// What a call's host asks of the choice of new jobs.
+#[derive(Drop)]
+pub(crate) struct Wish {
+    /// The host's row as settlement leaves it.
+    pub(crate) row: HostRow,
+    /// How many jobs it holds.
+    pub(crate) held: u32,
+    /// The seconds of the jobs that are sent to it again.
+    pub(crate) before: u64,
+}
+
+/// What a call's host asks for: `held` is what it held when the call came, `resent` what is sent to it again.
+fn wish_of<S: Draft>(
+    alloc: Global,
+    sheet: &mut S,
+    call: &Calling,
+    held: &[Place],
+    resent: &[Place],
+) -> Result<Wish, Unavailable>
+    ensures reads { S.reads sheet.old sheet.new }
+    ensures row { Trusted S.Units sheet.old sheet.new (IfOk result (λ wish.
+        wish.row ≡ unwrap_or (host_at (S.world sheet.old) call.now.number) call.now.host)) }
+    ensures held { Trusted S.Units sheet.old sheet.new (IfOk result (λ wish.
+        held.now ≡ held_by (S.entry sheet.old) call.now.number → HoldsNoMore (S.entry sheet.old) (S.world sheet.old) call.now.number →
+        wish.held ≡ length (held_by (S.world sheet.old) call.now.number))) }
+    ensures before { Trusted S.Units sheet.old sheet.new (IfOk result (λ wish.
+        wish.before ≡ sum_by (estimate_at (S.world sheet.old) call.now.host) resent.now)) }
+{
+    let held = held_now(sheet, call.number, held)?;
+    let before = seconds_of(alloc, sheet, &call.host, resent)?;
+    let row = match sheet.host(alloc, call.number)? {
+        Some(row) => row,
+        None => call.host.clone()?,
+    };
+    Ok(Wish { row, held, before })
+}
+
+/// What a call whose host was put comes to before new jobs are chosen.
+#[derive(Drop)]
+pub(crate) struct Prepared {
+    pub(crate) settled: SettledCall,
+    /// The names that the client may forget.
+    pub(crate) aborted: Listed<Text>,
+    /// What the host asks of the choice.
+    pub(crate) wish: Wish,
+}
+
+/// Acts on a call up to its settlement, and looks what its client may forget then, and what its host asks for: `held` is
+/// what it held when the call came.
+fn prepare_held<S: Draft>(
+    alloc: Global,
+    sheet: &mut S,
+    call: &Calling,
+    held: &[Place],
+    request: &Request,
+    now: Moment,
+) -> Result<Prepared, Unavailable>
+    ensures works { S.works sheet.old sheet.new }
+    ensures prepared { Trusted S.Units sheet.old sheet.new (IfOk result (λ prepared.
+        IsEntered (S.entry sheet.old) request.now call.now (S.world sheet.old) (S.delta sheet.old) →
+        held.now ≡ held_by (S.entry sheet.old) call.now.number →
+        IsPrepared (S.entry sheet.old) request.now call.now now prepared (S.world sheet.new) (S.delta sheet.new))) }
+{
+    let settled = settle_call(alloc, sheet, call, held, request, now)?;
+    let aborted = aborts(alloc, sheet, call.number, request)?;
+    let wish = wish_of(alloc, sheet, call, held, settled.resent.as_slice())?;
+    Ok(Prepared {
+        settled,
+        aborted,
+        wish,
+    })
+}
+
+/// A call that is acted on, up to where new jobs are chosen.
+#[derive(Drop)]
+pub(crate) struct Ready {
+    pub(crate) call: Calling,
+    pub(crate) prepared: Prepared,
+}
+
+/// Puts the host of a call, takes its reports, sends its lost jobs again or drops them, settles what all this touches, and
+/// looks what its client may forget and its host asks for. A new host where no more may stand is refused.
+pub(crate) fn prepare<S: Draft>(
+    alloc: Global,
+    sheet: &mut S,
+    caller: &Caller,
+    request: &Request,
+    now: Moment,
+) -> Result<Ready, Refused>
+    ensures works { S.works sheet.old sheet.new }
+    ensures ready { Trusted S.Units sheet.old sheet.new (IfOk result (λ ready. S.delta sheet.old ≡ [] → Sound (S.entry sheet.old) →
+        IsAdmitted (S.entry sheet.old) caller.now request.now →
+        IsReady (S.entry sheet.old) request.now now ready (S.world sheet.new) (S.delta sheet.new))) }
+    ensures caller { IfOk result (λ ready. ready.call.caller ≡ caller.now) }
+    ensures room { Trusted S.Units sheet.old sheet.new (IfOk result (λ ready. HasRoom (S.entry sheet.old) caller.now)) }
+    ensures full { Trusted S.Units sheet.old sheet.new (IsErrOf result refused.HostsFull → LacksRoom (S.entry sheet.old) caller.now) }
+    ensures known { (IsErrOf result refused.BadAccount → ⊥) × (IsErrOf result refused.BadHost → ⊥) }
+{
+    let call = enter(alloc, sheet, caller, request)?;
+    let held = sheet.held_before(alloc, call.number)?;
+    let prepared = prepare_held(alloc, sheet, &call, held.as_slice(), request, now)?;
+    Ok(Ready { call, prepared })
+}
