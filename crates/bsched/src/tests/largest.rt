@@ -4,6 +4,7 @@
 use super::replayed_over;
 use commands::default_settings;
 use message_engine::ListStore;
+use replay_lines::Ended;
 use sched_book::Settings;
 use std::alloc::Global;
 use std::str;
@@ -21,12 +22,11 @@ const CALL: &str =
 /// The workunits, of which one result each is enough.
 const UNITS: u32 = 5000;
 
-/// The calls that ask for work get 64 jobs each, by place: the first instances of the first 512 workunits.
-const ASKING_CALLS: u32 = 8;
-
-const JOBS_OF_A_REPLY: u32 = 64;
-
+/// How many jobs the host may hold: the first instances of as many workunits.
 const JOBS: u32 = 512;
+
+/// The calls by which it gets them. A reply may have 100, and the last one has the rest.
+const ASKING_CALLS: u32 = 6;
 
 /// How many of them are reported.
 const REPORTED: u32 = 256;
@@ -35,7 +35,7 @@ fn settings(alloc: Global) -> Result<Settings, Memory> {
     let mut settings = default_settings(alloc)?;
     settings.daily_result_quota = JOBS;
     settings.max_wus_in_progress = JOBS;
-    settings.max_wus_to_send = JOBS_OF_A_REPLY;
+    settings.max_wus_to_send = 100;
     Ok(settings)
 }
 
@@ -87,7 +87,7 @@ fn last_call(alloc: Global) -> Result<String, Fail> {
     let end = "_0\",\"exit_status\":0,\"output\":\"42\"}";
     let reports = list(alloc, 1, REPORTED, "{\"name\":\"w", end)?;
     Ok(format!(in alloc;
-        "1970-01-01T00:33:20Z {CALL}9,\"other_results\":{listed},\"results\":{reports}}}\n"
+        "1970-01-01T00:33:20Z {CALL}7,\"other_results\":{listed},\"results\":{reports}}}\n"
     )?)
 }
 
@@ -116,19 +116,22 @@ fn wanted(alloc: Global) -> Result<String, Fail> {
     let jobs = jobs(alloc)?;
     let credit = REPORTED * 5000;
     Ok(format!(in alloc;
-        "200 {{\"end_word\":\"enough\",\"host_total_credit\":{credit},\"hostid\":1,\"request_delay\":60,\"result_abort\":{aborted},\"result_ack\":{acknowledged},\"results\":{jobs},\"rpc_seqno\":9,\"user_name\":\"Ann\",\"user_total_credit\":{credit}}}"
+        "200 {{\"end_word\":\"enough\",\"host_total_credit\":{credit},\"hostid\":1,\"request_delay\":60,\"result_abort\":{aborted},\"result_ack\":{acknowledged},\"results\":{jobs},\"rpc_seqno\":7,\"user_name\":\"Ann\",\"user_total_credit\":{credit}}}"
     )?)
+}
+
+/// What a replay of all lines over plain lists prints, and how it ends.
+fn printed(alloc: Global) -> Result<(Vec<u8>, Ended), Fail> {
+    let lines = lines(alloc)?;
+    let settings = settings(alloc)?;
+    replayed_over(alloc, ListStore::new(alloc, &settings)?, lines.as_bytes())
 }
 
 /// What the last line is told.
 fn told(alloc: Global) -> Result<String, Fail> {
-    let lines = lines(alloc)?;
-    let store = ListStore::new(alloc, &settings(alloc)?)?;
-    let (printed, _) = replayed_over(alloc, store, lines.as_bytes())?;
-    match str::from_utf8(printed.as_slice()) {
-        Ok(text) => Ok(String::from_str(alloc, text.lines().last().unwrap_or(""))?),
-        Err(_) => Ok(String::new(alloc)),
-    }
+    let (printed, _) = printed(alloc)?;
+    let text = str::from_utf8(printed.as_slice()).unwrap_or("");
+    Ok(String::from_str(alloc, text.lines().last().unwrap_or(""))?)
 }
 
 #[test]
