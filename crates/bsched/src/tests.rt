@@ -3,6 +3,7 @@
 mod jobs;
 mod judging;
 mod lapses;
+mod largest;
 mod messages;
 mod mixed;
 mod quotas;
