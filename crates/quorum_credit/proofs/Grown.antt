@@ -7,13 +7,13 @@ use Rattle.sched_book.specs.Count.{is_open, need}
 use Rattle.sched_book.specs.Places.{nth, unit_at, agreement_of, book_status}
 use Rattle.sched_book.specs.Settle.{fresh, grown, with_grown}
 use Rattle.sched_book.specs.Delta.{with_instance, applied_one, applied}
-use Rattle.sched_book.specs.Patched.{book_after}
+use Rattle.sched_book.specs.UnitChanges.{book_after}
 use Rattle.sched_book.specs.Sound.{IsSoundUnit, Sound}
 use Rattle.sched_book.specs.declared.delta.Change.{Change}
 use Rattle.sched_book.specs.declared.delta.Change.TheVariants as change
 use Rattle.sched_book.specs.declared.instance.UnitBook.{UnitBook}
 use Rattle.sched_book.specs.declared.world.World.{World}
-use Rattle.sched_book.proofs.Patching.{unit_at-applied}
+use Rattle.sched_book.proofs.UnitChanges.{unit_at-applied}
 use Rattle.sched_book.proofs.Settling.{nth-map}
 use Rattle.quorum_credit.specs.Growing.{fresh_changes, growth_of, growth, all_growth}
 use Rattle.quorum_credit.specs.Settled.{new_instances}

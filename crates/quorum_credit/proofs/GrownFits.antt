@@ -7,7 +7,7 @@ use Rattle.sched_book.specs.Count.{canonical, errors, good, need, status, is_ope
 use Rattle.sched_book.specs.Places.{unit_at, agreement_of, book_status}
 use Rattle.sched_book.specs.Limits.{most_instances, IsInstanceInLimits}
 use Rattle.sched_book.specs.Settle.{fresh}
-use Rattle.sched_book.specs.Patched.{book_after}
+use Rattle.sched_book.specs.UnitChanges.{book_after}
 use Rattle.sched_book.specs.Delta.{applied_one, applied, Fits}
 use Rattle.sched_book.specs.declared.delta.Change.{Change}
 use Rattle.sched_book.specs.declared.delta.Change.TheVariants as change
@@ -17,7 +17,7 @@ use Rattle.sched_book.specs.declared.instance.UnitBook.{UnitBook}
 use Rattle.sched_book.specs.declared.rows.Agreement.{Agreement}
 use Rattle.sched_book.specs.declared.rows.Workunit.{Workunit}
 use Rattle.sched_book.specs.declared.world.World.{World}
-use Rattle.sched_book.proofs.Patching.{unit_at-applied}
+use Rattle.sched_book.proofs.UnitChanges.{unit_at-applied}
 use Rattle.quorum_credit.specs.Growing.{fresh_changes, growth_of, growth, all_growth}
 use Rattle.quorum_credit.specs.Settling.{is_among, AreUnitsInLimits}
 use Rattle.call_sheet.specs.Sheets.{AreRising}

@@ -8,7 +8,7 @@ pub mod Undoing
 pub mod Offering
 pub mod Changes
 pub mod PlacesOf
-pub mod Patching
+pub mod UnitChanges
 pub mod Examples
 pub mod LeastFront
 pub mod Settling

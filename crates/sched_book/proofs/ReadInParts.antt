@@ -1,4 +1,4 @@
--- A workunit and its status, that were read in parts.
+-- The status of a workunit that was read in parts.
 use Rattle.std.proofs.Common.{◌≡◌, ◌∙◌, ℕ, List, [], Option, Some, None, ap}
 use Rattle.std.specs.Prelude.{option_map, unwrap_or}
 use Rattle.sched_book.specs.Count.{status}
@@ -25,15 +25,3 @@ status_found w unit a u xs row agreement instances = at (unit_at w unit) row agr
         ap (λ z. status z u xs) same_agreement
         ∙ ap (λ z. status (agreement_of w b) z xs) same_unit
         ∙ ap (status (agreement_of w b) b.unit) instances
-
-pub book_found : (w : World) (unit : ℕ) (u : Workunit) (xs : List Instance) → Some u ≡ workunit_at w unit → xs ≡ instances_at w unit
-    → Some (record { unit = u; instances = xs }) ≡ unit_at w unit
-book_found w unit u xs row instances = at (unit_at w unit) row instances
-  where
-    at : (o : Option UnitBook) → Some u ≡ option_map (λ (b : UnitBook). b.unit) o
-        → xs ≡ unwrap_or (option_map (λ (b : UnitBook). b.instances) o) [] → Some (record { unit = u; instances = xs }) ≡ o
-    at None row instances = absurd cc
-    at (Some b) row instances =
-        let same_unit : u ≡ b.unit = cc in
-        ◌∙◌ {b = Some (record { unit = b.unit; instances = xs })} (ap (λ z. Some (record { unit = z; instances = xs })) same_unit)
-        (ap (λ z. Some (record { unit = b.unit; instances = z })) instances)

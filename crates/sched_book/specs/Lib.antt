@@ -19,7 +19,7 @@ pub mod Desk
 pub mod Trusted
 pub mod Given
 pub mod Undo
-pub mod Patched
+pub mod UnitChanges
 pub mod Laws
 pub mod PlaceLaws
 pub mod Bounds

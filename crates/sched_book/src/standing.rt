@@ -1,4 +1,4 @@
-//! What stands under a name or at a place, asked of a desk or of a desk under changes.
+//! What stands under a name or at a place, asked of a desk or of whoever else knows the workunits.
 
 ghost use Rattle.std.specs.Prelude.{◌≡◌, IfOk};
 ghost use Rattle.sched_book.specs.Places.{status_at, place_named, place_of_parts};
