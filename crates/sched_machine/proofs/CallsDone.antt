@@ -1,9 +1,10 @@
 -- A call is a step of the machine, from what its parts tell.
-use Rattle.std.proofs.Common.{◌≡◌, ℕ, ◌+◌, ◌≤◌, ◌++◌, true, false, List, is_some, sym, ap, ap₂, ◌∙◌, subst}
+use Rattle.std.proofs.Common.{◌≡◌, ℕ, ◌+◌, ◌≤◌, ◌++◌, true, false, List, map, is_some, sym, ap, ap₂, ◌∙◌, subst}
 use Rattle.std.specs.Prelude.{IsTrue, filter_map}
 use Rattle.rpc_records.specs.declared.reply.EndWord.{EndWord}
 use Rattle.rpc_records.specs.declared.reply.Job.{Job}
 use Rattle.rpc_records.specs.declared.reply.Reply.{Reply}
+use Rattle.rpc_records.specs.declared.request.Report.{Report}
 use Rattle.rpc_records.specs.declared.request.Request.{Request}
 use Rattle.sched_book.specs.Calls.{IsCallInLimits}
 use Rattle.sched_book.specs.Delta.{applied, Fits}
@@ -11,13 +12,15 @@ use Rattle.sched_book.specs.Grant.{IsGrant, end_word}
 use Rattle.sched_book.specs.Limits.{last_moment}
 use Rattle.sched_book.specs.Lost.{aborts}
 use Rattle.sched_book.specs.Places.{host_at, host_credit, user_credit}
+use Rattle.sched_book.specs.Reports.{first_reports}
 use Rattle.sched_book.specs.Sound.{Sound}
-use Rattle.sched_book.specs.Step.{RpcStep, Step, host_number, host_at_entry, after_settlement, asking_of, granted, resent_of, job_at}
+use Rattle.sched_book.specs.Step.{RpcStep, Step, host_number, host_at_entry, after_settlement, asking_of, granted, resent_of, job_at, user_name}
 use Rattle.sched_book.specs.declared.delta.Change.{Change}
 use Rattle.sched_book.specs.declared.instance.Place.{Place}
 use Rattle.sched_book.specs.declared.machine.Answered.{Answered}
 use Rattle.sched_book.specs.declared.machine.Call.{Call}
 use Rattle.sched_book.specs.declared.machine.Call.TheVariants as call
+use Rattle.sched_book.specs.declared.machine.Caller.{Caller}
 use Rattle.sched_book.specs.declared.rows.HostRow.{HostRow}
 use Rattle.sched_book.specs.declared.world.World.{World}
 use Rattle.quorum_credit.specs.Marks.{credits_in}
@@ -64,7 +67,7 @@ module _ (w v : World) (r : Request) (now : ℕ) (ready : Ready) (changes : List
 
   -- so the call is a step of the machine
   module _ (u : World) (after : List Change) (told : Told) (word : EndWord) (done : IsGranted w r now ready u after told word) where
-    abbrev caller : _
+    abbrev caller : Caller
     caller = ready.call.caller
 
     abbrev number : ℕ
@@ -104,6 +107,32 @@ module _ (w v : World) (r : Request) (now : ℕ) (ready : Ready) (changes : List
         is.prepared.aborted
         ∙ ap₂ (λ (z : World) n. aborts z n r.other_results) is.prepared.settled.left is.calling.number
 
+    -- the reply, part by part
+    parts_are : (delay : ℕ) → delay ≡ w.settings.request_delay → reply_of ready told word r delay ≡ record {
+      end_word = end_word (after_settlement w caller r now) (asking_of w caller r now) done.jobs;
+      host_total_credit = host_credit u number;
+      hostid = number;
+      request_delay = w.settings.request_delay;
+      result_abort = aborts (after_settlement w caller r now) number r.other_results;
+      result_ack = map (λ (x : Report). x.name) (first_reports r.results);
+      results = said (host_at_entry w caller r) (resent_of w caller r);
+      rpc_seqno = r.rpc_seqno;
+      user_name = user_name w caller.account;
+      user_total_credit = user_credit u caller.account;
+    }
+    parts_are delay delay_is = λ i. record {
+      end_word = done.ends i;
+      host_total_credit = host_total i;
+      hostid = is.calling.number i;
+      request_delay = delay_is i;
+      result_abort = aborted_are i;
+      result_ack = is.prepared.settled.acked i;
+      results = results_are i;
+      rpc_seqno = r.rpc_seqno;
+      user_name = done.tells.user_name i;
+      user_total_credit = user_total i;
+    }
+
     pub call_is_step : (reply : Reply) (delay : ℕ) → delay ≡ w.settings.request_delay → reply ≡ reply_of ready told word r delay → RpcStep w caller r now u reply
     call_is_step reply delay delay_is reply_is = record {
       caller = is.calling.admitted.caller;
@@ -111,7 +140,7 @@ module _ (w v : World) (r : Request) (now : ℕ) (ready : Ready) (changes : List
       jobs = done.jobs;
       grant = done.grant;
       left = done.left;
-      answer = reply_is ∙ cc;
+      answer = reply_is ∙ parts_are delay delay_is;
     }
 
 -- What the machine hears is within limits, and so its step leaves a sound world sound.

@@ -16,7 +16,7 @@ use Rattle.sched_machine.proofs.lost.lose.Goals as goal
 lost : (g : Given.Over) (c : goal.After-drop-lost-inside-2 g) → g.S.Units.honest c.put_fates.new.sheet → g.S.Units.well_kept c.args.sheet.now
     → c.args.held.now ≡ held_by (g.S.Draft.entry c.args.sheet.now) c.args.call.now.number
     → AreLost (g.S.Draft.entry c.args.sheet.now) (g.S.Units.world c.args.sheet.now) (g.S.Units.world c.put_fates.new.sheet)
-    c.args.request.now c.args.call.now c.args.now c.in_ok-lost.lost.items c.in_ok-fates.fates.items
+    c.args.request.now c.args.call.now c.args.now c.in_ok-lost.lost c.in_ok-fates.fates
     (g.S.Draft.delta c.args.sheet.now) (g.S.Draft.delta c.put_fates.new.sheet)
 lost g c honest kept held =
     let u = g.met.S.Units in
@@ -40,7 +40,7 @@ lost g c honest kept held =
       there = draft.is_applied c.put_fates.new.sheet ∙ ap (λ (e : World). applied e (g.S.Draft.delta c.put_fates.new.sheet)) entry;
       put = c.in_ok-put_fates.ensures.delta honest kept_2
           ∙ ap₂ (λ (ds : List Change) (fs : List Fate). ds ++ filter_map (fate_change (world c.fates_on.new.sheet)) fs) delta c.as_slice-2.ensures
-          ∙ ap (λ (w : World). g.S.Draft.delta c.args.sheet.now ++ filter_map (fate_change w) c.in_ok-fates.fates.items) same;
+          ∙ ap (λ (w : World). g.S.Draft.delta c.args.sheet.now ++ filter_map (fate_change w) c.in_ok-fates.fates) same;
     }
 
 pub returns-clause-left : goal.returns-clause-left
