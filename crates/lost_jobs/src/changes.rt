@@ -2,17 +2,15 @@
 
 ghost use Rattle.std.specs.Prelude.{◌≡◌, List, ◌∷◌, ◌++◌, fold, filter_map, option_map, IfOk, OnOk};
 ghost use Rattle.std.specs.Option.{option_copied};
-ghost use Rattle.sched_book.specs.Delta.{applied};
 ghost use Rattle.sched_book.specs.Trusted.{Trusted};
 ghost use Rattle.sched_book.specs.declared.instance.Owner.{Owner};
-ghost use Rattle.call_sheet.specs.Sheets.{IsPageOf};
 ghost use Rattle.lost_jobs.specs.Fated.{fated, with_fate, fate_change, AreByPlace};
 ghost use Rattle.lost_jobs.specs.Leaves.{change_on};
 ghost use Rattle.lost_jobs.specs.declared.fates.Fate.{Fate};
 
 use crate::fates::Fate;
-use call_sheet::{Draft, Leaf, Page, Sheet, put_all};
-use sched_book::{Change, Delta, Desk, Instance, Lapse, Owner, Unavailable};
+use call_sheet::{Draft, Leaf, put_all};
+use sched_book::{Change, Delta, Instance, Lapse, Owner, Unavailable};
 use std::alloc::Global;
 use texts::{Listed, Memory};
 
@@ -108,38 +106,4 @@ pub fn put_fates<S: Draft>(alloc: Global, sheet: &mut S, fates: &[Fate]) -> Resu
 {
     let more = fate_changes(alloc, sheet, fates)?;
     put_all(alloc, sheet, more.as_slice())
-}
-
-/// The changes that these fates make over a desk with a page, after changes that are put first.
-fn changes_onto<D: Desk>(
-    alloc: Global,
-    desk: &mut D,
-    page: &mut Page,
-    delta: &Delta,
-    fates: &[Fate],
-) -> Result<Delta, Unavailable>
-    ensures reads { D.reads desk.old desk.new }
-    ensures answer { Trusted D.Units desk.old desk.new (IsPageOf (D.world desk.old) page.old → IfOk result (λ more.
-        more ≡ filter_map (fate_change (applied (applied (D.world desk.old) page.old.delta) delta.now)) fates.now)) }
-{
-    let mut sheet = Sheet { desk, page };
-    put_all(alloc, &mut sheet, delta.as_slice())?;
-    fate_changes(alloc, &mut sheet, fates)
-}
-
-/// The changes that these fates make, after changes. Two fates of one place have to be the same.
-pub fn lost_changes<D: Desk>(
-    alloc: Global,
-    desk: &mut D,
-    delta: &Delta,
-    fates: &[Fate],
-) -> Result<Delta, Unavailable>
-    ensures reads { D.reads desk.old desk.new }
-    ensures answer { Trusted D.Units desk.old desk.new (IfOk result (λ more. AreByPlace fates.now →
-        applied (applied (D.world desk.old) delta.now) more ≡ fold with_fate (applied (D.world desk.old) delta.now) fates.now)) }
-    ensures changes { Trusted D.Units desk.old desk.new (
-        IfOk result (λ more. more ≡ filter_map (fate_change (applied (D.world desk.old) delta.now)) fates.now)) }
-{
-    let mut page = Page::new(alloc, desk.settings(alloc)?);
-    changes_onto(alloc, desk, &mut page, delta, fates)
 }

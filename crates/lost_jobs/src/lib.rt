@@ -9,7 +9,7 @@ mod missing;
 mod places;
 
 pub use aborted::aborts;
-pub use changes::{lost_changes, put_fates};
+pub use changes::put_fates;
 pub use fates::{Fate, fates_on, resend_or_drop, version_on};
 pub use job_choice::version_for;
 pub use missing::{lost, lost_on};

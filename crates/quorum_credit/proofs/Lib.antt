@@ -6,7 +6,6 @@ pub mod FitReports
 pub mod LateOnes
 pub mod NewlyCounted
 pub mod SettledAll
-pub mod Quotas
 pub mod ByPlace
 pub mod FreshOnes
 pub mod Grown

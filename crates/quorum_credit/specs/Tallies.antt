@@ -1,5 +1,5 @@
--- The hosts that marks speak of, and what changes make of a single host.
-use Rattle.std.specs.Prelude.{◌≡◌, ℕ, ◌+◌, min, max, Bool, false, ◌==◌, if◌then◌else◌, List, [], ◌∷◌, filter_map, All, Option, None, Some, option_map}
+-- The hosts that marks speak of, and the quotas that these leave them.
+use Rattle.std.specs.Prelude.{◌≡◌, ℕ, ◌+◌, min, Bool, false, ◌==◌, if◌then◌else◌, List, [], ◌∷◌, filter_map, All, Option, None, Some, option_map}
 use Rattle.std.specs.BTreeMap as tree
 use Rattle.std.specs.BTreeMap.{BTreeMap}
 use Rattle.std.specs.List.{list_any}
@@ -17,29 +17,6 @@ use Rattle.quorum_credit.specs.declared.marks.Mark.{Mark}
 -- the number that a host gets that is put at a number, where `count` hosts stand: a new one is the next; at 0 none is put
 abbrev pub number_got : ℕ → ℕ → ℕ
 number_got count number = min number (count + 1)
-
--- how many hosts stand after a change
-abbrev pub hosts_after : ℕ → Change → ℕ
-hosts_after count (change.Account a) = count
-hosts_after count (change.App a) = count
-hosts_after count (change.Version v) = count
-hosts_after count (change.Workunit u) = count
-hosts_after count (change.Host n h) = max count (number_got count n)
-hosts_after count (change.Instance p x) = count
-
--- the host of a number after a change, where `count` hosts stand and `host` is the one of that number
-abbrev pub host_by : ℕ → ℕ → Option HostRow → Change → Option HostRow
-host_by number count host (change.Account a) = host
-host_by number count host (change.App a) = host
-host_by number count host (change.Version v) = host
-host_by number count host (change.Workunit u) = host
-host_by number count host (change.Host n h) = if n == 0 then host else if number_got count n == number then Some h else host
-host_by number count host (change.Instance p x) = host
-
--- the same after several changes
-abbrev pub host_after : ℕ → ℕ → Option HostRow → List Change → Option HostRow
-host_after number count host [] = host
-host_after number count host (c ∷ cs) = host_after number (hosts_after count c) (host_by number count host c) cs
 
 -- a host with the quota that one tally leaves it
 abbrev pub with_quota_by : ℕ → Tally → HostRow → HostRow

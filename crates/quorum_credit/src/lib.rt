@@ -7,7 +7,6 @@
 //! what is asked of a desk alone only reads it, and hands back what changes as a delta.
 #![tactic(auto)]
 
-mod changed_host;
 mod growth;
 mod host_quotas;
 mod late;
@@ -18,7 +17,6 @@ mod settlement;
 mod settling;
 mod touched;
 
-pub use changed_host::host_under;
 pub use late::{Lapsed, lapse_late, lapse_on};
 pub use marks::Mark;
 pub use quota::next_quota;
