@@ -16,3 +16,4 @@ pub mod Sums
 pub mod Numbered
 pub mod RowsPut
 pub mod NewQuotas
+pub mod MarkedCredit

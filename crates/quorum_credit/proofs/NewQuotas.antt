@@ -1,4 +1,4 @@
--- The hosts of marks with their new quotas, put as changes.
+-- The hosts of tallies with their new quotas, put as changes.
 use Rattle.std.proofs.Common.{◌≡◌, ℕ, suc, ◌-◌, ◌*◌, ◌^◌, ◌≤◌, Bool, true, false, cond, eqb, List, [], ◌∷◌, length, Option, Some, None, sym, refl, ap, ◌∙◌, subst, arith}
 use Rattle.std.proofs.lemmas.Bool.{eqb-true}
 use Rattle.std.proofs.lemmas.Nat.{pow_pos}
@@ -14,7 +14,8 @@ use Rattle.sched_book.specs.declared.rows.HostRow.{HostRow}
 use Rattle.sched_book.specs.declared.world.World.{World}
 use Rattle.quorum_credit.specs.Marks.{charges_in, merits_in}
 use Rattle.quorum_credit.specs.Settling.{AreHostsInLimits, quota_by, with_quotas_by, AreQuotasBy}
-use Rattle.quorum_credit.specs.Tallies.{with_quota_by, new_quotas, is_named, AreSums}
+use Rattle.quorum_credit.specs.Tallies.{with_quota_by, new_quotas, is_tallied, AreSums}
+use Rattle.quorum_credit.specs.declared.host_quotas.Tally.{Tally}
 use Rattle.quorum_credit.specs.declared.marks.Mark.{Mark}
 use Rattle.sched_book.proofs.Fitting.{settings_stay}
 use Rattle.quorum_credit.proofs.Numbered.{same_rows, same_row, number_within, length-numbered, put_row}
@@ -27,11 +28,11 @@ same_world : (w : World) (f g : ℕ × HostRow → HostRow) → ((n : ℕ) (h : 
     → with_rows w f ≡ with_rows w g
 same_world w f g same = ap (λ hosts. record w { hosts = hosts }) (same_rows f g w.hosts same)
 
--- the host of a mark put with its new quota
-abbrev with_one : ℕ → Mark → (ℕ × HostRow → HostRow) → ℕ × HostRow → HostRow
+-- the host of a tally put with its new quota
+abbrev with_one : ℕ → Tally → (ℕ × HostRow → HostRow) → ℕ × HostRow → HostRow
 with_one limit s f e = cond (eqb s.host e.0) (with_quota_by limit s e.1) (f e)
 
-put_one : (w : World) (limit : ℕ) (s : Mark) (f : ℕ × HostRow → HostRow) (h : HostRow) → host_at w s.host ≡ Some h
+put_one : (w : World) (limit : ℕ) (s : Tally) (f : ℕ × HostRow → HostRow) (h : HostRow) → host_at w s.host ≡ Some h
     → applied_one (with_rows w f) (change.Host s.host (with_quota_by limit s h)) ≡ with_rows w (with_one limit s f)
 put_one w limit s f h stands = ap (λ hosts. record w { hosts = hosts }) (put_row f (with_quota_by limit s) w.hosts s.host h stands)
 
@@ -42,7 +43,7 @@ module _ (marks : List Mark) (w : World) where
   abbrev limit : ℕ
   limit = w.settings.daily_result_quota
 
-  abbrev TellsAll : Mark → Type 0
+  abbrev TellsAll : Tally → Type 0
   TellsAll s = (s.charges ≡ charges_in marks s.host) × (s.merits ≡ merits_in marks s.host)
 
   -- the quotas of these hosts are new, those of the others as they were
@@ -50,7 +51,7 @@ module _ (marks : List Mark) (w : World) where
   marked p e = cond (p e.0) (quota_by marks limit e) e.1
 
   -- one host more
-  put_marked : (p : ℕ → Bool) (s : Mark) (h : HostRow) → host_at w s.host ≡ Some h → TellsAll s
+  put_marked : (p : ℕ → Bool) (s : Tally) (h : HostRow) → host_at w s.host ≡ Some h → TellsAll s
       → applied_one (with_rows w (marked p)) (change.Host s.host (with_quota_by limit s h)) ≡ with_rows w (marked (λ n. eqb s.host n || p n))
   put_marked p s h stands tells =
       put_one w limit s (marked p) h stands
@@ -64,10 +65,10 @@ module _ (marks : List Mark) (w : World) where
           ∙ ap (λ c. quota_of g (next_quota g.quota (charges_in marks n) c limit)) (tells.1 ∙ ap (merits_in marks) same)
       cases n g false is = refl
 
-  all_first : (s : Mark) (ss : List Mark) → All TellsAll (s ∷ ss) → TellsAll s
+  all_first : (s : Tally) (ss : List Tally) → All TellsAll (s ∷ ss) → TellsAll s
   all_first s ss all = all 0 s (omega arith)
 
-  all_rest : (s : Mark) (ss : List Mark) → All TellsAll (s ∷ ss) → All TellsAll ss
+  all_rest : (s : Tally) (ss : List Tally) → All TellsAll (s ∷ ss) → All TellsAll ss
   all_rest s ss all k d within = all (suc k) d (omega arith)
 
   reordered : (a b c : Bool) → (a || (b || c)) ≡ ((b || a) || c)
@@ -76,30 +77,30 @@ module _ (marks : List Mark) (w : World) where
   reordered false true c = refl
   reordered false false c = refl
 
-  -- all hosts of these marks
-  put_all : (sums : List Mark) → All TellsAll sums → (p : ℕ → Bool)
-      → applied (with_rows w (marked p)) (new_quotas w limit sums) ≡ with_rows w (marked (λ n. is_named sums n || p n))
+  -- all hosts of these tallies
+  put_all : (sums : List Tally) → All TellsAll sums → (p : ℕ → Bool)
+      → applied (with_rows w (marked p)) (new_quotas w limit sums) ≡ with_rows w (marked (λ n. is_tallied sums n || p n))
   put_all [] all p = refl
   put_all (s ∷ ss) all p = cases (host_at w s.host) refl (put_all ss (all_rest s ss all))
     where
       cases : (o : Option HostRow) → host_at w s.host ≡ o
-          → ((p : ℕ → Bool) → applied (with_rows w (marked p)) (new_quotas w limit ss) ≡ with_rows w (marked (λ n. is_named ss n || p n)))
+          → ((p : ℕ → Bool) → applied (with_rows w (marked p)) (new_quotas w limit ss) ≡ with_rows w (marked (λ n. is_tallied ss n || p n)))
           → applied (with_rows w (marked p)) (cons_option (option_map (λ h. change.Host s.host (with_quota_by limit s h)) o) (new_quotas w limit ss))
-          ≡ with_rows w (marked (λ n. (eqb s.host n || is_named ss n) || p n))
+          ≡ with_rows w (marked (λ n. (eqb s.host n || is_tallied ss n) || p n))
       cases None none more =
           more p
-          ∙ same_world w (marked (λ n. is_named ss n || p n)) (marked (λ n. (eqb s.host n || is_named ss n) || p n))
+          ∙ same_world w (marked (λ n. is_tallied ss n || p n)) (marked (λ n. (eqb s.host n || is_tallied ss n) || p n))
           (λ n h there. apart n h there (eqb s.host n) refl)
         where
           apart : (n : ℕ) (h : HostRow) → host_at w n ≡ Some h → (b : Bool) → eqb s.host n ≡ b
-              → marked (λ n. is_named ss n || p n) (n, h) ≡ cond ((b || is_named ss n) || p n) (quota_by marks limit (n, h)) h
+              → marked (λ n. is_tallied ss n || p n) (n, h) ≡ cond ((b || is_tallied ss n) || p n) (quota_by marks limit (n, h)) h
           apart n h there true is = let same : s.host ≡ n = eqb-true s.host n is in absurd cc
           apart n h there false is = refl
       cases (Some h) stands more =
           ap (λ v. applied v (new_quotas w limit ss)) (put_marked p s h stands (all_first s ss all))
           ∙ more (λ n. eqb s.host n || p n)
-          ∙ same_world w (marked (λ n. is_named ss n || (eqb s.host n || p n))) (marked (λ n. (eqb s.host n || is_named ss n) || p n))
-          (λ n g there. ap (λ (b : Bool). cond b (quota_by marks limit (n, g)) g) (reordered (is_named ss n) (eqb s.host n) (p n)))
+          ∙ same_world w (marked (λ n. is_tallied ss n || (eqb s.host n || p n))) (marked (λ n. (eqb s.host n || is_tallied ss n) || p n))
+          (λ n g there. ap (λ (b : Bool). cond b (quota_by marks limit (n, g)) g) (reordered (is_tallied ss n) (eqb s.host n) (p n)))
 
   -- a host of which nothing is said keeps its quota
   unmarked : AreHostsInLimits w → (n : ℕ) (h : HostRow) → host_at w n ≡ Some h → (charges_in marks n ≡ 0) × (merits_in marks n ≡ 0) → quota_by marks limit (n, h) ≡ h
@@ -111,13 +112,13 @@ module _ (marks : List Mark) (w : World) where
       ∙ ap (λ c. quota_of h (next_quota h.quota 0 c limit)) nothing.1
       ∙ ap (quota_of h) kept
 
-  pub quotas_are_new : (sums : List Mark) → AreSums marks sums → AreHostsInLimits w → applied w (new_quotas w limit sums) ≡ with_quotas_by marks w
+  pub quotas_are_new : (sums : List Tally) → AreSums marks sums → AreHostsInLimits w → applied w (new_quotas w limit sums) ≡ with_quotas_by marks w
   quotas_are_new sums are limits =
       ap (λ hosts. applied (record w { hosts = hosts }) (new_quotas w limit sums)) (sym (same_row w.hosts))
       ∙ put_all sums are.each (λ n. false)
-      ∙ same_world w (marked (λ n. is_named sums n || false)) (quota_by marks limit) (λ n h there. cases n h there (is_named sums n) refl)
+      ∙ same_world w (marked (λ n. is_tallied sums n || false)) (quota_by marks limit) (λ n h there. cases n h there (is_tallied sums n) refl)
     where
-      cases : (n : ℕ) (h : HostRow) → host_at w n ≡ Some h → (b : Bool) → is_named sums n ≡ b → cond (b || false) (quota_by marks limit (n, h)) h ≡ quota_by marks limit (n, h)
+      cases : (n : ℕ) (h : HostRow) → host_at w n ≡ Some h → (b : Bool) → is_tallied sums n ≡ b → cond (b || false) (quota_by marks limit (n, h)) h ≡ quota_by marks limit (n, h)
       cases n h there true is = refl
       cases n h there false is = sym (unmarked limits n h there (are.others n is))
 
@@ -129,7 +130,7 @@ quota_within limit q e v some =
     (omega arith, omega arith)
 
 module _ (w : World) (limits : AreHostsInLimits w) (some : 1 ≤ w.settings.daily_result_quota) where
-  put_fits : (s : Mark) (f : ℕ × HostRow → HostRow) (h : HostRow) → host_at w s.host ≡ Some h
+  put_fits : (s : Tally) (f : ℕ × HostRow → HostRow) (h : HostRow) → host_at w s.host ≡ Some h
       → FitsOne (with_rows w f) (change.Host s.host (with_quota_by w.settings.daily_result_quota s h))
   put_fits s f h stands =
       let within = number_within w.hosts s.host h stands in
@@ -150,7 +151,7 @@ module _ (w : World) (limits : AreHostsInLimits w) (some : 1 ≤ w.settings.dail
         },
       )
 
-  all_fit : (sums : List Mark) (f : ℕ × HostRow → HostRow) → Fits (with_rows w f) (new_quotas w w.settings.daily_result_quota sums)
+  all_fit : (sums : List Tally) (f : ℕ × HostRow → HostRow) → Fits (with_rows w f) (new_quotas w w.settings.daily_result_quota sums)
   all_fit [] f = tt
   all_fit (s ∷ ss) f = cases (host_at w s.host) refl (all_fit ss)
     where
@@ -164,7 +165,7 @@ module _ (w : World) (limits : AreHostsInLimits w) (some : 1 ≤ w.settings.dail
             subst (λ v. Fits v (new_quotas w limit ss)) (sym (put_one w limit s f h stands)) (more (with_one limit s f)),
           )
 
-  pub quotas_fit : (sums : List Mark) → Fits w (new_quotas w w.settings.daily_result_quota sums)
+  pub quotas_fit : (sums : List Tally) → Fits w (new_quotas w w.settings.daily_result_quota sums)
   quotas_fit sums =
       subst (λ hosts. Fits (record w { hosts = hosts }) (new_quotas w w.settings.daily_result_quota sums)) (same_row w.hosts) (all_fit sums (λ e. e.1))
 
@@ -174,7 +175,7 @@ all_settings_stay w [] = refl
 all_settings_stay w (c ∷ cs) = all_settings_stay (applied_one w c) cs ∙ settings_stay w c
 
 -- they put hosts alone
-hosts_alone : (w v : World) (most : ℕ) (ms : List Mark) → applied v (new_quotas w most ms) ≡ record v { hosts = (applied v (new_quotas w most ms)).hosts }
+hosts_alone : (w v : World) (most : ℕ) (ms : List Tally) → applied v (new_quotas w most ms) ≡ record v { hosts = (applied v (new_quotas w most ms)).hosts }
 hosts_alone w v most [] = refl
 hosts_alone w v most (m ∷ ms) = cases (host_at w m.host) (λ z. hosts_alone w z most ms)
   where
@@ -184,7 +185,7 @@ hosts_alone w v most (m ∷ ms) = cases (host_at w m.host) (λ z. hosts_alone w 
     cases None more = more v
     cases (Some h) more = more (applied_one v (change.Host m.host (with_quota_by most m h)))
 
-pub are_quotas : (marks sums : List Mark) (w : World) (most : ℕ) (quotas : List Change) → AreSums marks sums → most ≡ w.settings.daily_result_quota
+pub are_quotas : (marks : List Mark) (sums : List Tally) (w : World) (most : ℕ) (quotas : List Change) → AreSums marks sums → most ≡ w.settings.daily_result_quota
     → quotas ≡ new_quotas w most sums → AreQuotasBy marks w quotas
 are_quotas marks sums w most quotas are limit is =
     subst (AreQuotasBy marks w) (sym (is ∙ ap (λ n. new_quotas w n sums) limit))

@@ -22,7 +22,7 @@ use Rattle.quorum_credit.specs.declared.marks.Standing.{Standing}
 sum_same : {X : Type 0} (f g : X → ℕ) → ((x : X) → f x ≡ g x) → (xs : List X) → sum_by f xs ≡ sum_by g xs
 sum_same f g same xs = let equal : f ≡ g = λ i x. same x i in ap (λ h. sum_by h xs) equal
 
-sum_plus : {X : Type 0} (f g : X → ℕ) (xs : List X) → sum_by f xs + sum_by g xs ≡ sum_by (λ x. f x + g x) xs
+pub sum_plus : {X : Type 0} (f g : X → ℕ) (xs : List X) → sum_by f xs + sum_by g xs ≡ sum_by (λ x. f x + g x) xs
 sum_plus f g [] = refl
 sum_plus f g (x ∷ xs) =
     let left : sum_by f (x ∷ xs) ≡ f x + sum_by f xs = sum_by-cons f x xs in
@@ -116,7 +116,7 @@ unfoldable pub sum_from : (ℕ → ℕ) → ℕ → ℕ → ℕ
 sum_from g n zero = 0
 sum_from g n (suc k) = g n + sum_from g (suc n) k
 
-at_one : (g : ℕ → ℕ) (k : ℕ) → g 0 ≡ 0 → sum_from g 1 k ≡ sum_from g 0 (suc k)
+pub at_one : (g : ℕ → ℕ) (k : ℕ) → g 0 ≡ 0 → sum_from g 1 k ≡ sum_from g 0 (suc k)
 unfolding sum_from
 at_one g k first = let none : g 0 ≡ 0 = first in let sum : sum_from g 1 k ≡ g 0 + sum_from g 1 k = omega arith in sum
 
@@ -216,7 +216,7 @@ zero_either true n is = is
 zero_either false n is = refl
 
 -- a sum over the places of one workunit where each is nothing
-sum_in-zero : (f : Place → ℕ) (unit number : ℕ) (xs : List Instance) → ((i : ℕ) → f (record { unit = unit; number = i }) ≡ 0)
+pub sum_in-zero : (f : Place → ℕ) (unit number : ℕ) (xs : List Instance) → ((i : ℕ) → f (record { unit = unit; number = i }) ≡ 0)
     → sum_by f (places_in unit number (λ x. true) xs) ≡ 0
 sum_in-zero f unit number [] none = refl
 sum_in-zero f unit number (x ∷ xs) none =
@@ -225,7 +225,7 @@ sum_in-zero f unit number (x ∷ xs) none =
     ∙ ap (λ n. 0 + n) (sum_in-zero f unit (number + 1) xs none)
 
 module _ (units : List ℕ) (old new : World) (touch : TouchJust units old new) where
-  stands_as_before : (unit : ℕ) → is_among units unit ≡ false → (i : ℕ)
+  pub stands_as_before : (unit : ℕ) → is_among units unit ≡ false → (i : ℕ)
       → standing_at new (record { unit = unit; number = i }) ≡ standing_at old (record { unit = unit; number = i })
   stands_as_before unit among i =
       ap (λ o. unwrap_or (option_map (λ b. standing_in new.apps b i) o) no_standing) (touch.others unit among)

@@ -4,7 +4,7 @@ use Rattle.std.specs.Prelude.{option_map, unwrap_or}
 use Rattle.rpc_records.specs.declared.request.Report.{Report}
 use Rattle.sched_book.specs.Count.{has_failed}
 use Rattle.sched_book.specs.Desk.{instances_at}
-use Rattle.sched_book.specs.Places.{status_at, agreement_by, agreement_of}
+use Rattle.sched_book.specs.Places.{unit_at, status_at, agreement_by, agreement_of}
 use Rattle.sched_book.specs.declared.instance.Instance.{Instance}
 use Rattle.sched_book.specs.declared.instance.Place.{Place}
 use Rattle.sched_book.specs.declared.instance.Status.{Status}
@@ -50,16 +50,19 @@ growth-is entry present unit (Some k) rest read =
 
 pub ruleset growth_steps = (growth-is)
 
+abbrev credit_of : Option UnitBook → ℕ
+credit_of o = unwrap_or (option_map (λ (b : UnitBook). b.unit.credit) o) 0
+
 abbrev standings_of : World → Option UnitBook → List OwnedStanding
 standings_of w o = unwrap_or (option_map (λ (b : UnitBook). standings_in (agreement_of w b) b.unit b.instances) o) []
 
 pub marks-is : (entry present : World) (unit : ℕ) (o : Option Leaf) → present ≡ record entry { units = present.units; hosts = present.hosts }
     → IsReadAt entry present unit o → marks_on o ≡ marks_at entry present unit
 marks-is entry present unit None rest read =
-    sym (ap₂ (λ (old new : List OwnedStanding). marks_from old 0 new)
-    (ap (standings_of entry) read.1) (ap (standings_of present) read.0))
+    sym (ap (λ (o : Option UnitBook). marks_from (credit_of o) (standings_of entry (unit_at entry unit)) 0 (standings_of present o)) read.0)
 marks-is entry present unit (Some k) rest read =
-    sym (ap₂ (λ (old new : List OwnedStanding). marks_from old 0 new)
+    sym (ap (λ (o : Option UnitBook). marks_from (credit_of o) (standings_of entry (unit_at entry unit)) 0 (standings_of present (unit_at present unit))) read.here
+    ∙ ap₂ (λ (old new : List OwnedStanding). marks_from k.unit.credit old 0 new)
     (ap (standings_of entry) read.before ∙ ap (λ a. standings_in a k.unit k.before) read.agreement)
     (ap (standings_of present) read.here ∙ ap (λ a. standings_in a k.unit k.present) (agreed entry present k rest read.agreement)))
 

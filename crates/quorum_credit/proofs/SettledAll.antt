@@ -107,6 +107,15 @@ grown_touch_just units old changed sound touch = record {
   others = untouched_stays units old changed sound touch;
 }
 
+-- the settled world, in which the quotas of hosts are new beside
+pub settled_touch_just : (units : List ℕ) (old changed : World) → Sound old → TouchJust units old changed → TouchJust units old (settled old changed)
+settled_touch_just units old changed sound touch = record {
+  rising = touch.rising;
+  settings = touch.settings;
+  apps = touch.apps;
+  others = untouched_stays units old changed sound touch;
+}
+
 -- the hosts with their quotas, by the marks of the touched workunits
 quotas_settle : (units : List ℕ) (old changed : World) (marks : List Mark) → Sound old → TouchJust units old changed
     → ((host : ℕ) → charges_in marks host ≡ sum_by (unit_charges old (with_grown changed) host) units)

@@ -12,7 +12,8 @@ use Rattle.std.specs.List.{list_any}
 use Rattle.std.specs.Map.{keys_of}
 use Rattle.std.specs.Ordering.{nat_cmp}
 use Rattle.quorum_credit.specs.Marks.{charges_in, merits_in}
-use Rattle.quorum_credit.specs.Tallies.{is_named, tally_after, tally_in, AreSums}
+use Rattle.quorum_credit.specs.Tallies.{is_named, is_tallied, tally_of, tally_after, tally_in, AreSums}
+use Rattle.quorum_credit.specs.declared.host_quotas.Tally.{Tally}
 use Rattle.quorum_credit.specs.declared.marks.Mark.{Mark}
 
 -- one mark more in front
@@ -32,19 +33,19 @@ merits_other : (m : Mark) (ms : List Mark) (host : ℕ) → eqb m.host host ≡ 
 merits_other m ms host is = let one = merits_cons m ms host false is in omega arith
 
 -- what is said of a host where something was said before
-abbrev with_more : ℕ → Mark → List Mark → Mark
+abbrev with_more : ℕ → Tally → List Mark → Tally
 with_more host s ms = record s { charges = s.charges + charges_in ms host; merits = s.merits + merits_in ms host }
 
-abbrev both : Mark → ℕ → ℕ → Mark
+abbrev both : Tally → ℕ → ℕ → Tally
 both s charges merits = record s { charges = charges; merits = merits }
 
-tally_some : (host : ℕ) (s : Mark) (ms : List Mark) → tally_after host (Some s) ms ≡ Some (with_more host s ms)
+tally_some : (host : ℕ) (s : Tally) (ms : List Mark) → tally_after host (Some s) ms ≡ Some (with_more host s ms)
 tally_some host s [] =
     ap (λ c. Some (both s c s.merits)) (let same : s.charges ≡ s.charges + 0 = omega arith in same)
     ∙ ap (λ m. Some (both s (s.charges + 0) m)) (let same : s.merits ≡ s.merits + 0 = omega arith in same)
 tally_some host s (m ∷ ms) = cases (λ s. tally_some host s ms) (eqb m.host host) refl
   where
-    cases : ((s : Mark) → tally_after host (Some s) ms ≡ Some (with_more host s ms)) → (b : Bool) → eqb m.host host ≡ b
+    cases : ((s : Tally) → tally_after host (Some s) ms ≡ Some (with_more host s ms)) → (b : Bool) → eqb m.host host ≡ b
         → tally_after host (cond b (Some (both s (s.charges + m.charges) (s.merits + m.merits))) (Some s)) ms ≡ Some (with_more host s (m ∷ ms))
     cases more true is =
         let charges : s.charges + m.charges + charges_in ms host ≡ s.charges + charges_in (m ∷ ms) host =
@@ -60,20 +61,20 @@ tally_some host s (m ∷ ms) = cases (λ s. tally_some host s ms) (eqb m.host ho
         ∙ ap (λ c. Some (both s (s.charges + charges_in (m ∷ ms) host) (s.merits + c))) (sym (merits_other m ms host is))
 
 -- what is said of a host
-abbrev said : List Mark → ℕ → Mark
+abbrev said : List Mark → ℕ → Tally
 said ms host = record { host = host; charges = charges_in ms host; merits = merits_in ms host }
 
 tally_none : (host : ℕ) (ms : List Mark) → tally_after host None ms ≡ cond (is_named ms host) (Some (said ms host)) None
 tally_none host [] = refl
 tally_none host (m ∷ ms) = cases (tally_none host ms) (eqb m.host host) refl
   where
-    triple : ℕ → ℕ → ℕ → Option Mark
+    triple : ℕ → ℕ → ℕ → Option Tally
     triple h c e = Some (record { host = h; charges = c; merits = e })
 
     cases : tally_after host None ms ≡ cond (is_named ms host) (Some (said ms host)) None → (b : Bool) → eqb m.host host ≡ b
-        → tally_after host (cond b (Some m) None) ms ≡ cond (b || is_named ms host) (Some (said (m ∷ ms) host)) None
+        → tally_after host (cond b (Some (tally_of m)) None) ms ≡ cond (b || is_named ms host) (Some (said (m ∷ ms) host)) None
     cases more true is =
-        tally_some host m ms
+        tally_some host (tally_of m) ms
         ∙ ap (λ h. triple h (m.charges + charges_in ms host) (m.merits + merits_in ms host)) (eqb-true m.host host is)
         ∙ ap (λ c. triple host c (m.merits + merits_in ms host)) (sym (charges_cons m ms host true is))
         ∙ ap (λ c. triple host (charges_in (m ∷ ms) host) c) (sym (merits_cons m ms host true is))
@@ -105,33 +106,33 @@ none_passes p (x ∷ xs) none (suc k) d within = none_passes p xs (rest (p x) no
     rest true none = absurd cc
     rest false none = none
 
-module _ (marks : List Mark) (tallies : BTreeMap ℕ Mark) (ordered : tree.IsOrdered nat_cmp tallies)
+module _ (marks : List Mark) (tallies : BTreeMap ℕ Tally) (ordered : tree.IsOrdered nat_cmp tallies)
     (told : (host : ℕ) → tally_in tallies host ≡ tally_after host None marks) where
   told_of : (host : ℕ) → tally_in tallies host ≡ cond (is_named marks host) (Some (said marks host)) None
   told_of host = told host ∙ tally_none host marks
 
-  abbrev TellsAll : Mark → Type 0
+  abbrev TellsAll : Tally → Type 0
   TellsAll s = (s.charges ≡ charges_in marks s.host) × (s.merits ≡ merits_in marks s.host)
 
   told_all : (host : ℕ) → IfSome (tally_in tallies host) TellsAll
-  told_all host = subst (λ (o : Option Mark). IfSome o TellsAll) (sym (told_of host)) (cases (is_named marks host))
+  told_all host = subst (λ (o : Option Tally). IfSome o TellsAll) (sym (told_of host)) (cases (is_named marks host))
     where
       cases : (b : Bool) → IfSome (cond b (Some (said marks host)) None) TellsAll
       cases true = (refl, refl)
       cases false = tt
 
-  abbrev IsOther : ℕ → Mark → Type 0
+  abbrev IsOther : ℕ → Tally → Type 0
   IsOther host s = eqb s.host host ≡ false
 
-  others : (host : ℕ) → is_named (tree.values tallies) host ≡ false → (charges_in marks host ≡ 0) × (merits_in marks host ≡ 0)
+  others : (host : ℕ) → is_tallied (tree.values tallies) host ≡ false → (charges_in marks host ≡ 0) × (merits_in marks host ≡ 0)
   others host none = cases (is_named marks host) refl
     where
       cases : (b : Bool) → is_named marks host ≡ b → (charges_in marks host ≡ 0) × (merits_in marks host ≡ 0)
       cases true is =
           let found : tally_in tallies host ≡ Some (said marks host) = told_of host ∙ ap (λ (b : Bool). cond b (Some (said marks host)) None) is in
           let other : IfSome (tally_in tallies host) (IsOther host) =
-          IfSome-lookup_from_All (IsOther host) (is_at (nat_cmp host)) tallies.entries (none_passes (λ (s : Mark). eqb s.host host) (tree.values tallies) none) in
-          let apart : eqb host host ≡ false = subst (λ (o : Option Mark). IfSome o (IsOther host)) found other in
+          IfSome-lookup_from_All (IsOther host) (is_at (nat_cmp host)) tallies.entries (none_passes (λ (s : Tally). eqb s.host host) (tree.values tallies) none) in
+          let apart : eqb host host ≡ false = subst (λ (o : Option Tally). IfSome o (IsOther host)) found other in
           let never : true ≡ false = sym (eq-eqb host host refl) ∙ apart in
           absurd cc
       cases false is = charges_none marks host is

@@ -29,4 +29,4 @@ growth_on unit (Some k) = fresh_changes unit (length k.present) (new_instances k
 -- what is new of the workunit's instances since the call came
 abbrev pub marks_on : Option Leaf → List Mark
 marks_on None = []
-marks_on (Some k) = marks_from (standings_in k.agreement k.unit k.before) 0 (standings_in k.agreement k.unit k.present)
+marks_on (Some k) = marks_from k.unit.credit (standings_in k.agreement k.unit k.before) 0 (standings_in k.agreement k.unit k.present)

@@ -9,3 +9,4 @@ pub mod Tallies
 pub mod Growing
 pub mod Marking
 pub mod Leaves
+pub mod CreditKept

@@ -1,5 +1,5 @@
 -- The marks of workunits after changes, as they are made: instance by instance, workunit by workunit.
-use Rattle.std.specs.Prelude.{ℕ, ◌+◌, List, [], ◌∷◌, ◌++◌, map, Option, None, Some, option_map, unwrap_or, slice_get}
+use Rattle.std.specs.Prelude.{ℕ, ◌+◌, ◌==◌, ◌&&◌, if◌then◌else◌, List, [], ◌∷◌, ◌++◌, map, Option, None, Some, option_map, option_and_then, unwrap_or, slice_get}
 use Rattle.sched_book.specs.Count.{verdict, verdict_by}
 use Rattle.sched_book.specs.Places.{unit_at, agreement_of}
 use Rattle.sched_book.specs.declared.instance.Instance.{Instance}
@@ -8,7 +8,7 @@ use Rattle.sched_book.specs.declared.instance.Verdict.{Verdict}
 use Rattle.sched_book.specs.declared.rows.Agreement.{Agreement}
 use Rattle.sched_book.specs.declared.rows.Workunit.{Workunit}
 use Rattle.sched_book.specs.declared.world.World.{World}
-use Rattle.quorum_credit.specs.Marks.{standing_with, no_standing, charges_between, merits_between}
+use Rattle.quorum_credit.specs.Marks.{standing_with, no_standing, charges_between, merits_between, credit_between, unit_credit}
 use Rattle.quorum_credit.specs.declared.marks.Mark.{Mark}
 use Rattle.quorum_credit.specs.declared.marks.OwnedStanding.{OwnedStanding}
 use Rattle.quorum_credit.specs.declared.marks.Standing.{Standing}
@@ -32,24 +32,36 @@ standings_at w unit = unwrap_or (option_map (λ (b : UnitBook). standings_in (ag
 abbrev pub standing_of : List OwnedStanding → ℕ → Standing
 standing_of rows number = unwrap_or (option_map (λ (s : OwnedStanding). s.standing) (slice_get rows number)) no_standing
 
--- what is new of an instance, where it has an owner
-abbrev pub mark_of : Standing → OwnedStanding → Option Mark
-mark_of old s =
-    option_map (λ o. record { host = o.host; charges = charges_between old s.standing; merits = merits_between old s.standing }) s.owner
+-- what is new of an instance of this host, of a workunit of this credit
+abbrev pub mark_between : ℕ → ℕ → Standing → Standing → Mark
+mark_between credit host old new = record {
+  host = host;
+  charges = charges_between old new;
+  merits = merits_between old new;
+  credit = credit_between credit old new;
+}
+
+-- the mark, where it counts anything
+abbrev pub mark_if_new : Mark → Option Mark
+mark_if_new m = if (m.charges == 0) && (m.merits == 0) then None else Some m
+
+-- what is new of an instance of a workunit of this credit; none where it has no owner or nothing is new
+abbrev pub mark_of : ℕ → Standing → OwnedStanding → Option Mark
+mark_of credit old s = option_and_then (λ o. mark_if_new (mark_between credit o.host old s.standing)) s.owner
 
 -- marks behind one that there may be
 abbrev pub with_mark : Option Mark → List Mark → List Mark
 with_mark None marks = marks
 with_mark (Some m) marks = m ∷ marks
 
--- the marks of a workunit's instances, from a number on
-abbrev pub marks_from : List OwnedStanding → ℕ → List OwnedStanding → List Mark
-marks_from old number [] = []
-marks_from old number (s ∷ new) = with_mark (mark_of (standing_of old number) s) (marks_from old (number + 1) new)
+-- the marks of the instances of a workunit of this credit, from a number on
+abbrev pub marks_from : ℕ → List OwnedStanding → ℕ → List OwnedStanding → List Mark
+marks_from credit old number [] = []
+marks_from credit old number (s ∷ new) = with_mark (mark_of credit (standing_of old number) s) (marks_from credit old (number + 1) new)
 
 -- the marks of the workunit at a place
 abbrev pub marks_at : World → World → ℕ → List Mark
-marks_at old new unit = marks_from (standings_at old unit) 0 (standings_at new unit)
+marks_at old new unit = marks_from (unit_credit new unit) (standings_at old unit) 0 (standings_at new unit)
 
 -- the marks of these workunits
 abbrev pub marks_of_units : World → World → List ℕ → List Mark

@@ -1,4 +1,4 @@
--- What settlement counts for the hosts of instances, and against them.
+-- What settlement counts for the hosts of instances, and against them, and the credit that it brings them.
 use Rattle.std.specs.Prelude.{ℕ, ◌+◌, ◌==◌, Bool, true, false, not, ◌&&◌, if◌then◌else◌, List, sum_by, Option, None, option_map, unwrap_or, slice_get}
 use Rattle.sched_book.specs.Count.{tells_error, is_valid, is_invalid}
 use Rattle.sched_book.specs.Desk.{instances_at}
@@ -41,6 +41,14 @@ charges_between old new =
 abbrev pub merits_between : Standing → Standing → ℕ
 merits_between old new = one_if_new (is_valid new.verdict) (is_valid old.verdict)
 
+-- the credit that is new, in a workunit of this credit: all of it where a valid result is new
+abbrev pub credit_between : ℕ → Standing → Standing → ℕ
+credit_between credit old new = if is_valid new.verdict && not (is_valid old.verdict) then credit else 0
+
+-- the credit of the workunit at a place, none where none stands
+abbrev pub unit_credit : World → ℕ → ℕ
+unit_credit w unit = unwrap_or (option_map (λ (b : UnitBook). b.unit.credit) (unit_at w unit)) 0
+
 -- the same of the instance at a place, for its host alone
 abbrev pub charges_at : World → World → ℕ → Place → ℕ
 charges_at old new host p =
@@ -50,6 +58,10 @@ abbrev pub merits_at : World → World → ℕ → Place → ℕ
 merits_at old new host p =
     if passes new (λ b x. is_owned_by host x) p then merits_between (standing_at old p) (standing_at new p) else 0
 
+abbrev pub credit_new_at : World → World → ℕ → Place → ℕ
+credit_new_at old new host p =
+    if passes new (λ b x. is_owned_by host x) p then credit_between (unit_credit new p.unit) (standing_at old p) (standing_at new p) else 0
+
 -- the same of all instances of the workunit at a place
 abbrev pub unit_charges : World → World → ℕ → ℕ → ℕ
 unit_charges old new host unit = sum_by (charges_at old new host) (places_in unit 0 (λ x. true) (instances_at new unit))
@@ -57,9 +69,15 @@ unit_charges old new host unit = sum_by (charges_at old new host) (places_in uni
 abbrev pub unit_merits : World → World → ℕ → ℕ → ℕ
 unit_merits old new host unit = sum_by (merits_at old new host) (places_in unit 0 (λ x. true) (instances_at new unit))
 
+abbrev pub unit_credits : World → World → ℕ → ℕ → ℕ
+unit_credits old new host unit = sum_by (credit_new_at old new host) (places_in unit 0 (λ x. true) (instances_at new unit))
+
 -- what marks say of a host
 abbrev pub charges_in : List Mark → ℕ → ℕ
 charges_in marks host = sum_by (λ (m : Mark). if m.host == host then m.charges else 0) marks
 
 abbrev pub merits_in : List Mark → ℕ → ℕ
 merits_in marks host = sum_by (λ (m : Mark). if m.host == host then m.merits else 0) marks
+
+abbrev pub credits_in : List Mark → ℕ → ℕ
+credits_in marks host = sum_by (λ (m : Mark). if m.host == host then m.credit else 0) marks

@@ -12,6 +12,7 @@ use Rattle.sched_book.specs.declared.instance.UnitBook.{UnitBook}
 use Rattle.sched_book.specs.declared.rows.App.{App}
 use Rattle.sched_book.specs.declared.rows.HostRow.{HostRow}
 use Rattle.sched_book.specs.declared.world.World.{World}
+use Rattle.quorum_credit.specs.Marking.{marks_of_units}
 use Rattle.quorum_credit.specs.Marks.{charges_in, merits_in}
 use Rattle.call_sheet.specs.Sheets.{AreRising}
 use Rattle.quorum_credit.specs.declared.marks.Mark.{Mark}
@@ -35,6 +36,12 @@ pub record TouchJust (units : List ℕ) (old changed : World) : Type 0 where
   pub settings : changed.settings ≡ old.settings
   pub apps : changed.apps ≡ old.apps
   pub others : (unit : ℕ) → is_among units unit ≡ false → unit_at changed unit ≡ unit_at old unit
+
+-- These are the marks of all that is new between two worlds, where no workunits but some were touched.
+pub record AreMarks (old new : World) (marks : List Mark) : Type 0 where
+  pub units : List ℕ
+  pub just : TouchJust units old new
+  pub are : marks ≡ marks_of_units old new units
 
 -- the workunit of a place, with the instances that it needs where the place is one of these
 abbrev pub grown_among : List App → List ℕ → ℕ × UnitBook → UnitBook

@@ -11,6 +11,7 @@ use Rattle.sched_book.specs.declared.delta.Change.TheVariants as change
 use Rattle.sched_book.specs.declared.rows.HostRow.{HostRow}
 use Rattle.sched_book.specs.declared.world.World.{World}
 use Rattle.quorum_credit.specs.Marks.{charges_in, merits_in}
+use Rattle.quorum_credit.specs.declared.host_quotas.Tally.{Tally}
 use Rattle.quorum_credit.specs.declared.marks.Mark.{Mark}
 
 -- the number that a host gets that is put at a number, where `count` hosts stand: a new one is the next; at 0 none is put
@@ -40,36 +41,44 @@ abbrev pub host_after : ℕ → ℕ → Option HostRow → List Change → Optio
 host_after number count host [] = host
 host_after number count host (c ∷ cs) = host_after number (hosts_after count c) (host_by number count host c) cs
 
--- a host with the quota that one mark leaves it
-abbrev pub with_quota_by : ℕ → Mark → HostRow → HostRow
-with_quota_by limit m h = record h { quota = next_quota h.quota m.charges m.merits limit }
+-- a host with the quota that one tally leaves it
+abbrev pub with_quota_by : ℕ → Tally → HostRow → HostRow
+with_quota_by limit s h = record h { quota = next_quota h.quota s.charges s.merits limit }
 
 -- its host with that quota, as a change, where it stands
-abbrev pub new_quota : World → ℕ → Mark → Option Change
-new_quota w limit m = option_map (λ h. change.Host m.host (with_quota_by limit m h)) (host_at w m.host)
+abbrev pub new_quota : World → ℕ → Tally → Option Change
+new_quota w limit s = option_map (λ h. change.Host s.host (with_quota_by limit s h)) (host_at w s.host)
 
-abbrev pub new_quotas : World → ℕ → List Mark → List Change
-new_quotas w limit marks = filter_map (new_quota w limit) marks
+abbrev pub new_quotas : World → ℕ → List Tally → List Change
+new_quotas w limit tallies = filter_map (new_quota w limit) tallies
 
 -- some mark is of this host
 abbrev pub is_named : List Mark → ℕ → Bool
 is_named marks host = list_any (λ (m : Mark). m.host == host) marks
 
+-- some tally is of this host
+abbrev pub is_tallied : List Tally → ℕ → Bool
+is_tallied tallies host = list_any (λ (s : Tally). s.host == host) tallies
+
+-- what one mark says of its host
+abbrev pub tally_of : Mark → Tally
+tally_of m = record { host = m.host; charges = m.charges; merits = m.merits }
+
 -- what was said of a host so far, and one mark more
-abbrev pub tally_with : Option Mark → Mark → Mark
-tally_with None m = m
+abbrev pub tally_with : Option Tally → Mark → Tally
+tally_with None m = tally_of m
 tally_with (Some s) m = record s { charges = s.charges + m.charges; merits = s.merits + m.merits }
 
 -- the same with the marks that are of the host
-abbrev pub tally_after : ℕ → Option Mark → List Mark → Option Mark
+abbrev pub tally_after : ℕ → Option Tally → List Mark → Option Tally
 tally_after host tally [] = tally
 tally_after host tally (m ∷ ms) = tally_after host (if m.host == host then Some (tally_with tally m) else tally) ms
 
 -- what is said of a host so far
-abbrev pub tally_in : BTreeMap ℕ Mark → ℕ → Option Mark
+abbrev pub tally_in : BTreeMap ℕ Tally → ℕ → Option Tally
 tally_in tallies host = tree.get nat_cmp tallies host
 
 -- Each of these says all that the marks say of its host, and the marks say nothing of other hosts.
-pub record AreSums (marks sums : List Mark) : Type 0 where
-  pub each : All (λ (s : Mark). (s.charges ≡ charges_in marks s.host) × (s.merits ≡ merits_in marks s.host)) sums
-  pub others : (host : ℕ) → is_named sums host ≡ false → (charges_in marks host ≡ 0) × (merits_in marks host ≡ 0)
+pub record AreSums (marks : List Mark) (sums : List Tally) : Type 0 where
+  pub each : All (λ (s : Tally). (s.charges ≡ charges_in marks s.host) × (s.merits ≡ merits_in marks s.host)) sums
+  pub others : (host : ℕ) → is_tallied sums host ≡ false → (charges_in marks host ≡ 0) × (merits_in marks host ≡ 0)

@@ -5,7 +5,7 @@ ghost use Rattle.std.specs.BTreeMap as tree;
 ghost use Rattle.std.specs.Ordering.{nat_cmp};
 ghost use Rattle.sched_book.specs.Trusted.{Trusted};
 ghost use Rattle.quorum_credit.specs.Settling.{AreQuotasBy};
-ghost use Rattle.quorum_credit.specs.Tallies.{with_quota_by, new_quota, new_quotas, tally_with, tally_after, tally_in, AreSums};
+ghost use Rattle.quorum_credit.specs.Tallies.{with_quota_by, new_quota, new_quotas, tally_of, tally_with, tally_after, tally_in, AreSums};
 
 use crate::marks::Mark;
 use crate::quota::next_quota;
@@ -15,49 +15,59 @@ use std::alloc::Global;
 use std::collections::BTreeMap;
 use texts::{Listed, Memory};
 
-/// The host with the quota that one mark leaves it.
-fn with_quota_by(limit: u32, mark: &Mark, host: HostRow) -> HostRow
-    ensures { result ≡ with_quota_by limit mark.now host }
+/// What marks say of one host.
+#[derive(Clone, Copy)]
+struct Tally {
+    host: u32,
+    /// How much counts against the host.
+    charges: u32,
+    /// How much counts for it.
+    merits: u32,
+}
+
+/// The host with the quota that one tally leaves it.
+fn with_quota_by(limit: u32, tally: &Tally, host: HostRow) -> HostRow
+    ensures { result ≡ with_quota_by limit tally.now host }
 {
     HostRow {
-        quota: next_quota(host.quota, mark.charges, mark.merits, limit),
+        quota: next_quota(host.quota, tally.charges, tally.merits, limit),
         ..host
     }
 }
 
-/// The host of a mark with its new quota.
+/// The host of a tally with its new quota.
 fn new_quota<S: Draft>(
     alloc: Global,
     sheet: &mut S,
     limit: u32,
-    mark: &Mark,
+    tally: &Tally,
 ) -> Result<Option<Change>, Unavailable>
     ensures reads { S.reads sheet.old sheet.new }
     ensures answer { Trusted S.Units sheet.old sheet.new (
-        IfOk result (λ change. change ≡ new_quota (S.world sheet.old) limit mark.now)) }
+        IfOk result (λ change. change ≡ new_quota (S.world sheet.old) limit tally.now)) }
 {
-    match sheet.host(alloc, mark.host)? {
+    match sheet.host(alloc, tally.host)? {
         None => Ok(None),
         Some(host) => Ok(Some(Change::Host {
-            number: mark.host,
-            row: with_quota_by(limit, mark, host),
+            number: tally.host,
+            row: with_quota_by(limit, tally, host),
         })),
     }
 }
 
-/// Puts the host of a mark with its new quota behind the others. A host that does not stand is refused.
+/// Puts the host of a tally with its new quota behind the others. A host that does not stand is refused.
 fn add_quota<S: Draft>(
     alloc: Global,
     sheet: &mut S,
     limit: u32,
     quotas: &mut Delta,
-    mark: &Mark,
+    tally: &Tally,
 ) -> Result<(), Unavailable>
     ensures reads { S.reads sheet.old sheet.new }
     ensures answer { Trusted S.Units sheet.old sheet.new (
-        OnOk result (quotas.new ≡ quotas.old ++ new_quotas (S.world sheet.old) limit (mark.now ∷ []))) }
+        OnOk result (quotas.new ≡ quotas.old ++ new_quotas (S.world sheet.old) limit (tally.now ∷ []))) }
 {
-    match new_quota(alloc, sheet, limit, mark)? {
+    match new_quota(alloc, sheet, limit, tally)? {
         None => Err(Unavailable),
         Some(change) => {
             quotas.push(change)?;
@@ -66,30 +76,41 @@ fn add_quota<S: Draft>(
     }
 }
 
-/// The hosts of these marks with their new quotas, in their order.
+/// The hosts of these tallies with their new quotas, in their order.
 fn quotas_in_turn<S: Draft>(
     alloc: Global,
     sheet: &mut S,
     limit: u32,
-    marks: &[Mark],
+    tallies: &[Tally],
 ) -> Result<Delta, Unavailable>
     ensures reads { S.reads sheet.old sheet.new }
     ensures answer { Trusted S.Units sheet.old sheet.new (
-        IfOk result (λ quotas. quotas ≡ new_quotas (S.world sheet.old) limit marks.now)) }
+        IfOk result (λ quotas. quotas ≡ new_quotas (S.world sheet.old) limit tallies.now)) }
 {
     let mut quotas = Listed::new(alloc);
-    for mark in marks {
-        add_quota(alloc, sheet, limit, &mut quotas, mark)?;
+    for tally in tallies {
+        add_quota(alloc, sheet, limit, &mut quotas, tally)?;
     }
     Ok(quotas)
 }
 
+/// What one mark says of its host.
+fn tally_of(mark: &Mark) -> Tally
+    ensures { result ≡ tally_of mark.now }
+{
+    Tally {
+        host: mark.host,
+        charges: mark.charges,
+        merits: mark.merits,
+    }
+}
+
 /// What was said of a host so far, and one mark more. Sums past 32 bits are refused.
-fn tally_with(tally: Option<Mark>, mark: &Mark) -> Result<Mark, Unavailable>
+fn tally_with(tally: Option<Tally>, mark: &Mark) -> Result<Tally, Unavailable>
     ensures { IfOk result (λ sum. sum ≡ tally_with tally mark.now) }
 {
     let Some(before) = tally else {
-        return Ok(*mark);
+        return Ok(tally_of(mark));
     };
     // Not met in a sound world, where a step charges a host at most 60,000,000 times and has at most 20,000,000 merits
     // for it: `sched_book::laws::charges_are_few`.
@@ -99,7 +120,7 @@ fn tally_with(tally: Option<Mark>, mark: &Mark) -> Result<Mark, Unavailable>
     let Some(merits) = before.merits.checked_add(mark.merits) else {
         return Err(Unavailable);
     };
-    Ok(Mark {
+    Ok(Tally {
         host: before.host,
         charges,
         merits,
@@ -107,7 +128,7 @@ fn tally_with(tally: Option<Mark>, mark: &Mark) -> Result<Mark, Unavailable>
 }
 
 /// Keeps what is said of a host in place of what was said before.
-fn keep_tally(tallies: &mut BTreeMap<u32, Mark>, host: u32, sum: Mark) -> Result<(), Memory>
+fn keep_tally(tallies: &mut BTreeMap<u32, Tally>, host: u32, sum: Tally) -> Result<(), Memory>
     ensures { OnOk result ((other : ℕ) → tally_in tallies.new other ≡ if host == other then Some sum else tally_in tallies.old other) }
 {
     tallies.insert(host, sum)?;
@@ -115,7 +136,7 @@ fn keep_tally(tallies: &mut BTreeMap<u32, Mark>, host: u32, sum: Mark) -> Result
 }
 
 /// Adds one mark to what was said of its host.
-fn add_mark(tallies: &mut BTreeMap<u32, Mark>, mark: &Mark) -> Result<(), Unavailable>
+fn add_mark(tallies: &mut BTreeMap<u32, Tally>, mark: &Mark) -> Result<(), Unavailable>
     ensures { OnOk result ((host : ℕ) → tally_in tallies.new host ≡
         if mark.now.host == host then Some (tally_with (tally_in tallies.old host) mark.now) else tally_in tallies.old host) }
 {
@@ -125,7 +146,7 @@ fn add_mark(tallies: &mut BTreeMap<u32, Mark>, mark: &Mark) -> Result<(), Unavai
 }
 
 /// What these marks say of each host, by its number.
-fn tallies_of(alloc: Global, marks: &[Mark]) -> Result<BTreeMap<u32, Mark>, Unavailable>
+fn tallies_of(alloc: Global, marks: &[Mark]) -> Result<BTreeMap<u32, Tally>, Unavailable>
     ensures { IfOk result (λ tallies. (host : ℕ) → tally_in tallies host ≡ tally_after host None marks.now) }
 {
     let mut tallies = BTreeMap::new(alloc);
@@ -136,15 +157,15 @@ fn tallies_of(alloc: Global, marks: &[Mark]) -> Result<BTreeMap<u32, Mark>, Unav
 }
 
 /// What is said of each host, in the order of their numbers.
-fn sums_in(alloc: Global, tallies: &BTreeMap<u32, Mark>) -> Result<Vec<Mark>, Memory>
+fn sums_in(alloc: Global, tallies: &BTreeMap<u32, Tally>) -> Result<Vec<Tally>, Memory>
     ensures values { IfOk result (λ sums. sums.items ≡ tree.values tallies.now) }
     ensures ordered { tree.IsOrdered nat_cmp tallies.now }
 {
     tallies.values().copied().collect(alloc)
 }
 
-/// What these marks say, in one mark for each host that they name.
-fn sums_of(alloc: Global, marks: &[Mark]) -> Result<Vec<Mark>, Unavailable>
+/// What these marks say, in one tally for each host that they name.
+fn sums_of(alloc: Global, marks: &[Mark]) -> Result<Vec<Tally>, Unavailable>
     ensures { IfOk result (λ sums. AreSums marks.now sums.items) }
 {
     let tallies = tallies_of(alloc, marks)?;

@@ -1,4 +1,4 @@
-//! What settlement counts for the hosts of instances, and against them.
+//! What settlement counts for the hosts of instances, and against them, and the credit that it brings them.
 
 ghost use Rattle.std.specs.Prelude.{◌≡◌, ◌≤◌, List, ◌++◌, length, IfOk, OnOk};
 ghost use Rattle.std.specs.Option.{option_copied};
@@ -7,8 +7,8 @@ ghost use Rattle.sched_book.specs.Limits.{most_instances};
 ghost use Rattle.sched_book.specs.Settle.{is_late};
 ghost use Rattle.sched_book.specs.Trusted.{Trusted};
 ghost use Rattle.quorum_credit.specs.Leaves.{marks_on};
-ghost use Rattle.quorum_credit.specs.Marks.{standing_with, one_if_new, charges_between, merits_between};
-ghost use Rattle.quorum_credit.specs.Marking.{owned_standing, standings_by, standings_in, standing_of, mark_of, with_mark, marks_from, marks_at, marks_of_units};
+ghost use Rattle.quorum_credit.specs.Marks.{standing_with, one_if_new, charges_between, merits_between, credit_between};
+ghost use Rattle.quorum_credit.specs.Marking.{owned_standing, standings_by, standings_in, standing_of, mark_between, mark_if_new, mark_of, with_mark, marks_from, marks_at, marks_of_units};
 ghost use Rattle.quorum_credit.specs.declared.marks.Mark.{Mark};
 
 use call_sheet::{Draft, Leaf};
@@ -26,7 +26,7 @@ pub(crate) struct Standing {
     pub verdict: Option<Verdict>,
 }
 
-/// What is new of one instance of a host.
+/// What is new of one instance of a host. Something is: it counts for the host or against it.
 #[derive(Clone, Copy, Debug, PartialEq, Eq)]
 pub struct Mark {
     pub host: u32,
@@ -34,6 +34,9 @@ pub struct Mark {
     pub charges: u32,
     /// How much counts for it.
     pub merits: u32,
+    /// The millicredits that it brings the host: those of the workunit where its result is valid now and was not before,
+    /// else 0.
+    pub credit: u32,
 }
 
 /// To which host an instance was given, and how it stands.
@@ -156,17 +159,47 @@ fn merits_between(old: Standing, new: Standing) -> u32
     one_if_new(count::is_valid(new.verdict), count::is_valid(old.verdict))
 }
 
-/// What is new of an instance, where it has an owner.
-fn mark_of(old: Standing, new: &OwnedStanding) -> Option<Mark>
-    ensures { result ≡ mark_of old new.now }
+/// The millicredits that are new: those of the workunit where the result is valid now and was not before.
+fn credit_between(credit: u32, old: Standing, new: Standing) -> u32
+    ensures { result ≡ credit_between credit old new }
+{
+    if count::is_valid(new.verdict) && !count::is_valid(old.verdict) {
+        credit
+    } else {
+        0
+    }
+}
+
+/// What is new of an instance of this host, of a workunit of this credit.
+fn mark_between(credit: u32, host: u32, old: Standing, new: Standing) -> Mark
+    ensures { result ≡ mark_between credit host old new }
+{
+    Mark {
+        host,
+        charges: charges_between(old, new),
+        merits: merits_between(old, new),
+        credit: credit_between(credit, old, new),
+    }
+}
+
+/// The mark, where something is new; one that counts nothing brings no credit either.
+fn mark_if_new(mark: Mark) -> Option<Mark>
+    ensures { result ≡ mark_if_new mark }
+{
+    if mark.charges == 0 && mark.merits == 0 {
+        None
+    } else {
+        Some(mark)
+    }
+}
+
+/// What is new of an instance of a workunit of this credit; none where it has no owner or nothing is new.
+fn mark_of(credit: u32, old: Standing, new: &OwnedStanding) -> Option<Mark>
+    ensures { result ≡ mark_of credit old new.now }
 {
     match new.owner {
         None => None,
-        Some(owner) => Some(Mark {
-            host: owner.host,
-            charges: charges_between(old, new.standing),
-            merits: merits_between(old, new.standing),
-        }),
+        Some(owner) => mark_if_new(mark_between(credit, owner.host, old, new.standing)),
     }
 }
 
@@ -180,16 +213,17 @@ fn push_mark(marks: &mut Listed<Mark>, mark: Option<Mark>) -> Result<(), Memory>
     }
 }
 
-/// Puts the marks of a workunit's instances behind the others.
+/// Puts the marks of the instances of a workunit of this credit behind the others.
 fn push_marks(
     marks: &mut Listed<Mark>,
+    credit: u32,
     old: &[OwnedStanding],
     new: &[OwnedStanding],
 ) -> Result<(), Memory>
-    ensures { OnOk result (marks.new ≡ marks.old ++ marks_from old.now 0 new.now) }
+    ensures { OnOk result (marks.new ≡ marks.old ++ marks_from credit old.now 0 new.now) }
 {
     for (number, row) in new.iter().enumerate() {
-        push_mark(marks, mark_of(standing_of(old, number), row))?;
+        push_mark(marks, mark_of(credit, standing_of(old, number), row))?;
     }
     Ok(())
 }
@@ -203,7 +237,7 @@ fn add_marks_on(alloc: Global, marks: &mut Listed<Mark>, leaf: Option<&Leaf>) ->
     };
     let old = standings_in(alloc, &leaf.agreement, &leaf.unit, leaf.before.as_slice())?;
     let new = standings_in(alloc, &leaf.agreement, &leaf.unit, leaf.present.as_slice())?;
-    push_marks(marks, old.as_slice(), new.as_slice())?;
+    push_marks(marks, leaf.unit.credit, old.as_slice(), new.as_slice())?;
     Ok(())
 }
 
@@ -224,7 +258,8 @@ fn add_marks<S: Draft>(
     Ok(())
 }
 
-/// What is new of the instances of these workunits since the call came: a mark for each that has a host.
+/// What is new of the instances of these workunits since the call came: a mark for each that has a host and of which
+/// something is new.
 pub(crate) fn marks_of_units<S: Draft>(
     alloc: Global,
     sheet: &mut S,

@@ -2,11 +2,11 @@ use Rattle.std.proofs.Common.{◌≡◌, ◌++◌, drop}
 use Rattle.quorum_credit.specs.Tallies.{new_quotas}
 use Rattle.quorum_credit.proofs.host_quotas.quotas_in_turn.Given as goal
 
--- the hosts so far, and those of the marks which are left
-abbrev pub invariant-loop-mark : goal.invariant-loop-mark
-invariant-loop-mark g l = record {
+-- the hosts so far, and those of the tallies which are left
+abbrev pub invariant-loop-tally : goal.invariant-loop-tally
+invariant-loop-tally g l = record {
   reads : g.S.Units.reads l.fn.sheet l.sheet;
   told : g.S.Units.honest l.sheet → g.S.Units.well_kept l.fn.sheet
-      → l.quotas ++ new_quotas (g.S.Units.world l.fn.sheet) l.limit (drop l.mark-index l.marks)
-      ≡ new_quotas (g.S.Units.world l.fn.sheet) l.limit l.marks;
+      → l.quotas ++ new_quotas (g.S.Units.world l.fn.sheet) l.limit (drop l.tally-index l.tallies)
+      ≡ new_quotas (g.S.Units.world l.fn.sheet) l.limit l.tallies;
 }
