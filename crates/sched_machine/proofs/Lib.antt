@@ -59,3 +59,4 @@ pub mod Replied
 pub mod CreditBounds
 pub mod ResentBounds
 pub mod RunStretches
+pub mod CreditMarked

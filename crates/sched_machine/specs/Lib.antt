@@ -11,3 +11,4 @@ pub mod Decisions
 pub mod Held
 pub mod Bounds
 pub mod Stretches
+pub mod Totals
