@@ -1,5 +1,5 @@
 -- The credit of a host after a call is what it was before, and what the marks bring.
-use Rattle.std.proofs.Common.{◌≡◌, ℕ, zero, suc, ◌+◌, ◌<◌, ◌≤◌, Bool, true, false, cond, List, [], ◌∷◌, length, Option, Some, None, sym, refl, ap, ap₂, ◌∙◌, subst, arith}
+use Rattle.std.proofs.Common.{◌≡◌, ℕ, zero, suc, ◌+◌, ◌<◌, Bool, true, false, cond, List, [], ◌∷◌, length, Option, Some, None, sym, refl, ap, ap₂, ◌∙◌, subst, zero-add, arith}
 use Rattle.std.specs.Prelude.{◌&&◌, ◌==◌, not, sum_by, option_map, option_and_then, unwrap_or, slice_get}
 use Rattle.std.proofs.lemmas.List.Sums.{sum_by-cons}
 use Rattle.std.proofs.lemmas.Option.{slice_get_past}
@@ -233,14 +233,15 @@ module _ (old new : World) (goes : CreditGoesOn old new) (host : ℕ) where
       let after : ℕ = length (instances_at new unit) in
       let had : ℕ → ℕ = λ i. won_at old host (place unit i) in
       let has_new : ℕ → ℕ = λ i. credit_new_at old new host (place unit i) in
+      let turned : after + before ≡ before + after = omega arith in
       let each : (λ i. won_at new host (place unit i)) ≡ (λ i. had i + has_new i) = λ j i. won_goes_on old new goes host unit i j in
       sym (won_in-places new host unit before)
       ∙ ap (λ g. sum_from g 0 (after + before)) each
       ∙ sum_from_plus had has_new 0 (after + before)
       ∙ ap₂ (λ (m n : ℕ). m + n)
-      (ap (sum_from had 0) (let turned : after + before ≡ before + after = omega arith in turned) ∙ won_in-places old host unit after)
+      (ap (sum_from had 0) turned ∙ won_in-places old host unit after)
       (sum_placed (credit_new_at old new host) unit 0 (instances_at new unit) before
-      (λ i past. ap (λ k. credit_new_at old new host (place unit k)) (let at : 0 + i ≡ i = omega arith in at) ∙ none_at old new host unit i past))
+      (λ i past. ap (λ k. credit_new_at old new host (place unit k)) (zero-add i) ∙ none_at old new host unit i past))
 
   module _ (units : List ℕ) (touch : TouchJust units old new) where
     old_verdict : (credit : ℕ) (s : Standing) → credit_between credit s s ≡ 0
@@ -278,12 +279,13 @@ module _ (old new : World) (goes : CreditGoesOn old new) (host : ℕ) where
     goes_on_by =
         let before : ℕ = length old.units in
         let after : ℕ = length new.units in
+        let turned : after + before ≡ before + after = omega arith in
         let each : won_in new host ≡ (λ unit. won_in old host unit + unit_credits old new host unit) = λ j unit. unit_goes_on unit j in
         sym (host_credit-units new host before)
         ∙ ap (λ g. sum_from g 1 (after + before)) each
         ∙ sum_from_plus (won_in old host) (unit_credits old new host) 1 (after + before)
         ∙ ap₂ (λ (m n : ℕ). m + n)
-        (ap (sum_from (won_in old host) 1) (let turned : after + before ≡ before + after = omega arith in turned) ∙ host_credit-units old host after)
+        (ap (sum_from (won_in old host) 1) turned ∙ host_credit-units old host after)
         (all_new before)
 
 -- so a host has what it had, and what the marks bring

@@ -122,17 +122,17 @@ apps_lapsed (p ∷ places) w = apps_lapsed places (with_changed (with_lapse Late
 accounts_same : (hosts : List HostRow) → AccountsStay hosts hosts
 accounts_same hosts n h stands = (h, stands, refl)
 
-accounts_then : (hosts others last : List HostRow) → AccountsStay hosts others → AccountsStay others last → AccountsStay hosts last
+pub accounts_then : (hosts others last : List HostRow) → AccountsStay hosts others → AccountsStay others last → AccountsStay hosts last
 accounts_then hosts others last first second n h stands =
     let one = first n h stands in
     let two = second n one.0 one.1 in
     (two.0, two.1, two.2 ∙ one.2)
 
-accounts_settled : (old new : World) (hosts : List HostRow) → AccountsStay hosts (map (with_quota old new) (enumerate_from 1 hosts))
+pub accounts_settled : (old new : World) (hosts : List HostRow) → AccountsStay hosts (map (with_quota old new) (enumerate_from 1 hosts))
 accounts_settled old new hosts n h stands =
     (with_quota old new (n, h), nth-map_places (with_quota old new) hosts n ∙ ap (option_map (λ k. with_quota old new (n, k))) stands, refl)
 
-accounts_at_entry : (w : World) (c : Caller) (r : Request) → IsCaller w c r → AccountsStay w.hosts (hosts_at_entry w c r c.host)
+pub accounts_at_entry : (w : World) (c : Caller) (r : Request) → IsCaller w c r → AccountsStay w.hosts (hosts_at_entry w c r c.host)
 accounts_at_entry w c r caller n h stands = cases (nth (hosts_at_entry w c r c.host) n) refl
   where
     still : (o : Option ℕ) → is_some (nth (hosts_at_entry w c r o) n) ≡ true
@@ -171,13 +171,13 @@ module _ (w : World) (c : Caller) (r : Request) (now : ℕ) (sound : Sound w) (c
       lost_kept entry (host_number w c) (host_at_entry w c r) now (lost_of w c r) (after_reports w c r)
       (reports_kept entry (host_number w c) (first_reports r.results) entry (units_same w.apps w.units))
 
-  apps_left : left.apps ≡ w.apps
+  pub apps_left : left.apps ≡ w.apps
   apps_left = ap (λ (v : World). v.apps) (before_settlement w c r now).rest
 
-  hosts_left : left.hosts ≡ entry.hosts
+  pub hosts_left : left.hosts ≡ entry.hosts
   hosts_left = ap (λ (v : World). v.hosts) (before_settlement w c r now).rest
 
-  units_settled : UnitsBecame w.apps w.units (after_settlement w c r now).units
+  pub units_settled : UnitsBecame w.apps w.units (after_settlement w c r now).units
   units_settled =
       subst (λ apps. UnitsBecame w.apps w.units (map (grown apps) left.units)) (sym apps_left)
       (units_grown w.apps w.units left.units (in_range w sound) units_left)

@@ -1,4 +1,4 @@
--- What marks bring the hosts of a user.
+-- What the marks of settlement bring the hosts of a user.
 use Rattle.std.specs.Prelude.{ℕ, ◌==◌, Bool, if◌then◌else◌, List, sum_by}
 use Rattle.sched_book.specs.Places.{option_any, nth}
 use Rattle.sched_book.specs.declared.rows.HostRow.{HostRow}
@@ -8,6 +8,6 @@ use Rattle.quorum_credit.specs.declared.marks.Mark.{Mark}
 abbrev pub belongs : List HostRow → ℕ → ℕ → Bool
 belongs hosts account host = option_any (λ (h : HostRow). h.account == account) (nth hosts host)
 
--- what these marks bring the hosts of an account
+-- the millicredits that the marks bring the hosts of the account
 abbrev pub user_credits_in : List HostRow → ℕ → List Mark → ℕ
 user_credits_in hosts account marks = sum_by (λ (m : Mark). if belongs hosts account m.host then m.credit else 0) marks
