@@ -14,7 +14,9 @@ ghost use Rattle.call_sheet.specs.Sheets.{IsLeafAt, IsReadAt, HasPlace, AreAllOf
 ghost use Rattle.call_sheet.specs.declared.leaf.Leaf.{Leaf};
 
 use crate::leaf::Leaf;
-use sched_book::{Account, App, HostRow, Instance, Place, Placed, Settings, Unavailable, Units, Version};
+use sched_book::{
+    Account, App, HostRow, Instance, Place, Placed, Settings, Unavailable, Units, Version,
+};
 use std::alloc::Global;
 use texts::{Listed, Memory};
 
@@ -89,7 +91,11 @@ pub trait Draft: Units {
         ensures answer { Trusted Self.Units self.old self.new (IfOk result (λ r. r ≡ held_by (entry self.old) host)) };
 
     /// The account that has this authenticator.
-    fn account_by_key(&mut self, alloc: Global, authenticator: &str) -> Result<Option<Placed<Account>>, Unavailable>
+    fn account_by_key(
+        &mut self,
+        alloc: Global,
+        authenticator: &str,
+    ) -> Result<Option<Placed<Account>>, Unavailable>
         ensures reads { Self.reads self.old self.new }
         ensures answer { Trusted Self.Units self.old self.new (IfOk result (λ r. r ≡ account_by_key (entry self.old) authenticator.now)) };
 

@@ -7,8 +7,8 @@ use crate::leaf::Leaf;
 use crate::page::Page;
 use crate::reading::{add_host, put_host, read_host, read_leaf};
 use sched_book::{
-    Account, Agreement, App, Desk, HostRow, Instance, Place, Placed, Settings, Unavailable, Units, Version,
-    Workunit, copy_of,
+    Account, Agreement, App, Desk, HostRow, Instance, Place, Placed, Settings, Unavailable, Units,
+    Version, Workunit, copy_of,
 };
 use std::alloc::Global;
 use texts::{Listed, Memory};

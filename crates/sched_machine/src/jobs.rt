@@ -95,7 +95,14 @@ fn add_job<S: Draft>(
         jobs.new ≡ jobs.old ++ cons_option (job_at (S.world sheet.old) host.now resent place) [])) }
 {
     sheet.read(alloc, place.unit)?;
-    let job = job_on(alloc, sheet.leaf(place.unit), place.number, host, resent, version)?;
+    let job = job_on(
+        alloc,
+        sheet.leaf(place.unit),
+        place.number,
+        host,
+        resent,
+        version,
+    )?;
     jobs.push_some(job)?;
     Ok(())
 }
@@ -164,7 +171,15 @@ pub(crate) fn add_granted<S: Draft>(
         jobs.new ≡ jobs.old ++ filter_map (job_at (S.world sheet.old) host.now false) (places_of granted.now))) }
 {
     for job in granted {
-        add_job(alloc, sheet, host, false, job.place, Some(&job.version), jobs)?;
+        add_job(
+            alloc,
+            sheet,
+            host,
+            false,
+            job.place,
+            Some(&job.version),
+            jobs,
+        )?;
     }
     Ok(())
 }

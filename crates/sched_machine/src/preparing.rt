@@ -59,7 +59,10 @@ fn held_now<S: Draft>(sheet: &S, host: u32, held: &[Place]) -> Result<u32, Unava
 {
     let mut count: u32 = 0;
     for place in held {
-        count = count_with(count, still_holds(sheet.leaf(place.unit), host, place.number))?;
+        count = count_with(
+            count,
+            still_holds(sheet.leaf(place.unit), host, place.number),
+        )?;
     }
     Ok(count)
 }

@@ -120,7 +120,15 @@ fn grant_onto<D: Desk>(
         IsGranted (D.world desk.old) request.now now ready.now (applied (D.world desk.old) page.new.delta) page.new.delta told.0 told.1)) }
 {
     let grant = choose_jobs(alloc, desk, ready, request, now)?;
-    let told = conclude_onto(alloc, desk, page, ready, request, now, grant.jobs.as_slice())?;
+    let told = conclude_onto(
+        alloc,
+        desk,
+        page,
+        ready,
+        request,
+        now,
+        grant.jobs.as_slice(),
+    )?;
     Ok((told, grant.end_word))
 }
 
