@@ -2,24 +2,15 @@
 use Rattle.std.proofs.Common.{◌≡◌, ℕ, [], Option, Some, None, sym, ap, ◌∙◌}
 use Rattle.std.specs.Prelude.{option_map, option_and_then, unwrap_or, slice_get}
 use Rattle.sched_book.specs.Count.{status}
-use Rattle.sched_book.specs.Places.{unit_at, instance_at, status_at, status_of, standing, agreement_by}
+use Rattle.sched_book.specs.Places.{unit_at, instance_at, status_at, status_of, standing}
 use Rattle.sched_book.specs.Desk.{instances_at}
 use Rattle.sched_book.specs.declared.instance.Instance.{Instance}
 use Rattle.sched_book.specs.declared.instance.Place.{Place}
 use Rattle.sched_book.specs.declared.instance.Status.TheVariants.{FailedTotal}
 use Rattle.sched_book.specs.declared.instance.UnitBook.{UnitBook}
 use Rattle.sched_book.specs.declared.world.World.{World}
-use Rattle.call_sheet.specs.Sheets.{IsReadAt, book_before, book_now, instances_now, instance_before, instance_now, status_before, status_now, standing_on}
+use Rattle.call_sheet.specs.Sheets.{IsReadAt, instances_now, instance_before, instance_now, status_before, standing_on}
 use Rattle.call_sheet.specs.declared.leaf.Leaf.{Leaf}
-
--- the workunit before the call, and now
-pub unit_before : (entry present : World) (unit : ℕ) (o : Option Leaf) → IsReadAt entry present unit o → unit_at entry unit ≡ option_map book_before o
-unit_before entry present unit None read = read.1
-unit_before entry present unit (Some k) read = read.before
-
-pub unit_now : (entry present : World) (unit : ℕ) (o : Option Leaf) → IsReadAt entry present unit o → unit_at present unit ≡ option_map book_now o
-unit_now entry present unit None read = read.0
-unit_now entry present unit (Some k) read = read.here
 
 -- the instances now, and one of them before
 pub instances_now-is : (entry present : World) (unit : ℕ) (o : Option Leaf) → IsReadAt entry present unit o → instances_now o ≡ instances_at present unit
@@ -34,19 +25,12 @@ pub instance_now-is : (entry present : World) (p : Place) (o : Option Leaf) → 
 instance_now-is entry present p None read = sym (ap (option_and_then (λ (b : UnitBook). slice_get b.instances p.number)) read.0)
 instance_now-is entry present p (Some k) read = sym (ap (option_and_then (λ (b : UnitBook). slice_get b.instances p.number)) read.here)
 
--- the status before, and now, where the applications are as they were
+-- the status before
 pub status_before-is : (entry present : World) (unit : ℕ) (o : Option Leaf) → IsReadAt entry present unit o → status_before o ≡ status_at entry unit
 status_before-is entry present unit None read = sym (ap (λ (b : Option UnitBook). unwrap_or (option_map (status_of entry) b) FailedTotal) read.1)
 status_before-is entry present unit (Some k) read =
     ap (λ a. status a k.unit k.before) (sym read.agreement)
     ∙ sym (ap (λ (b : Option UnitBook). unwrap_or (option_map (status_of entry) b) FailedTotal) read.before)
-
-pub status_now-is : (entry present : World) (unit : ℕ) (o : Option Leaf) → present.apps ≡ entry.apps → IsReadAt entry present unit o
-    → status_now o ≡ status_at present unit
-status_now-is entry present unit None apps read = sym (ap (λ (b : Option UnitBook). unwrap_or (option_map (status_of present) b) FailedTotal) read.0)
-status_now-is entry present unit (Some k) apps read =
-    ap (λ a. status a k.unit k.present) (sym read.agreement ∙ sym (ap (λ apps. agreement_by apps k.unit.app) apps))
-    ∙ sym (ap (λ (b : Option UnitBook). unwrap_or (option_map (status_of present) b) FailedTotal) read.here)
 
 -- the place, if an instance stood there
 pub standing-is : (entry present : World) (p : Place) (o : Option Leaf) → IsReadAt entry present p.unit o → standing_on o p ≡ standing entry p

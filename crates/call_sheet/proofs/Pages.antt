@@ -74,24 +74,6 @@ leaf_more w old new unit k settings hosts delta leaves leaf page = record {
     cases other true is = subst (λ (n : ℕ). IsLeafAt w (applied w old.delta) n (Some k)) (eqb-true unit other is) leaf
     cases other false is = page.leaves other
 
--- a host that is on the page as it is
-pub host_more : (w : World) (old new : Page) (number : ℕ) (h : HostRow) → new.settings ≡ old.settings → new.leaves ≡ old.leaves → new.delta ≡ old.delta
-    → ((n : ℕ) → get nat_cmp new.hosts n ≡ cond (eqb number n) (Some h) (get nat_cmp old.hosts n))
-    → host_at (applied w old.delta) number ≡ Some h → IsPageOf w old → IsPageOf w new
-host_more w old new number h settings leaves delta hosts is page = record {
-  settings = settings ∙ page.settings;
-  leaves = λ unit. subst (λ (cs : List Change). IsLeafAt w (applied w cs) unit (get nat_cmp new.leaves unit)) (sym delta)
-      (subst (λ (m : BTreeMap ℕ Leaf). IsLeafAt w (applied w old.delta) unit (get nat_cmp m unit)) (sym leaves) (page.leaves unit));
-  hosts = λ n. subst (λ (cs : List Change). IsHostAt w (applied w cs) n (get nat_cmp new.hosts n)) (sym delta)
-      (subst (λ (o : Option HostRow). IsHostAt w (applied w old.delta) n o) (sym (hosts n)) (cases n (eqb number n) refl));
-  rest = subst (λ (cs : List Change). applied w cs ≡ record w { units = (applied w cs).units; hosts = (applied w cs).hosts }) (sym delta) page.rest;
-  names = λ name. ap (λ cs. unit_named (applied w cs) name) delta ∙ page.names name;
-}
-  where
-    cases : (n : ℕ) (b : Bool) → eqb number n ≡ b → IsHostAt w (applied w old.delta) n (cond b (Some h) (get nat_cmp old.hosts n))
-    cases n true same = ap (λ k. host_at (applied w old.delta) k) (sym (eqb-true number n same)) ∙ is
-    cases n false same = page.hosts n
-
 -- a change that was pushed and is taken back
 front : {X : Type 0} (xs ys : List X) → take (length xs) (xs ++ ys) ≡ xs
 front [] ys = refl

@@ -98,10 +98,6 @@ abbrev pub status_before : Option Leaf → Status
 status_before None = FailedTotal
 status_before (Some k) = status k.agreement k.unit k.before
 
-abbrev pub status_now : Option Leaf → Status
-status_now None = FailedTotal
-status_now (Some k) = status k.agreement k.unit k.present
-
 -- a place, if an instance stood there before the call
 abbrev pub standing_on : Option Leaf → Place → Option Place
 standing_on k p = option_map (λ x. p) (instance_before k p.number)

@@ -24,11 +24,4 @@ impl Leaf {
     {
         status(&self.agreement, &self.unit, self.before.as_slice())
     }
-
-    /// Its status now.
-    pub fn status_now(&self) -> Status
-        ensures { result ≡ spec.status self.now.agreement self.now.unit self.now.present }
-    {
-        status(&self.agreement, &self.unit, self.present.as_slice())
-    }
 }

@@ -33,9 +33,6 @@ before_both p r h k = elim h [
 ]
 
 module _ (w : World) (q : Asking) where
-  abbrev pub IsFor : Place → Type 0
-  IsFor p = is_eligible w q.host p ≡ true
-
   -- a job of the workunit of r, before p
   pub record Earlier (jobs : List Place) (p r : Place) : Type 0 where
     pub s : Place

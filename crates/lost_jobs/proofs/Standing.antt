@@ -11,15 +11,7 @@ use Rattle.sched_book.specs.declared.rows.Workunit.{Workunit}
 use Rattle.sched_book.specs.declared.world.World.{World}
 use Rattle.sched_book.proofs.Recording.{passes-is}
 
--- where nothing stands a test fails
-pub passes_none : (w : World) (g : Instance → Bool) (p : Place) → instance_at w p ≡ None → passes w (λ b x. g x) p ≡ false
-passes_none w g p none = passes-is w g p ∙ ap (λ o. unwrap_or (option_map g o) false) none
-
--- where an instance stands it is tested
-pub passes_some : (w : World) (g : Instance → Bool) (p : Place) (x : Instance) → instance_at w p ≡ Some x → passes w (λ b x. g x) p ≡ g x
-passes_some w g p x stands = passes-is w g p ∙ ap (λ o. unwrap_or (option_map g o) false) stands
-
--- so what a look-up told of it is the test
+-- what a look-up told of an instance is a test of it
 told : (g : Instance → Bool) (o : Option Instance) (b : Bool) → MatchOption o (b ≡ false) (λ x. b ≡ g x) → b ≡ unwrap_or (option_map g o) false
 told g None b is = is
 told g (Some x) b is = is

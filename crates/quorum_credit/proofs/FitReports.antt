@@ -214,3 +214,8 @@ fit_report entry w host r failed p y cs more here puts pushed short =
 pub report_there : (reports : List (Bor Report)) (i : ℕ) (r d : Bor Report) → r ≡ get_or reports i d → i < length reports
     → All (λ r. IsReport r.now) reports → IsReport r.now
 report_there reports i r d is within all = subst (λ (x : Bor Report). IsReport x.now) (sym is) (all i d within)
+
+-- before any change nothing is out of its limits in a sound world
+pub nothing_put_within : (w : World) (changes : List Change) → changes ≡ [] → Sound w → FitWithin w changes
+nothing_put_within w changes none sound =
+    subst (FitWithin w) (sym none) (let within : FitWithin w [] = record { fits = tt; limited = limited_from_sound w sound } in within)

@@ -1,11 +1,18 @@
--- What a deadline that went by makes of an instance.
-use Rattle.std.specs.Prelude.{ℕ, if◌then◌else◌, List, Option, None, option_map, slice_get}
+-- What a deadline that went by makes of an instance, and of several.
+use Rattle.std.specs.Prelude.{ℕ, if◌then◌else◌, List, fold, Option, None, option_map, slice_get}
 use Rattle.sched_book.specs.Count.{is_held}
 use Rattle.sched_book.specs.Places.{option_any}
 use Rattle.sched_book.specs.Lost.{with_lapse}
+use Rattle.sched_book.specs.Reports.{with_changed}
 use Rattle.sched_book.specs.declared.instance.Instance.{Instance}
 use Rattle.sched_book.specs.declared.instance.Lapse.TheVariants.{Late}
+use Rattle.sched_book.specs.declared.instance.Place.{Place}
+use Rattle.sched_book.specs.declared.world.World.{World}
 
 -- the instance of a number, late, where a host holds it
 abbrev pub late_in : List Instance → ℕ → Option Instance
 late_in xs number = if option_any is_held (slice_get xs number) then option_map (with_lapse Late) (slice_get xs number) else None
+
+-- the instances at these places lapse late
+abbrev pub lapsed_at : World → List Place → World
+lapsed_at w places = fold (with_changed (with_lapse Late)) w places

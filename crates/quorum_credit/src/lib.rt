@@ -17,10 +17,9 @@ mod settlement;
 mod settling;
 mod touched;
 
-pub use late::{Lapsed, lapse_late, lapse_on};
+pub use late::lapse_on;
 pub use marks::Mark;
 pub use quota::next_quota;
 pub use reports::{Taken, record_on, take_reports};
 pub use settlement::{Settled, Verdicts, agree, canonical, settle};
-pub use settling::{lapse, settle_all, settle_on};
-pub use touched::touched_by;
+pub use settling::{lapse, lapse_places, settle_all, settle_on, settle_read};

@@ -1,6 +1,6 @@
 //! The settlement of the workunits that changes touch.
 
-ghost use Rattle.std.specs.Prelude.{◌≡◌, ◌++◌, true, drop, IfOk, OnOk};
+ghost use Rattle.std.specs.Prelude.{◌≡◌, [], ◌++◌, true, drop, IfOk, OnOk};
 ghost use Rattle.std.specs.List.{list_all};
 ghost use Rattle.sched_book.specs.Delta.{applied, Fits};
 ghost use Rattle.sched_book.specs.Settle.{settled};
@@ -9,15 +9,16 @@ ghost use Rattle.sched_book.specs.Step.{lapsed};
 ghost use Rattle.sched_book.specs.Trusted.{Trusted};
 ghost use Rattle.call_sheet.specs.Sheets.{IsPageOf};
 ghost use Rattle.quorum_credit.specs.Marking.{marks_of_units};
-ghost use Rattle.quorum_credit.specs.Settling.{puts_row, TouchJust, GoesOn, IsSettlement};
+ghost use Rattle.quorum_credit.specs.Late.{lapsed_at};
+ghost use Rattle.quorum_credit.specs.Settling.{puts_row, TouchJust, GoesOn, IsSettlement, AreMarks};
 ghost use Rattle.quorum_credit.specs.Taken.{AreTouched};
 
 use crate::growth::grow_on;
 use crate::host_quotas::new_quotas;
-use crate::late::{Lapsed, lapse_late};
+use crate::late::lapse_on;
 use crate::marks::{Mark, marks_of_units};
 use call_sheet::{Draft, Page, Sheet, put_all};
-use sched_book::{Delta, Desk, Moment, Unavailable};
+use sched_book::{Delta, Desk, Moment, Place, Unavailable};
 use std::alloc::Global;
 use texts::{Listed, Memory};
 
@@ -104,6 +105,83 @@ pub fn settle_all<D: Desk>(
     Ok(behind(alloc, page.delta, delta.len())?)
 }
 
+/// Settles the workunits that a call or a tick has read on its sheet, and tells what is new in them. No other is touched.
+///
+/// # Errors
+///
+/// [`Unavailable`] where memory is wanting or the desk is unavailable.
+pub fn settle_read<S: Draft>(alloc: Global, sheet: &mut S) -> Result<Listed<Mark>, Unavailable>
+    ensures works { S.works sheet.old sheet.new }
+    ensures settled { Trusted S.Units sheet.old sheet.new (OnOk result (
+        Sound (S.entry sheet.old) → Fits (S.entry sheet.old) (S.delta sheet.old) →
+        S.world sheet.new ≡ settled (S.entry sheet.old) (S.world sheet.old))) }
+    ensures fits { Trusted S.Units sheet.old sheet.new (OnOk result (
+        Sound (S.entry sheet.old) → Fits (S.entry sheet.old) (S.delta sheet.old) → Fits (S.entry sheet.old) (S.delta sheet.new))) }
+    ensures marks { Trusted S.Units sheet.old sheet.new (IfOk result (λ marks.
+        Sound (S.entry sheet.old) → Fits (S.entry sheet.old) (S.delta sheet.old) → AreMarks (S.entry sheet.old) (S.world sheet.new) marks)) }
+{
+    let touched = sheet.units(alloc)?;
+    let marks = settle_on(alloc, sheet, touched.as_slice())?;
+    Ok(marks)
+}
+
+/// Lets the instances at these places lapse late, in their order, and settles their workunits, before any other change.
+fn lapse_read<S: Draft>(
+    alloc: Global,
+    sheet: &mut S,
+    places: &[Place],
+) -> Result<(), Unavailable>
+    ensures works { S.works sheet.old sheet.new }
+    ensures left { Trusted S.Units sheet.old sheet.new (OnOk result (S.delta sheet.old ≡ [] → Sound (S.entry sheet.old) →
+        S.world sheet.new ≡ settled (S.entry sheet.old) (lapsed_at (S.entry sheet.old) places.now))) }
+    ensures fits { Trusted S.Units sheet.old sheet.new (OnOk result (S.delta sheet.old ≡ [] → Sound (S.entry sheet.old) →
+        Fits (S.entry sheet.old) (S.delta sheet.new))) }
+{
+    lapse_on(alloc, sheet, places)?;
+    settle_read(alloc, sheet)?;
+    Ok(())
+}
+
+/// The same over a desk with a page that has nothing on it yet.
+fn lapse_onto<D: Desk>(
+    alloc: Global,
+    desk: &mut D,
+    page: &mut Page,
+    places: &[Place],
+) -> Result<(), Unavailable>
+    ensures reads { D.reads desk.old desk.new }
+    ensures left { Trusted D.Units desk.old desk.new (IsPageOf (D.world desk.old) page.old → OnOk result (
+        page.old.delta ≡ [] → Sound (D.world desk.old) →
+        applied (D.world desk.old) page.new.delta ≡ settled (D.world desk.old) (lapsed_at (D.world desk.old) places.now))) }
+    ensures fits { Trusted D.Units desk.old desk.new (IsPageOf (D.world desk.old) page.old → OnOk result (
+        page.old.delta ≡ [] → Sound (D.world desk.old) → Fits (D.world desk.old) page.new.delta)) }
+{
+    let mut sheet = Sheet { desk, page };
+    lapse_read(alloc, &mut sheet, places)
+}
+
+/// Lets the instances at these places lapse late, and settles their workunits: the changes. An instance that no host holds
+/// is refused.
+///
+/// # Errors
+///
+/// [`Unavailable`] where memory is wanting or the desk is unavailable.
+pub fn lapse_places<D: Desk>(
+    alloc: Global,
+    desk: &mut D,
+    places: &[Place],
+) -> Result<Delta, Unavailable>
+    ensures reads { D.reads desk.old desk.new }
+    ensures settled { Trusted D.Units desk.old desk.new (IfOk result (λ delta. Sound (D.world desk.old) →
+        applied (D.world desk.old) delta ≡ settled (D.world desk.old) (lapsed_at (D.world desk.old) places.now))) }
+    ensures fits { Trusted D.Units desk.old desk.new (
+        IfOk result (λ delta. Sound (D.world desk.old) → Fits (D.world desk.old) delta)) }
+{
+    let mut page = Page::new(alloc, desk.settings(alloc)?);
+    lapse_onto(alloc, desk, &mut page, places)?;
+    Ok(page.delta)
+}
+
 /// Lets each held instance whose deadline is before this moment lapse late, and settles their workunits.
 ///
 /// # Errors
@@ -116,12 +194,6 @@ pub fn lapse<D: Desk>(alloc: Global, desk: &mut D, now: Moment) -> Result<Delta,
     ensures fits { Trusted D.Units desk.old desk.new (
         IfOk result (λ delta. Sound (D.world desk.old) → Fits (D.world desk.old) delta)) }
 {
-    let Lapsed {
-        mut delta,
-        count: _,
-        touched,
-    } = lapse_late(alloc, desk, now)?;
-    let more = settle_all(alloc, desk, &delta, touched.as_slice())?;
-    delta.append(more)?;
-    Ok(delta)
+    let places = desk.due_before(alloc, now)?;
+    lapse_places(alloc, desk, places.as_slice())
 }

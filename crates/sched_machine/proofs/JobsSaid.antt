@@ -1,23 +1,22 @@
 -- What a reply says of jobs, by the leaves of their workunits.
-use Rattle.std.proofs.Common.{◌≡◌, ℕ, Bool, [], Option, Some, None, sym, refl, ap, ap₂, ◌∙◌}
-use Rattle.std.specs.Prelude.{option_map, option_and_then, unwrap_or, slice_get}
+use Rattle.std.proofs.Common.{◌≡◌, ℕ, Bool, Option, Some, None, sym, refl, ap, ◌∙◌}
+use Rattle.std.specs.Prelude.{option_map, option_and_then}
 use Rattle.rpc_records.specs.declared.reply.Job.{Job}
 use Rattle.sched_book.specs.Desk.{workunit_at}
 use Rattle.sched_book.specs.Fits.{version_for}
 use Rattle.sched_book.specs.Names.{instance_name}
-use Rattle.sched_book.specs.Places.{unit_at, name_at, deadline_of}
+use Rattle.sched_book.specs.Places.{unit_at, name_at}
 use Rattle.sched_book.specs.Step.{deadline_at, job_of, job_at}
-use Rattle.sched_book.specs.declared.instance.Instance.{Instance}
 use Rattle.sched_book.specs.declared.instance.Place.{Place}
 use Rattle.sched_book.specs.declared.instance.UnitBook.{UnitBook}
 use Rattle.sched_book.specs.declared.rows.HostRow.{HostRow}
 use Rattle.sched_book.specs.declared.rows.Version.{Version}
 use Rattle.sched_book.specs.declared.rows.Workunit.{Workunit}
 use Rattle.sched_book.specs.declared.world.World.{World}
-use Rattle.call_sheet.specs.Sheets.{IsLeafAt, IsReadAt}
+use Rattle.call_sheet.specs.Sheets.{IsLeafAt}
 use Rattle.call_sheet.specs.declared.leaf.Leaf.{Leaf}
 use Rattle.lost_jobs.proofs.Standing.{name_some}
-use Rattle.sched_machine.specs.Granting.{version_at_unit, job_on}
+use Rattle.sched_machine.specs.Granting.{version_at_unit}
 
 -- of a workunit and a version that were found
 pub job_at_some : (w : World) (h : HostRow) (resent : Bool) (p : Place) (u : Workunit) (v : Version) → workunit_at w p.unit ≡ Some u
@@ -55,20 +54,3 @@ version_some w h unit u some = cases (unit_at w unit) some
         → version_for w h u.app ≡ option_and_then (λ (b : UnitBook). version_for w h b.unit.app) o
     cases None is = absurd cc
     cases (Some b) is = let same : u ≡ b.unit = cc in ap (λ (x : Workunit). version_for w h x.app) same
-
--- what is said by a leaf is what is said of the present world, with the version as it was before
-pub job_on-is : (entry present : World) (h : HostRow) (resent : Bool) (p : Place) (o : Option Leaf) (v : Option Version)
-    → present ≡ record entry { units = present.units; hosts = present.hosts } → IsReadAt entry present p.unit o
-    → v ≡ version_at_unit entry h p.unit → job_on o p.number h resent v ≡ job_at present h resent p
-job_on-is entry present h resent p None v rest read runs =
-    sym (ap (option_and_then (λ (b : UnitBook). option_map (job_of (name_at present p) (deadline_at present p) h resent b.unit) (version_for present h b.unit.app))) read.0)
-job_on-is entry present h resent p (Some k) v rest read runs =
-    let version : v ≡ version_for present h k.unit.app =
-    runs ∙ ap (option_and_then (λ (b : UnitBook). version_for entry h b.unit.app)) read.before ∙ sym (ap (λ (w : World). version_for w h k.unit.app) rest) in
-    let named : name_at present p ≡ instance_name k.unit.name p.number =
-    ap (λ o. unwrap_or (option_map (λ (b : UnitBook). instance_name b.unit.name p.number) o) []) read.here in
-    let due : deadline_at present p ≡ unwrap_or (option_map (λ (x : Instance). deadline_of x.owner) (slice_get k.present p.number)) 0 =
-    ap (λ o. unwrap_or (option_map (λ (x : Instance). deadline_of x.owner) (option_and_then (λ (b : UnitBook). slice_get b.instances p.number) o)) 0) read.here in
-    ap (option_map (job_of (instance_name k.unit.name p.number) (unwrap_or (option_map (λ (x : Instance). deadline_of x.owner) (slice_get k.present p.number)) 0) h resent k.unit)) version
-    ∙ ap₂ (λ name d. option_map (job_of name d h resent k.unit) (version_for present h k.unit.app)) (sym named) (sym due)
-    ∙ sym (ap (option_and_then (λ (b : UnitBook). option_map (job_of (name_at present p) (deadline_at present p) h resent b.unit) (version_for present h b.unit.app))) read.here)

@@ -1,12 +1,11 @@
 -- A call up to its settlement, from what its parts tell.
-use Rattle.std.proofs.Common.{◌≡◌, ℕ, List, [], map, sym, ap, ap₂, ◌∙◌, subst}
+use Rattle.std.proofs.Common.{◌≡◌, ℕ, List, map, sym, ap, ap₂, ◌∙◌, subst}
 use Rattle.std.specs.Prelude.{fold}
 use Rattle.rpc_records.specs.declared.request.Report.{Report}
 use Rattle.rpc_records.specs.declared.request.Request.{Request}
 use Rattle.sched_book.specs.Delta.{applied, Fits}
 use Rattle.sched_book.specs.Reports.{record_one, first_reports}
 use Rattle.sched_book.specs.Settle.{settled}
-use Rattle.sched_book.specs.Sound.{Sound}
 use Rattle.sched_book.specs.Step.{at_entry, after_reports, after_lost, after_settlement, resent_of}
 use Rattle.sched_book.specs.declared.delta.Change.{Change}
 use Rattle.sched_book.specs.declared.instance.Place.{Place}
@@ -19,11 +18,6 @@ use Rattle.sched_machine.specs.Prepared.{IsSettledCall}
 use Rattle.sched_machine.specs.declared.caller.Calling.{Calling}
 use Rattle.sched_machine.specs.declared.settlement.SettledCall.{SettledCall}
 use Rattle.sched_machine.proofs.RowsEntry.{entry_keeps_sound}
-
--- before any change nothing is out of its limits in a sound world
-pub nothing_put_within : (w : World) (changes : List Change) → changes ≡ [] → Sound w → FitWithin w changes
-nothing_put_within w changes none sound =
-    subst (FitWithin w) (sym none) (let within : FitWithin w [] = record { fits = tt; limited = limited_from_sound w sound } in within)
 
 module _ (w v : World) (r : Request) (k : Calling) (changes : List Change) (entered : IsEntered w r k v changes) where
   -- what was put fits, and leaves a world within limits

@@ -10,7 +10,6 @@ pub mod Decisions
 pub mod Held
 pub mod Bounds
 pub mod Stretches
-pub mod Lapsing
 pub mod Prepared
 pub mod Replying
 pub mod Totals

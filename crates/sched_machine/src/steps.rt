@@ -4,7 +4,6 @@ ghost use Rattle.std.specs.Prelude.{◌≡◌, [], is_some, IsTrue, IfOk, OnOk, 
 ghost use Rattle.sched_book.specs.Delta.{applied, Fits};
 ghost use Rattle.sched_book.specs.Imports.{AreChecked};
 ghost use Rattle.sched_book.specs.Places.{host_at};
-ghost use Rattle.sched_book.specs.Settle.{settled};
 ghost use Rattle.sched_book.specs.Sound.{Sound};
 ghost use Rattle.sched_book.specs.declared.world.World.{World};
 ghost use Rattle.sched_book.specs.Step.{IsCaller, HasRoom, granted, RpcStep, TickStep, ImportStep, Step};
@@ -13,7 +12,6 @@ ghost use Rattle.job_choice.specs.Chosen.{IsChoice, places_of};
 ghost use Rattle.call_sheet.specs.Sheets.{IsPageOf};
 ghost use Rattle.sched_machine.specs.Calling.{LacksRoom, IsAdmitted, IsFull, MayBeHeard};
 ghost use Rattle.sched_machine.specs.Granting.{AreRunBy};
-ghost use Rattle.sched_machine.specs.Lapsing.{lapsed_at};
 ghost use Rattle.sched_machine.specs.Prepared.{IsReady, asking_by};
 ghost use Rattle.sched_machine.specs.Replying.{IsTold, IsGranted};
 ghost use Rattle.sched_machine.specs.declared.admission.Refused.TheVariants as refused;
@@ -22,11 +20,11 @@ use crate::admission::Refused;
 use crate::imports::{changes_of, row_count};
 use crate::preparing::{Ready, prepare};
 use crate::reply::{Told, conclude, reply_of};
-use crate::settlement::lapse;
 use call_sheet::{Page, Sheet};
 use job_choice::{Grant, Granted, choose};
+use quorum_credit::lapse_places;
 use rpc_records::{EndWord, Reply, Request};
-use sched_book::{Answered, Call, Caller, Delta, Desk, Moment, Place, Rows, Unavailable};
+use sched_book::{Answered, Call, Caller, Delta, Desk, Moment, Rows, Unavailable};
 use std::alloc::Global;
 
 /// Acts on a call up to where new jobs are chosen, over a desk with the page of the call.
@@ -190,25 +188,6 @@ fn hear_import(alloc: Global, rows: &Rows) -> Result<(Delta, u32), Unavailable>
     Ok((delta, row_count(rows)?))
 }
 
-/// Lets the instances at these places lapse, which a tick finds overdue, and settles their workunits, over a desk with a
-/// page that has nothing on it yet.
-fn lapse_onto<D: Desk>(
-    alloc: Global,
-    desk: &mut D,
-    page: &mut Page,
-    places: &[Place],
-) -> Result<(), Unavailable>
-    ensures reads { D.reads desk.old desk.new }
-    ensures left { Trusted D.Units desk.old desk.new (IsPageOf (D.world desk.old) page.old → OnOk result (
-        page.old.delta ≡ [] → Sound (D.world desk.old) →
-        applied (D.world desk.old) page.new.delta ≡ settled (D.world desk.old) (lapsed_at (D.world desk.old) places.now))) }
-    ensures fits { Trusted D.Units desk.old desk.new (IsPageOf (D.world desk.old) page.old → OnOk result (
-        page.old.delta ≡ [] → Sound (D.world desk.old) → Fits (D.world desk.old) page.new.delta)) }
-{
-    let mut sheet = Sheet { desk, page };
-    lapse(alloc, &mut sheet, places)
-}
-
 /// Lets time go by.
 fn hear_tick<D: Desk>(alloc: Global, desk: &mut D, now: Moment) -> Result<(Delta, u32), Unavailable>
     ensures reads { D.reads desk.old desk.new }
@@ -216,14 +195,13 @@ fn hear_tick<D: Desk>(alloc: Global, desk: &mut D, now: Moment) -> Result<(Delta
         TickStep (D.world desk.old) now (applied (D.world desk.old) done.0) done.1)) }
     ensures fits { Trusted D.Units desk.old desk.new (IfOk result (λ done. Sound (D.world desk.old) → Fits (D.world desk.old) done.0)) }
 {
-    let mut page = Page::new(alloc, desk.settings(alloc)?);
     let places = desk.due_before(alloc, now)?;
     let Ok(count) = u32::try_from(places.len()) else {
         // Not met in a sound world, where no more than 20,000,000 are overdue: `sched_book::laws::instances_are_few`.
         return Err(Unavailable);
     };
-    lapse_onto(alloc, desk, &mut page, places.as_slice())?;
-    Ok((page.delta, count))
+    let delta = lapse_places(alloc, desk, places.as_slice())?;
+    Ok((delta, count))
 }
 
 /// One step of the job machine: what a call, an import or the time changes, and the answer. The desk is only read.

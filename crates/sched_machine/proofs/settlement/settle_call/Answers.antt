@@ -19,7 +19,7 @@ returns-clause-settled g c = λ honest kept entered held.
     let w = g.S.Draft.entry sheet in
     let k = c.args.call.now in
     let r = c.args.request.now in
-    let honest_2 = draft.works_honest _ _ c.settle.ensures.works honest in
+    let honest_2 = draft.works_honest _ _ c.settle_read.ensures.works honest in
     let honest_1 = draft.works_honest _ _ c.lose.ensures.works honest_2 in
     let kept_1 = draft.works_kept _ _ c.record_on.ensures.works honest_1 kept in
     let kept_2 = draft.works_kept _ _ c.lose.ensures.works honest_2 kept_1 in
@@ -35,11 +35,11 @@ returns-clause-settled g c = λ honest kept entered held.
     → Fits e (delta c.record_on.new.sheet) → Fits e (delta c.lose.new.sheet)) entry_1 (c.in_ok-resent.ensures.fits honest_2 kept_1) calling held reported within.fits in
     let resent = subst (λ (e : World). IsCalling e r k → c.args.held.now ≡ held_by e k.number → world c.record_on.new.sheet ≡ after_reports e k.caller r
     → c.in_ok-resent.resent ≡ resent_of e k.caller r) entry_1 (c.in_ok-resent.ensures.resent honest_2 kept_1) calling held reported in
-    let settles = subst (λ (e : World). Sound e → Fits e (delta c.lose.new.sheet) → world c.settle.new.sheet ≡ settled e (world c.lose.new.sheet)) entry_2
+    let settles = subst (λ (e : World). Sound e → Fits e (delta c.lose.new.sheet) → world c.settle_read.new.sheet ≡ settled e (world c.lose.new.sheet)) entry_2
     (c.in_ok-marks.ensures.settled honest kept_2) calling.sound fits in
-    let fits_then = subst (λ (e : World). Sound e → Fits e (delta c.lose.new.sheet) → Fits e (delta c.settle.new.sheet)) entry_2
+    let fits_then = subst (λ (e : World). Sound e → Fits e (delta c.lose.new.sheet) → Fits e (delta c.settle_read.new.sheet)) entry_2
     (c.in_ok-marks.ensures.fits honest kept_2) calling.sound fits in
-    let marks = subst (λ (e : World). Sound e → Fits e (delta c.lose.new.sheet) → AreMarks e (world c.settle.new.sheet) c.in_ok-marks.marks) entry_2
+    let marks = subst (λ (e : World). Sound e → Fits e (delta c.lose.new.sheet) → AreMarks e (world c.settle_read.new.sheet) c.in_ok-marks.marks) entry_2
     (c.in_ok-marks.ensures.marks honest kept_2) calling.sound fits in
-    settled_call w (world c.lose.new.sheet) (world c.settle.new.sheet) r k c.args.now _ (delta c.settle.new.sheet)
+    settled_call w (world c.lose.new.sheet) (world c.settle_read.new.sheet) r k c.args.now _ (delta c.settle_read.new.sheet)
     lost settles fits_then c.in_ok-acked.ensures.acked resent marks

@@ -1,8 +1,8 @@
 use Rattle.std.proofs.Common.{sym, ap, subst}
 use Rattle.quorum_credit.specs.Settling.{TouchJust}
 use Rattle.quorum_credit.proofs.SettledAll.{read_touch, settled_touch_just}
-use Rattle.sched_machine.proofs.settlement.settle.Given
-use Rattle.sched_machine.proofs.settlement.settle.Goals as goal
+use Rattle.quorum_credit.proofs.settling.settle_read.Given
+use Rattle.quorum_credit.proofs.settling.settle_read.Goals as goal
 
 -- no workunit is touched but those that were read
 touched : (g : Given.Over) (c : goal.After-drop-touched-2 g) → g.S.Units.well_kept c.args.sheet.now

@@ -3,20 +3,20 @@ use Rattle.sched_book.specs.Delta.{applied, Fits}
 use Rattle.sched_book.specs.Settle.{settled}
 use Rattle.sched_book.specs.Sound.{Sound}
 use Rattle.sched_book.specs.declared.world.World.{World}
-use Rattle.sched_machine.specs.Lapsing.{lapsed_at}
-use Rattle.sched_machine.proofs.SettledCalls.{nothing_put_within}
-use Rattle.sched_machine.proofs.settlement.lapse.Goals as goal
+use Rattle.quorum_credit.specs.Late.{lapsed_at}
+use Rattle.quorum_credit.proofs.FitReports.{nothing_put_within}
+use Rattle.quorum_credit.proofs.settling.lapse_read.Goals as goal
 
 pub returns-clause-left : goal.returns-clause-left
 returns-clause-left g c = λ honest kept none sound.
     let draft = g.met.S.Draft in
     let sheet = c.args.sheet.now in
-    let honest_1 = draft.works_honest _ _ c.settle.ensures.works honest in
+    let honest_1 = draft.works_honest _ _ c.settle_read.ensures.works honest in
     let kept_1 = draft.works_kept _ _ c.lapse_on.ensures.works honest_1 kept in
     let entry = draft.works_entry _ _ c.lapse_on.ensures.works honest_1 kept in
     let here = draft.is_applied sheet ∙ ap (applied (g.S.Draft.entry sheet)) none in
     let fits = c.in_ok-lapse_on.ensures.fits honest_1 kept (nothing_put_within (g.S.Draft.entry sheet) (g.S.Draft.delta sheet) none sound) in
-    c.in_ok-settle.ensures.settled honest kept_1 (subst Sound (sym entry) sound)
+    c.in_ok-settle_read.ensures.settled honest kept_1 (subst Sound (sym entry) sound)
     (subst (λ (w : World). Fits w (g.S.Draft.delta c.lapse_on.new.sheet)) (sym entry) fits.fits)
     ∙ ap₂ settled entry (c.in_ok-lapse_on.ensures.lapsed honest_1 kept ∙ ap (λ w. lapsed_at w c.args.places.now) here)
 
@@ -24,10 +24,10 @@ pub returns-clause-fits : goal.returns-clause-fits
 returns-clause-fits g c = λ honest kept none sound.
     let draft = g.met.S.Draft in
     let sheet = c.args.sheet.now in
-    let honest_1 = draft.works_honest _ _ c.settle.ensures.works honest in
+    let honest_1 = draft.works_honest _ _ c.settle_read.ensures.works honest in
     let kept_1 = draft.works_kept _ _ c.lapse_on.ensures.works honest_1 kept in
     let entry = draft.works_entry _ _ c.lapse_on.ensures.works honest_1 kept in
     let fits = c.in_ok-lapse_on.ensures.fits honest_1 kept (nothing_put_within (g.S.Draft.entry sheet) (g.S.Draft.delta sheet) none sound) in
-    subst (λ (w : World). Fits w (g.S.Draft.delta c.settle.new.sheet)) entry
-    (c.in_ok-settle.ensures.fits honest kept_1 (subst Sound (sym entry) sound)
+    subst (λ (w : World). Fits w (g.S.Draft.delta c.settle_read.new.sheet)) entry
+    (c.in_ok-settle_read.ensures.fits honest kept_1 (subst Sound (sym entry) sound)
     (subst (λ (w : World). Fits w (g.S.Draft.delta c.lapse_on.new.sheet)) (sym entry) fits.fits))
