@@ -126,11 +126,7 @@ pub fn settle_read<S: Draft>(alloc: Global, sheet: &mut S) -> Result<Listed<Mark
 }
 
 /// Lets the instances at these places lapse late, in their order, and settles their workunits, before any other change.
-fn lapse_read<S: Draft>(
-    alloc: Global,
-    sheet: &mut S,
-    places: &[Place],
-) -> Result<(), Unavailable>
+fn lapse_read<S: Draft>(alloc: Global, sheet: &mut S, places: &[Place]) -> Result<(), Unavailable>
     ensures works { S.works sheet.old sheet.new }
     ensures left { Trusted S.Units sheet.old sheet.new (OnOk result (S.delta sheet.old ≡ [] → Sound (S.entry sheet.old) →
         S.world sheet.new ≡ settled (S.entry sheet.old) (lapsed_at (S.entry sheet.old) places.now))) }
