@@ -6,7 +6,6 @@ ghost use Rattle.sched_book.specs.Places.{deadline_of};
 ghost use Rattle.sched_book.specs.Fits.{version_for};
 ghost use Rattle.sched_book.specs.Lost.{deadline_after};
 ghost use Rattle.sched_book.specs.Trusted.{Trusted};
-ghost use Rattle.call_sheet.specs.Sheets.{IsPageOf};
 ghost use Rattle.lost_jobs.specs.Fates.{fate, resent_to, open_job};
 ghost use Rattle.lost_jobs.specs.Leaves.{deadline_on, open_job_on, sent_until};
 
@@ -198,23 +197,6 @@ pub fn fates_on<S: Draft>(
     Ok(fates)
 }
 
-/// The same over a desk with a page.
-fn fates_onto<D: Desk>(
-    alloc: Global,
-    desk: &mut D,
-    page: &mut Page,
-    host: &HostRow,
-    lost: &[Place],
-    now: Moment,
-) -> Result<Listed<Fate>, Unavailable>
-    ensures reads { D.reads desk.old desk.new }
-    ensures answer { Trusted D.Units desk.old desk.new (IsPageOf (D.world desk.old) page.old →
-        IfOk result (λ fates. fates ≡ map (fate (D.world desk.old) host.now now) lost.now)) }
-{
-    let mut sheet = Sheet { desk, page };
-    fates_on(alloc, &mut sheet, host, lost, now)
-}
-
 /// What becomes of these lost jobs of a host as it is told now.
 ///
 /// A job is sent again where its workunit is open and fits the host; its deadline then stays where the host can
@@ -231,5 +213,9 @@ pub fn resend_or_drop<D: Desk>(
         IfOk result (λ fates. fates ≡ map (fate (D.world desk.old) host.now now) lost.now)) }
 {
     let mut page = Page::new(alloc, desk.settings(alloc)?);
-    fates_onto(alloc, desk, &mut page, host, lost, now)
+    let mut sheet = Sheet {
+        desk,
+        page: &mut page,
+    };
+    fates_on(alloc, &mut sheet, host, lost, now)
 }

@@ -138,24 +138,6 @@ fn lapse_read<S: Draft>(alloc: Global, sheet: &mut S, places: &[Place]) -> Resul
     Ok(())
 }
 
-/// The same over a desk with a page that has nothing on it yet.
-fn lapse_onto<D: Desk>(
-    alloc: Global,
-    desk: &mut D,
-    page: &mut Page,
-    places: &[Place],
-) -> Result<(), Unavailable>
-    ensures reads { D.reads desk.old desk.new }
-    ensures left { Trusted D.Units desk.old desk.new (IsPageOf (D.world desk.old) page.old → OnOk result (
-        page.old.delta ≡ [] → Sound (D.world desk.old) →
-        applied (D.world desk.old) page.new.delta ≡ settled (D.world desk.old) (lapsed_at (D.world desk.old) places.now))) }
-    ensures fits { Trusted D.Units desk.old desk.new (IsPageOf (D.world desk.old) page.old → OnOk result (
-        page.old.delta ≡ [] → Sound (D.world desk.old) → Fits (D.world desk.old) page.new.delta)) }
-{
-    let mut sheet = Sheet { desk, page };
-    lapse_read(alloc, &mut sheet, places)
-}
-
 /// Lets the instances at these places lapse late, and settles their workunits: the changes. An instance that no host holds
 /// is refused.
 ///
@@ -174,7 +156,12 @@ pub fn lapse_places<D: Desk>(
         IfOk result (λ delta. Sound (D.world desk.old) → Fits (D.world desk.old) delta)) }
 {
     let mut page = Page::new(alloc, desk.settings(alloc)?);
-    lapse_onto(alloc, desk, &mut page, places)?;
+    let mut sheet = Sheet {
+        desk,
+        page: &mut page,
+    };
+    lapse_read(alloc, &mut sheet, places)?;
+    drop(sheet);
     Ok(page.delta)
 }
 
