@@ -239,26 +239,6 @@ pub fn record_on<S: Draft>(
     Ok(acked)
 }
 
-/// The same over a desk with a page.
-fn record_onto<D: Desk>(
-    alloc: Global,
-    desk: &mut D,
-    page: &mut Page,
-    host: u32,
-    request: &Request,
-) -> Result<Listed<Text>, Unavailable>
-    ensures reads { D.reads desk.old desk.new }
-    ensures recorded { Trusted D.Units desk.old desk.new (IsPageOf (D.world desk.old) page.old → OnOk result (
-        applied (D.world desk.old) page.new.delta
-        ≡ fold (record_one (D.world desk.old) host) (applied (D.world desk.old) page.old.delta) (first_reports request.now.results))) }
-    ensures acked { IfOk result (λ acked. acked ≡ map (λ (r : Report). r.name) (first_reports request.now.results)) }
-    ensures fits { Trusted D.Units desk.old desk.new (IsPageOf (D.world desk.old) page.old → OnOk result (All IsReport request.now.results →
-        FitWithin (D.world desk.old) page.old.delta → FitWithin (D.world desk.old) page.new.delta)) }
-{
-    let mut sheet = Sheet { desk, page };
-    record_on(alloc, &mut sheet, host, request)
-}
-
 /// Takes the reports of a call from the host of this number.
 ///
 /// Of each name the first report counts. It is recorded where the host was given the instance and did not report
@@ -279,7 +259,12 @@ pub fn take_reports<D: Desk>(
     ensures touched { IfOk result (λ taken. AreTouched taken.delta taken.touched) }
 {
     let mut page = Page::new(alloc, desk.settings(alloc)?);
-    let acked = record_onto(alloc, desk, &mut page, host, request)?;
+    let mut sheet = Sheet {
+        desk,
+        page: &mut page,
+    };
+    let acked = record_on(alloc, &mut sheet, host, request)?;
+    drop(sheet);
     let Page { delta, .. } = page;
     let touched = touched_by(alloc, delta.as_slice())?;
     Ok(Taken {
