@@ -27,30 +27,6 @@ use rpc_records::{EndWord, Reply, Request};
 use sched_book::{Answered, Call, Caller, Delta, Desk, Moment, Rows, Unavailable};
 use std::alloc::Global;
 
-/// Acts on a call up to where new jobs are chosen, over a desk with the page of the call.
-fn prepare_onto<D: Desk>(
-    alloc: Global,
-    desk: &mut D,
-    page: &mut Page,
-    caller: &Caller,
-    request: &Request,
-    now: Moment,
-) -> Result<Ready, Refused>
-    ensures reads { D.reads desk.old desk.new }
-    ensures page { Trusted D.Units desk.old desk.new (IsPageOf (D.world desk.old) page.old → IsPageOf (D.world desk.old) page.new) }
-    ensures ready { Trusted D.Units desk.old desk.new (IsPageOf (D.world desk.old) page.old → IfOk result (λ ready. page.old.delta ≡ [] →
-        Sound (D.world desk.old) → IsAdmitted (D.world desk.old) caller.now request.now →
-        IsReady (D.world desk.old) request.now now ready (applied (D.world desk.old) page.new.delta) page.new.delta)) }
-    ensures caller { IfOk result (λ ready. ready.call.caller ≡ caller.now) }
-    ensures room { Trusted D.Units desk.old desk.new (IsPageOf (D.world desk.old) page.old → IfOk result (λ ready. HasRoom (D.world desk.old) caller.now)) }
-    ensures full { Trusted D.Units desk.old desk.new (IsPageOf (D.world desk.old) page.old → IsErrOf result refused.HostsFull →
-        LacksRoom (D.world desk.old) caller.now) }
-    ensures known { (IsErrOf result refused.BadAccount → ⊥) × (IsErrOf result refused.BadHost → ⊥) }
-{
-    let mut sheet = Sheet { desk, page };
-    prepare(alloc, &mut sheet, caller, request, now)
-}
-
 /// Chooses new jobs for the host of a call. The candidates are read as they were before the call: for its host they are the
 /// same.
 fn choose_jobs<D: Desk>(
@@ -77,34 +53,8 @@ fn choose_jobs<D: Desk>(
     )
 }
 
-/// Gives new jobs to the host of a call, over a desk with the page of the call.
-fn conclude_onto<D: Desk>(
-    alloc: Global,
-    desk: &mut D,
-    page: &mut Page,
-    ready: &Ready,
-    request: &Request,
-    now: Moment,
-    jobs: &[Granted],
-) -> Result<Told, Unavailable>
-    ensures reads { D.reads desk.old desk.new }
-    ensures left { Trusted D.Units desk.old desk.new (IsPageOf (D.world desk.old) page.old → OnOk result (
-        applied (D.world desk.old) page.new.delta
-        ≡ granted (applied (D.world desk.old) page.old.delta) ready.now.call.number now (places_of jobs.now))) }
-    ensures fits { Trusted D.Units desk.old desk.new (IsPageOf (D.world desk.old) page.old → OnOk result (
-        Sound (applied (D.world desk.old) page.old.delta) →
-        IsTrue (is_some (host_at (applied (D.world desk.old) page.old.delta) ready.now.call.number)) →
-        Fits (D.world desk.old) page.old.delta → Fits (D.world desk.old) page.new.delta)) }
-    ensures told { Trusted D.Units desk.old desk.new (IsPageOf (D.world desk.old) page.old → IfOk result (λ told.
-        IsCaller (D.world desk.old) ready.now.call.caller request.now → AreRunBy (D.world desk.old) ready.now.call.host jobs.now →
-        IsTold (D.world desk.old) (applied (D.world desk.old) page.new.delta) ready.now (places_of jobs.now) told)) }
-{
-    let mut sheet = Sheet { desk, page };
-    conclude(alloc, &mut sheet, ready, request, now, jobs)
-}
-
 /// Chooses new jobs for the host of a call and gives them to it: what the reply says of them, and why there are no more.
-fn grant_onto<D: Desk>(
+fn grant_jobs<D: Desk>(
     alloc: Global,
     desk: &mut D,
     page: &mut Page,
@@ -118,10 +68,10 @@ fn grant_onto<D: Desk>(
         IsGranted (D.world desk.old) request.now now ready.now (applied (D.world desk.old) page.new.delta) page.new.delta told.0 told.1)) }
 {
     let grant = choose_jobs(alloc, desk, ready, request, now)?;
-    let told = conclude_onto(
+    let mut sheet = Sheet { desk, page };
+    let told = conclude(
         alloc,
-        desk,
-        page,
+        &mut sheet,
         ready,
         request,
         now,
@@ -151,8 +101,10 @@ fn act<D: Desk>(
     ensures known { (IsErrOf result refused.BadAccount → ⊥) × (IsErrOf result refused.BadHost → ⊥) }
 {
     let request_delay = page.settings.request_delay;
-    let ready = prepare_onto(alloc, desk, page, caller, request, now)?;
-    let (told, end_word) = grant_onto(alloc, desk, page, &ready, request, now)?;
+    let mut sheet = Sheet { desk, page };
+    let ready = prepare(alloc, &mut sheet, caller, request, now)?;
+    drop(sheet);
+    let (told, end_word) = grant_jobs(alloc, desk, page, &ready, request, now)?;
     Ok(reply_of(ready, told, end_word, request, request_delay))
 }
 

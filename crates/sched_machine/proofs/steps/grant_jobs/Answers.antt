@@ -7,13 +7,14 @@ use Rattle.sched_book.specs.Step.{IsCaller, granted}
 use Rattle.sched_book.specs.declared.world.World.{World}
 use Rattle.job_choice.specs.Chosen.{places_of}
 use Rattle.call_sheet.specs.Sheets.{IsPageOf}
+use Rattle.call_sheet.specs.declared.page.Page.{Page}
 use Rattle.sched_machine.specs.Granting.{AreRunBy}
-use Rattle.sched_machine.specs.Replying.{IsTold}
+use Rattle.sched_machine.specs.Replying.{IsTold, IsGranted}
 use Rattle.sched_machine.proofs.CallsDone.{granted_is}
 use Rattle.sched_machine.proofs.ReadyChoice.{choice_settled, choice_ends, jobs_run}
-use Rattle.sched_machine.proofs.steps.grant_onto.Goals as goal
+use Rattle.sched_machine.proofs.steps.grant_jobs.Goals as goal
 
--- both calls read one world
+-- both calls read one world, and the sheet gave back its desk and its page as the grant left them
 pub returns-clause-step : goal.returns-clause-step
 returns-clause-step g c = λ honest kept page ready.
     let d = g.met.D.Units in
@@ -21,24 +22,33 @@ returns-clause-step g c = λ honest kept page ready.
     let k = c.args.ready.now in
     let r = c.args.request.now in
     let before = c.args.page.now.delta in
-    let after = c.conclude_onto.new.page.delta in
+    let sheet = c.conclude.new.sheet in
+    let after = sheet.page.now.delta in
     let jobs = c.as_slice.result.now in
     let told = c.in_ok-told.told in
-    let honest_1 = d.stays_honest _ _ c.conclude_onto.ensures.reads honest in
+    let worked = c.conclude.ensures.works in
+    let same_desk : sheet.desk.now ≡ c.desk-2-1.given.0 = search rules in
+    let same_page : sheet.page.now ≡ c.page-2-1.given.0 = search rules in
+    let honest_2 = subst g.D.Units.honest (sym same_desk) honest in
+    let honest_1 = d.stays_honest _ _ worked.0 honest_2 in
     let kept_1 = d.stays_kept _ _ c.choose_jobs.ensures.reads honest_1 kept in
     let same = d.stays_same _ _ c.choose_jobs.ensures.reads honest_1 kept in
+    let same_2 = d.stays_same _ _ worked.0 honest_2 kept_1 in
     let chosen = c.in_ok-grant.ensures.answer honest_1 kept in
     let here = subst (λ (e : World). IsPageOf e c.args.page.now) (sym same) page in
     let grant = choice_settled w (applied w before) r c.args.now k before ready c.in_ok-grant.grant chosen in
     let ends = choice_ends w (applied w before) r c.args.now k before ready c.in_ok-grant.grant chosen in
     let runs = jobs_run w (applied w before) r c.args.now k before ready c.in_ok-grant.grant chosen in
-    granted_is w (applied w before) r c.args.now k before ready (search rules) (applied w after) after (places_of c.in_ok-grant.grant.jobs) told c.in_ok-grant.grant.end_word
+    subst (λ (p : Page). IsGranted w r c.args.now k (applied w p.delta) p.delta told c.in_ok-grant.grant.end_word) same_page
+    (granted_is w (applied w before) r c.args.now k before ready (search rules) (applied w after) after (places_of c.in_ok-grant.grant.jobs) told c.in_ok-grant.grant.end_word
     grant ends
-    (subst (λ (e : World). applied e after ≡ granted (applied e before) k.call.number c.args.now (places_of jobs)) same (c.in_ok-told.ensures.left honest kept_1 here)
+    (subst (λ (e : World). applied e after ≡ granted (applied e before) k.call.number c.args.now (places_of jobs)) same
+    (ap (λ (e : World). applied e after) (sym same_2) ∙ c.in_ok-told.ensures.left honest_2 (kept_1, here))
     ∙ ap (λ js. granted (applied w before) k.call.number c.args.now (places_of js)) c.as_slice.ensures)
     (subst (λ (e : World). Sound (applied e before) → IsTrue (is_some (host_at (applied e before) k.call.number)) → Fits e before → Fits e after) same
-    (c.in_ok-told.ensures.fits honest kept_1 here))
+    (c.in_ok-told.ensures.fits honest_2 (kept_1, here)))
     (subst (λ js. IsTold w (applied w after) k (places_of js) told) c.as_slice.ensures
     (subst (λ (e : World). IsCaller e k.call.caller r → AreRunBy e k.call.host jobs → IsTold e (applied e after) k (places_of jobs) told) same
-    (c.in_ok-told.ensures.told honest kept_1 here) ready.calling.admitted.caller
-    (subst (AreRunBy w k.call.host) (sym c.as_slice.ensures) runs)))
+    (λ caller run. subst (λ (e : World). IsTold (g.D.Units.world c.choose_jobs.new.desk) (applied e after) k (places_of jobs) told) same_2
+    (c.in_ok-told.ensures.told honest_2 (kept_1, here) caller run)) ready.calling.admitted.caller
+    (subst (AreRunBy w k.call.host) (sym c.as_slice.ensures) runs))))
