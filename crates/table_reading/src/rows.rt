@@ -1,6 +1,6 @@
 //! All rows of the tables, with their types.
 
-ghost use Rattle.std.specs.Prelude.{◌≡◌, [], ◌∷◌, map, IfOk, IfErr};
+ghost use Rattle.std.specs.Prelude.{◌≡◌, [], ◌∷◌, map, IfOk, IfErr, OnOk};
 ghost use Rattle.sqlite.specs.Held.{state};
 ghost use Rattle.sqlite_trees.specs.Tree.{Trees};
 ghost use Rattle.table_meaning.specs.Reads.{Reads};
@@ -39,38 +39,54 @@ pub struct AllRows {
     pub batches: Listed<StoredRow>,
 }
 
-/// The rows of all tables with their types.
-fn typed_rows(alloc: Global, tables: &[Vec<Row>]) -> Result<AllRows, OpenFault>
-    ensures rows { (trees : Trees) → map (λ rows. rows.items) tables.now ≡ map (rows_in trees) all_tables → IfOk result (AreAllRead trees) }
-    ensures bad { (trees : Trees) → map (λ rows. rows.items) tables.now ≡ map (rows_in trees) all_tables → IfErr result (λ e. e ≡ OpenFault.BadRow → HasBadTable trees) }
-{
-    let [
-        settings,
-        accounts,
-        apps,
-        versions,
-        units,
-        hosts,
-        instances,
-        calls,
-        batches,
-    ] = tables
-    else {
-        return Err(OpenFault::Unavailable);
-    };
-    Ok(AllRows {
-        world: TableRows {
-            settings: stored_rows(alloc, TableName::Setting, settings)?,
-            accounts: stored_rows(alloc, TableName::Account, accounts)?,
-            apps: stored_rows(alloc, TableName::App, apps)?,
-            versions: stored_rows(alloc, TableName::Version, versions)?,
-            units: stored_rows(alloc, TableName::Unit, units)?,
-            hosts: stored_rows(alloc, TableName::Host, hosts)?,
-            instances: stored_rows(alloc, TableName::Instance, instances)?,
-        },
-        calls: stored_rows(alloc, TableName::Kept, calls)?,
-        batches: stored_rows(alloc, TableName::Batch, batches)?,
-    })
+impl AllRows {
+    /// No rows.
+    fn new(alloc: Global) -> AllRows {
+        AllRows {
+            world: TableRows {
+                settings: Listed::new(alloc),
+                accounts: Listed::new(alloc),
+                apps: Listed::new(alloc),
+                versions: Listed::new(alloc),
+                units: Listed::new(alloc),
+                hosts: Listed::new(alloc),
+                instances: Listed::new(alloc),
+            },
+            calls: Listed::new(alloc),
+            batches: Listed::new(alloc),
+        }
+    }
+
+    /// Takes the rows of all tables with their types, in place of those that stand.
+    fn take(&mut self, alloc: Global, tables: &[Vec<Row>]) -> Result<(), OpenFault>
+        ensures rows { (trees : Trees) → map (λ rows. rows.items) tables.now ≡ map (rows_in trees) all_tables → OnOk result (AreAllRead trees self.new) }
+        ensures bad { (trees : Trees) → map (λ rows. rows.items) tables.now ≡ map (rows_in trees) all_tables → IfErr result (λ e. e ≡ OpenFault.BadRow → HasBadTable trees) }
+    {
+        let [
+            settings,
+            accounts,
+            apps,
+            versions,
+            units,
+            hosts,
+            instances,
+            calls,
+            batches,
+        ] = tables
+        else {
+            return Err(OpenFault::Unavailable);
+        };
+        self.world.settings = stored_rows(alloc, TableName::Setting, settings)?;
+        self.world.accounts = stored_rows(alloc, TableName::Account, accounts)?;
+        self.world.apps = stored_rows(alloc, TableName::App, apps)?;
+        self.world.versions = stored_rows(alloc, TableName::Version, versions)?;
+        self.world.units = stored_rows(alloc, TableName::Unit, units)?;
+        self.world.hosts = stored_rows(alloc, TableName::Host, hosts)?;
+        self.world.instances = stored_rows(alloc, TableName::Instance, instances)?;
+        self.calls = stored_rows(alloc, TableName::Kept, calls)?;
+        self.batches = stored_rows(alloc, TableName::Batch, batches)?;
+        Ok(())
+    }
 }
 
 /// All rows of the tables. The connection shows what it showed.
@@ -83,5 +99,7 @@ pub(crate) fn read_all<S: Alter>(
     ensures bad { WereKnown (state S.Store conn.old) (state S.Store conn.new) → IfErr result (λ e. e ≡ OpenFault.BadRow → HasBadTable (state S.Store conn.old).now.trees) }
 {
     let tables = all_rows(alloc, conn, &ALL_TABLES)?;
-    typed_rows(alloc, &tables)
+    let mut rows = AllRows::new(alloc);
+    rows.take(alloc, &tables)?;
+    Ok(rows)
 }

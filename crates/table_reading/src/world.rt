@@ -1,6 +1,6 @@
 //! The sound world that rows stand for.
 
-ghost use Rattle.std.specs.Prelude.{◌≡◌, ◌⊎◌, IfOk, IfErr};
+ghost use Rattle.std.specs.Prelude.{◌≡◌, ◌≢◌, ◌⊎◌, IfOk, IfErr, OnOk};
 ghost use Rattle.sqlite.specs.Held.{state};
 ghost use Rattle.sqlite_rules.specs.Lists.{Has};
 ghost use Rattle.sched_book.specs.Sound.{Sound};
@@ -8,40 +8,53 @@ ghost use Rattle.sched_book.specs.declared.world.World.{World as Known};
 ghost use Rattle.table_meaning.specs.Kept.{calls_in, batches_in};
 ghost use Rattle.table_meaning.specs.Reads.{Reads};
 ghost use Rattle.table_meaning.specs.Worlds.{HoldWorld};
-ghost use Rattle.table_worlds.specs.RowsOf.{AreRowsOf};
 ghost use Rattle.table_decoding.specs.Decoding.{schema_row};
-ghost use Rattle.table_reading.specs.Reading.{WereKnown, ReadFrom, StandForNone, HasBadTable, HasOtherSchema};
+ghost use Rattle.table_reading.specs.Reading.{WereKnown, ReadFrom, StandFor, StandForNone, HasBadTable, HasOtherSchema};
 
 use crate::kept::{are_calls_of, are_imports};
-use crate::rows::read_all;
+use crate::rows::{AllRows, read_all};
 use sched_book::World;
 use sqlite::{Alter, Connection};
 use std::alloc::Global;
 use table_decoding::{DecodeFault, decoded_world};
 use table_rows::OpenFault;
-use table_worlds::{TableRows, are_rows_of};
+use table_worlds::are_rows_of;
 use world_soundness::is_sound;
 
-/// The sound world whose rows these are; there is one at most.
-fn sound_world(alloc: Global, rows: &TableRows) -> Result<World, OpenFault>
-    ensures sound { IfOk result Sound }
-    ensures rows { IfOk result (λ w. AreRowsOf w rows.now) }
-    ensures one { IfOk result (λ w. (other : Known) → Sound other → AreRowsOf other rows.now → w ≡ other) }
-    ensures other_schema { IfErr result (λ e. e ≡ OpenFault.NotTables → ¬ Has rows.now.settings schema_row) }
-    ensures bad { IfErr result (λ e. e ≡ OpenFault.BadRow → (w : Known) → Sound w → ¬ AreRowsOf w rows.now) }
+/// Tests whether a world is sound, these are its rows, and what is kept may stand beside it: `BadRow` where not.
+fn test_world(alloc: Global, world: &World, rows: &AllRows) -> Result<(), OpenFault>
+    ensures stands { OnOk result (StandFor world.now rows.now) }
+    ensures bad { IfErr result (λ e. e ≡ OpenFault.BadRow → ¬ StandFor world.now rows.now) }
+    ensures known { IfErr result (λ e. e ≢ OpenFault.NotTables) }
 {
-    let world = match decoded_world(alloc, rows) {
+    if !are_rows_of(alloc, world, &rows.world)? {
+        return Err(OpenFault::BadRow);
+    }
+    if !is_sound(alloc, world)? {
+        return Err(OpenFault::BadRow);
+    }
+    if !are_calls_of(world, rows.calls.as_slice()) {
+        return Err(OpenFault::BadRow);
+    }
+    if !are_imports(rows.batches.as_slice()) {
+        return Err(OpenFault::BadRow);
+    }
+    Ok(())
+}
+
+/// The sound world that these rows stand for; there is one at most.
+fn world_of(alloc: Global, rows: &AllRows) -> Result<World, OpenFault>
+    ensures stands { IfOk result (λ w. StandFor w rows.now) }
+    ensures other_schema { IfErr result (λ e. e ≡ OpenFault.NotTables → ¬ Has rows.now.world.settings schema_row) }
+    ensures bad { IfErr result (λ e. e ≡ OpenFault.BadRow → (w : Known) → ¬ StandFor w rows.now) }
+{
+    let world = match decoded_world(alloc, &rows.world) {
         Ok(world) => world,
         Err(DecodeFault::NotTables) => return Err(OpenFault::NotTables),
         Err(DecodeFault::BadRow) => return Err(OpenFault::BadRow),
         Err(DecodeFault::Unavailable) => return Err(OpenFault::Unavailable),
     };
-    if !are_rows_of(alloc, &world, rows)? {
-        return Err(OpenFault::BadRow);
-    }
-    if !is_sound(alloc, &world)? {
-        return Err(OpenFault::BadRow);
-    }
+    test_world(alloc, &world, rows)?;
     Ok(world)
 }
 
@@ -65,12 +78,5 @@ pub fn stored_world<S: Alter>(alloc: Global, conn: &mut Connection<S>) -> Result
         Err(OpenFault::BadRow) => return Err(OpenFault::BadRow),
         Err(_) => return Err(OpenFault::Unavailable),
     };
-    let world = sound_world(alloc, &rows.world)?;
-    if !are_calls_of(&world, rows.calls.as_slice()) {
-        return Err(OpenFault::BadRow);
-    }
-    if !are_imports(rows.batches.as_slice()) {
-        return Err(OpenFault::BadRow);
-    }
-    Ok(world)
+    world_of(alloc, &rows)
 }
