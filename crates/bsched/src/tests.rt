@@ -10,6 +10,7 @@ mod quotas;
 mod refusals;
 mod repeats;
 mod rows;
+mod settings;
 mod spellings;
 mod stored;
 
