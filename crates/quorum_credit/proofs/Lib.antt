@@ -1,7 +1,7 @@
 pub mod FirstNames
 pub mod Recorded
 pub mod OnLeaves
-pub mod Rising
+pub mod Touching
 pub mod FitReports
 pub mod LateOnes
 pub mod NewlyCounted

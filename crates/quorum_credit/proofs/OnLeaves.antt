@@ -28,13 +28,9 @@ reported-is host r entry present p o read =
     ap₂ (λ (s : Status) (xs : List Instance). reported_in host r (has_failed s) xs p.number)
     (status_before-is entry present p.unit o read) (instances_now-is entry present p.unit o read)
 
-pub ruleset reported_steps = (reported-is)
-
 pub late-is : (entry present : World) (p : Place) (o : Option Leaf) → IsReadAt entry present p.unit o
     → late_on o p.number ≡ late_in (instances_at present p.unit) p.number
 late-is entry present p o read = ap (λ (xs : List Instance). late_in xs p.number) (instances_now-is entry present p.unit o read)
-
-pub ruleset late_steps = (late-is)
 
 -- the agreement of a workunit is as it was, since the applications are
 agreed : (entry present : World) (k : Leaf) → present ≡ record entry { units = present.units; hosts = present.hosts }

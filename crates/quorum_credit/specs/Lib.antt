@@ -1,6 +1,5 @@
 pub mod Settled
 pub mod Taken
-pub mod Touched
 pub mod Limited
 pub mod Late
 pub mod Marks

@@ -1,6 +1,6 @@
 -- The marks of workunits after changes, as they are made: instance by instance, workunit by workunit.
 use Rattle.std.specs.Prelude.{ℕ, ◌+◌, ◌==◌, ◌&&◌, if◌then◌else◌, List, [], ◌∷◌, ◌++◌, map, Option, None, Some, option_map, option_and_then, unwrap_or, slice_get}
-use Rattle.sched_book.specs.Count.{verdict, verdict_by}
+use Rattle.sched_book.specs.Count.{verdict}
 use Rattle.sched_book.specs.Places.{unit_at, agreement_of}
 use Rattle.sched_book.specs.declared.instance.Instance.{Instance}
 use Rattle.sched_book.specs.declared.instance.UnitBook.{UnitBook}
@@ -17,10 +17,7 @@ use Rattle.quorum_credit.specs.declared.marks.Standing.{Standing}
 abbrev pub owned_standing : Option Verdict → Instance → OwnedStanding
 owned_standing v x = record { owner = x.owner; standing = standing_with v x }
 
--- those of a workunit, by the number of its canonical result
-abbrev pub standings_by : Agreement → List Instance → Option ℕ → List OwnedStanding
-standings_by a xs canonical = map (λ x. owned_standing (verdict_by a xs canonical x) x) xs
-
+-- those of a workunit
 abbrev pub standings_in : Agreement → Workunit → List Instance → List OwnedStanding
 standings_in a u xs = map (λ x. owned_standing (verdict a u xs x) x) xs
 

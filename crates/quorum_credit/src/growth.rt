@@ -1,12 +1,10 @@
 //! The instances that workunits need.
 
-ghost use Rattle.std.specs.Prelude.{◌≡◌, ◌+◌, ◌-◌, ◌++◌, length, IfOk, OnOk};
-ghost use Rattle.std.specs.Option.{option_copied};
+ghost use Rattle.std.specs.Prelude.{◌≡◌, ◌++◌, Some, IfOk, OnOk};
 ghost use Rattle.sched_book.specs.Trusted.{Trusted};
 ghost use Rattle.call_sheet.specs.Sheets.{AreRising};
-ghost use Rattle.quorum_credit.specs.Growing.{fresh_changes, growth, all_growth};
+ghost use Rattle.quorum_credit.specs.Growing.{growth, all_growth};
 ghost use Rattle.quorum_credit.specs.Leaves.{growth_on};
-ghost use Rattle.quorum_credit.specs.Settled.{new_instances};
 ghost use Rattle.quorum_credit.specs.Settling.{with_grown_among};
 
 use crate::settlement::new_instances;
@@ -14,19 +12,13 @@ use call_sheet::{Draft, Leaf, put_all};
 use sched_book::limits::MOST_INSTANCES;
 use sched_book::{Change, Delta, Instance, Place, Unavailable};
 use std::alloc::Global;
-use texts::{Listed, Memory};
+use texts::Listed;
 
-/// The numbers of new instances: from the first up to the end, which is none of them.
-#[derive(Clone, Copy)]
-struct Numbers {
-    first: u32,
-    end: u32,
-}
-
-/// The numbers of the instances that the workunit of a leaf is to get. Where they would be too many it is refused.
-fn numbers_on(leaf: &Leaf) -> Result<Numbers, Unavailable>
-    ensures first { IfOk result (λ numbers. numbers.first ≡ length leaf.now.present) }
-    ensures end { IfOk result (λ numbers. numbers.end ≡ length leaf.now.present + new_instances leaf.now.agreement leaf.now.unit leaf.now.present) }
+/// Puts the instances that the workunit of a leaf is to get behind those of others. Where they would be too many it is
+/// refused.
+#[tactic(auto, using(crate::proofs::FreshOnes::growth_steps))]
+fn push_growth(more: &mut Delta, unit: u32, leaf: &Leaf) -> Result<(), Unavailable>
+    ensures { OnOk result (more.new ≡ more.old ++ growth_on unit (Some leaf.now)) }
 {
     let instances = leaf.present.as_slice();
     let count = new_instances(&leaf.agreement, &leaf.unit, instances);
@@ -34,16 +26,8 @@ fn numbers_on(leaf: &Leaf) -> Result<Numbers, Unavailable>
         // Not met by workunits within limits: an open one has and needs at most `max_total_results`, which is at most 100.
         return Err(Unavailable);
     }
-    Ok(Numbers {
-        first: instances.len() as u32,
-        end: (instances.len() + count) as u32,
-    })
-}
-
-/// Puts instances of these numbers that nobody was given behind the changes so far.
-fn push_fresh(more: &mut Delta, unit: u32, first: u32, end: u32) -> Result<(), Memory>
-    ensures { OnOk result (more.new ≡ more.old ++ fresh_changes unit first (end - first)) }
-{
+    let first = instances.len() as u32;
+    let end = (instances.len() + count) as u32;
     for number in first..end {
         more.push(Change::Instance {
             place: Place { unit, number },
@@ -57,20 +41,7 @@ fn push_fresh(more: &mut Delta, unit: u32, first: u32, end: u32) -> Result<(), M
     Ok(())
 }
 
-/// Puts the instances that the workunit of a leaf is to get behind those of others. Where none stands it is refused.
-#[tactic(auto, using(crate::proofs::FreshOnes::growth_steps))]
-fn add_growth_on(more: &mut Delta, unit: u32, leaf: Option<&Leaf>) -> Result<(), Unavailable>
-    ensures { OnOk result (more.new ≡ more.old ++ growth_on unit (option_copied leaf.entry)) }
-{
-    let Some(leaf) = leaf else {
-        return Err(Unavailable);
-    };
-    let numbers = numbers_on(leaf)?;
-    push_fresh(more, unit, numbers.first, numbers.end)?;
-    Ok(())
-}
-
-/// Puts the instances that the workunit at a place is to get behind those of others.
+/// Puts the instances that the workunit at a place is to get behind those of others. Where none stands it is refused.
 #[tactic(auto, using(crate::proofs::OnLeaves::growth_steps))]
 fn add_growth<S: Draft>(
     alloc: Global,
@@ -82,7 +53,10 @@ fn add_growth<S: Draft>(
     ensures answer { Trusted S.Units sheet.old sheet.new (OnOk result (more.new ≡ more.old ++ growth (S.world sheet.old) unit)) }
 {
     sheet.read(alloc, unit)?;
-    add_growth_on(more, unit, sheet.leaf(unit))
+    match sheet.leaf(unit) {
+        None => Err(Unavailable),
+        Some(leaf) => push_growth(more, unit, leaf),
+    }
 }
 
 /// The new instances of these workunits: for each that is open, those that it lacks, numbered on.

@@ -1,11 +1,9 @@
 //! The quotas of hosts after settlement.
 
 ghost use Rattle.std.specs.Prelude.{◌≡◌, ℕ, ◌==◌, if◌then◌else◌, None, Some, [], ◌∷◌, ◌++◌, IfOk, OnOk};
-ghost use Rattle.std.specs.BTreeMap as tree;
-ghost use Rattle.std.specs.Ordering.{nat_cmp};
 ghost use Rattle.sched_book.specs.Trusted.{Trusted};
 ghost use Rattle.quorum_credit.specs.Settling.{AreQuotasBy};
-ghost use Rattle.quorum_credit.specs.Tallies.{with_quota_by, new_quota, new_quotas, tally_of, tally_with, tally_after, tally_in, AreSums};
+ghost use Rattle.quorum_credit.specs.Tallies.{new_quotas, tally_with, tally_after, tally_in, AreSums};
 
 use crate::marks::Mark;
 use crate::quota::next_quota;
@@ -13,7 +11,7 @@ use call_sheet::Draft;
 use sched_book::{Change, Delta, HostRow, Unavailable};
 use std::alloc::Global;
 use std::collections::BTreeMap;
-use texts::{Listed, Memory};
+use texts::Listed;
 
 /// What marks say of one host.
 #[derive(Clone, Copy)]
@@ -23,36 +21,6 @@ struct Tally {
     charges: u32,
     /// How much counts for it.
     merits: u32,
-}
-
-/// The host with the quota that one tally leaves it.
-fn with_quota_by(limit: u32, tally: &Tally, host: HostRow) -> HostRow
-    ensures { result ≡ with_quota_by limit tally.now host }
-{
-    HostRow {
-        quota: next_quota(host.quota, tally.charges, tally.merits, limit),
-        ..host
-    }
-}
-
-/// The host of a tally with its new quota.
-fn new_quota<S: Draft>(
-    alloc: Global,
-    sheet: &mut S,
-    limit: u32,
-    tally: &Tally,
-) -> Result<Option<Change>, Unavailable>
-    ensures reads { S.reads sheet.old sheet.new }
-    ensures answer { Trusted S.Units sheet.old sheet.new (
-        IfOk result (λ change. change ≡ new_quota (S.world sheet.old) limit tally.now)) }
-{
-    match sheet.host(alloc, tally.host)? {
-        None => Ok(None),
-        Some(host) => Ok(Some(Change::Host {
-            number: tally.host,
-            row: with_quota_by(limit, tally, host),
-        })),
-    }
 }
 
 /// Puts the host of a tally with its new quota behind the others. A host that does not stand is refused.
@@ -67,13 +35,17 @@ fn add_quota<S: Draft>(
     ensures answer { Trusted S.Units sheet.old sheet.new (
         OnOk result (quotas.new ≡ quotas.old ++ new_quotas (S.world sheet.old) limit (tally.now ∷ []))) }
 {
-    match new_quota(alloc, sheet, limit, tally)? {
-        None => Err(Unavailable),
-        Some(change) => {
-            quotas.push(change)?;
-            Ok(())
-        }
-    }
+    let Some(host) = sheet.host(alloc, tally.host)? else {
+        return Err(Unavailable);
+    };
+    quotas.push(Change::Host {
+        number: tally.host,
+        row: HostRow {
+            quota: next_quota(host.quota, tally.charges, tally.merits, limit),
+            ..host
+        },
+    })?;
+    Ok(())
 }
 
 /// The hosts of these tallies with their new quotas, in their order.
@@ -94,23 +66,16 @@ fn quotas_in_turn<S: Draft>(
     Ok(quotas)
 }
 
-/// What one mark says of its host.
-fn tally_of(mark: &Mark) -> Tally
-    ensures { result ≡ tally_of mark.now }
-{
-    Tally {
-        host: mark.host,
-        charges: mark.charges,
-        merits: mark.merits,
-    }
-}
-
 /// What was said of a host so far, and one mark more. Sums past 32 bits are refused.
 fn tally_with(tally: Option<Tally>, mark: &Mark) -> Result<Tally, Unavailable>
     ensures { IfOk result (λ sum. sum ≡ tally_with tally mark.now) }
 {
     let Some(before) = tally else {
-        return Ok(tally_of(mark));
+        return Ok(Tally {
+            host: mark.host,
+            charges: mark.charges,
+            merits: mark.merits,
+        });
     };
     // Not met in a sound world, where a step charges a host at most 60,000,000 times and has at most 20,000,000 merits
     // for it: `sched_book::laws::charges_are_few`.
@@ -127,22 +92,16 @@ fn tally_with(tally: Option<Tally>, mark: &Mark) -> Result<Tally, Unavailable>
     })
 }
 
-/// Keeps what is said of a host in place of what was said before.
-fn keep_tally(tallies: &mut BTreeMap<u32, Tally>, host: u32, sum: Tally) -> Result<(), Memory>
-    ensures { OnOk result ((other : ℕ) → tally_in tallies.new other ≡ if host == other then Some sum else tally_in tallies.old other) }
-{
-    tallies.insert(host, sum)?;
-    Ok(())
-}
-
 /// Adds one mark to what was said of its host.
 fn add_mark(tallies: &mut BTreeMap<u32, Tally>, mark: &Mark) -> Result<(), Unavailable>
     ensures { OnOk result ((host : ℕ) → tally_in tallies.new host ≡
         if mark.now.host == host then Some (tally_with (tally_in tallies.old host) mark.now) else tally_in tallies.old host) }
 {
     let sum = tally_with(tallies.get(&mark.host).copied(), mark)?;
-    keep_tally(tallies, mark.host, sum)?;
-    Ok(())
+    match tallies.insert(mark.host, sum) {
+        Ok(_) => Ok(()),
+        Err(_) => Err(Unavailable),
+    }
 }
 
 /// What these marks say of each host, by its number.
@@ -156,20 +115,12 @@ fn tallies_of(alloc: Global, marks: &[Mark]) -> Result<BTreeMap<u32, Tally>, Una
     Ok(tallies)
 }
 
-/// What is said of each host, in the order of their numbers.
-fn sums_in(alloc: Global, tallies: &BTreeMap<u32, Tally>) -> Result<Vec<Tally>, Memory>
-    ensures values { IfOk result (λ sums. sums.items ≡ tree.values tallies.now) }
-    ensures ordered { tree.IsOrdered nat_cmp tallies.now }
-{
-    tallies.values().copied().collect(alloc)
-}
-
 /// What these marks say, in one tally for each host that they name.
 fn sums_of(alloc: Global, marks: &[Mark]) -> Result<Vec<Tally>, Unavailable>
     ensures { IfOk result (λ sums. AreSums marks.now sums.items) }
 {
     let tallies = tallies_of(alloc, marks)?;
-    Ok(sums_in(alloc, &tallies)?)
+    Ok(tallies.values().copied().collect(alloc)?)
 }
 
 /// The hosts that these marks speak of, each with the quota that the marks leave it.

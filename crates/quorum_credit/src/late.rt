@@ -2,12 +2,11 @@
 
 ghost use Rattle.std.specs.Prelude.{◌≡◌, IfOk, OnOk};
 ghost use Rattle.std.specs.Option.{option_copied};
-ghost use Rattle.sched_book.specs.Desk.{instances_at};
 ghost use Rattle.sched_book.specs.Reports.{with_changed};
 ghost use Rattle.sched_book.specs.Lost.{with_lapse};
 ghost use Rattle.sched_book.specs.Trusted.{Trusted};
 ghost use Rattle.sched_book.specs.declared.instance.Lapse.TheVariants as lapse;
-ghost use Rattle.quorum_credit.specs.Late.{late_in, lapsed_at};
+ghost use Rattle.quorum_credit.specs.Late.{lapsed_at};
 ghost use Rattle.quorum_credit.specs.Leaves.{late_on};
 ghost use Rattle.quorum_credit.specs.Limited.{FitWithin};
 
@@ -16,48 +15,21 @@ use sched_book::{Instance, Lapse, Place, Unavailable, copy_of};
 use std::alloc::Global;
 use texts::Memory;
 
-/// The instance, late.
-fn made_late(instance: &Instance) -> Result<Instance, Memory>
-    ensures { IfOk result (λ row. row ≡ with_lapse lapse.Late instance.now) }
-{
-    let mut row = copy_of(instance)?;
-    row.lapse = Some(Lapse::Late);
-    Ok(row)
-}
-
-/// The instance of this number, late, where a host holds it.
-fn late_in(instances: &[Instance], number: u32) -> Result<Option<Instance>, Memory>
-    ensures { IfOk result (λ row. row ≡ late_in instances.now number) }
-{
-    match instances.get(number as usize) {
-        Some(instance) if instance.is_held() => Ok(Some(made_late(instance)?)),
-        _ => Ok(None),
-    }
-}
-
 /// The instance of this number on a leaf, late, where a host holds it.
 fn late_on(leaf: Option<&Leaf>, number: u32) -> Result<Option<Instance>, Memory>
     ensures { IfOk result (λ row. row ≡ late_on (option_copied leaf.entry) number) }
 {
-    match leaf {
-        None => Ok(None),
-        Some(leaf) => late_in(leaf.present.as_slice(), number),
+    let Some(leaf) = leaf else {
+        return Ok(None);
+    };
+    match leaf.present.as_slice().get(number as usize) {
+        Some(instance) if instance.is_held() => {
+            let mut row = copy_of(instance)?;
+            row.lapse = Some(Lapse::Late);
+            Ok(Some(row))
+        }
+        _ => Ok(None),
     }
-}
-
-/// The instance at a place, late, where a host holds it.
-#[tactic(auto, using(crate::proofs::OnLeaves::late_steps))]
-fn late_at<S: Draft>(
-    alloc: Global,
-    sheet: &mut S,
-    place: Place,
-) -> Result<Option<Instance>, Unavailable>
-    ensures reads { S.reads sheet.old sheet.new }
-    ensures answer { Trusted S.Units sheet.old sheet.new (
-        IfOk result (λ row. row ≡ late_in (instances_at (S.world sheet.old) place.unit) place.number)) }
-{
-    sheet.read(alloc, place.unit)?;
-    Ok(late_on(sheet.leaf(place.unit), place.number)?)
 }
 
 /// Puts the lapse of the instance at a place. An instance that no host holds is refused.
@@ -68,7 +40,8 @@ fn put_late<S: Draft>(alloc: Global, sheet: &mut S, place: Place) -> Result<(), 
     ensures fits { Trusted S.Units sheet.old sheet.new (OnOk result (
         FitWithin (S.entry sheet.old) (S.delta sheet.old) → FitWithin (S.entry sheet.old) (S.delta sheet.new))) }
 {
-    match late_at(alloc, sheet, place)? {
+    sheet.read(alloc, place.unit)?;
+    match late_on(sheet.leaf(place.unit), place.number)? {
         None => Err(Unavailable),
         Some(row) => {
             sheet.put_instance(place, &row)?;

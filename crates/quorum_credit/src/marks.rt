@@ -1,18 +1,16 @@
 //! What settlement counts for the hosts of instances, and against them, and the credit that it brings them.
 
-ghost use Rattle.std.specs.Prelude.{◌≡◌, ◌≤◌, List, ◌++◌, length, IfOk, OnOk};
-ghost use Rattle.std.specs.Option.{option_copied};
+ghost use Rattle.std.specs.Prelude.{◌≡◌, ◌≤◌, ◌++◌, length, IfOk, OnOk};
 ghost use Rattle.sched_book.specs.Count.{is_invalid};
 ghost use Rattle.sched_book.specs.Limits.{most_instances};
 ghost use Rattle.sched_book.specs.Settle.{is_late};
 ghost use Rattle.sched_book.specs.Trusted.{Trusted};
-ghost use Rattle.quorum_credit.specs.Leaves.{marks_on};
-ghost use Rattle.quorum_credit.specs.Marks.{standing_with, one_if_new, charges_between, merits_between, credit_between};
-ghost use Rattle.quorum_credit.specs.Marking.{owned_standing, standings_by, standings_in, standing_of, mark_between, mark_if_new, mark_of, with_mark, marks_from, marks_at, marks_of_units};
+ghost use Rattle.quorum_credit.specs.Marks.{one_if_new, charges_between, credit_between};
+ghost use Rattle.quorum_credit.specs.Marking.{owned_standing, standings_in, standing_of, mark_of, marks_from, marks_at, marks_of_units};
 ghost use Rattle.quorum_credit.specs.declared.marks.Mark.{Mark};
 
 use crate::settlement::canonical;
-use call_sheet::{Draft, Leaf};
+use call_sheet::Draft;
 use sched_book::{Agreement, Instance, Lapse, Owner, Unavailable, Verdict, Workunit, count};
 use std::alloc::Global;
 use texts::{Listed, Memory};
@@ -57,45 +55,18 @@ fn is_late(lapse: Option<Lapse>) -> bool
     }
 }
 
-/// How the instance stands, with this verdict on it.
-fn standing_with(verdict: Option<Verdict>, instance: &Instance) -> Standing
-    ensures { result ≡ standing_with verdict instance.now }
-{
-    Standing {
-        has_error: instance.is_judged_error(),
-        is_late: is_late(instance.lapse),
-        verdict,
-    }
-}
-
-/// The same with its owner.
+/// To which host the instance was given, and how it stands, with this verdict on it.
 fn owned_standing(verdict: Option<Verdict>, instance: &Instance) -> OwnedStanding
     ensures { result ≡ owned_standing verdict instance.now }
 {
     OwnedStanding {
         owner: instance.owner,
-        standing: standing_with(verdict, instance),
+        standing: Standing {
+            has_error: instance.is_judged_error(),
+            is_late: is_late(instance.lapse),
+            verdict,
+        },
     }
-}
-
-/// How the instances of a workunit stand, by the number of its canonical result.
-fn standings_by(
-    alloc: Global,
-    agreement: &Agreement,
-    instances: &[Instance],
-    canonical: Option<usize>,
-) -> Result<Vec<OwnedStanding>, Memory>
-    ensures { IfOk result (λ rows. rows.items ≡ standings_by agreement.now instances.now canonical) }
-{
-    instances
-        .iter()
-        .map(|instance| {
-            owned_standing(
-                count::verdict_by(agreement, instances, canonical, instance),
-                instance,
-            )
-        })
-        .collect(alloc)
 }
 
 /// How the instances of a workunit stand.
@@ -109,7 +80,15 @@ fn standings_in(
     ensures { IfOk result (λ rows. rows.items ≡ standings_in agreement.now unit.now instances.now) }
 {
     let canonical = canonical(agreement, unit, instances);
-    standings_by(alloc, agreement, instances, canonical)
+    instances
+        .iter()
+        .map(|instance| {
+            owned_standing(
+                count::verdict_by(agreement, instances, canonical, instance),
+                instance,
+            )
+        })
+        .collect(alloc)
 }
 
 /// How the instance of a number stands among these.
@@ -153,13 +132,6 @@ fn charges_between(old: Standing, new: Standing) -> u32
         + one_if_new(is_invalid(new.verdict), is_invalid(old.verdict))
 }
 
-/// What is new and counts for it.
-fn merits_between(old: Standing, new: Standing) -> u32
-    ensures { result ≡ merits_between old new }
-{
-    one_if_new(count::is_valid(new.verdict), count::is_valid(old.verdict))
-}
-
 /// The millicredits that are new: those of the workunit where the result is valid now and was not before.
 fn credit_between(credit: u32, old: Standing, new: Standing) -> u32
     ensures { result ≡ credit_between credit old new }
@@ -171,46 +143,25 @@ fn credit_between(credit: u32, old: Standing, new: Standing) -> u32
     }
 }
 
-/// What is new of an instance of this host, of a workunit of this credit.
-fn mark_between(credit: u32, host: u32, old: Standing, new: Standing) -> Mark
-    ensures { result ≡ mark_between credit host old new }
+/// What is new of an instance of a workunit of this credit; none where it has no owner or nothing is new, and one that
+/// counts nothing brings no credit either.
+fn mark_of(credit: u32, old: Standing, new: &OwnedStanding) -> Option<Mark>
+    ensures { result ≡ mark_of credit old new.now }
 {
-    Mark {
-        host,
-        charges: charges_between(old, new),
-        merits: merits_between(old, new),
-        credit: credit_between(credit, old, new),
-    }
-}
-
-/// The mark, where something is new; one that counts nothing brings no credit either.
-fn mark_if_new(mark: Mark) -> Option<Mark>
-    ensures { result ≡ mark_if_new mark }
-{
+    let owner = new.owner?;
+    let mark = Mark {
+        host: owner.host,
+        charges: charges_between(old, new.standing),
+        merits: one_if_new(
+            count::is_valid(new.standing.verdict),
+            count::is_valid(old.verdict),
+        ),
+        credit: credit_between(credit, old, new.standing),
+    };
     if mark.charges == 0 && mark.merits == 0 {
         None
     } else {
         Some(mark)
-    }
-}
-
-/// What is new of an instance of a workunit of this credit; none where it has no owner or nothing is new.
-fn mark_of(credit: u32, old: Standing, new: &OwnedStanding) -> Option<Mark>
-    ensures { result ≡ mark_of credit old new.now }
-{
-    match new.owner {
-        None => None,
-        Some(owner) => mark_if_new(mark_between(credit, owner.host, old, new.standing)),
-    }
-}
-
-/// Puts a mark behind the others, where there is one.
-fn push_mark(marks: &mut Listed<Mark>, mark: Option<Mark>) -> Result<(), Memory>
-    ensures { OnOk result ((later : List Mark) → marks.new ++ later ≡ marks.old ++ with_mark mark later) }
-{
-    match mark {
-        None => Ok(()),
-        Some(mark) => marks.push(mark),
     }
 }
 
@@ -224,21 +175,10 @@ fn push_marks(
     ensures { OnOk result (marks.new ≡ marks.old ++ marks_from credit old.now 0 new.now) }
 {
     for (number, row) in new.iter().enumerate() {
-        push_mark(marks, mark_of(credit, standing_of(old, number), row))?;
+        if let Some(mark) = mark_of(credit, standing_of(old, number), row) {
+            marks.push(mark)?;
+        }
     }
-    Ok(())
-}
-
-/// Puts what is new of the instances of a leaf behind the other marks.
-fn add_marks_on(alloc: Global, marks: &mut Listed<Mark>, leaf: Option<&Leaf>) -> Result<(), Memory>
-    ensures { OnOk result (marks.new ≡ marks.old ++ marks_on (option_copied leaf.entry)) }
-{
-    let Some(leaf) = leaf else {
-        return Ok(());
-    };
-    let old = standings_in(alloc, &leaf.agreement, &leaf.unit, leaf.before.as_slice())?;
-    let new = standings_in(alloc, &leaf.agreement, &leaf.unit, leaf.present.as_slice())?;
-    push_marks(marks, leaf.unit.credit, old.as_slice(), new.as_slice())?;
     Ok(())
 }
 
@@ -255,7 +195,12 @@ fn add_marks<S: Draft>(
         OnOk result (marks.new ≡ marks.old ++ marks_at (S.entry sheet.old) (S.world sheet.old) unit)) }
 {
     sheet.read(alloc, unit)?;
-    add_marks_on(alloc, marks, sheet.leaf(unit))?;
+    let Some(leaf) = sheet.leaf(unit) else {
+        return Ok(());
+    };
+    let old = standings_in(alloc, &leaf.agreement, &leaf.unit, leaf.before.as_slice())?;
+    let new = standings_in(alloc, &leaf.agreement, &leaf.unit, leaf.present.as_slice())?;
+    push_marks(marks, leaf.unit.credit, old.as_slice(), new.as_slice())?;
     Ok(())
 }
 

@@ -1,14 +1,7 @@
 //! How many jobs a host may get on a day.
 
-ghost use Rattle.std.specs.Prelude.{◌≡◌, ◌≤◌, ◌*◌, ◌^◌, ◌-◌, min, max};
+ghost use Rattle.std.specs.Prelude.{◌≡◌, ◌≤◌, ◌*◌, ◌^◌, min};
 ghost use Rattle.sched_book.specs.Settle.{next_quota};
-
-/// A quota less what counts against its host, at least one.
-fn lowered(quota: u32, charges: u32) -> u32
-    ensures { result ≡ max 1 (quota - charges) }
-{
-    quota.saturating_sub(charges).max(1)
-}
 
 /// A number doubled so many times, at most the limit. It stops at the limit, so at most 32 doublings are done.
 fn raised(number: u32, times: u32, limit: u32) -> u32
@@ -31,5 +24,6 @@ fn raised(number: u32, times: u32, limit: u32) -> u32
 pub fn next_quota(quota: u32, charges: u32, merits: u32, limit: u32) -> u32
     ensures { result ≡ next_quota quota charges merits limit }
 {
-    raised(lowered(quota, charges), merits, limit)
+    let lowered = quota.saturating_sub(charges).max(1);
+    raised(lowered, merits, limit)
 }

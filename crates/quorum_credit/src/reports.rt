@@ -1,21 +1,17 @@
 //! The reports of a call.
 
-ghost use Rattle.std.specs.Prelude.{◌≡◌, All, ◌==◌, ◌+◌, ◌≤◌, length, map, count_by, fold, IfOk, OnOk};
+ghost use Rattle.std.specs.Prelude.{◌≡◌, All, ◌==◌, ◌+◌, ◌≤◌, length, map, fold, IfOk, OnOk};
 ghost use Rattle.std.specs.Option.{option_copied};
 ghost use Rattle.rpc_records.specs.Ranges.{IsReport};
 ghost use Rattle.rpc_records.specs.declared.request.Report.{Report};
-ghost use Rattle.sched_book.specs.Count.{is_judged, has_failed};
 ghost use Rattle.sched_book.specs.Limits.{most_instances};
-ghost use Rattle.sched_book.specs.Places.{status_at};
-ghost use Rattle.sched_book.specs.Desk.{instances_at};
-ghost use Rattle.sched_book.specs.Reports.{first_reports, outcome_of, with_report, record_at, record_one, recorded};
+ghost use Rattle.sched_book.specs.Reports.{first_reports, with_report, record_at, record_one, recorded};
 ghost use Rattle.sched_book.specs.Delta.{applied, Fits};
 ghost use Rattle.sched_book.specs.Sound.{Sound};
 ghost use Rattle.sched_book.specs.Trusted.{Trusted};
-ghost use Rattle.call_sheet.specs.Sheets.{IsPageOf};
 ghost use Rattle.quorum_credit.specs.Leaves.{reported_on};
 ghost use Rattle.quorum_credit.specs.Limited.{FitWithin};
-ghost use Rattle.quorum_credit.specs.Taken.{place_among, reported_in, AreTouched};
+ghost use Rattle.quorum_credit.specs.Taken.{place_among, AreTouched};
 
 use crate::touched::touched_by;
 use call_sheet::{Draft, Leaf, Page, Sheet, place_before};
@@ -46,17 +42,6 @@ fn names_of(alloc: Global, reports: &[&Report]) -> Result<Listed<Text>, Memory>
     Ok(names)
 }
 
-/// How many reports of these instances were judged.
-fn judged_count(instances: &[Instance]) -> usize
-    ensures value { result ≡ count_by is_judged instances.now }
-    ensures few { result ≤ length instances.now }
-{
-    instances
-        .iter()
-        .filter(|instance| instance.is_judged())
-        .count()
-}
-
 /// The place that the next report of a workunit with these instances gets: none where the workunit had failed.
 fn place_among(failed: bool, instances: &[Instance]) -> Option<u32>
     requires { length instances.now ≤ most_instances }
@@ -65,53 +50,27 @@ fn place_among(failed: bool, instances: &[Instance]) -> Option<u32>
     if failed {
         None
     } else {
-        Some(1 + judged_count(instances) as u32)
+        let judged = instances
+            .iter()
+            .filter(|instance| instance.is_judged())
+            .count();
+        Some(1 + judged as u32)
     }
 }
 
-/// What is kept of a report: exit status 0 is a success, any other a client error.
-fn outcome_of(report: &Report, place: Option<u32>) -> Result<Outcome, Memory>
-    ensures { IfOk result (λ outcome. outcome ≡ outcome_of report.now place) }
-{
-    Ok(Outcome {
-        success: report.exit_status == 0,
-        output: report.output.clone()?,
-        place,
-    })
-}
-
-/// The instance with what was reported of it.
+/// The instance with what was reported of it: exit status 0 is a success, any other a client error.
 fn with_report(report: &Report, place: Option<u32>, instance: &Instance) -> Result<Instance, Memory>
     ensures { IfOk result (λ row. row ≡ with_report report.now place instance.now) }
 {
     Ok(Instance {
         owner: instance.owner,
         lapse: instance.lapse,
-        report: Some(outcome_of(report, place)?),
+        report: Some(Outcome {
+            success: report.exit_status == 0,
+            output: report.output.clone()?,
+            place,
+        }),
     })
-}
-
-/// The instance of this number with one report more, where it awaits it from this host.
-fn reported_in(
-    host: u32,
-    report: &Report,
-    failed: bool,
-    instances: &[Instance],
-    number: u32,
-) -> Result<Option<Instance>, Memory>
-    requires { length instances.now ≤ most_instances }
-    ensures { IfOk result (λ row. row ≡ reported_in host report.now failed instances.now number) }
-{
-    match instances.get(number as usize) {
-        None => Ok(None),
-        Some(instance) => {
-            if !instance.awaits_report_of(host) {
-                return Ok(None);
-            }
-            let place = place_among(failed, instances);
-            Ok(Some(with_report(report, place, instance)?))
-        }
-    }
 }
 
 /// The instance of this number on a leaf with one report more, where it awaits it from this host. The report is judged
@@ -128,25 +87,15 @@ fn reported_on(
         return Ok(None);
     };
     let failed = leaf.status_before().has_failed();
-    reported_in(host, report, failed, leaf.present.as_slice(), number)
-}
-
-/// The instance at a place with one report more, where it awaits it from this host.
-#[tactic(auto, using(crate::proofs::OnLeaves::reported_steps))]
-fn reported_at<S: Draft>(
-    alloc: Global,
-    sheet: &mut S,
-    host: u32,
-    report: &Report,
-    place: Place,
-) -> Result<Option<Instance>, Unavailable>
-    ensures reads { S.reads sheet.old sheet.new }
-    ensures answer { Trusted S.Units sheet.old sheet.new (IfOk result (λ row. row ≡
-        reported_in host report.now (has_failed (status_at (S.entry sheet.old) place.unit))
-        (instances_at (S.world sheet.old) place.unit) place.number)) }
-{
-    sheet.read(alloc, place.unit)?;
-    Ok(reported_on(host, report, sheet.leaf(place.unit), place.number)?)
+    let instances = leaf.present.as_slice();
+    let Some(instance) = instances.get(number as usize) else {
+        return Ok(None);
+    };
+    if !instance.awaits_report_of(host) {
+        return Ok(None);
+    }
+    let place = place_among(failed, instances);
+    Ok(Some(with_report(report, place, instance)?))
 }
 
 /// Puts what one report changes of the instance at a place.
@@ -163,7 +112,8 @@ fn put_report<S: Draft>(
     ensures fits { Trusted S.Units sheet.old sheet.new (OnOk result (IsReport report.now →
         FitWithin (S.entry sheet.old) (S.delta sheet.old) → FitWithin (S.entry sheet.old) (S.delta sheet.new))) }
 {
-    match reported_at(alloc, sheet, host, report, place)? {
+    sheet.read(alloc, place.unit)?;
+    match reported_on(host, report, sheet.leaf(place.unit), place.number)? {
         None => Ok(()),
         Some(row) => {
             sheet.put_instance(place, &row)?;

@@ -1,7 +1,7 @@
 //! What its reports come to for one workunit.
 
-ghost use Rattle.std.specs.Prelude.{◌≡◌, ◌≤◌, length, map};
-ghost use Rattle.sched_book.specs.Count.{agree, canonical, status, verdict_by};
+ghost use Rattle.std.specs.Prelude.{◌≡◌, ◌≤◌, length};
+ghost use Rattle.sched_book.specs.Count.{agree, canonical, status};
 ghost use Rattle.quorum_credit.specs.Settled.{new_instances, verdicts};
 
 use arrayvec::ArrayVec;
@@ -57,24 +57,17 @@ pub fn canonical(agreement: &Agreement, unit: &Workunit, instances: &[Instance])
     count::canonical(agreement, unit, instances)
 }
 
-/// The verdicts on these instances, by the number of the canonical result.
-fn verdicts_by(agreement: &Agreement, instances: &[Instance], canonical: Option<usize>) -> Verdicts
-    requires { length instances.now ≤ MOST_INSTANCES }
-    ensures { result ≡ map (verdict_by agreement.now instances.now canonical) instances.now }
-{
-    let mut row = ArrayVec::new();
-    for instance in instances {
-        row.push(count::verdict_by(agreement, instances, canonical, instance));
-    }
-    Verdicts { row }
-}
-
 /// The verdicts on a workunit's instances.
 fn verdicts_of(agreement: &Agreement, unit: &Workunit, instances: &[Instance]) -> Verdicts
     requires { length instances.now ≤ MOST_INSTANCES }
     ensures { result ≡ verdicts agreement.now unit.now instances.now }
 {
-    verdicts_by(agreement, instances, canonical(agreement, unit, instances))
+    let canonical = canonical(agreement, unit, instances);
+    let mut row = ArrayVec::new();
+    for instance in instances {
+        row.push(count::verdict_by(agreement, instances, canonical, instance));
+    }
+    Verdicts { row }
 }
 
 /// How many instances a workunit of this status is to get.

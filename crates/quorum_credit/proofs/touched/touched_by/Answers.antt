@@ -1,7 +1,14 @@
-use Rattle.quorum_credit.proofs.Rising.{touched_next}
+use Rattle.std.proofs.Common.{◌≡◌, rules, sym, subst}
+use Rattle.std.proofs.lemmas.List.{take_all}
+use Rattle.quorum_credit.specs.Taken.{AreTouched}
+use Rattle.quorum_credit.proofs.Touching.{HasTouched, touched-is}
 use Rattle.quorum_credit.proofs.touched.touched_by.Goals as goal
 
-pub loop-change-preserved : goal.loop-change-preserved
-loop-change-preserved c =
-    touched_next c.args.changes.now c.loop-change.units c.in_ok-units.units c.loop-change.change-index c.change-item.result
-    c.loop-change-test.true c.change-item.is c.in_ok-units.ensures c.loop-change.invariant
+pub returns : goal.returns
+returns c =
+    let changes = c.args.changes.now in
+    let units = c.loop-change.units in
+    let are : c.of.result ≡ units.keys = search rules in
+    subst (AreTouched changes) (sym are)
+    (touched-is changes units c.iter.ensures.ordered
+    (subst (λ cs. HasTouched cs units) (take_all c.loop-change.change-index changes c.loop-change-test.false) c.loop-change.invariant))

@@ -1,6 +1,6 @@
 use Rattle.std.proofs.Common.{◌≡◌, ◌-◌, ◌++◌}
 use Rattle.quorum_credit.specs.Growing.{fresh_changes}
-use Rattle.quorum_credit.proofs.growth.push_fresh.Given as goal
+use Rattle.quorum_credit.proofs.growth.push_growth.Given as goal
 
 -- what is put, and what is left
 abbrev pub invariant-loop-number : goal.invariant-loop-number
