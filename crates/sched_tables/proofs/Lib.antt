@@ -1,3 +1,4 @@
+pub mod ColumnsCounted
 pub mod EntriesKept
 pub mod Leads
 pub mod NewTables

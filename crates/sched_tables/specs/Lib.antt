@@ -1,4 +1,5 @@
 pub mod Commits
+pub mod Counted
 pub mod Entries
 pub mod Held
 pub mod Stops

@@ -94,7 +94,7 @@ impl<S: Alter> Desk for Tables<S> {
     }
 
     fn status_of(&mut self, unit: u32) -> Result<Option<Status>, Unavailable> {
-        self.desk.status_of(unit)
+        self.unit_status(unit)
     }
 
     fn held_by(&mut self, alloc: Global, host: u32) -> Result<Listed<Place>, Unavailable> {
@@ -102,7 +102,10 @@ impl<S: Alter> Desk for Tables<S> {
     }
 
     fn held_count(&mut self, host: u32) -> Result<u32, Unavailable> {
-        self.desk.held_count(host)
+        match self.counted(host)? {
+            Some(counted) => Ok(counted.held),
+            None => self.desk.held_count(host),
+        }
     }
 
     fn owned_by(&mut self, alloc: Global, host: u32) -> Result<Listed<Place>, Unavailable> {
@@ -118,7 +121,10 @@ impl<S: Alter> Desk for Tables<S> {
     }
 
     fn credit_of_host(&mut self, host: u32) -> Result<u64, Unavailable> {
-        self.desk.credit_of_host(host)
+        match self.counted(host)? {
+            Some(counted) => Ok(counted.credit),
+            None => self.desk.credit_of_host(host),
+        }
     }
 
     fn credit_of_user(&mut self, account: u32) -> Result<u64, Unavailable> {

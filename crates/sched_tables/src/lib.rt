@@ -2,6 +2,8 @@
 #![tactic(auto)]
 
 mod committing;
+mod counted;
+mod counting;
 mod desk;
 mod keeping;
 mod opening;

@@ -1,19 +1,24 @@
 -- A read by a key shows the first row that has the key.
-use Rattle.std.proofs.Common.{◌≡◌, ℕ, false, List, [], ◌∷◌, refl}
+use Rattle.std.proofs.Common.{◌≡◌, ℕ, false, List, [], ◌∷◌, codes, refl}
 use Rattle.sqlite_schema.specs.declared.command.Command.TheVariants.{Select}
 use Rattle.sqlite_tied.specs.Compute.{everything}
 use Rattle.sqlite.specs.Listing.{understood, reads_listing}
 use Rattle.sqlite.proofs.Callers.{IsPlain, command_of}
 use Rattle.table_meaning.specs.declared.tables.TableName.{TableName}
-use Rattle.table_meaning.specs.declared.tables.TableName.TheVariants.{Kept, Batch}
+use Rattle.table_meaning.specs.declared.tables.TableName.TheVariants.{Unit, Host, Kept, Batch}
 use Rattle.table_meaning.specs.Schema.{stored_schema}
 use Rattle.table_meaning.specs.Rows.{tree_of, places_of, key_places}
-use Rattle.table_meaning.specs.ByKey.{kept_text, batch_text, key_query}
+use Rattle.table_meaning.specs.ByKey.{kept_text, batch_text, counts_text, status_text, key_query}
 use Rattle.table_meaning.proofs.ReadTexts.{names_of}
 
-abbrev pub IsReadByKey : TableName → List ℕ → Type 0
-IsReadByKey t text = (command_of (understood stored_schema text) ≡ Select (record { lets = []; body = key_query (tree_of t) (key_places t) (places_of t) }) (names_of t)) × IsPlain (understood stored_schema text)
+-- the text reads these columns of the rows that have the key
+abbrev pub ReadsByKey : TableName → List ℕ → List (List ℕ) → List ℕ → Type 0
+ReadsByKey t places names text = (command_of (understood stored_schema text) ≡ Select (record { lets = []; body = key_query (tree_of t) (key_places t) places }) names) × IsPlain (understood stored_schema text)
     × (reads_listing stored_schema text ≡ false)
+
+-- all of their columns
+abbrev pub IsReadByKey : TableName → List ℕ → Type 0
+IsReadByKey t text = ReadsByKey t (places_of t) (names_of t) text
 
 pub kept_is_read : IsReadByKey Kept kept_text
 unfolding understood everything
@@ -22,3 +27,11 @@ kept_is_read = (refl, (refl, refl), refl)
 pub batch_is_read : IsReadByKey Batch batch_text
 unfolding understood everything
 batch_is_read = (refl, (refl, refl), refl)
+
+pub counts_are_read : ReadsByKey Host (9 ∷ 10 ∷ []) (codes "held" ∷ codes "credit" ∷ []) counts_text
+unfolding understood everything
+counts_are_read = (refl, (refl, refl), refl)
+
+pub status_is_read : ReadsByKey Unit (14 ∷ []) (codes "status" ∷ []) status_text
+unfolding understood everything
+status_is_read = (refl, (refl, refl), refl)

@@ -26,13 +26,13 @@ use Rattle.table_meaning.specs.declared.tables.TableName.{TableName}
 use Rattle.table_meaning.specs.declared.tables.TableName.TheVariants.{Setting, Account, App, Version, Unit, Host, Instance, Kept, Batch}
 use Rattle.table_meaning.specs.Schema.{stored_schema}
 use Rattle.table_meaning.specs.Texts.{read_text}
-use Rattle.table_meaning.specs.Rows.{tree_of, places_of, rows_in, whole, kept_key, batch_key, has_key, look_up}
+use Rattle.table_meaning.specs.Rows.{tree_of, places_of, rows_in, whole, unit_key, host_key, kept_key, batch_key, has_key, look_up}
 use Rattle.table_meaning.specs.Reads.{read_query}
-use Rattle.table_meaning.specs.ByKey.{kept_text, batch_text, key_tests, key_query}
+use Rattle.table_meaning.specs.ByKey.{kept_text, batch_text, counts_text, status_text, counts_in, status_in, key_tests, key_query}
 use Rattle.table_meaning.specs.Formats.{columns_in}
 use Rattle.table_meaning.specs.Holding.{AreKnown}
 use Rattle.table_meaning.proofs.ReadTexts.{names_of, each_is_read}
-use Rattle.table_meaning.proofs.ByKey.{kept_is_read, batch_is_read}
+use Rattle.table_meaning.proofs.ByKey.{kept_is_read, batch_is_read, counts_are_read, status_is_read}
 
 -- a row of a tree as its number and its columns
 abbrev Numbered : Type 0
@@ -126,3 +126,26 @@ batch_shown_at old new known kind name rows h =
     let read = reads_as batch_text (Text kind ∷ Text name ∷ []) old new stored_schema known.schema _ batch_is_read.0 batch_is_read.1 batch_is_read.2 rows h in
     let found = key_rows old.now.trees 15 (1 ∷ 2 ∷ []) (places_of Batch) (Text kind ∷ Text name ∷ []) (has_key (batch_key kind name)) refl (known.ordered Batch) (λ n. refl) rows (read.answer Null) in
     ap (option_map (λ r. columns_in r 4)) found ∙ kept_same _ (λ r. columns_in r 4) (λ r. refl) _
+
+-- ---- some of its columns
+
+-- what a function picks of what is shown is what another picks of all columns
+picked : {X : Type 0} (show all : Row → Row) (pick from : Row → X) → ((r : Row) → pick (show r) ≡ from (all r)) → (found : Option Row) → option_map pick (option_map show found) ≡ option_map from (option_map all found)
+picked show all pick from is None = refl
+picked show all pick from is (Some r) = ap Some (is r)
+
+pub counts_shown_at : (old new : State) → AreKnown old.now → (host : ℕ) (rows : List Row) → Shown counts_text (whole host ∷ []) old new rows
+    → option_map (λ r. columns_in r 2) (slice_get rows 0) ≡ option_map counts_in (look_up old.now.trees (host_key host))
+unfolding first_key
+counts_shown_at old new known host rows h =
+    let read = reads_as counts_text (whole host ∷ []) old new stored_schema known.schema _ counts_are_read.0 counts_are_read.1 counts_are_read.2 rows h in
+    let found = key_rows old.now.trees 10 (0 ∷ []) (9 ∷ 10 ∷ []) (whole host ∷ []) (has_key (host_key host)) refl (known.ordered Host) (λ n. refl) rows (read.answer Null) in
+    ap (option_map (λ r. columns_in r 2)) found ∙ picked _ _ (λ r. columns_in r 2) counts_in (λ r. refl) _
+
+pub status_shown_at : (old new : State) → AreKnown old.now → (unit : ℕ) (rows : List Row) → Shown status_text (whole unit ∷ []) old new rows
+    → option_map (λ r. column r 0) (slice_get rows 0) ≡ option_map status_in (look_up old.now.trees (unit_key unit))
+unfolding first_key
+status_shown_at old new known unit rows h =
+    let read = reads_as status_text (whole unit ∷ []) old new stored_schema known.schema _ status_is_read.0 status_is_read.1 status_is_read.2 rows h in
+    let found = key_rows old.now.trees 8 (0 ∷ []) (14 ∷ []) (whole unit ∷ []) (has_key (unit_key unit)) refl (known.ordered Unit) (λ n. refl) rows (read.answer Null) in
+    ap (option_map (λ r. column r 0)) found ∙ picked _ _ (λ r. column r 0) status_in (λ r. refl) _

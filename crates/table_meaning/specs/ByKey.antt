@@ -1,6 +1,8 @@
 -- The statements that read what stands at a key.
 use Rattle.std.specs.Prelude.{ℕ, suc, List, [], ◌∷◌, codes}
+use Rattle.sqlite_value.specs.declared.value.Value.{Value}
 use Rattle.sqlite_value.specs.declared.keys.Collation.TheVariants.{Binary}
+use Rattle.sqlite_value.specs.Order.{Row, column}
 use Rattle.sqlite_sql.specs.declared.ops.BinaryOp.TheVariants.{Compare}
 use Rattle.sqlite_sql.specs.declared.ops.CompareOp.TheVariants.{Eq}
 use Rattle.sqlite_sql.specs.Term.{Term, col, op2}
@@ -13,6 +15,20 @@ kept_text = codes "SELECT host_id, seqno, text, reply FROM kept WHERE host_id = 
 
 abbrev pub batch_text : List ℕ
 batch_text = codes "SELECT kind, name, text, answer FROM batch WHERE kind = ?1 AND name = ?2 ORDER BY rowid"
+
+-- reads how many instances a host holds with its credit, and the status of a workunit
+abbrev pub counts_text : List ℕ
+counts_text = codes "SELECT held, credit FROM host WHERE id = ?1 ORDER BY id"
+
+abbrev pub status_text : List ℕ
+status_text = codes "SELECT status FROM unit WHERE id = ?1 ORDER BY id"
+
+-- the columns of a host's row that are counted, and that of a workunit's row
+abbrev pub counts_in : Row → Row
+counts_in row = column row 8 ∷ column row 9 ∷ []
+
+abbrev pub status_in : Row → Value
+status_in row = column row 13
 
 -- the columns at these places are the parameters from one on
 abbrev pub key_tests : ℕ → List ℕ → List Term

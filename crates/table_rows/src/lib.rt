@@ -12,7 +12,7 @@ pub mod typed;
 pub mod values;
 
 pub use definitions::create;
-pub use keyed::{batch_of, kept_of};
+pub use keyed::{HostCounts, batch_of, counts_of, kept_of, status_of};
 pub use opening::{OpenFault, Refused, in_memory, known};
 pub use put::put_rows;
 pub use read::{all_rows, rows_of};
