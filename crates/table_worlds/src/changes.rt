@@ -6,24 +6,13 @@ ghost use Rattle.table_worlds.specs.Keys.{row_in};
 ghost use Rattle.table_worlds.specs.Totals.{totals_of as specified};
 
 use crate::keys::{WorldKey, keys_of};
+use crate::matching::is_row_at;
 use crate::rows::row_at;
-use crate::sameness::same_row;
 use crate::totals::{Total, totals_of};
 use sched_book::{Unavailable, World};
 use std::alloc::Global;
 use table_meaning::rows::StoredRow;
 use texts::Listed;
-
-/// The row after, where it is not the one before.
-fn unless_same(before: Option<StoredRow>, after: Option<StoredRow>) -> Option<StoredRow>
-    ensures { IsChange before after result }
-{
-    let row = after?;
-    match &before {
-        Some(before) if same_row(before, &row) => None,
-        _ => Some(row),
-    }
-}
 
 /// A world with the totals of its hosts.
 #[derive(Clone, Copy)]
@@ -42,9 +31,14 @@ fn changed_at(
     ensures { before.entry.totals.now ≡ specified before.entry.world.now → after.entry.totals.now ≡ specified after.entry.world.now
         → IfOk result (IsChange (row_in before.entry.world.now key) (row_in after.entry.world.now key)) }
 {
-    let row_before = row_at(alloc, before.world, before.totals, key)?;
-    let row_after = row_at(alloc, after.world, after.totals, key)?;
-    Ok(unless_same(row_before, row_after))
+    let Some(row) = row_at(alloc, after.world, after.totals, key)? else {
+        return Ok(None);
+    };
+    let was_there = is_row_at(alloc, before.world, before.totals, key, &row);
+    if let Ok(false) = was_there {
+        return Ok(Some(row));
+    }
+    was_there.map(|_| None)
 }
 
 /// The rows of the world `after` that the world `before` has not, or has otherwise, in an order in which each row comes

@@ -67,24 +67,17 @@ fn are_setting_rows(alloc: Global, settings: &Settings, rows: &[StoredRow]) -> R
     Ok(are_among(rows, own.as_slice()) && are_among(own.as_slice(), rows))
 }
 
-/// The rows behind the one that the world has at a key, where they begin with it. Where it has none there, they are all of them.
-fn rows_behind<'a>(
-    alloc: Global,
-    world: &World,
-    totals: &[Total],
-    key: WorldKey,
-    rows: &'a [StoredRow],
-) -> Result<Option<&'a [StoredRow]>, Unavailable>
-    ensures { totals.now ≡ specified_totals world.now
-        → IfOk result (λ behind. MatchOption behind ((more : _) → rows.now ≢ cons_option (row_in world.now key) more) (λ more. rows.now ≡ cons_option (row_in world.now key) more.now)) }
+/// The rows behind the world's own one, where they begin with it. Where it has none, they are all of them.
+fn behind<'a>(own: &Option<StoredRow>, rows: &'a [StoredRow]) -> Option<&'a [StoredRow]>
+    ensures { MatchOption result ((more : _) → rows.now ≢ cons_option own.now more) (λ more. rows.now ≡ cons_option own.now more.now) }
 {
-    let Some(own) = row_at(alloc, world, totals, key)? else {
-        return Ok(Some(rows));
+    let Some(own) = own else {
+        return Some(rows);
     };
     let [row, behind @ ..] = rows else {
-        return Ok(None);
+        return None;
     };
-    Ok(same_row(&own, row).then_some(behind))
+    same_row(own, row).then_some(behind)
 }
 
 /// Whether these are the rows of the world at some keys, in their order.
@@ -99,7 +92,8 @@ fn are_rows_at(
 {
     let mut left = rows;
     for key in keys {
-        match rows_behind(alloc, world, totals, *key, left)? {
+        let behind = behind(&row_at(alloc, world, totals, *key)?, left);
+        match behind {
             None => return Ok(false),
             Some(behind) => left = behind,
         }
@@ -124,7 +118,7 @@ fn are_table_rows(
 }
 
 /// Whether the row is that of the world at a key.
-fn is_row_at(
+pub(crate) fn is_row_at(
     alloc: Global,
     world: &World,
     totals: &[Total],

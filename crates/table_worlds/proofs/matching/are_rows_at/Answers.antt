@@ -1,4 +1,5 @@
-use Rattle.std.proofs.Common.{◌≡◌, ◌∷◌, ◌+◌, drop, get_or, filter_map, subst}
+use Rattle.std.proofs.Common.{◌≡◌, ◌≢◌, ◌∷◌, ◌+◌, drop, get_or, filter_map, subst}
+use Rattle.std.specs.List.{cons_option}
 use Rattle.std.proofs.lemmas.List.{drop_more}
 use Rattle.std.proofs.lemmas.Option.{MatchOption-at_none}
 use Rattle.table_worlds.specs.Keys.{row_in}
@@ -15,5 +16,6 @@ returns-in-None c = λ counted.
     let f = row_in c.args.world.now in
     let before : SameLeft f rows left keys (get_or keys i (Account 0) ∷ drop (i + 1) keys) =
     subst (SameLeft f rows left keys) (drop_more keys i (Account 0) c.loop-key-test.true) (c.loop-key.invariant counted) in
+    let none = MatchOption-at_none _ _ c.in-None.is c.behind-behind.ensures in
     never (rows ≡ filter_map f keys)
-    (none_behind f rows left keys (drop (i + 1) keys) (get_or keys i (Account 0)) (MatchOption-at_none _ _ c.in-None.is (c.in_ok-rows_behind.ensures counted)) before)
+    (none_behind f rows left keys (drop (i + 1) keys) (get_or keys i (Account 0)) (λ more. subst (λ own. left ≢ cons_option own more) (c.in_ok-row_at.ensures counted) (none more)) before)
