@@ -59,8 +59,8 @@ fn app(alloc: Global, row: &Row) -> Result<StoredApp, OpenFault>
 {
     Ok(StoredApp {
         id: whole(alloc, row, 0)?,
-        name: text(alloc, row, 1)?,
         agreement: optional_whole(alloc, row, 2)?,
+        name: text(alloc, row, 1)?,
     })
 }
 
@@ -71,8 +71,8 @@ fn version(alloc: Global, row: &Row) -> Result<StoredVersion, OpenFault>
     Ok(StoredVersion {
         id: whole(alloc, row, 0)?,
         app_id: whole(alloc, row, 1)?,
-        platform: text(alloc, row, 2)?,
         num: whole(alloc, row, 3)?,
+        platform: text(alloc, row, 2)?,
     })
 }
 
@@ -82,7 +82,6 @@ fn unit(alloc: Global, row: &Row) -> Result<StoredUnit, OpenFault>
 {
     Ok(StoredUnit {
         id: whole(alloc, row, 0)?,
-        name: text(alloc, row, 1)?,
         app_id: whole(alloc, row, 2)?,
         min_quorum: whole(alloc, row, 3)?,
         target_nresults: whole(alloc, row, 4)?,
@@ -95,6 +94,7 @@ fn unit(alloc: Global, row: &Row) -> Result<StoredUnit, OpenFault>
         rsc_disk_bound: int(alloc, row, 11)?,
         credit: whole(alloc, row, 12)?,
         status: whole(alloc, row, 13)?,
+        name: text(alloc, row, 1)?,
     })
 }
 
@@ -105,14 +105,14 @@ fn host(alloc: Global, row: &Row) -> Result<StoredHost, OpenFault>
     Ok(StoredHost {
         id: whole(alloc, row, 0)?,
         account_id: whole(alloc, row, 1)?,
-        cpid: text(alloc, row, 2)?,
-        platforms: text(alloc, row, 3)?,
         fpops: int(alloc, row, 4)?,
         memory: int(alloc, row, 5)?,
         disk: int(alloc, row, 6)?,
         quota: whole(alloc, row, 7)?,
         held: whole(alloc, row, 8)?,
         credit: int(alloc, row, 9)?,
+        cpid: text(alloc, row, 2)?,
+        platforms: text(alloc, row, 3)?,
     })
 }
 
@@ -128,9 +128,9 @@ fn instance(alloc: Global, row: &Row) -> Result<StoredInstance, OpenFault>
         deadline: optional_int(alloc, row, 4)?,
         lapse: whole(alloc, row, 5)?,
         outcome: optional_whole(alloc, row, 6)?,
-        output: optional_text(alloc, row, 7)?,
         place: optional_whole(alloc, row, 8)?,
         queued: flag(alloc, row, 9)?,
+        output: optional_text(alloc, row, 7)?,
     })
 }
 
