@@ -1,26 +1,14 @@
--- What stands at a place.
-use Rattle.std.proofs.Common.{◌≡◌, Bool, false, [], Option, Some, None, refl, sym, ap, ◌∙◌}
-use Rattle.std.specs.Prelude.{option_map, unwrap_or, MatchOption}
+-- The name of what stands at a place.
+use Rattle.std.proofs.Common.{◌≡◌, [], Option, Some, None, refl, ap, ◌∙◌}
+use Rattle.std.specs.Prelude.{option_map, unwrap_or}
 use Rattle.sched_book.specs.Names.{instance_name}
-use Rattle.sched_book.specs.Places.{unit_at, instance_at, passes, name_at}
+use Rattle.sched_book.specs.Places.{unit_at, name_at}
 use Rattle.sched_book.specs.Desk.{workunit_at}
-use Rattle.sched_book.specs.declared.instance.Instance.{Instance}
 use Rattle.sched_book.specs.declared.instance.Place.{Place}
 use Rattle.sched_book.specs.declared.instance.UnitBook.{UnitBook}
 use Rattle.sched_book.specs.declared.rows.Workunit.{Workunit}
 use Rattle.sched_book.specs.declared.world.World.{World}
-use Rattle.sched_book.proofs.Recording.{passes-is}
 
--- what a look-up told of an instance is a test of it
-told : (g : Instance → Bool) (o : Option Instance) (b : Bool) → MatchOption o (b ≡ false) (λ x. b ≡ g x) → b ≡ unwrap_or (option_map g o) false
-told g None b is = is
-told g (Some x) b is = is
-
-pub passes_told : (w : World) (g : Instance → Bool) (p : Place) (b : Bool) → MatchOption (instance_at w p) (b ≡ false) (λ x. b ≡ g x)
-    → b ≡ passes w (λ b x. g x) p
-passes_told w g p b is = told g (instance_at w p) b is ∙ sym (passes-is w g p)
-
--- its name
 by_unit : (p : Place) (o : Option UnitBook)
     → unwrap_or (option_map (λ (b : UnitBook). instance_name b.unit.name p.number) o) []
     ≡ unwrap_or (option_map (λ (u : Workunit). instance_name u.name p.number) (option_map (λ (b : UnitBook). b.unit) o)) []
