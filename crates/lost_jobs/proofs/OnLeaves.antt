@@ -14,7 +14,6 @@ use Rattle.sched_book.specs.declared.instance.Place.{Place}
 use Rattle.sched_book.specs.declared.instance.Status.{Status}
 use Rattle.sched_book.specs.declared.instance.UnitBook.{UnitBook}
 use Rattle.sched_book.specs.declared.rows.HostRow.{HostRow}
-use Rattle.sched_book.specs.declared.rows.Version.{Version}
 use Rattle.sched_book.specs.declared.rows.Workunit.{Workunit}
 use Rattle.sched_book.specs.declared.world.World.{World}
 use Rattle.sched_book.proofs.Recording.{passes-is}
@@ -71,12 +70,10 @@ module _ (w : World) (h : HostRow) (now : ℕ) (p : Place) where
       (ap (λ (x : Option Instance). unwrap_or (option_map (λ (x : Instance). deadline_of x.owner) x) 0) (instance_before-is w present p (Some k) read))
       ∙ sym (ap job_in read.before)
 
-  abbrev until : Option Version → OpenJob → Option ℕ
-  until version j =
-      cond (fits h j.unit version) (Some (deadline_after now (estimate j.unit.rsc_fpops_est h.p_fpops) j.unit.delay_bound j.deadline)) None
-
   abbrev here : OpenJob → Option ℕ
-  here j = until (version_for w h j.unit.app) j
+  here j =
+      cond (fits h j.unit (version_for w h j.unit.app))
+      (Some (deadline_after now (estimate j.unit.rsc_fpops_est h.p_fpops) j.unit.delay_bound j.deadline)) None
 
   either : (s : Status) (is : Bool) (b : UnitBook) → is_open s ≡ is
       → option_and_then here (made b.unit s (deadline_at w p))

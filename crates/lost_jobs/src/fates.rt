@@ -10,7 +10,7 @@ ghost use Rattle.lost_jobs.specs.Leaves.{open_job_on};
 
 use call_sheet::{Draft, Leaf, Page, Sheet};
 use job_choice::{fits, seconds_at};
-use sched_book::{Desk, HostRow, Instance, Moment, Place, Unavailable, Version, Workunit, copy_of};
+use sched_book::{Desk, HostRow, Moment, Place, Unavailable, Version, Workunit, copy_of};
 use std::alloc::Global;
 use texts::{Listed, Memory};
 

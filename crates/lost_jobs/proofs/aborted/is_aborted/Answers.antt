@@ -1,4 +1,4 @@
-use Rattle.std.proofs.Common.{Some, true, sym, ap, ◌∙◌}
+use Rattle.std.proofs.Common.{Some, true, sym, ap, ◌∙◌, rules}
 use Rattle.sched_book.specs.Count.{has_failed}
 use Rattle.sched_book.specs.Places.{instance_at, status_at}
 use Rattle.lost_jobs.proofs.Standing.{aborted-is}
@@ -20,4 +20,4 @@ returns-clause-answer g c = λ honest kept.
     ∙ aborted-is (g.U.Units.world c.args.units.now) c.args.host c.args.name.now place (Some c.in-Some-2.instance) true
     (sym c.in-Some.is ∙ c.in_ok-place.ensures.answer honest_1 kept)
     (sym c.in-Some-2.is ∙ c.in_ok-instance.ensures.answer honest_2 kept_1 ∙ ap (λ w. instance_at w place) same_1)
-    (sym c.awaits_report_of.ensures ∙ c.if-not-awaits_report_of.false)
+    (search rules)
