@@ -1,4 +1,4 @@
-use Rattle.std.proofs.Common.{◌≡◌, sym, ap, ap₂, ◌∙◌, subst, rules, List}
+use Rattle.std.proofs.Common.{sym, ap, ap₂, ◌∙◌, subst, rules, List}
 use Rattle.std.proofs.lemmas.Result.{IfOk-weaker}
 use Rattle.sched_book.specs.Delta.{applied}
 use Rattle.sched_book.specs.Places.{held_by}
@@ -14,8 +14,7 @@ returns-clause-answer g c = λ honest kept.
     let d = g.met.D.Units in
     let w = g.D.Units.world in
     let changes = c.args.delta.now in
-    let same_desk : c.lost_on.new.sheet.desk.now ≡ c.desk-2-1.given.0 = search rules in
-    let honest_4 = subst g.D.Units.honest (sym same_desk) honest in
+    let honest_4 : g.D.Units.honest c.lost_on.new.sheet.desk.now = search rules in
     let honest_3 = d.stays_honest _ _ c.lost_on.ensures.reads.0 honest_4 in
     let honest_2 = d.stays_honest _ _ c.held_before.ensures.reads.0 honest_3 in
     let honest_1 = d.stays_honest _ _ c.put_all.ensures.works.0 honest_2 in
