@@ -3,7 +3,7 @@ use Rattle.std.proofs.Common.{◌≡◌, ℕ, Bool, true, false, cond, List, [],
 use Rattle.std.specs.Prelude.{◌&&◌, not, option_map, option_and_then, unwrap_or}
 use Rattle.std.specs.Str.{bytes_eq}
 use Rattle.sched_book.specs.Count.{is_open}
-use Rattle.sched_book.specs.Fits.{version_for, unit_fits, estimate}
+use Rattle.sched_book.specs.Fits.{version_for, unit_fits, fits, estimate}
 use Rattle.sched_book.specs.Lost.{deadline_after}
 use Rattle.sched_book.specs.Names.{instance_name}
 use Rattle.sched_book.specs.Places.{unit_at, status_at, is_held_by, name_at, deadline_of}
@@ -23,9 +23,9 @@ use Rattle.call_sheet.proofs.OnLeaves.{instance_before-is, instance_now-is, stat
 use Rattle.texts.specs.SeenSet.{has_seen}
 use Rattle.texts.specs.declared.seen_set.SeenSet.{SeenSet}
 use Rattle.lost_jobs.specs.Fated.{fated, fate_change}
-use Rattle.lost_jobs.specs.Fates.{open_job, resent_to}
+use Rattle.lost_jobs.specs.Fates.{resent_to}
 use Rattle.lost_jobs.specs.Holding.{is_missing}
-use Rattle.lost_jobs.specs.Leaves.{name_on, is_missing_on, open_job_on, sent_until, change_on}
+use Rattle.lost_jobs.specs.Leaves.{name_on, is_missing_on, open_job_on, change_on}
 use Rattle.lost_jobs.specs.declared.fates.Fate.{Fate}
 use Rattle.lost_jobs.specs.declared.fates.OpenJob.{OpenJob}
 
@@ -47,23 +47,6 @@ missing-is host listed entry present p o read =
 
 pub ruleset missing_steps = (missing-is)
 
--- a job whose workunit was open
-abbrev made : Workunit → Status → ℕ → Option OpenJob
-made u s deadline = cond (is_open s) (Some (record { unit = u; deadline = deadline })) None
-
-abbrev job_in : World → Place → Option UnitBook → Option OpenJob
-job_in w p o = option_and_then (λ (b : UnitBook). made b.unit (status_at w p.unit) (deadline_at w p)) o
-
-pub job-is : (entry present : World) (p : Place) (o : Option Leaf) → IsReadAt entry present p.unit o → open_job_on o p.number ≡ open_job entry p
-job-is entry present p None read = sym (ap (job_in entry p) read.1)
-job-is entry present p (Some k) read =
-    ap₂ (made k.unit)
-    (status_before-is entry present p.unit (Some k) read)
-    (ap (λ (x : Option Instance). unwrap_or (option_map (λ (x : Instance). deadline_of x.owner) x) 0) (instance_before-is entry present p (Some k) read))
-    ∙ sym (ap (job_in entry p) read.before)
-
-pub ruleset job_steps = (job-is)
-
 -- what a fate changes
 pub change-is : (entry present : World) (f : Fate) (o : Option Leaf) → IsReadAt entry present f.place.unit o → change_on o f ≡ fate_change present f
 change-is entry present f o read =
@@ -73,22 +56,40 @@ pub ruleset change_steps = (change-is)
 
 -- a job is sent again where its workunit is open and it fits the host
 module _ (w : World) (h : HostRow) (now : ℕ) (p : Place) where
-  abbrev pub until : OpenJob → Option ℕ
-  until j = sent_until h (version_for w h j.unit.app) now j
+  abbrev made : Workunit → Status → ℕ → Option OpenJob
+  made u s deadline = cond (is_open s) (Some (record { unit = u; deadline = deadline })) None
+
+  abbrev job_in : Option UnitBook → Option OpenJob
+  job_in o = option_and_then (λ (b : UnitBook). made b.unit (status_at w p.unit) (deadline_at w p)) o
+
+  job-is : (present : World) (o : Option Leaf) → IsReadAt w present p.unit o → open_job_on o p.number ≡ job_in (unit_at w p.unit)
+  job-is present None read = sym (ap job_in read.1)
+  job-is present (Some k) read =
+      ap₂ (made k.unit)
+      (status_before-is w present p.unit (Some k) read)
+      (ap (λ (x : Option Instance). unwrap_or (option_map (λ (x : Instance). deadline_of x.owner) x) 0) (instance_before-is w present p (Some k) read))
+      ∙ sym (ap job_in read.before)
+
+  abbrev here : OpenJob → Option ℕ
+  here j =
+      cond (fits h j.unit (version_for w h j.unit.app))
+      (Some (deadline_after now (estimate j.unit.rsc_fpops_est h.p_fpops) j.unit.delay_bound j.deadline)) None
 
   either : (s : Status) (is : Bool) (b : UnitBook) → is_open s ≡ is
-      → option_and_then until (made b.unit s (deadline_at w p))
+      → option_and_then here (made b.unit s (deadline_at w p))
       ≡ cond (is && unit_fits w h b) (Some (deadline_after now (estimate b.unit.rsc_fpops_est h.p_fpops) b.unit.delay_bound (deadline_at w p))) None
-  either s true b is = ap (λ t. option_and_then until (cond t (Some (record { unit = b.unit; deadline = deadline_at w p })) None)) is
-  either s false b is = ap (λ t. option_and_then until (cond t (Some (record { unit = b.unit; deadline = deadline_at w p })) None)) is
+  either s true b is = ap (λ t. option_and_then here (cond t (Some (record { unit = b.unit; deadline = deadline_at w p })) None)) is
+  either s false b is = ap (λ t. option_and_then here (cond t (Some (record { unit = b.unit; deadline = deadline_at w p })) None)) is
 
   by_book : (o : Option UnitBook)
-      → option_and_then until (job_in w p o)
+      → option_and_then here (job_in o)
       ≡ cond (unwrap_or (option_map (λ (b : UnitBook). is_open (status_at w p.unit) && unit_fits w h b) o) false)
       (Some (deadline_after now (unwrap_or (option_map (λ (b : UnitBook). estimate b.unit.rsc_fpops_est h.p_fpops) o) 0)
       (unwrap_or (option_map (λ (b : UnitBook). b.unit.delay_bound) o) 0) (deadline_at w p))) None
   by_book None = refl
   by_book (Some b) = either (status_at w p.unit) (is_open (status_at w p.unit)) b refl
 
-  pub resent-is : option_and_then until (open_job w p) ≡ resent_to w h now p
-  resent-is = by_book (unit_at w p.unit)
+  -- so the job that its leaf told is sent again
+  pub resent-is : (present : World) (o : Option Leaf) (job : Option OpenJob) → IsReadAt w present p.unit o → job ≡ open_job_on o p.number
+      → option_and_then here job ≡ resent_to w h now p
+  resent-is present o job read told = ap (option_and_then here) (told ∙ job-is present o read) ∙ by_book (unit_at w p.unit)

@@ -1,11 +1,13 @@
 -- The fates of lost jobs are what the definition makes of each in turn.
-use Rattle.std.proofs.Common.{◌≡◌, ℕ, ◌+◌, Bool, true, false, cond, List, [], ◌∷◌, map, Option, Some, None, sym, refl, ap, ◌∙◌, subst}
-use Rattle.std.specs.Prelude.{fold, option_map, unwrap_or, nat_le, not, Contains}
-use Rattle.sched_book.specs.Places.{instance_at, is_same, passes, is_held_by, held_by, deadline_of}
+use Rattle.std.proofs.Common.{◌≡◌, ℕ, ◌+◌, Bool, true, false, cond, List, [], ◌∷◌, map, Option, Some, None, sym, refl, ap, ◌∙◌}
+use Rattle.std.specs.Prelude.{fold, option_map, unwrap_or, nat_le, Contains}
+use Rattle.std.proofs.lemmas.List.Elements.{All-contains}
+use Rattle.sched_book.specs.Places.{instance_at, is_same, deadline_of}
+use Rattle.sched_book.specs.PlaceLaws.{IsLost}
 use Rattle.sched_book.specs.Reports.{with_changed}
 use Rattle.sched_book.specs.Step.{deadline_at}
 use Rattle.sched_book.specs.Fits.{estimate_at}
-use Rattle.sched_book.specs.Lost.{is_listed, unlisted, lost, is_resent, delay_at, deadline_after, with_deadline, with_lapse, resend_or_drop}
+use Rattle.sched_book.specs.Lost.{lost, is_resent, delay_at, deadline_after, with_deadline, with_lapse, resend_or_drop}
 use Rattle.sched_book.specs.declared.instance.Instance.{Instance}
 use Rattle.sched_book.specs.declared.instance.Lapse.TheVariants.{Dropped}
 use Rattle.sched_book.specs.declared.instance.Owner.{Owner}
@@ -13,12 +15,12 @@ use Rattle.sched_book.specs.declared.instance.Place.{Place}
 use Rattle.sched_book.specs.declared.rows.HostRow.{HostRow}
 use Rattle.sched_book.specs.declared.world.World.{World}
 use Rattle.sched_book.proofs.Recording.{instance_at-with_changed, is_same-true}
-use Rattle.sched_book.proofs.Newest.{none_in_nothing, front_of, behind, in_filter, passed_filter}
+use Rattle.sched_book.proofs.LostPlaces.{lost_are_held_and_unlisted}
+use Rattle.sched_book.proofs.Newest.{front_of, behind}
 use Rattle.lost_jobs.specs.Fates.{fate, resent_to}
 use Rattle.lost_jobs.specs.Fated.{with_fate}
 use Rattle.lost_jobs.specs.Laws.{FatesResendOrDrop}
 use Rattle.lost_jobs.proofs.Fated.{with_changed-same}
-use Rattle.lost_jobs.proofs.Holding.{held_after}
 
 -- a deadline that was moved is not moved again
 moved_twice : (now seconds delay d : ℕ) → deadline_after now seconds delay (deadline_after now seconds delay d) ≡ deadline_after now seconds delay d
@@ -106,23 +108,11 @@ module _ (entry : World) (h : HostRow) (now : ℕ) where
       ap (λ v. fold with_fate v (map (fate entry h now) ps)) (one w p (ready p (front_of p ps)))
       ∙ in_turn (resend_or_drop entry h now w p) ps (λ q among. stay_ready w p q (ready q (behind p ps q among)))
 
--- a lost job is held
-lost_is_held : (w : World) (host : ℕ) (names : Option (List (List ℕ))) (p : Place) → Contains (lost w host names) p → passes w (λ b x. is_held_by host x) p ≡ true
-lost_is_held w host names p among = by_setting w.settings.resend_lost_results names among
-  where
-    held : Contains (held_by w host) p → passes w (λ b x. is_held_by host x) p ≡ true
-    held there =
-        passed_filter (passes w (λ b x. is_held_by host x)) (held_by w host) p
-        (subst (λ ps. Contains ps p) (held_after w w host (λ q holds. holds)) there)
-
-    by_setting : (b : Bool) (names : Option (List (List ℕ))) → Contains (cond b (unlisted w host names) []) p → passes w (λ b x. is_held_by host x) p ≡ true
-    by_setting false names among = absurd (none_in_nothing p among)
-    by_setting true None among = absurd (none_in_nothing p among)
-    by_setting true (Some listed) among = held (in_filter (λ q. not (is_listed w listed q)) (held_by w host) p among)
-
 pub fates_resend_or_drop : FatesResendOrDrop
 fates_resend_or_drop entry w h now host names keeps = (
   record { places = lost w host names; resent_at = resent_to entry h now; are = refl },
   in_turn entry h now w (lost w host names)
-      (λ p among. ap (moved entry h now p) (keeps p (lost_is_held w host names p among))),
+      (λ p among.
+      let is_lost = All-contains (IsLost w host names) (lost w host names) p (lost_are_held_and_unlisted w host names).each among in
+      ap (moved entry h now p) (keeps p is_lost.held)),
 )

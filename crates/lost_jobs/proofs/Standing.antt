@@ -1,24 +1,18 @@
 -- What stands at a place.
-use Rattle.std.proofs.Common.{◌≡◌, Bool, false, [], Option, Some, None, refl, sym, ap, ◌∙◌}
-use Rattle.std.specs.Prelude.{option_map, unwrap_or, MatchOption}
+use Rattle.std.proofs.Common.{◌≡◌, ℕ, Bool, true, List, [], Option, Some, None, refl, sym, ap, ◌∙◌}
+use Rattle.std.specs.Prelude.{option_map, unwrap_or, not, ◌||◌}
+use Rattle.sched_book.specs.Count.{has_failed}
+use Rattle.sched_book.specs.Lost.{is_aborted}
 use Rattle.sched_book.specs.Names.{instance_name}
-use Rattle.sched_book.specs.Places.{unit_at, instance_at, passes, name_at}
+use Rattle.sched_book.specs.Places.{option_any, unit_at, instance_at, status_at, passes, place_named, name_at}
 use Rattle.sched_book.specs.Desk.{workunit_at}
+use Rattle.sched_book.specs.Reports.{awaits_report}
 use Rattle.sched_book.specs.declared.instance.Instance.{Instance}
 use Rattle.sched_book.specs.declared.instance.Place.{Place}
 use Rattle.sched_book.specs.declared.instance.UnitBook.{UnitBook}
 use Rattle.sched_book.specs.declared.rows.Workunit.{Workunit}
 use Rattle.sched_book.specs.declared.world.World.{World}
 use Rattle.sched_book.proofs.Recording.{passes-is}
-
--- what a look-up told of an instance is a test of it
-told : (g : Instance → Bool) (o : Option Instance) (b : Bool) → MatchOption o (b ≡ false) (λ x. b ≡ g x) → b ≡ unwrap_or (option_map g o) false
-told g None b is = is
-told g (Some x) b is = is
-
-pub passes_told : (w : World) (g : Instance → Bool) (p : Place) (b : Bool) → MatchOption (instance_at w p) (b ≡ false) (λ x. b ≡ g x)
-    → b ≡ passes w (λ b x. g x) p
-passes_told w g p b is = told g (instance_at w p) b is ∙ sym (passes-is w g p)
 
 -- its name
 by_unit : (p : Place) (o : Option UnitBook)
@@ -32,3 +26,13 @@ name_none w p none = by_unit p (unit_at w p.unit) ∙ ap (λ o. unwrap_or (optio
 
 pub name_some : (w : World) (p : Place) (u : Workunit) → workunit_at w p.unit ≡ Some u → name_at w p ≡ instance_name u.name p.number
 name_some w p u stands = by_unit p (unit_at w p.unit) ∙ ap (λ o. unwrap_or (option_map (λ (u : Workunit). instance_name u.name p.number) o) []) stands
+
+-- whether it awaits a report decides on its name
+pub aborted-is : (w : World) (host : ℕ) (name : List ℕ) (p : Place) (o : Option Instance) (awaits : Bool)
+    → Some p ≡ place_named w name → o ≡ instance_at w p → option_any (awaits_report host) o ≡ awaits
+    → (not awaits || has_failed (status_at w p.unit)) ≡ is_aborted w host name
+aborted-is w host name p o awaits named stands is =
+    sym
+    (ap (λ (b : Bool). not b || has_failed (status_at w p.unit))
+    (passes-is w (awaits_report host) p ∙ ap (option_any (awaits_report host)) (sym stands) ∙ is))
+    ∙ ap (λ (o : Option Place). unwrap_or (option_map (λ p. not (passes w (λ b x. awaits_report host x) p) || has_failed (status_at w p.unit)) o) true) named

@@ -1,16 +1,12 @@
 -- What becomes of lost jobs of a host, as it is told now.
-use Rattle.std.specs.Prelude.{ℕ, Option, Some, None, option_and_then, if◌then◌else◌}
+use Rattle.std.specs.Prelude.{ℕ, Option, Some, None, if◌then◌else◌}
 use Rattle.sched_book.specs.Fits.{estimate_at}
-use Rattle.sched_book.specs.Count.{is_open}
-use Rattle.sched_book.specs.Places.{unit_at, status_at}
 use Rattle.sched_book.specs.Lost.{is_resent, delay_at, deadline_after}
 use Rattle.sched_book.specs.Step.{deadline_at}
 use Rattle.sched_book.specs.declared.instance.Place.{Place}
 use Rattle.sched_book.specs.declared.rows.HostRow.{HostRow}
 use Rattle.sched_book.specs.declared.world.World.{World}
-use Rattle.sched_book.specs.declared.instance.UnitBook.{UnitBook}
 use Rattle.lost_jobs.specs.declared.fates.Fate.{Fate}
-use Rattle.lost_jobs.specs.declared.fates.OpenJob.{OpenJob}
 
 -- the deadline to which a lost job is sent again, where it is
 abbrev pub resent_to : World → HostRow → ℕ → Place → Option ℕ
@@ -20,8 +16,3 @@ resent_to w h now p =
 -- a lost job is sent again, or dropped
 abbrev pub fate : World → HostRow → ℕ → Place → Fate
 fate w h now p = record { place = p; resent = resent_to w h now p }
-
--- the job at a place, where its workunit is open
-abbrev pub open_job : World → Place → Option OpenJob
-open_job w p =
-    option_and_then (λ (b : UnitBook). if is_open (status_at w p.unit) then Some (record { unit = b.unit; deadline = deadline_at w p }) else None) (unit_at w p.unit)

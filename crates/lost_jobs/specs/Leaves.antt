@@ -1,17 +1,13 @@
 -- What the leaf of a workunit says of its jobs.
-use Rattle.std.specs.Prelude.{ℕ, Bool, not, ◌&&◌, if◌then◌else◌, List, [], Option, Some, None, option_map, unwrap_or}
+use Rattle.std.specs.Prelude.{ℕ, Bool, not, ◌&&◌, if◌then◌else◌, List, [], Option, Some, None, option_map, unwrap_or, slice_get}
 use Rattle.std.specs.Str.{bytes_eq}
 use Rattle.sched_book.specs.Count.{is_open, status}
-use Rattle.sched_book.specs.Fits.{estimate, fits}
-use Rattle.sched_book.specs.Lost.{deadline_after}
 use Rattle.sched_book.specs.Names.{instance_name}
 use Rattle.sched_book.specs.Places.{option_any, is_held_by, deadline_of}
 use Rattle.sched_book.specs.declared.delta.Change.{Change}
 use Rattle.sched_book.specs.declared.delta.Change.TheVariants as change
 use Rattle.sched_book.specs.declared.instance.Instance.{Instance}
-use Rattle.sched_book.specs.declared.rows.HostRow.{HostRow}
-use Rattle.sched_book.specs.declared.rows.Version.{Version}
-use Rattle.call_sheet.specs.Sheets.{instance_before, instance_now}
+use Rattle.call_sheet.specs.Sheets.{instance_now}
 use Rattle.call_sheet.specs.declared.leaf.Leaf.{Leaf}
 use Rattle.lost_jobs.specs.Fated.{fated}
 use Rattle.lost_jobs.specs.declared.fates.Fate.{Fate}
@@ -28,23 +24,12 @@ name_on (Some k) number = instance_name k.unit.name number
 abbrev pub is_missing_on : ℕ → SeenSet (List ℕ) → Option Leaf → ℕ → Bool
 is_missing_on host listed k number = option_any (is_held_by host) (instance_now k number) && not (has_seen bytes_eq listed (name_on k number))
 
--- the deadline of an instance before the call, 0 where nobody was given it
-abbrev pub deadline_on : Option Leaf → ℕ → ℕ
-deadline_on k number = unwrap_or (option_map (λ (x : Instance). deadline_of x.owner) (instance_before k number)) 0
-
 -- a job whose workunit was open before the call
 abbrev pub open_job_on : Option Leaf → ℕ → Option OpenJob
 open_job_on None number = None
 open_job_on (Some k) number =
     if is_open (status k.agreement k.unit k.before)
-    then Some (record { unit = k.unit; deadline = deadline_on (Some k) number })
-    else None
-
--- the deadline to which it is sent again to a host that runs this version, where it fits the host
-abbrev pub sent_until : HostRow → Option Version → ℕ → OpenJob → Option ℕ
-sent_until h version now j =
-    if fits h j.unit version
-    then Some (deadline_after now (estimate j.unit.rsc_fpops_est h.p_fpops) j.unit.delay_bound j.deadline)
+    then Some (record { unit = k.unit; deadline = unwrap_or (option_map (λ (x : Instance). deadline_of x.owner) (slice_get k.before number)) 0 })
     else None
 
 -- what a fate changes of the instance as it is now; nothing where none stands

@@ -1,32 +1,16 @@
 //! What the fates of lost jobs change.
 
-ghost use Rattle.std.specs.Prelude.{◌≡◌, List, ◌∷◌, ◌++◌, fold, filter_map, option_map, IfOk, OnOk};
+ghost use Rattle.std.specs.Prelude.{◌≡◌, ◌++◌, fold, filter_map, IfOk, OnOk};
 ghost use Rattle.std.specs.Option.{option_copied};
 ghost use Rattle.sched_book.specs.Trusted.{Trusted};
-ghost use Rattle.sched_book.specs.declared.instance.Owner.{Owner};
 ghost use Rattle.lost_jobs.specs.Fated.{fated, with_fate, fate_change, AreByPlace};
 ghost use Rattle.lost_jobs.specs.Leaves.{change_on};
-ghost use Rattle.lost_jobs.specs.declared.fates.Fate.{Fate};
 
 use crate::fates::Fate;
 use call_sheet::{Draft, Leaf, put_all};
-use sched_book::{Change, Delta, Instance, Lapse, Owner, Unavailable};
+use sched_book::{Change, Instance, Lapse, Owner, Unavailable};
 use std::alloc::Global;
 use texts::{Listed, Memory};
-
-/// The same owner, with another deadline.
-fn until(owner: Option<Owner>, deadline: u64) -> Option<Owner>
-    ensures { result ≡ option_map (λ (o : Owner). record o { deadline = deadline }) owner }
-{
-    match owner {
-        None => None,
-        Some(owner) => Some(Owner {
-            host: owner.host,
-            sent: owner.sent,
-            deadline,
-        }),
-    }
-}
 
 /// The instance after its fate: sent again with this deadline, or dropped.
 fn fated(resent: Option<u64>, instance: &Instance) -> Result<Instance, Memory>
@@ -35,7 +19,7 @@ fn fated(resent: Option<u64>, instance: &Instance) -> Result<Instance, Memory>
     let mut row = instance.clone()?;
     match resent {
         None => row.lapse = Some(Lapse::Dropped),
-        Some(deadline) => row.owner = until(row.owner, deadline),
+        Some(deadline) => row.owner = row.owner.map(|owner| Owner { deadline, ..owner }),
     }
     Ok(row)
 }
@@ -57,46 +41,12 @@ fn change_on(leaf: Option<&Leaf>, fate: Fate) -> Result<Option<Change>, Memory>
     }
 }
 
-/// Puts what a fate changes behind the others.
-#[tactic(auto, using(crate::proofs::OnLeaves::change_steps))]
-fn add_change<S: Draft>(
-    alloc: Global,
-    sheet: &mut S,
-    fate: Fate,
-    more: &mut Delta,
-) -> Result<(), Unavailable>
-    ensures reads { S.reads sheet.old sheet.new }
-    ensures answer { Trusted S.Units sheet.old sheet.new (OnOk result ((later : List Fate) →
-        more.new ++ filter_map (fate_change (S.world sheet.old)) later
-        ≡ more.old ++ filter_map (fate_change (S.world sheet.old)) (fate ∷ later))) }
-{
-    sheet.read(alloc, fate.place.unit)?;
-    more.push_some(change_on(sheet.leaf(fate.place.unit), fate)?)?;
-    Ok(())
-}
-
-/// The changes that these fates make.
-fn fate_changes<S: Draft>(
-    alloc: Global,
-    sheet: &mut S,
-    fates: &[Fate],
-) -> Result<Delta, Unavailable>
-    ensures reads { S.reads sheet.old sheet.new }
-    ensures answer { Trusted S.Units sheet.old sheet.new (
-        IfOk result (λ more. more ≡ filter_map (fate_change (S.world sheet.old)) fates.now)) }
-{
-    let mut more = Listed::new(alloc);
-    for fate in fates {
-        add_change(alloc, sheet, *fate, &mut more)?;
-    }
-    Ok(more)
-}
-
 /// Puts what these fates change on the sheet of a call. Two fates of one place have to be the same.
 ///
 /// # Errors
 ///
 /// [`Unavailable`] where memory is wanting or the desk is unavailable.
+#[tactic(auto, using(crate::proofs::OnLeaves::change_steps))]
 pub fn put_fates<S: Draft>(alloc: Global, sheet: &mut S, fates: &[Fate]) -> Result<(), Unavailable>
     ensures works { S.works sheet.old sheet.new }
     ensures put { Trusted S.Units sheet.old sheet.new (
@@ -104,6 +54,10 @@ pub fn put_fates<S: Draft>(alloc: Global, sheet: &mut S, fates: &[Fate]) -> Resu
     ensures delta { Trusted S.Units sheet.old sheet.new (
         OnOk result (S.delta sheet.new ≡ S.delta sheet.old ++ filter_map (fate_change (S.world sheet.old)) fates.now)) }
 {
-    let more = fate_changes(alloc, sheet, fates)?;
+    let mut more = Listed::new(alloc);
+    for fate in fates {
+        sheet.read(alloc, fate.place.unit)?;
+        more.push_some(change_on(sheet.leaf(fate.place.unit), *fate)?)?;
+    }
     put_all(alloc, sheet, more.as_slice())
 }

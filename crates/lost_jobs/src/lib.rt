@@ -6,7 +6,6 @@ mod changes;
 mod fates;
 pub mod laws;
 mod missing;
-mod places;
 
 pub use aborted::aborts;
 pub use changes::put_fates;

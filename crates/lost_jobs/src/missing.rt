@@ -1,14 +1,12 @@
 //! The jobs that a client lost.
 
-ghost use Rattle.std.specs.Prelude.{◌≡◌, List, ◌∷◌, ◌++◌, filter, IfOk, OnOk};
+ghost use Rattle.std.specs.Prelude.{◌≡◌, IfOk};
 ghost use Rattle.std.specs.Option.{option_copied};
 ghost use Rattle.sched_book.specs.Places.{held_by};
 ghost use Rattle.sched_book.specs.Lost.{lost};
 ghost use Rattle.sched_book.specs.Delta.{applied};
 ghost use Rattle.sched_book.specs.Trusted.{Trusted};
-ghost use Rattle.sched_book.specs.declared.instance.Place.{Place};
-ghost use Rattle.call_sheet.specs.Sheets.{IsPageOf};
-ghost use Rattle.lost_jobs.specs.Holding.{HoldsNoMore, is_missing};
+ghost use Rattle.lost_jobs.specs.Holding.{HoldsNoMore};
 ghost use Rattle.lost_jobs.specs.Leaves.{is_missing_on};
 ghost use Rattle.lost_jobs.specs.Requested.{RecordsReports, AreLostBy};
 
@@ -40,47 +38,6 @@ fn is_missing_on(
     }
 }
 
-/// Puts a place behind the others where the host holds its instance and does not list it.
-#[tactic(auto, using(crate::proofs::OnLeaves::missing_steps))]
-fn add_missing<S: Draft>(
-    alloc: Global,
-    sheet: &mut S,
-    host: u32,
-    listed: &SeenSet<Text>,
-    place: Place,
-    missing: &mut Listed<Place>,
-) -> Result<(), Unavailable>
-    ensures reads { S.reads sheet.old sheet.new }
-    ensures answer { Trusted S.Units sheet.old sheet.new (OnOk result ((later : List Place) →
-        missing.new ++ filter (is_missing (S.world sheet.old) host listed.now) later
-        ≡ missing.old ++ filter (is_missing (S.world sheet.old) host listed.now) (place ∷ later))) }
-{
-    sheet.read(alloc, place.unit)?;
-    if is_missing_on(alloc, host, listed, sheet.leaf(place.unit), place.number)? {
-        missing.push(place)?;
-    }
-    Ok(())
-}
-
-/// Those of these places whose instances the host holds and does not list.
-fn missing_among<S: Draft>(
-    alloc: Global,
-    sheet: &mut S,
-    host: u32,
-    listed: &SeenSet<Text>,
-    places: &[Place],
-) -> Result<Listed<Place>, Unavailable>
-    ensures reads { S.reads sheet.old sheet.new }
-    ensures answer { Trusted S.Units sheet.old sheet.new (IfOk result (λ missing.
-        missing ≡ filter (is_missing (S.world sheet.old) host listed.now) places.now)) }
-{
-    let mut missing = Listed::new(alloc);
-    for place in places {
-        add_missing(alloc, sheet, host, listed, *place, &mut missing)?;
-    }
-    Ok(missing)
-}
-
 /// The jobs of the host that its client lost, on the sheet of its call: of the places that it held when the call
 /// came, those that it still holds and does not list, by place. There are none where lost jobs are not sent again, or
 /// where the client sent no list.
@@ -88,6 +45,7 @@ fn missing_among<S: Draft>(
 /// # Errors
 ///
 /// [`Unavailable`] where memory is wanting or the desk is unavailable.
+#[tactic(auto, using(crate::proofs::OnLeaves::missing_steps))]
 pub fn lost_on<S: Draft>(
     alloc: Global,
     sheet: &mut S,
@@ -103,33 +61,18 @@ pub fn lost_on<S: Draft>(
     if !sheet.settings().resend_lost_results {
         return Ok(Listed::new(alloc));
     }
-    match &request.other_results {
-        None => Ok(Listed::new(alloc)),
-        Some(names) => {
-            let listed = SeenSet::of(alloc, names.as_slice())?;
-            missing_among(alloc, sheet, host, &listed, held)
+    let listed = match &request.other_results {
+        None => return Ok(Listed::new(alloc)),
+        Some(names) => SeenSet::of(alloc, names.as_slice())?,
+    };
+    let mut missing = Listed::new(alloc);
+    for place in held {
+        sheet.read(alloc, place.unit)?;
+        if is_missing_on(alloc, host, &listed, sheet.leaf(place.unit), place.number)? {
+            missing.push(*place)?;
         }
     }
-}
-
-/// The same over a desk with a page, after changes that are put first.
-fn lost_onto<D: Desk>(
-    alloc: Global,
-    desk: &mut D,
-    page: &mut Page,
-    delta: &Delta,
-    host: u32,
-    request: &Request,
-) -> Result<Listed<Place>, Unavailable>
-    ensures reads { D.reads desk.old desk.new }
-    ensures answer { Trusted D.Units desk.old desk.new (IfOk result (λ places.
-        IsPageOf (D.world desk.old) page.old → HoldsNoMore (D.world desk.old) (applied (applied (D.world desk.old) page.old.delta) delta.now) host →
-        places ≡ lost (applied (applied (D.world desk.old) page.old.delta) delta.now) host request.now.other_results)) }
-{
-    let mut sheet = Sheet { desk, page };
-    put_all(alloc, &mut sheet, delta.as_slice())?;
-    let held = sheet.held_before(alloc, host)?;
-    lost_on(alloc, &mut sheet, host, held.as_slice(), request)
+    Ok(missing)
 }
 
 /// The jobs of the host that its client lost: what it still holds after changes and the client does not list, by
@@ -152,5 +95,11 @@ pub fn lost<D: Desk>(
         AreLostBy (D.world desk.old) host request.now places)) }
 {
     let mut page = Page::new(alloc, desk.settings(alloc)?);
-    lost_onto(alloc, desk, &mut page, delta, host, request)
+    let mut sheet = Sheet {
+        desk,
+        page: &mut page,
+    };
+    put_all(alloc, &mut sheet, delta.as_slice())?;
+    let held = sheet.held_before(alloc, host)?;
+    lost_on(alloc, &mut sheet, host, held.as_slice(), request)
 }

@@ -1,28 +1,44 @@
-use Rattle.std.proofs.Common.{sym, ap, ◌∙◌, subst}
+use Rattle.std.proofs.Common.{sym, ap, ap₂, ◌∙◌, subst, rules, List}
 use Rattle.std.proofs.lemmas.Result.{IfOk-weaker}
 use Rattle.sched_book.specs.Delta.{applied}
-use Rattle.sched_book.specs.Lost.{lost}
-use Rattle.lost_jobs.specs.Holding.{HoldsNoMore}
-use Rattle.lost_jobs.proofs.Requested.{hold_no_more, lost_by_request}
+use Rattle.sched_book.specs.Places.{held_by}
+use Rattle.sched_book.specs.declared.delta.Change.{Change}
+use Rattle.sched_book.specs.declared.world.World.{World}
+use Rattle.call_sheet.specs.Sheets.{IsPageOf}
+use Rattle.lost_jobs.proofs.Requested.{lost_of_both, lost_by_request}
 use Rattle.lost_jobs.proofs.missing.lost.Goals as goal
+
+-- each step on the sheet left the world that the desk had
+pub returns-clause-answer : goal.returns-clause-answer
+returns-clause-answer g c = λ honest kept.
+    let d = g.met.D.Units in
+    let w = g.D.Units.world in
+    let changes = c.args.delta.now in
+    let honest_4 : g.D.Units.honest c.lost_on.new.sheet.desk.now = search rules in
+    let honest_3 = d.stays_honest _ _ c.lost_on.ensures.reads.0 honest_4 in
+    let honest_2 = d.stays_honest _ _ c.held_before.ensures.reads.0 honest_3 in
+    let honest_1 = d.stays_honest _ _ c.put_all.ensures.works.0 honest_2 in
+    let kept_1 = d.stays_kept _ _ c.settings.ensures.reads honest_1 kept in
+    let kept_2 = d.stays_kept _ _ c.put_all.ensures.works.0 honest_2 kept_1 in
+    let kept_3 = d.stays_kept _ _ c.held_before.ensures.reads.0 honest_3 kept_2 in
+    let same_1 = d.stays_same _ _ c.settings.ensures.reads honest_1 kept in
+    let same_2 = d.stays_same _ _ c.put_all.ensures.works.0 honest_2 kept_1 in
+    let same_3 = d.stays_same _ _ c.held_before.ensures.reads.0 honest_3 kept_2 in
+    let page_1 = c.new-page.ensures.page _ (c.in_ok-settings.ensures.answer honest_1 kept ∙ ap (λ v. v.settings) (sym same_1)) in
+    let page_2 = subst (λ v. IsPageOf v c.put_all.new.sheet.page.now) (sym same_2) (c.put_all.ensures.works.1 honest_2 kept_1 page_1) in
+    let page_3 = subst (λ v. IsPageOf v c.held_before.new.self.page.now) (sym same_3) (c.held_before.ensures.reads.2 honest_3 kept_2 page_2) in
+    let held = c.as_slice-2.ensures ∙ c.in_ok-held.ensures.answer honest_3 (kept_2, page_2) ∙ ap (λ v. held_by v c.args.host) (sym same_3) in
+    let changed =
+    ap₂ (λ (v : World) (cs : List Change). applied v cs) same_3 c.held_before.ensures.reads.1
+    ∙ c.in_ok-put_all.ensures.put honest_2 (kept_1, page_1)
+    ∙ ap₂ (λ (ds cs : List Change). applied (applied (w c.settings.new.self) ds) cs) c.new-page.ensures.delta c.as_slice.ensures
+    ∙ ap (λ v. applied v changes) same_1 in
+    IfOk-weaker c.lost_on.result _ _
+    (λ places are. lost_of_both c.args.host c.args.request.now places _ _ _ _ (same_3 ∙ same_2 ∙ same_1) changed (are held))
+    (c.lost_on.ensures.answer honest_4 (kept_3, page_3))
 
 pub returns-clause-of_request : goal.returns-clause-of_request
 returns-clause-of_request g c = λ honest kept.
-    let d = g.met.D.Units in
-    let w = g.D.Units.world in
-    let honest_1 = d.stays_honest _ _ c.lost_onto.ensures.reads honest in
-    let kept_1 = d.stays_kept _ _ c.settings.ensures.reads honest_1 kept in
-    let here = d.stays_same _ _ c.settings.ensures.reads honest_1 kept in
-    let page = c.new-page.ensures.page (w c.settings.new.self) (c.in_ok-settings.ensures.answer honest_1 kept ∙ ap (λ v. v.settings) (sym here)) in
-    let before = w c.args.desk.now in
-    let changes = c.args.delta.now in
-    let host = c.args.host in
-    let request = c.args.request.now in
-    let moved = ap (λ ds. applied (applied (w c.settings.new.self) ds) changes) c.new-page.ensures.delta ∙ ap (λ v. applied v changes) here in
-    IfOk-weaker c.lost_onto.result _ _
-    (λ places are records.
-    let no_more = subst (λ v. HoldsNoMore v (applied before changes) host) (sym here) (hold_no_more before changes host request records) in
-    lost_by_request before changes host request records places
-    (are page (subst (λ v. HoldsNoMore (w c.settings.new.self) v host) (sym moved) no_more)
-    ∙ ap (λ v. lost v host request.other_results) moved))
-    (c.lost_onto.ensures.answer honest kept_1)
+    IfOk-weaker c.lost_on.result _ _
+    (λ places are records. lost_by_request (g.D.Units.world c.args.desk.now) c.args.delta.now c.args.host c.args.request.now records places are)
+    (returns-clause-answer g c honest kept)

@@ -1,13 +1,13 @@
 use Rattle.std.proofs.Common.{◌≡◌, ◌++◌, drop}
 use Rattle.std.specs.Prelude.{filter}
 use Rattle.lost_jobs.specs.Holding.{is_missing}
-use Rattle.lost_jobs.proofs.missing.missing_among.Given as goal
+use Rattle.lost_jobs.proofs.missing.lost_on.Given as goal
 
 -- those so far, and those among the places which are left
 abbrev pub invariant-loop-place : goal.invariant-loop-place
 invariant-loop-place g l = record {
   reads : g.S.Units.reads l.fn.sheet l.sheet;
   told : g.S.Units.honest l.sheet → g.S.Units.well_kept l.fn.sheet
-      → l.missing ++ filter (is_missing (g.S.Units.world l.fn.sheet) l.host l.listed) (drop l.place-index l.places)
-      ≡ filter (is_missing (g.S.Units.world l.fn.sheet) l.host l.listed) l.places;
+      → l.missing ++ filter (is_missing (g.S.Units.world l.fn.sheet) l.host l.listed) (drop l.place-index l.held)
+      ≡ filter (is_missing (g.S.Units.world l.fn.sheet) l.host l.listed) l.held;
 }

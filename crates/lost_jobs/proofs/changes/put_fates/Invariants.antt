@@ -1,7 +1,7 @@
 use Rattle.std.proofs.Common.{◌≡◌, ◌++◌, drop}
 use Rattle.std.specs.Prelude.{filter_map}
 use Rattle.lost_jobs.specs.Fated.{fate_change}
-use Rattle.lost_jobs.proofs.changes.fate_changes.Given as goal
+use Rattle.lost_jobs.proofs.changes.put_fates.Given as goal
 
 -- the changes so far, and those of the fates which are left
 abbrev pub invariant-loop-fate : goal.invariant-loop-fate

@@ -1,13 +1,13 @@
 use Rattle.std.proofs.Common.{◌≡◌, ◌++◌, drop, map}
 use Rattle.std.specs.Prelude.{filter}
-use Rattle.sched_book.specs.Lost.{is_aborted}
-use Rattle.lost_jobs.proofs.aborted.aborted_among.Given as goal
+use Rattle.sched_book.specs.Lost.{is_aborted, aborts}
+use Rattle.lost_jobs.proofs.aborted.aborts.Given as goal
 
 -- those so far, and those among the names which are left
 abbrev pub invariant-loop-name : goal.invariant-loop-name
 invariant-loop-name g l = record {
   reads : g.U.Units.reads l.fn.units l.units;
   told : g.U.Units.honest l.units → g.U.Units.well_kept l.fn.units
-      → l.aborted ++ filter (is_aborted (g.U.Units.world l.fn.units) l.host) (map (λ n. n.now) (drop l.name-index l.names))
-      ≡ filter (is_aborted (g.U.Units.world l.fn.units) l.host) (map (λ n. n.now) l.names);
+      → l.aborted ++ filter (is_aborted (g.U.Units.world l.fn.units) l.host) (map (λ n. n.now) (drop l.name-index l.name-items))
+      ≡ aborts (g.U.Units.world l.fn.units) l.host l.request.other_results;
 }
