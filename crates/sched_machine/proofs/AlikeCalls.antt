@@ -2,6 +2,7 @@
 use Rattle.std.proofs.Common.{◌≡◌, ℕ, ◌/◌, Bool, true, false, cond, not, List, [], ◌∷◌, Option, Some, None, sym, refl, ap, ◌∙◌}
 use Rattle.std.specs.Prelude.{◌&&◌, ◌==◌, All, fold, is_none, option_map, unwrap_or}
 use Rattle.std.proofs.lemmas.List.Elements.{All-nil, All-filter, All-head, All-tail}
+use Rattle.std.proofs.lemmas.Bool.{and_parts}
 use Rattle.rpc_records.specs.declared.request.Report.{Report}
 use Rattle.sched_book.specs.Count.{is_held}
 use Rattle.sched_book.specs.Fits.{estimate_at}
@@ -15,7 +16,6 @@ use Rattle.sched_book.specs.declared.instance.Place.{Place}
 use Rattle.sched_book.specs.declared.rows.HostRow.{HostRow}
 use Rattle.sched_book.specs.declared.world.World.{World}
 use Rattle.sched_book.proofs.Recording.{passes-is}
-use Rattle.sched_machine.proofs.UnitsGiven.{first_true}
 use Rattle.sched_machine.proofs.AlikePlaces.{places_hold}
 use Rattle.sched_machine.proofs.AlikeUnits.{Stays, IsOwnedAt, owned_after, IsFrom, from_changed}
 
@@ -54,8 +54,8 @@ module _ (w entry : World) (host : ℕ) where
       cases true pass =
           from_changed host (with_report r (judged_place entry v p.unit)) w v p (report_stays host r (judged_place entry v p.unit))
           (λ x stands.
-          first_true (is_owned_by host x) (is_none x.report)
-          (sym (passes-is v (awaits_report host) p ∙ ap (λ o. unwrap_or (option_map (awaits_report host) o) false) stands) ∙ pass))
+          (and_parts (is_owned_by host x) (is_none x.report)
+          (sym (passes-is v (awaits_report host) p ∙ ap (λ o. unwrap_or (option_map (awaits_report host) o) false) stands) ∙ pass)).0)
           from
 
   pub from_reports : (reports : List Report) (v : World) → IsFrom host w v → IsFrom host w (fold (record_one entry host) v reports)
@@ -71,7 +71,7 @@ pub lost_owned : (w : World) (host : ℕ) (names : Option (List (List ℕ))) →
 lost_owned w host names = cases w.settings.resend_lost_results names
   where
     held : All (IsOwnedAt host w) (held_by w host)
-    held = places_hold w (is_held_by host) (λ x. is_owned_by host x ≡ true) (λ x passes. first_true (is_owned_by host x) (is_held x) passes)
+    held = places_hold w (is_held_by host) (λ x. is_owned_by host x ≡ true) (λ x passes. (and_parts (is_owned_by host x) (is_held x) passes).0)
 
     cases : (b : Bool) (list : Option (List (List ℕ))) → All (IsOwnedAt host w) (cond b (unlisted w host list) [])
     cases false list = All-nil (IsOwnedAt host w)

@@ -1,5 +1,5 @@
 -- A call is a step of the machine, from what its parts tell.
-use Rattle.std.proofs.Common.{◌≡◌, ℕ, ◌+◌, ◌≤◌, ◌++◌, true, false, List, map, is_some, sym, ap, ap₂, ◌∙◌, subst}
+use Rattle.std.proofs.Common.{◌≡◌, ℕ, ◌+◌, ◌≤◌, ◌++◌, true, false, List, [], map, is_some, refl, sym, ap, ap₂, ◌∙◌, subst}
 use Rattle.std.specs.Prelude.{IsTrue, filter_map}
 use Rattle.rpc_records.specs.declared.reply.EndWord.{EndWord}
 use Rattle.rpc_records.specs.declared.reply.Job.{Job}
@@ -7,7 +7,7 @@ use Rattle.rpc_records.specs.declared.reply.Reply.{Reply}
 use Rattle.rpc_records.specs.declared.request.Report.{Report}
 use Rattle.rpc_records.specs.declared.request.Request.{Request}
 use Rattle.sched_book.specs.Calls.{IsCallInLimits}
-use Rattle.sched_book.specs.Delta.{applied, Fits}
+use Rattle.sched_book.specs.Delta.{applied}
 use Rattle.sched_book.specs.Grant.{IsGrant, end_word}
 use Rattle.sched_book.specs.Limits.{last_moment}
 use Rattle.sched_book.specs.Lost.{aborts}
@@ -23,27 +23,31 @@ use Rattle.sched_book.specs.declared.machine.Call.TheVariants as call
 use Rattle.sched_book.specs.declared.machine.Caller.{Caller}
 use Rattle.sched_book.specs.declared.rows.HostRow.{HostRow}
 use Rattle.sched_book.specs.declared.world.World.{World}
+use Rattle.sched_book.proofs.PlaceChanges.{grants_are_by_place}
+use Rattle.quorum_credit.specs.Limited.{IsLimited}
 use Rattle.quorum_credit.specs.Marks.{credits_in}
 use Rattle.quorum_credit.specs.Settling.{AreMarks}
+use Rattle.quorum_credit.proofs.FitReports.{limited_from_sound}
+use Rattle.quorum_credit.proofs.SettledAll.{units_in_limits}
 use Rattle.sched_machine.specs.Calling.{MayBeHeard}
+use Rattle.sched_machine.specs.Granting.{FitWithHost}
 use Rattle.sched_machine.specs.Prepared.{IsReady}
 use Rattle.sched_machine.specs.Replying.{IsTold, IsGranted, reply_of}
 use Rattle.sched_machine.specs.Totals.{user_credits_in}
 use Rattle.sched_machine.specs.declared.preparing.Ready.{Ready}
 use Rattle.sched_machine.specs.declared.reply.Told.{Told}
 use Rattle.sched_machine.proofs.CreditMarked.{totals_known}
-use Rattle.sched_machine.proofs.DecidedSteps.{hosts_granted}
 use Rattle.sched_machine.proofs.StepsSound.{settled_sound, host_stands, step_keeps_sound}
 
 -- A call that is ready for its grant.
 module _ (w v : World) (r : Request) (now : ℕ) (ready : Ready) (changes : List Change) (is : IsReady w r now ready v changes) (soon : now ≤ last_moment) where
   -- the world before the grant is sound, and has the call's host
-  pub ready_sound : Sound v
+  ready_sound : Sound v
   ready_sound =
       subst Sound (sym is.prepared.settled.left)
       (settled_sound w ready.call.caller r now is.calling.sound is.calling.admitted.caller is.calling.room is.calling.admitted.limits soon)
 
-  pub ready_has_host : IsTrue (is_some (host_at v ready.call.number))
+  ready_has_host : IsTrue (is_some (host_at v ready.call.number))
   ready_has_host =
       ap₂ (λ (z : World) n. is_some (host_at z n)) is.prepared.settled.left is.calling.number
       ∙ ap is_some (host_stands w ready.call.caller r now is.calling.sound is.calling.admitted.caller is.calling.room is.calling.admitted.limits soon)
@@ -53,15 +57,19 @@ module _ (w v : World) (r : Request) (now : ℕ) (ready : Ready) (changes : List
       → IsGrant (after_settlement w ready.call.caller r now) (asking_of w ready.call.caller r now) jobs
       → word ≡ end_word (after_settlement w ready.call.caller r now) (asking_of w ready.call.caller r now) jobs
       → u ≡ granted v ready.call.number now jobs
-      → (Sound v → IsTrue (is_some (host_at v ready.call.number)) → Fits w changes → Fits w after)
+      → v ≡ applied w changes → (FitWithHost w ready.call.number changes → FitWithHost w ready.call.number after)
       → IsTold w u ready jobs told
       → IsGranted w r now ready u after told word
-  granted_is u after jobs told word grant ends given fits said = record {
+  granted_is u after jobs told word grant ends given here fits said = record {
     jobs = jobs;
     grant = grant;
     ends = ends;
     left = given ∙ ap₂ (λ (z : World) n. granted z n now jobs) is.prepared.settled.left is.calling.number;
-    fits = fits ready_sound ready_has_host is.prepared.settled.fits;
+    fits = (fits (record {
+      units = units_in_limits w [] is.calling.sound refl;
+      within = record { fits = is.prepared.settled.fits; limited = subst IsLimited here (limited_from_sound v ready_sound) };
+      stands = subst (λ z. IsTrue (is_some (host_at z ready.call.number))) here ready_has_host;
+    })).within.fits;
     tells = said;
   }
 
@@ -92,7 +100,7 @@ module _ (w v : World) (r : Request) (now : ℕ) (ready : Ready) (changes : List
         done.tells.user_credit
         ∙ ap (λ (z : World). user_credit w caller.account + user_credits_in z.hosts caller.account ready.prepared.settled.marks) done.left
         ∙ ap (λ hosts. user_credit w caller.account + user_credits_in hosts caller.account ready.prepared.settled.marks)
-        (hosts_granted number now done.jobs (after_settlement w caller r now))
+        (grants_are_by_place (after_settlement w caller r now) number now done.jobs).rest.hosts
         ∙ sym (totals.1 caller.account)
         ∙ ap (λ (z : World). user_credit z caller.account) (sym done.left)
 

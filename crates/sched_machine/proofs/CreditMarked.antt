@@ -1,19 +1,19 @@
 -- The credit of a host and of a user after a call is what it was before, and what the marks of settlement bring: a grant
 -- behind settlement brings nothing.
-use Rattle.std.proofs.Common.{◌≡◌, ℕ, zero, suc, ◌+◌, ◌-◌, ◌*◌, ◌<◌, ◌≤◌, Bool, true, false, cond, eqb, eqb-true, eq-eqb, ne_eqb, inl, List, [], ◌∷◌, length, get_or, All, AllPairs, Option, Some, None, sym, refl, ap, ap₂, ◌∙◌, subst, arith}
-use Rattle.std.specs.Prelude.{◌&&◌, ◌==◌, IsTrue, sum_by, count_by, is_some, is_none, option_map, option_and_then, unwrap_or, slice_get, IfSome}
+use Rattle.std.proofs.Common.{◌≡◌, ℕ, zero, suc, ◌+◌, ◌-◌, ◌*◌, ◌<◌, ◌≤◌, Bool, true, false, cond, eqb, eqb-true, eq-eqb, inl, List, [], ◌∷◌, length, get_or, All, AllPairs, Option, Some, None, sym, refl, ap, ap₂, ◌∙◌, subst, arith}
+use Rattle.std.specs.Prelude.{◌&&◌, ◌==◌, IsTrue, sum_by, count_by, is_some, option_map, option_and_then, unwrap_or, slice_get, IfSome}
 use Rattle.std.specs.List.{enumerate_from}
 use Rattle.std.proofs.lemmas.List.Elements.{All-head, All-tail}
 use Rattle.std.proofs.lemmas.List.Sums.{sum_by-cons}
 use Rattle.rpc_records.specs.Ranges.{IsInRange}
 use Rattle.rpc_records.specs.declared.request.Request.{Request}
 use Rattle.sched_book.specs.Count.{agree, tells_success, told_place, told_output, output_of, is_judged, has_failed, is_valid, canonical, verdict, verdict_by}
-use Rattle.sched_book.specs.Fits.{is_eligible, is_for}
+use Rattle.sched_book.specs.Fits.{is_eligible}
 use Rattle.sched_book.specs.Grant.{IsGrant}
 use Rattle.sched_book.specs.Limits.{last_moment}
 use Rattle.sched_book.specs.Lost.{delay_at}
-use Rattle.sched_book.specs.Places.{nth, unit_at, instance_at, option_any, host_of, is_owned_by, agreement_by, book_status, book_verdict, verdict_of, credit_in, host_credit, user_credit}
-use Rattle.sched_book.specs.Reports.{modify_at, modify_nth, with_number, with_changed}
+use Rattle.sched_book.specs.Places.{nth, unit_at, option_any, host_of, is_owned_by, agreement_by, book_status, book_verdict, verdict_of, credit_in, host_credit, user_credit}
+use Rattle.sched_book.specs.Reports.{modify_at, modify_nth, with_number}
 use Rattle.sched_book.specs.Settle.{with_grown}
 use Rattle.sched_book.specs.Sound.{IsBare, HasOwnerAmong, IsSoundUnit, Sound}
 use Rattle.sched_book.specs.Step.{IsCaller, HasRoom, at_entry, after_lost, after_settlement, host_number, asking_of, with_owner, grant_one, granted}
@@ -31,26 +31,27 @@ use Rattle.sched_book.specs.declared.rows.Workunit.{Workunit}
 use Rattle.sched_book.specs.declared.world.World.{World}
 use Rattle.sched_book.proofs.Credits.{sum_same, sum_zero, exchange, of_number}
 use Rattle.sched_book.proofs.PlacesOf.{nth-suc, slice_get-modify_at}
-use Rattle.sched_book.proofs.Recording.{instance_at-with_changed}
 use Rattle.sched_book.proofs.Rising.{pairs_head, pairs_tail}
 use Rattle.sched_book.proofs.Settling.{slice_get-enumerate_from}
-use Rattle.job_choice.proofs.Candidates.{Stood, stood}
+use Rattle.job_choice.proofs.Candidates.{stood}
 use Rattle.quorum_credit.specs.CreditKept.{UnitGoesOn, CreditGoesOn}
 use Rattle.quorum_credit.specs.Marks.{credits_in}
 use Rattle.quorum_credit.specs.Settling.{AreMarks}
 use Rattle.quorum_credit.specs.declared.marks.Mark.{Mark}
 use Rattle.quorum_credit.proofs.ByPlace.{all_get, all_nth}
+use Rattle.quorum_credit.proofs.FitReports.{limited_from_sound}
 use Rattle.quorum_credit.proofs.MarkedCredit.{host_credit-marked, host_credit-none, sum_listed}
 use Rattle.quorum_credit.proofs.NewlyCounted.{sum_from, sum_plus}
 use Rattle.sched_machine.specs.Decisions.{verdict_at}
 use Rattle.sched_machine.specs.Totals.{belongs, user_credits_in}
 use Rattle.sched_machine.proofs.DecidedChanges.{UnitBecame, UnitBecameAt, IsMild, owner_mild}
 use Rattle.sched_machine.proofs.DecidedGood.{BecameAt, AllBecame, Continues, good_continues}
-use Rattle.sched_machine.proofs.DecidedSteps.{WorldBecame, units_settled, apps_left, hosts_left, accounts_then, accounts_at_entry, accounts_settled}
+use Rattle.sched_machine.proofs.DecidedSteps.{WorldBecame, units_settled, apps_left, hosts_left, accounts_then, accounts_settled}
 use Rattle.sched_machine.proofs.DecidedUnits.{canonical_same, canonical_equal}
 use Rattle.sched_machine.proofs.DecidedWorlds.{world_stays}
-use Rattle.sched_machine.proofs.RowsEntry.{AccountsStay}
+use Rattle.sched_machine.proofs.RowsEntry.{AccountsStay, accounts_at_entry}
 use Rattle.sched_machine.proofs.RowsListed.{count_changed}
+use Rattle.sched_machine.proofs.RunKept.{HoldsAt, elsewhere, eligible_is_free}
 use Rattle.sched_machine.proofs.StepsSound.{settled_sound}
 
 -- What became of a world that a call found, up to settlement.
@@ -196,7 +197,7 @@ abbrev IsUntold : Instance → Type 0
 IsUntold x = (x.owner ≡ None) × (x.report ≡ None)
 
 abbrev IsUntoldAt : World → Place → Type 0
-IsUntoldAt w p = (x : Instance) → instance_at w p ≡ Some x → IsUntold x
+IsUntoldAt = HoldsAt IsUntold
 
 -- the credit of its workunit stays when it goes to a host
 given_credit : (apps : List App) (host : ℕ) (o : Owner) (n : ℕ) (b : UnitBook) → ((x : Instance) → slice_get b.instances n ≡ Some x → IsUntold x)
@@ -251,11 +252,6 @@ module _ (host now : ℕ) where
       o : Owner
       o = record { host = host; sent = now; deadline = now + delay_at w p }
 
-  untold_after : (f : Instance → Instance) (w : World) (p q : Place) → p.unit < q.unit → IsUntoldAt w q → IsUntoldAt (with_changed f w p) q
-  untold_after f w p q before untold y stands =
-      untold y (sym (instance_at-with_changed f w p q
-      ∙ ap (λ (b : Bool). cond (b && eqb p.number q.number) (option_map f (instance_at w q)) (instance_at w q)) (ne_eqb p.unit q.unit (λ same. omega arith))) ∙ stands)
-
   grant_brings : (jobs : List Place) (w : World) → AllPairs (λ (p q : Place). p.unit < q.unit) jobs → All (IsUntoldAt w) jobs
       → (host_credit (granted w host now jobs) ≡ host_credit w) × ((granted w host now jobs).hosts ≡ w.hosts)
   grant_brings [] w rising untold = (refl, refl)
@@ -264,24 +260,15 @@ module _ (host now : ℕ) where
       let rest = grant_brings jobs (grant_one host now w p)
       (pairs_tail (λ (p q : Place). p.unit < q.unit) p jobs rising)
       (λ k d within.
-      untold_after (with_owner o) w p (get_or jobs k d) (pairs_head (λ (p q : Place). p.unit < q.unit) p jobs rising k d within)
+      elsewhere IsUntold (with_owner o) w p (get_or jobs k d) (pairs_head (λ (p q : Place). p.unit < q.unit) p jobs rising k d within)
       (All-tail (IsUntoldAt w) p jobs untold k d within)) in
       (rest.0 ∙ grant_one_brings w p (All-head (IsUntoldAt w) p jobs untold), rest.1)
 
 -- what is eligible in a sound world was given to nobody, and nothing was told of it
 eligible_untold : (w : World) (h : HostRow) (p : Place) → Sound w → is_eligible w h p ≡ true → IsUntoldAt w p
 eligible_untold w h p sound eligible y stands =
-    let at : Stood w (λ b x. is_none x.owner && is_for w h b) p = stood w (λ b x. is_none x.owner && is_for w h b) p eligible in
-    let here : instance_at w p ≡ Some at.x = ap (option_and_then (λ (b : UnitBook). slice_get b.instances p.number)) at.at ∙ at.stands in
-    let same : at.x ≡ y = (let both : Some at.x ≡ Some y = sym here ∙ stands in cc) in
-    let bare : IsBare at.x =
-    all_get IsBare at.book.instances p.number at.x (all_nth (IsSoundUnit w.hosts w.apps) w.units p.unit at.book sound.units at.at).well.bare at.stands in
-    let free : at.x.owner ≡ None = none_free at.x.owner (is_for w h at.book) at.passed in
-    subst IsUntold same (free, (bare free).1)
-  where
-    none_free : (o : Option Owner) (b : Bool) → (is_none o && b) ≡ true → o ≡ None
-    none_free None b is = refl
-    none_free (Some o) b is = absurd cc
+    let free = eligible_is_free w h p eligible y stands in
+    (free, (((limited_from_sound w sound).each p y stands).1 free).1)
 
 -- The credit of a user, where each host has what it had and what the marks bring.
 module _ (w : World) (hosts : List HostRow) (marks : List Mark) (account : ℕ) (stay : AccountsStay w.hosts hosts)

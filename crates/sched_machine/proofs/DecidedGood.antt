@@ -1,6 +1,7 @@
 -- The good reports of a workunit stay in their order, and later ones come behind them.
 use Rattle.std.proofs.Common.{◌≡◌, ℕ, suc, ◌+◌, ◌<◌, ◌≤◌, ◌⊎◌, inl, inr, Bool, true, false, cond, List, [], ◌∷◌, ◌++◌, Option, Some, None, sym, refl, ap, ◌∙◌, subst, zero-add, arith}
-use Rattle.std.specs.Prelude.{◌&&◌, not, fold, nat_le, is_some, slice_get, option_and_then}
+use Rattle.std.proofs.lemmas.Bool.{and_parts}
+use Rattle.std.specs.Prelude.{not, fold, nat_le, is_some, slice_get, option_and_then}
 use borrow.Author.Tests.{le-leb, lt-leb}
 use Rattle.sched_book.specs.Count.{tells_success, tells_error, is_judged, told_place, is_live, report_of, place_of, numbers_from, put_by, good}
 use Rattle.sched_book.specs.Places.{is_owned_by}
@@ -9,17 +10,19 @@ use Rattle.sched_book.specs.declared.instance.Outcome.{Outcome}
 use Rattle.sched_book.proofs.GoodReports.{put_step}
 
 -- a report that tells of a judged success or client error is judged
-last : (a b : Bool) → (a && b) ≡ true → b ≡ true
-last true b is = is
-last false b is = absurd cc
-
 pub success_is_judged : (o : Option Outcome) → tells_success o ≡ true → is_some (option_and_then (λ (t : Outcome). t.place) o) ≡ true
 success_is_judged None is = absurd cc
-success_is_judged (Some t) is = last t.success (is_some t.place) is
+success_is_judged (Some t) is = (and_parts t.success (is_some t.place) is).1
 
 pub error_is_judged : (o : Option Outcome) → tells_error o ≡ true → is_some (option_and_then (λ (t : Outcome). t.place) o) ≡ true
 error_is_judged None is = absurd cc
-error_is_judged (Some t) is = last (not t.success) (is_some t.place) is
+error_is_judged (Some t) is = (and_parts (not t.success) (is_some t.place) is).1
+
+-- what was reported of the instance at a place
+report_here : (zs : List Instance) (k : ℕ) (z : Instance) → slice_get zs (k + 0) ≡ Some z → report_of zs k ≡ z.report
+report_here zs k z there =
+    ap (λ i. option_and_then (λ (y : Instance). y.report) (slice_get zs i)) (let same : k ≡ k + 0 = omega arith in same)
+    ∙ ap (option_and_then (λ (y : Instance). y.report)) there
 
 -- An instance and what became of it, where n reports were judged before and the workunit had failed or not: its
 -- report stays; a new one that is judged has a later place, and is of no failed workunit.
@@ -152,9 +155,7 @@ module _ (xs ys : List Instance) (n : ℕ) where
       now = numbers_from (k + 1) success vs
 
       y_here : report_of ys k ≡ y.report
-      y_here =
-          ap (λ i. option_and_then (λ (z : Instance). z.report) (slice_get ys i)) (let same : k ≡ k + 0 = omega arith in same)
-          ∙ ap (option_and_then (λ (z : Instance). z.report)) second
+      y_here = report_here ys k y second
 
       cases : (b : Bool) → success y ≡ b → Goes failed old late was (cond (success y) (k ∷ now) now)
       cases false is = subst (λ (d : Bool). Goes failed old late was (cond d (k ∷ now) now)) (sym is) (rest late more)
@@ -185,14 +186,10 @@ module _ (xs ys : List Instance) (n : ℕ) where
       now = numbers_from (k + 1) success vs
 
       x_here : report_of xs k ≡ x.report
-      x_here =
-          ap (λ i. option_and_then (λ (z : Instance). z.report) (slice_get xs i)) (let same : k ≡ k + 0 = omega arith in same)
-          ∙ ap (option_and_then (λ (z : Instance). z.report)) first
+      x_here = report_here xs k x first
 
       y_here : report_of ys k ≡ y.report
-      y_here =
-          ap (λ i. option_and_then (λ (z : Instance). z.report) (slice_get ys i)) (let same : k ≡ k + 0 = omega arith in same)
-          ∙ ap (option_and_then (λ (z : Instance). z.report)) second
+      y_here = report_here ys k y second
 
       both : (b c : Bool) → success x ≡ b → success y ≡ c → Goes failed old late (cond b (k ∷ was) was) (cond c (k ∷ now) now)
           → Goes failed old late (numbers_from k success (x ∷ us)) (numbers_from k success (y ∷ vs))

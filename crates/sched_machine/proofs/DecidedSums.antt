@@ -19,7 +19,7 @@ use Rattle.sched_book.proofs.PlacesOf.{nth-suc}
 use Rattle.sched_book.proofs.Settling.{slice_get-enumerate_from}
 use Rattle.quorum_credit.proofs.ByPlace.{all_get}
 use Rattle.sched_machine.specs.Decisions.{CreditsAddUp}
-use Rattle.sched_book.proofs.Credits.{exchange}
+use Rattle.sched_book.proofs.Credits.{exchange, times}
 
 -- sums that are the same at each element
 sum_alike : {X : Type 0} (f g : X → ℕ) (xs : List X) → ((i : ℕ) (x : X) → slice_get xs i ≡ Some x → f x ≡ g x) → sum_by f xs ≡ sum_by g xs
@@ -29,19 +29,6 @@ sum_alike f g (x ∷ xs) same =
     ∙ ap (λ n. n + sum_by f xs) (same 0 x refl)
     ∙ ap (λ n. g x + n) (sum_alike f g xs (λ i. same (suc i)))
     ∙ sym (sum_by-cons g x xs)
-
--- so much for each that passes
-worth : {X : Type 0} (c : ℕ) (t : X → Bool) (xs : List X) → c * count_by t xs ≡ sum_by (λ x. cond (t x) c 0) xs
-worth c t [] = omega arith
-worth c t (x ∷ xs) =
-    ap (λ n. c * n) (sum_by-cons (λ x. cond {A = ℕ} (t x) 1 0) x xs)
-    ∙ one (t x) (count_by t xs)
-    ∙ ap (λ n. cond (t x) c 0 + n) (worth c t xs)
-    ∙ sym (sum_by-cons (λ x. cond (t x) c 0) x xs)
-  where
-    one : (b : Bool) (k : ℕ) → c * (cond {A = ℕ} b 1 0 + k) ≡ cond b c 0 + c * k
-    one true k = omega arith
-    one false k = ap (λ n. c * n) (let same : 0 + k ≡ k = omega arith in same) ∙ (let same : c * k ≡ 0 + c * k = omega arith in same)
 
 -- of the numbered elements one has the number of one that stands
 module _ {X : Type 0} (c : ℕ) where
@@ -141,11 +128,11 @@ module _ (w : World) (sound : Sound w) where
   one_unit b unit =
       sum_alike (λ (e : ℕ × HostRow). credit_in w.apps e.0 b)
       (λ e. sum_by (λ x. cond (is_owned_by e.0 x && is_valid (verdict_of w b x)) b.unit.credit 0) b.instances) (enumerate_from 1 w.hosts)
-      (λ i e at. worth b.unit.credit (λ x. is_owned_by e.0 x && is_valid (verdict_of w b x)) b.instances)
+      (λ i e at. times b.unit.credit (λ x. is_owned_by e.0 x && is_valid (verdict_of w b x)) b.instances)
       ∙ exchange (λ (e : ℕ × HostRow) x. cond (is_owned_by e.0 x && is_valid (verdict_of w b x)) b.unit.credit 0) (enumerate_from 1 w.hosts) b.instances
       ∙ sum_alike (λ x. sum_by (λ (e : ℕ × HostRow). cond (is_owned_by e.0 x && is_valid (verdict_of w b x)) b.unit.credit 0) (enumerate_from 1 w.hosts))
       (λ x. cond (is_valid (verdict_of w b x)) b.unit.credit 0) b.instances (one_host b unit)
-      ∙ sym (worth b.unit.credit (λ x. is_valid (verdict_of w b x)) b.instances)
+      ∙ sym (times b.unit.credit (λ x. is_valid (verdict_of w b x)) b.instances)
 
   hosts_add_up : sum_by (λ (e : ℕ × HostRow). host_credit w e.0) (enumerate_from 1 w.hosts)
       ≡ sum_by (λ b. b.unit.credit * count_by (λ x. is_valid (verdict_of w b x)) b.instances) w.units

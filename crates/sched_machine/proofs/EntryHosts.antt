@@ -5,8 +5,7 @@ use Rattle.std.proofs.lemmas.Bool.{eqb-true}
 use Rattle.rpc_records.specs.Ranges.{IsInRange}
 use Rattle.rpc_records.specs.declared.request.Request.{Request}
 use Rattle.sched_book.specs.Places.{nth, host_at, is_host_of, known_host}
-use Rattle.sched_book.specs.Delta.{set_at, set_nth, applied_one, applied, FitsOne, Fits}
-use Rattle.sched_book.specs.Limits.{IsHostInLimits}
+use Rattle.sched_book.specs.Delta.{set_at, set_nth, applied_one, FitsOne, Fits}
 use Rattle.sched_book.specs.Reports.{modify_nth}
 use Rattle.sched_book.specs.Sound.{IsSoundHost, Sound}
 use Rattle.sched_book.specs.Step.{IsCaller, HasRoom, host_number, quota_of, row_of_call, hosts_at_entry}
@@ -23,6 +22,7 @@ use Rattle.quorum_credit.proofs.Numbered.{number_within}
 use Rattle.call_sheet.proofs.SetRows.{nth-set_nth}
 use Rattle.sched_machine.specs.Calling.{IsAdmitted, IsCalling, IsEntered}
 use Rattle.sched_machine.specs.declared.caller.Calling.{Calling}
+use Rattle.sched_machine.proofs.RowsEntry.{entry_is_sound}
 use Rattle.sched_machine.proofs.RowsListed.{place_found}
 
 -- a row put at the number of one that stands is that one changed
@@ -68,17 +68,6 @@ module _ (w : World) (c : Caller) (r : Request) (caller : IsCaller w c r) where
 
 -- the row fits, with its number
 module _ (w : World) (c : Caller) (r : Request) (sound : Sound w) (caller : IsCaller w c r) (limits : IsInRange r) where
-  entry_limits : (quota : ℕ) → (1 ≤ quota) × (quota ≤ w.settings.daily_result_quota) → IsHostInLimits w.settings.daily_result_quota (row_of_call c r quota)
-  entry_limits quota within = record {
-    cpid = limits.host.host_cpid;
-    speed = (limits.host.some_fpops, limits.host.p_fpops);
-    memory = limits.host.m_nbytes;
-    disk = limits.host.d_free;
-    platforms = (limits.some_platform, limits.platform_count);
-    words = limits.platforms;
-    quota = within;
-  }
-
   account_stands : IsTrue (is_some (nth w.accounts c.account))
   account_stands = ap is_some (place_found (λ (a : Account). bytes_eq a.authenticator r.authenticator) w.accounts c.account caller.account).1
 
@@ -90,7 +79,7 @@ module _ (w : World) (c : Caller) (r : Request) (sound : Sound w) (caller : IsCa
       cases None is left =
           let few : length w.hosts < w.settings.max_hosts = left refl in
           let same : w.settings.daily_result_quota ≤ w.settings.daily_result_quota = omega arith in
-          (omega arith, omega arith, omega arith, account_stands, entry_limits w.settings.daily_result_quota (sound.rows.settings.quota.0, same))
+          (omega arith, omega arith, omega arith, account_stands, (entry_is_sound w c r sound caller limits w.settings.daily_result_quota (sound.rows.settings.quota.0, same)).limits)
       cases (Some host) is left =
           let found = place_found (is_host_of c.account r.host.host_cpid) w.hosts host is in
           let within = number_within w.hosts host found.0 found.1 in
@@ -101,7 +90,7 @@ module _ (w : World) (c : Caller) (r : Request) (sound : Sound w) (caller : IsCa
             omega arith,
             omega arith,
             account_stands,
-            entry_limits (quota_of w (Some host)) (subst (λ q. (1 ≤ q) × (q ≤ w.settings.daily_result_quota)) (sym quota) before),
+            (entry_is_sound w c r sound caller limits (quota_of w (Some host)) (subst (λ q. (1 ≤ q) × (q ≤ w.settings.daily_result_quota)) (sym quota) before)).limits,
           )
 
 -- the call of a caller whose host stands, and has this row

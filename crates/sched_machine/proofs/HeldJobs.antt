@@ -4,6 +4,7 @@ use Rattle.std.specs.Prelude.{◌&&◌, ◌==◌, Contains, filter, is_none, opt
 use Rattle.std.specs.List.{list_any}
 use Rattle.std.specs.Str.{bytes_eq}
 use Rattle.std.proofs.lemmas.List.Elements.{All-contains}
+use Rattle.std.proofs.lemmas.Bool.{and_parts}
 use Rattle.rpc_records.specs.declared.request.Request.{Request}
 use Rattle.sched_book.specs.Count.{is_held}
 use Rattle.sched_book.specs.Fits.{is_eligible, is_for}
@@ -32,10 +33,10 @@ use Rattle.sched_machine.proofs.AlikeSettled.{the_settled_world_is_like_the_firs
 use Rattle.sched_machine.proofs.AlikeUnits.{IsFrom, IsKept, kept_self}
 use Rattle.sched_machine.proofs.HeldGranted.{IsUnspoiled, grant_gives, grant_keeps, granted_is_held}
 use Rattle.sched_machine.proofs.HeldLists.{held_is_listed, listed_is_held}
-use Rattle.sched_machine.proofs.HeldLost.{lost_elsewhere, lost_held, lost_resent, settled_same, settled_stands}
+use Rattle.sched_machine.proofs.HeldLost.{lost_elsewhere, lost_held, lost_resent}
 use Rattle.sched_machine.proofs.HeldReported.{reports_end_holding}
-use Rattle.sched_machine.proofs.SettledHolds.{is_held_in, lost_hold_no_more}
-use Rattle.sched_machine.proofs.UnitsGiven.{first_true}
+use Rattle.sched_machine.proofs.RunKept.{settled_stands}
+use Rattle.sched_machine.proofs.SettledHolds.{is_held_in, lost_hold_no_more, settled_same}
 
 -- nobody owns or holds what was given to nobody
 free_not_owned : (host : ℕ) (x : Instance) → x.owner ≡ None → is_owned_by host x ≡ false
@@ -43,7 +44,7 @@ free_not_owned host x free = ap (λ (o : Option Owner). option_any (λ n. n == h
 
 free_not_held : (host : ℕ) (x : Instance) → x.owner ≡ None → is_held_by host x ≡ true → ⊥
 free_not_held host x free held =
-    let never : false ≡ true = sym (free_not_owned host x free) ∙ first_true (is_owned_by host x) (is_held x) held in
+    let never : false ≡ true = sym (free_not_owned host x free) ∙ (and_parts (is_owned_by host x) (is_held x) held).0 in
     absurd cc
 
 module _ (w : World) (c : Caller) (r : Request) where
@@ -167,7 +168,7 @@ module _ (w : World) (c : Caller) (r : Request) where
           none_of (Some o) is = absurd cc
 
           free : at.x.owner ≡ None
-          free = none_of at.x.owner (first_true (is_none at.x.owner) (is_for w (asking_of w c r now).host at.book) at.passed)
+          free = none_of at.x.owner (and_parts (is_none at.x.owner) (is_for w (asking_of w c r now).host at.book) at.passed).0
 
           bare : (at.x.lapse ≡ None) × (at.x.report ≡ None)
           bare =
@@ -179,7 +180,7 @@ module _ (w : World) (c : Caller) (r : Request) where
             | inl same ↦ same ∙ stands
             | inr known ↦ (
                 let equal : known.before ≡ at.x = (let both : Some known.before ≡ Some at.x = sym known.stood ∙ stands in cc) in
-                let owned : is_owned_by host known.before ≡ true = first_true (is_owned_by host known.before) (is_none known.before.report) known.awaited in
+                let owned : is_owned_by host known.before ≡ true = (and_parts (is_owned_by host known.before) (is_none known.before.report) known.awaited).0 in
                 let never : false ≡ true =
                 sym (free_not_owned host known.before (ap (λ (z : Instance). z.owner) equal ∙ free)) ∙ owned in
                 absurd cc)

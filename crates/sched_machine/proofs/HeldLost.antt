@@ -1,24 +1,19 @@
 -- What a host holds through its lost jobs and settlement, at one place.
-use Rattle.std.proofs.Common.{◌≡◌, ℕ, ◌<◌, Bool, true, false, cond, List, [], ◌∷◌, ◌++◌, Option, Some, None, sym, refl, ap, ◌∙◌, subst, inl, inr, arith}
-use Rattle.std.specs.Prelude.{Contains, fold, option_map, option_and_then, replicate, slice_get}
-use Rattle.sched_book.specs.Count.{is_open, need}
+use Rattle.std.proofs.Common.{◌≡◌, ℕ, ◌<◌, Bool, true, false, cond, List, [], ◌∷◌, Option, Some, None, sym, refl, ap, ◌∙◌, subst, inl, inr, arith}
+use Rattle.std.specs.Prelude.{Contains, fold, option_map}
 use Rattle.sched_book.specs.Fits.{estimate_at}
 use Rattle.sched_book.specs.Lost.{is_resent, delay_at, deadline_after, with_deadline, with_lapse, resend_or_drop}
-use Rattle.sched_book.specs.Places.{unit_at, instance_at, book_status, is_held_by, is_same}
+use Rattle.sched_book.specs.Places.{instance_at, is_held_by, is_same}
 use Rattle.sched_book.specs.Reports.{with_changed}
-use Rattle.sched_book.specs.Settle.{fresh, grown, settled}
 use Rattle.sched_book.specs.declared.instance.Instance.{Instance}
 use Rattle.sched_book.specs.declared.instance.Lapse.TheVariants.{Dropped}
 use Rattle.sched_book.specs.declared.instance.Place.{Place}
-use Rattle.sched_book.specs.declared.instance.UnitBook.{UnitBook}
 use Rattle.sched_book.specs.declared.rows.HostRow.{HostRow}
 use Rattle.sched_book.specs.declared.world.World.{World}
 use Rattle.sched_book.proofs.Newest.{behind, front_of, in_front}
 use Rattle.sched_book.proofs.Recording.{instance_at-with_changed, is_same-self, is_same-true, passes-is}
-use Rattle.sched_book.proofs.Settling.{nth-map}
 use Rattle.sched_machine.specs.Asked.{holds}
-use Rattle.sched_machine.proofs.RunKept.{front_stays}
-use Rattle.sched_machine.proofs.SettledHolds.{deadline_holds, dropped_not_held, grown_holds, is_held_in, lost_hold_no_more}
+use Rattle.sched_machine.proofs.SettledHolds.{deadline_holds, dropped_not_held, is_held_in, lost_hold_no_more}
 
 -- what the host holds after one change
 pub held_changed : (host : ℕ) (f : Instance → Instance) (v : World) (q p : Place)
@@ -111,34 +106,3 @@ module _ (entry : World) (h : HostRow) (now host : ℕ) (p : Place) where
         (lost_hold_no_more entry h now host places (resend_or_drop entry h now v q) p held))
     | inr further ↦ lost_held places (resend_or_drop entry h now v q) further held
   ]
-
--- settlement changes nothing in who holds what
-pub settled_same : (old v : World) (host : ℕ) (p : Place) → holds (settled old v) host p ≡ holds v host p
-settled_same old v host p =
-    passes-is (settled old v) (is_held_by host) p
-    ∙ ap held_of (nth-map (grown v.apps) v.units p.unit)
-    ∙ cases (unit_at v p.unit)
-    ∙ sym (passes-is v (is_held_by host) p)
-  where
-    held_of : Option UnitBook → Bool
-    held_of o = is_held_in host (option_and_then (λ (b : UnitBook). slice_get b.instances p.number) o)
-
-    cases : (o : Option UnitBook) → is_held_in host (option_and_then (λ (b : UnitBook). slice_get b.instances p.number) (option_map (grown v.apps) o))
-        ≡ is_held_in host (option_and_then (λ (b : UnitBook). slice_get b.instances p.number) o)
-    cases None = refl
-    cases (Some b) = grown_holds host v.apps b p.number
-
--- and leaves each instance as it is
-pub settled_stands : (old v : World) (p : Place) (x : Instance) → instance_at v p ≡ Some x → instance_at (settled old v) p ≡ Some x
-settled_stands old v p x stands =
-    ap (option_and_then (λ (b : UnitBook). slice_get b.instances p.number)) (nth-map (grown v.apps) v.units p.unit) ∙ at_unit (unit_at v p.unit) stands
-  where
-    in_grown : (b : UnitBook) (t : Bool) (many : ℕ) → slice_get b.instances p.number ≡ Some x
-        → slice_get (cond t (record b { instances = b.instances ++ replicate many fresh }) b).instances p.number ≡ Some x
-    in_grown b true many is = front_stays b.instances (replicate many fresh) p.number x is
-    in_grown b false many is = is
-
-    at_unit : (o : Option UnitBook) → option_and_then (λ (b : UnitBook). slice_get b.instances p.number) o ≡ Some x
-        → option_and_then (λ (b : UnitBook). slice_get b.instances p.number) (option_map (grown v.apps) o) ≡ Some x
-    at_unit None is = absurd cc
-    at_unit (Some b) is = in_grown b (is_open (book_status v.apps b)) (need b.unit b.instances) is

@@ -1,5 +1,6 @@
 -- What a reply tells of the jobs that a call sends again and grants: each has the name of its instance.
-use Rattle.std.proofs.Common.{◌≡◌, ◌⊎◌, inl, inr, ℕ, ◌+◌, Bool, true, false, cond, eqb, eq-eqb, List, [], ◌∷◌, length, Option, Some, None, sym, refl, ap, ◌∙◌, subst}
+use Rattle.std.proofs.Common.{◌≡◌, ◌⊎◌, inl, inr, ℕ, ◌+◌, Bool, true, false, cond, eq-eqb, List, [], ◌∷◌, length, Option, Some, None, sym, refl, ap, ◌∙◌, subst}
+use Rattle.std.proofs.lemmas.Bool.{and_parts}
 use Rattle.std.specs.Prelude.{◌&&◌, Contains, filter_map, is_none, is_some, nat_le, not, option_map, option_and_then, unwrap_or}
 use Rattle.std.specs.List.{cons_option, list_any}
 use Rattle.std.specs.Str.{bytes_eq}
@@ -8,13 +9,12 @@ use Rattle.rpc_records.specs.declared.request.Request.{Request}
 use Rattle.sched_book.specs.Count.{is_open}
 use Rattle.sched_book.specs.Desk.{workunit_at}
 use Rattle.sched_book.specs.Fits.{estimate, is_eligible, is_for, unit_fits, version_among, version_for}
-use Rattle.sched_book.specs.Lost.{delay_at, is_resent}
+use Rattle.sched_book.specs.Lost.{is_resent}
 use Rattle.sched_book.specs.Names.{instance_name}
 use Rattle.sched_book.specs.Places.{host_at, name_at, nth, status_at, status_of, unit_at, user_had}
-use Rattle.sched_book.specs.Reports.{with_number}
+use Rattle.sched_book.specs.PlaceLaws.{ChangesInstancesAlone}
 use Rattle.sched_book.specs.Settle.{with_grown, with_quota}
-use Rattle.sched_book.specs.Step.{after_lost, after_settlement, asking_of, at_entry, deadline_at, grant_one, granted, host_number, host_at_entry, hosts_at_entry, job_at, job_of, row_of_call, with_owner}
-use Rattle.sched_book.specs.declared.instance.Instance.{Instance}
+use Rattle.sched_book.specs.Step.{after_lost, after_settlement, asking_of, at_entry, deadline_at, granted, host_number, host_at_entry, hosts_at_entry, job_at, job_of, row_of_call}
 use Rattle.sched_book.specs.declared.instance.Place.{Place}
 use Rattle.sched_book.specs.declared.instance.UnitBook.{UnitBook}
 use Rattle.sched_book.specs.declared.machine.Caller.{Caller}
@@ -24,7 +24,9 @@ use Rattle.sched_book.specs.declared.rows.Version.{Version}
 use Rattle.sched_book.specs.declared.rows.Workunit.{Workunit}
 use Rattle.sched_book.specs.declared.world.World.{World}
 use Rattle.sched_book.proofs.Newest.{behind, front_of, in_front, none_in_nothing}
+use Rattle.sched_book.proofs.PlaceChanges.{grants_are_by_place}
 use Rattle.sched_book.proofs.PlacesOf.{nth-push, nth-modify_nth}
+use Rattle.sched_book.proofs.Settling.{nth-map}
 use Rattle.job_choice.proofs.Candidates.{Stood, stood}
 use Rattle.lost_jobs.proofs.Standing.{name_none, name_some}
 use Rattle.quorum_credit.proofs.ByPlace.{nth-map_places}
@@ -32,7 +34,6 @@ use Rattle.sched_machine.proofs.AlikeLists.{along_nth}
 use Rattle.sched_machine.proofs.AlikeSettled.{before_settlement}
 use Rattle.sched_machine.proofs.JobsSaid.{job_at_some}
 use Rattle.sched_machine.proofs.SettledRows.{SameRow, rows_settled}
-use Rattle.sched_machine.proofs.UnitsGiven.{first_true}
 
 -- what a list holds, of which some elements give something
 pub given_by : {X Y : Type 0} (f : X → Option Y) (xs : List X) (x : X) (y : Y) → Contains xs x → f x ≡ Some y → Contains (filter_map f xs) y
@@ -64,40 +65,6 @@ gave {X} {Y} f (z ∷ xs) y there = cases (f z) refl there (gave f xs y)
       | inr further ↦ later (more further)
     ]
 
--- a grant leaves the rows of workunits, the applications and the versions
-module _ (host now : ℕ) where
-  -- the rows
-  row_granted : (jobs : List Place) (v : World) (n : ℕ) → workunit_at (granted v host now jobs) n ≡ workunit_at v n
-  row_granted [] v n = refl
-  row_granted (q ∷ jobs) v n =
-      row_granted jobs (grant_one host now v q) n
-      ∙ ap (option_map (λ (b : UnitBook). b.unit)) (nth-modify_nth (with_number f q.number) v.units q.unit n)
-      ∙ cases (eqb q.unit n) (unit_at v n)
-    where
-      f : Instance → Instance
-      f = with_owner (record { host = host; sent = now; deadline = now + delay_at v q })
-
-      cases : (s : Bool) (o : Option UnitBook)
-          → option_map (λ (b : UnitBook). b.unit) (cond s (option_map (with_number f q.number) o) o) ≡ option_map (λ (b : UnitBook). b.unit) o
-      cases true None = refl
-      cases true (Some b) = refl
-      cases false o = refl
-
-  -- the applications
-  apps_granted : (jobs : List Place) (v : World) → (granted v host now jobs).apps ≡ v.apps
-  apps_granted [] v = refl
-  apps_granted (q ∷ jobs) v = apps_granted jobs (grant_one host now v q)
-
-  -- the versions
-  versions_granted : (jobs : List Place) (v : World) → (granted v host now jobs).versions ≡ v.versions
-  versions_granted [] v = refl
-  versions_granted (q ∷ jobs) v = versions_granted jobs (grant_one host now v q)
-
--- the last of two that hold
-last_true : (a b : Bool) → (a && b) ≡ true → b ≡ true
-last_true true b is = is
-last_true false b is = absurd cc
-
 -- an option that has something
 some_of : {X : Type 0} (o : Option X) → is_some o ≡ true → (x : X) × (o ≡ Some x)
 some_of None is = absurd cc
@@ -108,10 +75,16 @@ module _ (w : World) (c : Caller) (r : Request) (now : ℕ) (jobs : List Place) 
   abbrev after : World
   after = granted (after_settlement w c r now) (host_number w c) now jobs
 
+  -- a grant leaves the rows of workunits, the applications and the versions
+  rest : ChangesInstancesAlone (after_settlement w c r now) after
+  rest = (grants_are_by_place (after_settlement w c r now) (host_number w c) now jobs).rest
+
   -- so does a whole call
   row_stays : (n : ℕ) → workunit_at after n ≡ workunit_at w n
   row_stays n =
-      row_granted (host_number w c) now jobs (after_settlement w c r now) n
+      sym (nth-map (λ (b : UnitBook). b.unit) after.units n)
+      ∙ ap (λ us. nth us n) rest.units
+      ∙ nth-map (λ (b : UnitBook). b.unit) (after_settlement w c r now).units n
       ∙ along_nth SameRow (option_map (λ (b : UnitBook). b.unit)) (option_map (λ (b : UnitBook). b.unit)) refl (λ b d same. ap Some same)
       w.units (after_settlement w c r now).units n (rows_settled w c r now)
 
@@ -119,9 +92,9 @@ module _ (w : World) (c : Caller) (r : Request) (now : ℕ) (jobs : List Place) 
   version_stays : (h : HostRow) (app : List ℕ) → version_for after h app ≡ version_for w h app
   version_stays h app =
       ap (λ apps. cond (list_any (λ (a : App). bytes_eq a.name app) apps) (version_among after.versions app h.platforms) None)
-      (apps_granted (host_number w c) now jobs (after_settlement w c r now) ∙ ap (λ (v : World). v.apps) (before_settlement w c r now).rest)
+      (rest.apps ∙ ap (λ (v : World). v.apps) (before_settlement w c r now).rest)
       ∙ ap (λ versions. cond (list_any (λ (a : App). bytes_eq a.name app) w.apps) (version_among versions app h.platforms) None)
-      (versions_granted (host_number w c) now jobs (after_settlement w c r now) ∙ ap (λ (v : World). v.versions) (before_settlement w c r now).rest)
+      (rest.versions ∙ ap (λ (v : World). v.versions) (before_settlement w c r now).rest)
 
   -- the names are the same
   name_stays : (p : Place) → name_at after p ≡ name_at w p
@@ -164,9 +137,9 @@ module _ (w : World) (c : Caller) (r : Request) (now : ℕ) (jobs : List Place) 
   fits_runs : (h : HostRow) (p : Place) (b : UnitBook) → unit_at w p.unit ≡ Some b → unit_fits w h b ≡ true → Runs h p
   fits_runs h p b stands fits =
       let found = some_of (version_for w h b.unit.app)
-      (last_true (nat_le b.unit.rsc_memory_bound h.m_nbytes && nat_le b.unit.rsc_disk_bound h.d_free
+      (and_parts (nat_le b.unit.rsc_memory_bound h.m_nbytes && nat_le b.unit.rsc_disk_bound h.d_free
       && nat_le (estimate b.unit.rsc_fpops_est h.p_fpops) b.unit.delay_bound)
-      (is_some (version_for w h b.unit.app)) fits) in
+      (is_some (version_for w h b.unit.app)) fits).1 in
       record { unit = b.unit; version = found.0; stands = ap (option_map (λ (b : UnitBook). b.unit)) stands; found = found.1 }
 
   -- what is sent again to it
@@ -179,7 +152,7 @@ module _ (w : World) (c : Caller) (r : Request) (now : ℕ) (jobs : List Place) 
       cases None stands is = absurd cc
       cases (Some b) stands is =
           fits_runs (host_at_entry w c r) p b stands
-          (last_true (is_open (status_at (at_entry w c r) p.unit)) (unit_fits (at_entry w c r) (host_at_entry w c r) b) is)
+          (and_parts (is_open (status_at (at_entry w c r) p.unit)) (unit_fits (at_entry w c r) (host_at_entry w c r) b) is).1
 
   -- the caller's row has the platforms of the request
   platforms_at_entry : (h : HostRow) → host_at (at_entry w c r) (host_number w c) ≡ Some h → h.platforms ≡ r.platforms
@@ -240,6 +213,6 @@ module _ (w : World) (c : Caller) (r : Request) (now : ℕ) (jobs : List Place) 
       runs : Runs asks p
       runs =
           fits_runs asks p at.book at.at
-          (last_true (is_open (status_of w at.book)) (unit_fits w asks at.book)
-          (first_true (is_open (status_of w at.book) && unit_fits w asks at.book) (not (user_had w asks.account at.book))
-          (last_true (is_none at.x.owner) (is_for w asks at.book) at.passed)))
+          (and_parts (is_open (status_of w at.book)) (unit_fits w asks at.book)
+          (and_parts (is_open (status_of w at.book) && unit_fits w asks at.book) (not (user_had w asks.account at.book))
+          (and_parts (is_none at.x.owner) (is_for w asks at.book) at.passed).1).0).1

@@ -1,7 +1,6 @@
 -- What a reply says of jobs, by the leaves of their workunits.
 use Rattle.std.proofs.Common.{◌≡◌, ℕ, Bool, Option, Some, None, sym, refl, ap, ◌∙◌}
 use Rattle.std.specs.Prelude.{option_map, option_and_then}
-use Rattle.rpc_records.specs.declared.reply.Job.{Job}
 use Rattle.sched_book.specs.Desk.{workunit_at}
 use Rattle.sched_book.specs.Fits.{version_for}
 use Rattle.sched_book.specs.Names.{instance_name}

@@ -5,7 +5,7 @@ use Rattle.rpc_records.specs.declared.request.Request.{Request}
 use Rattle.sched_book.specs.Fits.{estimate_at}
 use Rattle.sched_book.specs.Lost.{aborts}
 use Rattle.sched_book.specs.Places.{host_at, held_by}
-use Rattle.sched_book.specs.Step.{after_settlement, host_number}
+use Rattle.sched_book.specs.Step.{after_settlement}
 use Rattle.sched_book.specs.declared.delta.Change.{Change}
 use Rattle.sched_book.specs.declared.instance.Place.{Place}
 use Rattle.sched_book.specs.declared.world.World.{World}

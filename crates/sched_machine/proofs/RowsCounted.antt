@@ -11,6 +11,7 @@ use Rattle.sched_book.specs.declared.rows.Agreement.{Agreement}
 use Rattle.sched_book.specs.declared.rows.Workunit.{Workunit}
 use Rattle.sched_book.proofs.PlacesOf.{slice_get-modify_at}
 use Rattle.sched_machine.proofs.RowsListed.{count_changed}
+use Rattle.sched_machine.proofs.UnitsAlike.{length_changed}
 
 -- the first leader, where the outputs are given by a function
 abbrev leader_by : Agreement → (ℕ → List ℕ) → ℕ → List ℕ → Option ℕ
@@ -30,12 +31,6 @@ status_by u result wrong successes total =
     (cond (nat_lt u.max_error_results wrong) FailedErrors
     (cond (nat_lt u.max_success_results successes) FailedSuccess
     (cond (nat_lt u.max_total_results total) FailedTotal Open)))
-
--- as many elements after one was changed
-pub length-changed : {X : Type 0} (f : X → X) (xs : List X) (i : ℕ) → length (modify_at f xs i) ≡ length xs
-length-changed f [] i = refl
-length-changed f (x ∷ xs) zero = refl
-length-changed f (x ∷ xs) (suc i) = ap suc (length-changed f xs i)
 
 -- the numbers of those that pass
 numbers_changed : (p : Instance → Bool) (f : Instance → Instance) (m : ℕ) (xs : List Instance) (n : ℕ)
@@ -90,5 +85,5 @@ module _ (f : Instance → Instance) (xs : List Instance) (n : ℕ)
       ap (λ o. status_by u o (errors ys) (length (good ys)) (length ys + need u ys)) (canonical_stays a u)
       ∙ ap (λ m. status_by u (canonical a u xs) m (length (good ys)) (length ys + need u ys)) errors_stay
       ∙ ap (λ reports. status_by u (canonical a u xs) (errors xs) (length reports) (length ys + need u ys)) good_stay
-      ∙ ap (λ m. status_by u (canonical a u xs) (errors xs) (length (good xs)) (m + need u ys)) (length-changed f xs n)
+      ∙ ap (λ m. status_by u (canonical a u xs) (errors xs) (length (good xs)) (m + need u ys)) (length_changed f xs n)
       ∙ ap (λ m. status_by u (canonical a u xs) (errors xs) (length (good xs)) (length xs + m)) (need_stays u)

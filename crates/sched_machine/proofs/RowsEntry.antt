@@ -5,9 +5,10 @@ use Rattle.std.proofs.lemmas.List.Elements.{All-push}
 use Rattle.std.proofs.lemmas.List.Quantifiers.{all_pairs_push}
 use Rattle.std.proofs.lemmas.Option.{slice_get-get_or}
 use Rattle.std.proofs.lemmas.Slice.Eq.{bytes_eq-Decides}
+use Rattle.std.proofs.lemmas.Bool.{and_parts}
 use Rattle.rpc_records.specs.Ranges.{IsInRange}
 use Rattle.rpc_records.specs.declared.request.Request.{Request}
-use Rattle.sched_book.specs.Places.{nth, account_at, host_of, user_of, is_host_of}
+use Rattle.sched_book.specs.Places.{nth, account_at, host_of, user_of, is_host_of, known_host}
 use Rattle.sched_book.specs.Reports.{modify_nth}
 use Rattle.sched_book.specs.Sound.{AreOfOtherUsers, HasOwnerAmong, IsSoundUnit, IsSoundHost, HaveOtherKeys, Sound}
 use Rattle.sched_book.specs.Step.{IsCaller, row_of_call, hosts_at_entry}
@@ -30,7 +31,7 @@ AccountsStay old new = (n : ℕ) (h : HostRow) → nth old n ≡ Some h → (k :
 
 -- then a sound workunit stays so
 module _ (old new : List HostRow) (stay : AccountsStay old new) where
-  same_account : (host : ℕ) → IsTrue (is_some (nth old host)) → (account_at new host ≡ account_at old host) × IsTrue (is_some (nth new host))
+  pub same_account : (host : ℕ) → IsTrue (is_some (nth old host)) → (account_at new host ≡ account_at old host) × IsTrue (is_some (nth new host))
   same_account host stands = cases (nth old host) refl stands
     where
       cases : (q : Option HostRow) → nth old host ≡ q → IsTrue (is_some q) → (account_at new host ≡ account_at old host) × IsTrue (is_some (nth new host))
@@ -98,13 +99,9 @@ with_hosts w hosts sound stay each keys few = record {
 }
 
 -- a row is of a host's key where it has its account and its name
-both_hold : (a b : Bool) → (a && b) ≡ true → (a ≡ true) × (b ≡ true)
-both_hold true b is = (refl, is)
-both_hold false b is = absurd cc
-
 of_key : (account : ℕ) (cpid : List ℕ) (h : HostRow) → is_host_of account cpid h ≡ true → (h.account ≡ account) × (h.cpid ≡ cpid)
 of_key account cpid h is =
-    let both = both_hold (eqb h.account account) (bytes_eq h.cpid cpid) is in
+    let both = and_parts (eqb h.account account) (bytes_eq h.cpid cpid) is in
     (eqb-true h.account account both.0, (bytes_eq-Decides h.cpid cpid).0 both.1)
 
 not_of_key : (account : ℕ) (cpid : List ℕ) (h : HostRow) → is_host_of account cpid h ≡ false → h.account ≡ account → h.cpid ≡ cpid → ⊥
@@ -114,6 +111,44 @@ not_of_key account cpid h fails same also =
     let never : true ≡ false = sym second ∙ sym (ap (λ b. b && bytes_eq h.cpid cpid) first) ∙ fails in
     absurd cc
 
+-- a new row of hosts, or a renewed one, leaves each its account
+pub accounts_at_entry : (w : World) (c : Caller) (r : Request) → IsCaller w c r → AccountsStay w.hosts (hosts_at_entry w c r c.host)
+accounts_at_entry w c r caller n h at = with_host c.host caller.host
+  where
+    with_host : (o : Option ℕ) → known_host w c.account r.host.host_cpid ≡ o
+        → (k : HostRow) × (nth (hosts_at_entry w c r o) n ≡ Some k) × (k.account ≡ h.account)
+    with_host None new =
+        let low = number_within w.hosts n h at in
+        let row : HostRow = row_of_call c r w.settings.daily_result_quota in (
+          h,
+          nth-push w.hosts row n
+              ∙ ap (λ (b : Bool). cond b (Some row) (nth w.hosts n)) (ne_eqb (length w.hosts + 1) n (λ same. omega arith))
+              ∙ at,
+          refl,
+        )
+    with_host (Some host) known = cases (eqb host n) refl
+      where
+        renewed : HostRow → HostRow
+        renewed k = row_of_call c r k.quota
+
+        cases : (b : Bool) → eqb host n ≡ b → (k : HostRow) × (nth (modify_nth renewed w.hosts host) n ≡ Some k) × (k.account ≡ h.account)
+        cases true equal =
+            let found = place_found (is_host_of c.account r.host.host_cpid) w.hosts host known in
+            let same : found.0 ≡ h = (let both : Some found.0 ≡ Some h = sym found.1 ∙ ap (nth w.hosts) (eqb-true host n equal) ∙ at in cc) in (
+              renewed h,
+              nth-modify_nth renewed w.hosts host n
+                  ∙ ap (λ (b : Bool). cond b (option_map renewed (nth w.hosts n)) (nth w.hosts n)) equal
+                  ∙ ap (option_map renewed) at,
+              sym (of_key c.account r.host.host_cpid h (ap (is_host_of c.account r.host.host_cpid) (sym same) ∙ found.2)).0,
+            )
+        cases false other = (
+          h,
+          nth-modify_nth renewed w.hosts host n
+              ∙ ap (λ (b : Bool). cond b (option_map renewed (nth w.hosts n)) (nth w.hosts n)) other
+              ∙ at,
+          refl,
+        )
+
 -- the row of the caller's host
 module _ (w : World) (c : Caller) (r : Request) (sound : Sound w) (caller : IsCaller w c r) (limits : IsInRange r) where
   account_stands : (1 ≤ c.account) × (c.account ≤ length w.accounts)
@@ -121,7 +156,7 @@ module _ (w : World) (c : Caller) (r : Request) (sound : Sound w) (caller : IsCa
       let found = place_found (λ (a : Account). bytes_eq a.authenticator r.authenticator) w.accounts c.account caller.account in
       number_within w.accounts c.account found.0 found.1
 
-  entry_is_sound : (quota : ℕ) → (1 ≤ quota) × (quota ≤ w.settings.daily_result_quota)
+  pub entry_is_sound : (quota : ℕ) → (1 ≤ quota) × (quota ≤ w.settings.daily_result_quota)
       → IsSoundHost (length w.accounts) w.settings.daily_result_quota (row_of_call c r quota)
   entry_is_sound quota within = record {
     account = account_stands;
@@ -158,23 +193,7 @@ module _ (w : World) (c : Caller) (r : Request) (sound : Sound w) (caller : IsCa
           of_key c.account r.host.host_cpid h (ap (is_host_of c.account r.host.host_cpid) (sym same) ∙ found.2)
 
       stay : AccountsStay w.hosts (modify_nth renewed w.hosts host)
-      stay n h at = cases (eqb host n) refl
-        where
-          cases : (b : Bool) → eqb host n ≡ b → (k : HostRow) × (nth (modify_nth renewed w.hosts host) n ≡ Some k) × (k.account ≡ h.account)
-          cases true equal = (
-            renewed h,
-            nth-modify_nth renewed w.hosts host n
-                ∙ ap (λ (b : Bool). cond b (option_map renewed (nth w.hosts n)) (nth w.hosts n)) equal
-                ∙ ap (option_map renewed) at,
-            sym (here h (ap (nth w.hosts) (eqb-true host n equal) ∙ at)).0,
-          )
-          cases false other = (
-            h,
-            nth-modify_nth renewed w.hosts host n
-                ∙ ap (λ (b : Bool). cond b (option_map renewed (nth w.hosts n)) (nth w.hosts n)) other
-                ∙ at,
-            refl,
-          )
+      stay = subst (λ o. AccountsStay w.hosts (hosts_at_entry w c r o)) is (accounts_at_entry w c r caller)
 
   -- a new host gets a row behind the others
   makes : c.host ≡ None → length w.hosts < w.settings.max_hosts → Sound (record w { hosts = w.hosts ++ row_of_call c r w.settings.daily_result_quota ∷ [] })
@@ -192,14 +211,7 @@ module _ (w : World) (c : Caller) (r : Request) (sound : Sound w) (caller : IsCa
       row = row_of_call c r w.settings.daily_result_quota
 
       stay : AccountsStay w.hosts (w.hosts ++ row ∷ [])
-      stay n h at =
-          let low = number_within w.hosts n h at in (
-            h,
-            nth-push w.hosts row n
-                ∙ ap (λ (b : Bool). cond b (Some row) (nth w.hosts n)) (ne_eqb (length w.hosts + 1) n (λ same. omega arith))
-                ∙ at,
-            refl,
-          )
+      stay = subst (λ o. AccountsStay w.hosts (hosts_at_entry w c r o)) none (accounts_at_entry w c r caller)
 
 pub entry_keeps_sound : EntryKeepsSound
 entry_keeps_sound w c r sound caller room limits = cases c.host refl

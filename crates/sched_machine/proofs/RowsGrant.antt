@@ -25,7 +25,9 @@ use Rattle.job_choice.proofs.Candidates.{Stood, stood}
 use Rattle.sched_machine.specs.Laws.{GrantKeepsSound}
 use Rattle.sched_machine.proofs.RowsKept.{rows_kept}
 use Rattle.sched_machine.proofs.RowsListed.{all_changed, pairs_changed, all_changed_nth, pairs_changed_nth, count_changed, any_changed, none_any}
-use Rattle.sched_machine.proofs.RowsCounted.{length-changed, need_stays, status_stays}
+use Rattle.sched_machine.proofs.RowsCounted.{need_stays, status_stays}
+use Rattle.sched_machine.proofs.RunKept.{free_first}
+use Rattle.sched_machine.proofs.UnitsAlike.{length_changed}
 
 -- what is not the user's went to no host of the user
 other_user : (account : ℕ) (user : Option ℕ) → option_any (λ n. n == account) user ≡ false → user ≡ Some account → ⊥
@@ -71,7 +73,7 @@ module _ (hosts : List HostRow) (apps : List App) (account : ℕ) (o : Owner) (b
       bare = all_changed IsBare (with_owner o) b.instances n sound.well.bare (λ y is before none. absurd cc);
       owners = all_changed (HasOwnerAmong hosts) (with_owner o) b.instances n sound.well.owners (λ y is before. among);
       app = sound.well.app;
-      few = subst (λ m. m ≤ most_instances) (sym (length-changed (with_owner o) b.instances n)) sound.well.few;
+      few = subst (λ m. m ≤ most_instances) (sym (length_changed (with_owner o) b.instances n)) sound.well.few;
       limits = sound.well.limits;
       instances = all_changed IsInstanceInLimits (with_owner o) b.instances n sound.well.instances
           (λ y is before. record {
@@ -83,11 +85,7 @@ module _ (hosts : List HostRow) (apps : List App) (account : ℕ) (o : Owner) (b
     };
   }
 
--- what it tells that an instance is eligible: nobody was given it, and its workunit went to no host of the user
-none_free : (o : Option Owner) (b : Bool) → (is_none o && b) ≡ true → o ≡ None
-none_free None b is = refl
-none_free (Some o) b is = absurd cc
-
+-- what it tells that an instance is eligible: its workunit went to no host of the user
 not_had : (a b c d : Bool) → (a && (b && c && not d)) ≡ true → d ≡ false
 not_had true true true false is = refl
 not_had true true true true is = absurd cc
@@ -121,7 +119,7 @@ module _ (host now : ℕ) (h : HostRow) (soon : now ≤ last_moment) where
           let delay : delay_at w p ≡ at.book.unit.delay_bound = ap (λ q. unwrap_or (option_map (λ (b : UnitBook). b.unit.delay_bound) q) 0) at.at in
           let short : at.book.unit.delay_bound ≤ most_delay = unit.well.limits.delay.1 in
           given_stays_sound w.hosts w.apps h.account o at.book p.number at.x unit at.stands
-          (none_free at.x.owner (is_for w h at.book) at.passed)
+          (free_first at.x.owner (is_for w h at.book) at.passed)
           (not_had (is_none at.x.owner) (is_open (status_of w at.book)) (unit_fits w h at.book) (user_had w h.account at.book) at.passed)
           (ap (option_map (λ (k : HostRow). k.account)) stands)
           (ap is_some stands) soon

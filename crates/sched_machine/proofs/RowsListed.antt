@@ -6,6 +6,7 @@ use Rattle.std.proofs.lemmas.List.Elements.{All-cons, All-head, All-tail}
 use Rattle.std.proofs.lemmas.List.Kept.{AllPairs-cons}
 use Rattle.std.proofs.lemmas.List.Sums.{sum_by-cons}
 use Rattle.std.proofs.lemmas.Option.{slice_get-get_or, slice_get_within, get_or_from_slice_get, slice_get-map}
+use Rattle.std.proofs.lemmas.Bool.{or_parts}
 use Rattle.sched_book.specs.Places.{nth, place_where}
 use Rattle.sched_book.specs.Reports.{modify_at, modify_nth}
 use Rattle.sched_book.proofs.PlacesOf.{nth-suc, place_where-is}
@@ -108,16 +109,8 @@ any_changed p f (x ∷ xs) (suc n) same = ap (λ b. p x || b) (any_changed p f x
 -- where none passes, each fails
 pub none_any : {X : Type 0} (p : X → Bool) (xs : List X) → list_any p xs ≡ false → (i : ℕ) (x : X) → slice_get xs i ≡ Some x → p x ≡ false
 none_any p [] none i x there = absurd cc
-none_any p (y ∷ ys) none zero x there = let same : y ≡ x = cc in ap p (sym same) ∙ first_fails (p y) (list_any p ys) none
-  where
-    first_fails : (a b : Bool) → (a || b) ≡ false → a ≡ false
-    first_fails true b is = is
-    first_fails false b is = refl
-none_any p (y ∷ ys) none (suc i) x there = none_any p ys (rest_fails (p y) (list_any p ys) none) i x there
-  where
-    rest_fails : (a b : Bool) → (a || b) ≡ false → b ≡ false
-    rest_fails true b is = absurd cc
-    rest_fails false b is = is
+none_any p (y ∷ ys) none zero x there = let same : y ≡ x = cc in ap p (sym same) ∙ (or_parts (p y) (list_any p ys) none).0
+none_any p (y ∷ ys) none (suc i) x there = none_any p ys (or_parts (p y) (list_any p ys) none).1 i x there
 
 -- the first that passes, if any does
 abbrev FoundFrom : {X : Type 0} → (X → Bool) → ℕ → List X → ℕ → Type 0

@@ -2,6 +2,7 @@
 use Rattle.std.proofs.Common.{◌≡◌, ℕ, zero, suc, ◌+◌, ◌-◌, ◌<◌, Bool, true, false, cond, eqb, ne_eqb, List, [], ◌∷◌, ◌++◌, Option, Some, None, sym, refl, ap, ◌∙◌, subst, arith}
 use Rattle.std.specs.Prelude.{◌&&◌, All, AllPairs, Contains, fold, get_or, is_none, is_some, map, not, replicate, option_map, option_and_then, unwrap_or, slice_get}
 use Rattle.std.proofs.lemmas.List.Elements.{All-nil, All-filter, All-head, All-tail}
+use Rattle.std.proofs.lemmas.Bool.{and_parts}
 use Rattle.rpc_records.specs.declared.request.Report.{Report}
 use Rattle.rpc_records.specs.declared.request.Request.{Request}
 use Rattle.sched_book.specs.Count.{is_held, is_open, need}
@@ -34,7 +35,6 @@ use Rattle.sched_book.proofs.Settling.{nth-map}
 use Rattle.job_choice.proofs.Candidates.{Stood, stood}
 use Rattle.sched_machine.proofs.AlikePlaces.{places_hold}
 use Rattle.sched_book.proofs.Rising.{pairs_head, pairs_tail}
-use Rattle.sched_machine.proofs.UnitsGiven.{first_true}
 
 -- an instance has no lapse but this
 abbrev pub HasNoOther : Lapse → Instance → Type 0
@@ -54,8 +54,12 @@ abbrev pub KeptAt : (Instance → Instance → Type 0) → Place → World → W
 KeptAt R p old new = (x : Instance) → instance_at old p ≡ Some x → (y : Instance) × (instance_at new p ≡ Some y) × R x y
 
 -- what holds of the instance at a place, where one stands
-abbrev HoldsAt : (Instance → Type 0) → World → Place → Type 0
+abbrev pub HoldsAt : (Instance → Type 0) → World → Place → Type 0
 HoldsAt P w p = (x : Instance) → instance_at w p ≡ Some x → P x
+
+-- nobody was given it
+abbrev pub IsFree : World → Place → Type 0
+IsFree = HoldsAt (λ x. x.owner ≡ None)
 
 -- a change that keeps it, here or elsewhere
 holds_after : (P : Instance → Type 0) (f : Instance → Instance) → ((x : Instance) → P x → P (f x)) → (w : World) (p q : Place)
@@ -76,10 +80,6 @@ held_no_lapse lapse x held l is = cases (is_some x.owner && is_none x.report) x.
     cases true (Some k) held is = absurd cc
     cases false (Some k) held is = absurd cc
 
-second_true : (a b : Bool) → (a && b) ≡ true → b ≡ true
-second_true true b is = is
-second_true false b is = absurd cc
-
 -- what is lost did not lapse
 lost_no_lapse : (w : World) (host : ℕ) (names : Option (List (List ℕ))) → All (HoldsAt (HasNoOther Dropped) w) (lost w host names)
 lost_no_lapse w host names = cases w.settings.resend_lost_results names
@@ -90,14 +90,14 @@ lost_no_lapse w host names = cases w.settings.resend_lost_results names
     cases true (Some list) =
         All-filter (λ p. not (is_listed w list p)) (HoldsAt (HasNoOther Dropped) w) (held_by w host)
         (places_hold w (is_held_by host) (HasNoOther Dropped)
-        (λ x held. held_no_lapse Dropped x (second_true (is_owned_by host x) (is_held x) held)))
+        (λ x held. held_no_lapse Dropped x (and_parts (is_owned_by host x) (is_held x) held).1))
 
 -- nobody was given what is eligible
-free_first : (o : Option Owner) (b : Bool) → (is_none o && b) ≡ true → o ≡ None
+pub free_first : (o : Option Owner) (b : Bool) → (is_none o && b) ≡ true → o ≡ None
 free_first None b is = refl
 free_first (Some o) b is = absurd cc
 
-eligible_is_free : (w : World) (h : HostRow) (p : Place) → is_eligible w h p ≡ true → HoldsAt (λ x. x.owner ≡ None) w p
+pub eligible_is_free : (w : World) (h : HostRow) (p : Place) → is_eligible w h p ≡ true → IsFree w p
 eligible_is_free w h p eligible x stands =
     let at : Stood w (λ b x. is_none x.owner && is_for w h b) p = stood w (λ b x. is_none x.owner && is_for w h b) p eligible in
     let also : instance_at w p ≡ Some at.x = ap (option_and_then (λ (b : UnitBook). slice_get b.instances p.number)) at.at ∙ at.stands in
@@ -108,7 +108,7 @@ eligible_is_free w h p eligible x stands =
 other_place : (p q : Place) → p.unit < q.unit → is_same p q ≡ false
 other_place p q before = ap (λ b. b && eqb p.number q.number) (ne_eqb p.unit q.unit (λ same. omega arith))
 
-elsewhere : (P : Instance → Type 0) (f : Instance → Instance) (w : World) (p q : Place) → p.unit < q.unit → HoldsAt P w q
+pub elsewhere : (P : Instance → Type 0) (f : Instance → Instance) (w : World) (p q : Place) → p.unit < q.unit → HoldsAt P w q
     → HoldsAt P (with_changed f w p) q
 elsewhere P f w p q before holds y stands =
     holds y (sym (instance_at-with_changed f w p q ∙ ap (λ b. cond b (option_map f (instance_at w q)) (instance_at w q)) (other_place p q before)) ∙ stands)
@@ -119,7 +119,22 @@ front_stays [] more i x is = absurd cc
 front_stays (y ∷ xs) more zero x is = is
 front_stays (y ∷ xs) more (suc i) x is = front_stays xs more i x is
 
-front_nth : {X : Type 0} (xs more : List X) (n : ℕ) (x : X) → nth xs n ≡ Some x → nth (xs ++ more) n ≡ Some x
+-- settlement leaves each instance as it is
+pub settled_stands : (old v : World) (p : Place) (x : Instance) → instance_at v p ≡ Some x → instance_at (settled old v) p ≡ Some x
+settled_stands old v p x stands =
+    ap (option_and_then (λ (b : UnitBook). slice_get b.instances p.number)) (nth-map (grown v.apps) v.units p.unit) ∙ at_unit (unit_at v p.unit) stands
+  where
+    in_grown : (b : UnitBook) (t : Bool) (many : ℕ) → slice_get b.instances p.number ≡ Some x
+        → slice_get (cond t (record b { instances = b.instances ++ replicate many fresh }) b).instances p.number ≡ Some x
+    in_grown b true many is = front_stays b.instances (replicate many fresh) p.number x is
+    in_grown b false many is = is
+
+    at_unit : (o : Option UnitBook) → option_and_then (λ (b : UnitBook). slice_get b.instances p.number) o ≡ Some x
+        → option_and_then (λ (b : UnitBook). slice_get b.instances p.number) (option_map (grown v.apps) o) ≡ Some x
+    at_unit None is = absurd cc
+    at_unit (Some b) is = in_grown b (is_open (book_status v.apps b)) (need b.unit b.instances) is
+
+pub front_nth : {X : Type 0} (xs more : List X) (n : ℕ) (x : X) → nth xs n ≡ Some x → nth (xs ++ more) n ≡ Some x
 front_nth {X} xs more n x is = cases (eqb n 0) is
   where
     cases : (b : Bool) → cond b None (slice_get xs (n - 1)) ≡ Some x → cond b None (slice_get (xs ++ more) (n - 1)) ≡ Some x
@@ -187,7 +202,7 @@ module _ (R : Instance → Instance → Type 0) (lasting : IsLasting R) (p : Pla
   kept_lapses w now =
       all (overdue w now) w
       (places_hold w (is_overdue now) (HasNoOther Late)
-      (λ x late. held_no_lapse Late x (first_true (is_held x) _ late)))
+      (λ x late. held_no_lapse Late x (and_parts (is_held x) _ late).0))
     where
       all : (qs : List Place) (v : World) → All (HoldsAt (HasNoOther Late) v) qs → KeptAt R p v (fold (with_changed (with_lapse Late)) v qs)
       all [] v free = kept_self v
@@ -234,32 +249,21 @@ module _ (R : Instance → Instance → Type 0) (lasting : IsLasting R) (p : Pla
 
   -- settlement
   pub kept_settled : (old v : World) → KeptAt R p v (settled old v)
-  kept_settled old v x stands =
-      (x, ap (option_and_then (λ (b : UnitBook). slice_get b.instances p.number)) (nth-map (grown v.apps) v.units p.unit) ∙ at_unit (unit_at v p.unit) stands, lasting.same x)
-    where
-      in_grown : (b : UnitBook) (t : Bool) (many : ℕ) → slice_get b.instances p.number ≡ Some x
-          → slice_get (cond t (record b { instances = b.instances ++ replicate many fresh }) b).instances p.number ≡ Some x
-      in_grown b true many is = front_stays b.instances (replicate many fresh) p.number x is
-      in_grown b false many is = is
-
-      at_unit : (o : Option UnitBook) → option_and_then (λ (b : UnitBook). slice_get b.instances p.number) o ≡ Some x
-          → option_and_then (λ (b : UnitBook). slice_get b.instances p.number) (option_map (grown v.apps) o) ≡ Some x
-      at_unit None is = absurd cc
-      at_unit (Some b) is = in_grown b (is_open (book_status v.apps b)) (need b.unit b.instances) is
+  kept_settled old v x stands = (x, settled_stands old v p x stands, lasting.same x)
 
   -- a grant
   module _ (host now : ℕ) where
-    kept_all_given : (jobs : List Place) (w : World) → AllPairs (λ (p r : Place). p.unit < r.unit) jobs → All (HoldsAt (λ x. x.owner ≡ None) w) jobs
+    kept_all_given : (jobs : List Place) (w : World) → AllPairs (λ (p r : Place). p.unit < r.unit) jobs → All (IsFree w) jobs
         → KeptAt R p w (granted w host now jobs)
     kept_all_given [] w rising free = kept_self w
     kept_all_given (q ∷ jobs) w rising free =
         let o : Owner = record { host = host; sent = now; deadline = now + delay_at w q } in
         kept_then w (grant_one host now w q) (granted (grant_one host now w q) host now jobs)
-        (kept_put (λ x. x.owner ≡ None) (with_owner o) (lasting.given o) w q (All-head (HoldsAt (λ x. x.owner ≡ None) w) q jobs free))
+        (kept_put (λ x. x.owner ≡ None) (with_owner o) (lasting.given o) w q (All-head (IsFree w) q jobs free))
         (kept_all_given jobs (grant_one host now w q) (pairs_tail (λ (p r : Place). p.unit < r.unit) q jobs rising)
         (λ k d within.
         elsewhere (λ x. x.owner ≡ None) (with_owner o) w q (get_or jobs k d) (pairs_head (λ (p r : Place). p.unit < r.unit) q jobs rising k d within)
-        (All-tail (HoldsAt (λ x. x.owner ≡ None) w) q jobs free k d within)))
+        (All-tail (IsFree w) q jobs free k d within)))
 
   pub kept_granted : (w : World) (a : Asking) (jobs : List Place) → IsGrant w a jobs → KeptAt R p w (granted w a.number a.now jobs)
   kept_granted w a jobs grant =

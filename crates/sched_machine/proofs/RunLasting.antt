@@ -105,22 +105,18 @@ pub owners_stay : HoldsInRuns OwnersStay
 owners_stay w calls turns sound limits trace i j less within =
     owners (world_after w turns i) (world_after w turns j) (all_last w calls turns sound limits trace i j less within)
 
-reports : (old new : World) → LastsEverywhere old new → ReportsStay old new
-reports old new all p t is =
-    let x = stood_with (λ (x : Instance). x.report) (instance_at old p) t is in
+-- what was told of an instance stays
+told_stays : {Y : Type 0} (f : Instance → Option Y) → ((x y : Instance) → Lasts x y → (t : Y) → f x ≡ Some t → f y ≡ Some t)
+    → (old new : World) → LastsEverywhere old new → (p : Place) (t : Y) → option_and_then f (instance_at old p) ≡ Some t → option_and_then f (instance_at new p) ≡ Some t
+told_stays f stays old new all p t is =
+    let x = stood_with f (instance_at old p) t is in
     let y = all p x.0 x.1 in
-    ap (option_and_then (λ (x : Instance). x.report)) y.1 ∙ y.2.report t x.2
+    ap (option_and_then f) y.1 ∙ stays x.0 y.0 y.2 t x.2
 
 pub reports_stay : HoldsInRuns ReportsStay
 reports_stay w calls turns sound limits trace i j less within =
-    reports (world_after w turns i) (world_after w turns j) (all_last w calls turns sound limits trace i j less within)
-
-lapses : (old new : World) → LastsEverywhere old new → LapsesStay old new
-lapses old new all p l is =
-    let x = stood_with (λ (x : Instance). x.lapse) (instance_at old p) l is in
-    let y = all p x.0 x.1 in
-    ap (option_and_then (λ (x : Instance). x.lapse)) y.1 ∙ y.2.lapse l x.2
+    told_stays (λ (x : Instance). x.report) (λ x y lasts. lasts.report) (world_after w turns i) (world_after w turns j) (all_last w calls turns sound limits trace i j less within)
 
 pub lapses_stay : HoldsInRuns LapsesStay
 lapses_stay w calls turns sound limits trace i j less within =
-    lapses (world_after w turns i) (world_after w turns j) (all_last w calls turns sound limits trace i j less within)
+    told_stays (λ (x : Instance). x.lapse) (λ x y lasts. lasts.lapse) (world_after w turns i) (world_after w turns j) (all_last w calls turns sound limits trace i j less within)

@@ -6,14 +6,13 @@ use Rattle.rpc_records.specs.declared.request.Request.{Request}
 use Rattle.sched_book.specs.Delta.{applied, Fits}
 use Rattle.sched_book.specs.Reports.{record_one, first_reports}
 use Rattle.sched_book.specs.Settle.{settled}
-use Rattle.sched_book.specs.Step.{at_entry, after_reports, after_lost, after_settlement, resent_of}
+use Rattle.sched_book.specs.Step.{at_entry, after_reports, after_lost, resent_of}
 use Rattle.sched_book.specs.declared.delta.Change.{Change}
-use Rattle.sched_book.specs.declared.instance.Place.{Place}
 use Rattle.sched_book.specs.declared.world.World.{World}
 use Rattle.quorum_credit.specs.Limited.{IsLimited, FitWithin}
 use Rattle.quorum_credit.specs.Settling.{AreMarks}
 use Rattle.quorum_credit.proofs.FitReports.{limited_from_sound}
-use Rattle.sched_machine.specs.Calling.{IsCalling, IsEntered}
+use Rattle.sched_machine.specs.Calling.{IsEntered}
 use Rattle.sched_machine.specs.Prepared.{IsSettledCall}
 use Rattle.sched_machine.specs.declared.caller.Calling.{Calling}
 use Rattle.sched_machine.specs.declared.settlement.SettledCall.{SettledCall}

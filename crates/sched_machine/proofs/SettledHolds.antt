@@ -22,6 +22,7 @@ use Rattle.sched_book.proofs.Recording.{passes-is, instance_at-with_changed}
 use Rattle.sched_book.proofs.Settling.{nth-map}
 use Rattle.lost_jobs.specs.Holding.{HoldsNoMore}
 use Rattle.lost_jobs.proofs.Reported.{reports_hold_no_more}
+use Rattle.sched_machine.specs.Asked.{holds}
 
 -- an instance that the host holds stands
 abbrev pub is_held_in : ℕ → Option Instance → Bool
@@ -103,14 +104,13 @@ grown_holds host apps b m = cases (is_open (book_status apps b)) (need b.unit b.
     cases true many = behind_holds host many b.instances m
     cases false many = refl
 
--- settlement
-pub settled_holds : (old v : World) (host : ℕ) → HoldsNoMore v (settled old v) host
-settled_holds old v host p holds =
-    passes-is v (is_held_by host) p
-    ∙ sym (cases (unit_at v p.unit))
-    ∙ sym (ap held_of (nth-map (grown v.apps) v.units p.unit))
-    ∙ sym (passes-is (settled old v) (is_held_by host) p)
-    ∙ holds
+-- settlement changes nothing in who holds what
+pub settled_same : (old v : World) (host : ℕ) (p : Place) → holds (settled old v) host p ≡ holds v host p
+settled_same old v host p =
+    passes-is (settled old v) (is_held_by host) p
+    ∙ ap held_of (nth-map (grown v.apps) v.units p.unit)
+    ∙ cases (unit_at v p.unit)
+    ∙ sym (passes-is v (is_held_by host) p)
   where
     held_of : Option UnitBook → Bool
     held_of o = is_held_in host (option_and_then (λ (b : UnitBook). slice_get b.instances p.number) o)
@@ -119,6 +119,9 @@ settled_holds old v host p holds =
         ≡ is_held_in host (option_and_then (λ (b : UnitBook). slice_get b.instances p.number) o)
     cases None = refl
     cases (Some b) = grown_holds host v.apps b p.number
+
+pub settled_holds : (old v : World) (host : ℕ) → HoldsNoMore v (settled old v) host
+settled_holds old v host p holds = sym (settled_same old v host p) ∙ holds
 
 -- all of it
 pub after_settlement_holds : (w : World) (c : Caller) (r : Request) (now : ℕ) → HoldsNoMore w (after_settlement w c r now) (host_number w c)

@@ -1,6 +1,6 @@
 -- Jobs that were given to hosts, changed one after another.
 use Rattle.std.proofs.Common.{◌≡◌, ℕ, Bool, true, false, cond, List, [], ◌∷◌, Option, Some, None, sym, refl, ap, ◌∙◌}
-use Rattle.std.specs.Prelude.{◌&&◌, ◌==◌, All, fold, is_some, option_map}
+use Rattle.std.specs.Prelude.{◌==◌, All, fold, is_some, option_map}
 use Rattle.std.proofs.lemmas.List.Elements.{All-head, All-tail}
 use Rattle.sched_book.specs.Places.{instance_at, option_any, is_owned_by, places_where, is_same}
 use Rattle.sched_book.specs.Reports.{with_changed}
@@ -15,11 +15,6 @@ use Rattle.sched_machine.proofs.AlikePlaces.{places_hold}
 -- what stands at a place was given to a host
 abbrev pub IsGiven : World → Place → Type 0
 IsGiven w p = (x : Instance) → instance_at w p ≡ Some x → is_some x.owner ≡ true
-
--- the first of two that hold
-pub first_true : (a b : Bool) → (a && b) ≡ true → a ≡ true
-first_true true b is = refl
-first_true false b is = is
 
 -- what a host owns was given to it
 pub owned_given : (host : ℕ) (x : Instance) → is_owned_by host x ≡ true → is_some x.owner ≡ true

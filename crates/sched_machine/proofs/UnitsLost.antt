@@ -1,7 +1,8 @@
 -- Lost jobs, sent again or dropped, leave a world well.
 use Rattle.std.proofs.Common.{◌≡◌, ℕ, ◌+◌, ◌≤◌, inl, Bool, true, false, cond, not, List, [], Option, Some, None, refl, arith}
-use Rattle.std.specs.Prelude.{◌&&◌, All, nat_le, is_some, option_map, unwrap_or, IfSome}
+use Rattle.std.specs.Prelude.{All, nat_le, is_some, option_map, unwrap_or, IfSome}
 use Rattle.std.proofs.lemmas.List.Elements.{All-nil, All-filter}
+use Rattle.std.proofs.lemmas.Bool.{and_parts}
 use Rattle.sched_book.specs.Count.{is_held}
 use Rattle.sched_book.specs.Fits.{estimate_at}
 use Rattle.sched_book.specs.Lost.{is_listed, unlisted, lost, is_resent, delay_at, deadline_after, with_deadline, with_lapse, resend_or_drop}
@@ -24,11 +25,7 @@ use Rattle.sched_machine.proofs.UnitsWell.{Keeps, changed_well}
 
 -- what a host holds was given to it
 held_by_given : (host : ℕ) (x : Instance) → is_held_by host x ≡ true → is_some x.owner ≡ true
-held_by_given host x held = held_given x (second (is_owned_by host x) (is_held x) held)
-  where
-    second : (a b : Bool) → (a && b) ≡ true → b ≡ true
-    second true b is = is
-    second false b is = absurd cc
+held_by_given host x held = held_given x (and_parts (is_owned_by host x) (is_held x) held).1
 
 -- so was what is lost
 pub lost_given : (w : World) (host : ℕ) (names : Option (List (List ℕ))) → All (IsGiven w) (lost w host names)

@@ -1,8 +1,9 @@
 -- Reports leave a world well.
-use Rattle.std.proofs.Common.{◌≡◌, ℕ, ◌+◌, ◌≤◌, inl, inr, Bool, true, false, cond, not, List, [], ◌∷◌, length, Option, Some, None, sym, refl, ap, ◌∙◌, arith}
+use Rattle.std.proofs.Common.{◌≡◌, ℕ, ◌+◌, ◌≤◌, inl, inr, Bool, true, false, cond, List, [], ◌∷◌, length, Option, Some, None, sym, refl, ap, ◌∙◌, arith}
 use Rattle.std.specs.Prelude.{◌&&◌, All, fold, count_by, is_some, is_none, option_map, option_and_then, unwrap_or, slice_get, IfSome}
 use Rattle.std.proofs.lemmas.List.Elements.{All-head, All-tail}
 use Rattle.std.proofs.lemmas.List.Sums.{count_by-le-length}
+use Rattle.std.proofs.lemmas.Bool.{and_parts}
 use Rattle.rpc_records.specs.Ranges.{IsReport}
 use Rattle.rpc_records.specs.declared.request.Report.{Report}
 use Rattle.sched_book.specs.Count.{is_judged, report_place, has_failed}
@@ -18,12 +19,12 @@ use Rattle.sched_book.specs.declared.world.World.{World}
 use Rattle.quorum_credit.proofs.FirstNames.{all_first}
 use Rattle.sched_machine.specs.Laws.{ReportsKeepWell}
 use Rattle.sched_machine.proofs.UnitsAlike.{length_changed, count_more}
-use Rattle.sched_machine.proofs.UnitsGiven.{first_true, owned_given}
+use Rattle.sched_machine.proofs.UnitsGiven.{owned_given}
 use Rattle.sched_machine.proofs.UnitsWell.{Keeps, IsGoodChange, changed_well}
 
 -- what awaits a report was given, and is not judged
 awaits_given : (host : ℕ) (x : Instance) → awaits_report host x ≡ true → is_some x.owner ≡ true
-awaits_given host x awaits = owned_given host x (first_true (is_owned_by host x) (is_none x.report) awaits)
+awaits_given host x awaits = owned_given host x (and_parts (is_owned_by host x) (is_none x.report) awaits).0
 
 unreported : (o : Option Outcome) (b : Bool) → (b && is_none o) ≡ true → o ≡ None
 unreported None b awaits = refl

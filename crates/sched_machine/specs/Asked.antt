@@ -1,5 +1,5 @@
 -- What a call's host holds, and which of its lost jobs are sent again.
-use Rattle.std.specs.Prelude.{ℕ, ◌+◌, Bool, true, false, List, filter_map, Option, Some, None, if◌then◌else◌, option_map, unwrap_or, slice_get}
+use Rattle.std.specs.Prelude.{ℕ, Bool, true, false, List, filter_map, Option, Some, None, is_some, if◌then◌else◌, option_map, unwrap_or, slice_get}
 use Rattle.sched_book.specs.Places.{passes, is_held_by}
 use Rattle.sched_book.specs.declared.instance.Place.{Place}
 use Rattle.sched_book.specs.declared.world.World.{World}
@@ -15,14 +15,9 @@ abbrev pub still_holds : Option Leaf → ℕ → ℕ → Bool
 still_holds None host number = true
 still_holds (Some k) host number = unwrap_or (option_map (is_held_by host) (slice_get k.present number)) false
 
--- one more where it is held
-abbrev pub count_with : ℕ → Bool → ℕ
-count_with count held = if held then count + 1 else count
-
 -- the place of a lost job that is sent again
 abbrev pub place_resent : Option ℕ → Place → Option Place
-place_resent None p = None
-place_resent (Some deadline) p = Some p
+place_resent deadline p = if is_some deadline then Some p else None
 
 -- those of all of them
 abbrev pub resent_places : List Fate → List Place

@@ -1,37 +1,38 @@
 -- Jobs that are given to a host, as changes of a world, and what a reply says of them.
-use Rattle.std.specs.Prelude.{◌≡◌, ℕ, ◌+◌, Bool, List, All, Option, None, Some, option_map, option_and_then, unwrap_or}
+use Rattle.std.specs.Prelude.{◌≡◌, ℕ, ◌+◌, Bool, IsTrue, List, All, Option, None, Some, is_some, option_map, option_and_then, unwrap_or, slice_get}
 use Rattle.rpc_records.specs.declared.reply.Job.{Job}
 use Rattle.sched_book.specs.Names.{instance_name}
 use Rattle.sched_book.specs.Fits.{version_for}
-use Rattle.sched_book.specs.Places.{unit_at, instance_at, deadline_of}
-use Rattle.sched_book.specs.Desk.{workunit_at}
+use Rattle.sched_book.specs.Delta.{applied}
+use Rattle.sched_book.specs.Places.{unit_at, host_at, deadline_of}
 use Rattle.sched_book.specs.Step.{with_owner, job_of}
 use Rattle.sched_book.specs.declared.delta.Change.{Change}
-use Rattle.sched_book.specs.declared.delta.Change.TheVariants as change
 use Rattle.sched_book.specs.declared.instance.Instance.{Instance}
 use Rattle.sched_book.specs.declared.instance.Owner.{Owner}
-use Rattle.sched_book.specs.declared.instance.Place.{Place}
 use Rattle.sched_book.specs.declared.rows.HostRow.{HostRow}
 use Rattle.sched_book.specs.declared.instance.UnitBook.{UnitBook}
 use Rattle.sched_book.specs.declared.rows.Version.{Version}
-use Rattle.sched_book.specs.declared.rows.Workunit.{Workunit}
 use Rattle.sched_book.specs.declared.world.World.{World}
 use Rattle.job_choice.specs.declared.granted.Granted.{Granted}
 use Rattle.call_sheet.specs.Sheets.{instance_now}
 use Rattle.call_sheet.specs.declared.leaf.Leaf.{Leaf}
+use Rattle.quorum_credit.specs.Limited.{FitWithin}
+use Rattle.quorum_credit.specs.Settling.{AreUnitsInLimits}
 
 -- the owner that a host becomes at a moment, with a delay for its deadline
 abbrev pub owner_for : ℕ → ℕ → ℕ → Owner
 owner_for host now delay = record { host = host; sent = now; deadline = now + delay }
 
--- the instance at a place, given to a host; none where none stands
-abbrev pub given_at : World → ℕ → ℕ → Place → Option Instance
-given_at w host now p =
-    option_and_then (λ (u : Workunit). option_map (with_owner (owner_for host now u.delay_bound)) (instance_at w p)) (workunit_at w p.unit)
+-- the instance of a number on a leaf, given to a host; none where none stands
+abbrev pub given_on : Option Leaf → ℕ → ℕ → ℕ → Option Instance
+given_on None number host now = None
+given_on (Some k) number host now = option_map (with_owner (owner_for host now k.unit.delay_bound)) (slice_get k.present number)
 
--- the same as a change
-abbrev pub given_change : World → ℕ → ℕ → Place → Option Change
-given_change w host now p = option_map (change.Instance p) (given_at w host now p)
+-- The changes fit a world whose workunits are within limits, and leave one that has the host.
+pub record FitWithHost (w : World) (host : ℕ) (changes : List Change) : Type 0 where
+  pub units : AreUnitsInLimits w
+  pub within : FitWithin w changes
+  pub stands : IsTrue (is_some (host_at (applied w changes) host))
 
 -- the version that the host runs of the application of the workunit at a place
 abbrev pub version_at_unit : World → HostRow → ℕ → Option Version

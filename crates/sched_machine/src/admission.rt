@@ -1,10 +1,10 @@
 //! Who makes a call, and why a call is refused before it is acted on.
 
-ghost use Rattle.std.specs.Prelude.{◌≡◌, true, false, Some, None, IfOk, IsErrOf};
+ghost use Rattle.std.specs.Prelude.{◌≡◌, true, Some, None, IfOk, IsErrOf};
 ghost use Rattle.sched_book.specs.Places.{account_place};
 ghost use Rattle.sched_book.specs.Step.{IsCaller};
 ghost use Rattle.sched_book.specs.Trusted.{Trusted};
-ghost use Rattle.sched_machine.specs.Admission.{is_number, names_host, TellsWrongNumber};
+ghost use Rattle.sched_machine.specs.Admission.{names_host, TellsWrongNumber};
 ghost use Rattle.sched_machine.specs.declared.admission.Refused.TheVariants as refused;
 
 use rpc_records::Request;
@@ -32,39 +32,15 @@ impl From<Unavailable> for Refused {
     }
 }
 
-/// Whether a number is known and is this one.
-fn is_number(hostid: u32, number: Option<u32>) -> bool
-    ensures { result ≡ is_number hostid number }
-{
-    match number {
-        None => false,
-        Some(number) => hostid == number,
-    }
-}
-
 /// Whether a call tells no number, or that of its host.
 fn names_host(hostid: u32, number: Option<u32>) -> bool
     ensures { result ≡ names_host hostid number }
 {
-    hostid == 0 || is_number(hostid, number)
-}
-
-/// The place of the account that a call names.
-#[tactic(auto, using(crate::proofs::RowsAdmitted::account_is))]
-fn account_of<D: Desk>(
-    alloc: Global,
-    desk: &mut D,
-    request: &Request,
-) -> Result<Option<u32>, Unavailable>
-    ensures reads { D.reads desk.old desk.new }
-    ensures answer { Trusted D.Units desk.old desk.new (
-        IfOk result (λ account. account ≡ account_place (D.world desk.old) request.now.authenticator)) }
-{
-    let found = desk.account_by_key(alloc, request.authenticator.as_str())?;
-    Ok(found.map(|account| account.place))
+    hostid == 0 || number.is_some_and(|number| hostid == number)
 }
 
 /// Who makes a call: the account that it names, and the number of its host, where the host is known.
+#[tactic(auto, using(crate::proofs::RowsAdmitted::account_is))]
 pub fn admit<D: Desk>(alloc: Global, desk: &mut D, request: &Request) -> Result<Caller, Refused>
     ensures reads { D.reads desk.old desk.new }
     ensures caller { Trusted D.Units desk.old desk.new (IfOk result (λ caller.
@@ -75,7 +51,8 @@ pub fn admit<D: Desk>(alloc: Global, desk: &mut D, request: &Request) -> Result<
         TellsWrongNumber (D.world desk.old) request.now) }
     ensures never_full { IsErrOf result refused.HostsFull → ⊥ }
 {
-    let Some(account) = account_of(alloc, desk, request)? else {
+    let found = desk.account_by_key(alloc, request.authenticator.as_str())?;
+    let Some(account) = found.map(|account| account.place) else {
         return Err(Refused::BadAccount);
     };
     let host = desk.host_by_key(account, request.host.host_cpid.as_str())?;

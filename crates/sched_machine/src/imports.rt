@@ -1,10 +1,7 @@
 //! The rows of an import, as changes.
 
 ghost use Rattle.std.specs.Prelude.{◌≡◌, map, IfOk};
-ghost use Rattle.sched_book.specs.Delta.{applied, Fits};
-ghost use Rattle.sched_book.specs.Imports.{AreChecked, with_rows, row_count};
-ghost use Rattle.sched_book.specs.Sound.{Sound};
-ghost use Rattle.sched_book.specs.declared.world.World.{World};
+ghost use Rattle.sched_book.specs.Imports.{row_count};
 ghost use Rattle.sched_machine.specs.Importing.{changes_of};
 
 use sched_book::{Account, App, Change, Delta, Rows, Unavailable, Version, Workunit};
@@ -74,7 +71,7 @@ fn added_rows<R: NewRow>(alloc: Global, rows: &[R]) -> Result<Delta, Memory>
 }
 
 /// The changes that add these rows.
-fn rows_added(alloc: Global, rows: &Rows) -> Result<Delta, Memory>
+pub(crate) fn changes_of(alloc: Global, rows: &Rows) -> Result<Delta, Memory>
     ensures { IfOk result (λ delta. delta ≡ changes_of rows.now) }
 {
     match rows {
@@ -83,15 +80,6 @@ fn rows_added(alloc: Global, rows: &Rows) -> Result<Delta, Memory>
         Rows::Versions(versions) => added_rows(alloc, versions.as_slice()),
         Rows::Workunits(workunits) => added_rows(alloc, workunits.as_slice()),
     }
-}
-
-/// The changes that add these rows, which fit a sound world where they were checked beside it.
-#[tactic(auto, using(crate::proofs::RowsAdded::import_steps))]
-pub(crate) fn changes_of(alloc: Global, rows: &Rows) -> Result<Delta, Memory>
-    ensures left { IfOk result (λ delta. (w : World) → applied w delta ≡ with_rows w rows.now) }
-    ensures fits { IfOk result (λ delta. (w : World) → Sound w → AreChecked w rows.now → Fits w delta) }
-{
-    rows_added(alloc, rows)
 }
 
 /// How many rows there are. More than 32 bits tell are refused.

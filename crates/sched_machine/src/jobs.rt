@@ -1,10 +1,10 @@
 //! What a reply says of jobs.
 
-ghost use Rattle.std.specs.Prelude.{◌≡◌, [], ◌++◌, true, false, filter_map, option_map, option_and_then, unwrap_or, IfOk, OnOk};
+ghost use Rattle.std.specs.Prelude.{◌≡◌, [], ◌++◌, true, false, filter_map, option_map, unwrap_or, IfOk, OnOk};
 ghost use Rattle.std.specs.Option.{option_copied};
 ghost use Rattle.std.specs.List.{cons_option};
 ghost use Rattle.sched_book.specs.Places.{deadline_of};
-ghost use Rattle.sched_book.specs.Step.{job_at, job_of};
+ghost use Rattle.sched_book.specs.Step.{job_at};
 ghost use Rattle.sched_book.specs.Trusted.{Trusted};
 ghost use Rattle.sched_book.specs.declared.instance.Instance.{Instance};
 ghost use Rattle.job_choice.specs.Chosen.{places_of};
@@ -16,9 +16,9 @@ use call_sheet::{Draft, Leaf};
 use job_choice::{Granted, seconds_at};
 use lost_jobs::version_on;
 use rpc_records::Job;
-use sched_book::{HostRow, Place, Unavailable, Version, Workunit, instance_name};
+use sched_book::{HostRow, Place, Unavailable, Version, instance_name};
 use std::alloc::Global;
-use texts::{Listed, Memory, Text};
+use texts::{Listed, Memory};
 
 /// The deadline of the instance of a number on a leaf, 0 where there is none or nobody was given it.
 fn deadline_on(leaf: &Leaf, number: u32) -> u64
@@ -31,29 +31,6 @@ fn deadline_on(leaf: &Leaf, number: u32) -> u64
             Some(owner) => owner.deadline,
         },
     }
-}
-
-/// What a reply says of a job of this name and deadline.
-fn job_of(
-    name: Text,
-    deadline: u64,
-    host: &HostRow,
-    resent: bool,
-    unit: &Workunit,
-    version: &Version,
-) -> Result<Job, Memory>
-    ensures { IfOk result (λ job. job ≡ job_of name deadline host.now resent unit.now version.now) }
-{
-    Ok(Job {
-        app_name: unit.app.clone()?,
-        estimate: seconds_at(unit.rsc_fpops_est, host.p_fpops),
-        name,
-        platform: version.platform.clone()?,
-        report_deadline: deadline,
-        resent,
-        version_num: version.version_num,
-        wu_name: unit.name.clone()?,
-    })
 }
 
 /// What a reply says of the instance of a number on a leaf to a host that runs this version; nothing where the workunit does
@@ -74,9 +51,17 @@ fn job_on(
     let Some(version) = version else {
         return Ok(None);
     };
-    let deadline = deadline_on(leaf, number);
-    let name = instance_name(alloc, leaf.unit.name.as_str(), number)?;
-    Ok(Some(job_of(name, deadline, host, resent, &leaf.unit, version)?))
+    let unit = &leaf.unit;
+    Ok(Some(Job {
+        app_name: unit.app.clone()?,
+        estimate: seconds_at(unit.rsc_fpops_est, host.p_fpops),
+        name: instance_name(alloc, unit.name.as_str(), number)?,
+        platform: version.platform.clone()?,
+        report_deadline: deadline_on(leaf, number),
+        resent,
+        version_num: version.version_num,
+        wu_name: unit.name.clone()?,
+    }))
 }
 
 /// Puts what a reply says of the instance at a place behind the others, to a host that runs this version.
@@ -124,22 +109,6 @@ fn version_at_unit<S: Draft>(
     }
 }
 
-/// Puts what a reply says of a job that is sent again behind the others.
-fn add_resent<S: Draft>(
-    alloc: Global,
-    sheet: &mut S,
-    host: &HostRow,
-    place: Place,
-    jobs: &mut Listed<Job>,
-) -> Result<(), Unavailable>
-    ensures reads { S.reads sheet.old sheet.new }
-    ensures answer { Trusted S.Units sheet.old sheet.new (
-        OnOk result (jobs.new ≡ jobs.old ++ cons_option (job_at (S.world sheet.old) host.now true place) [])) }
-{
-    let version = version_at_unit(alloc, sheet, host, place.unit)?;
-    add_job(alloc, sheet, host, true, place, version.as_ref(), jobs)
-}
-
 /// What a reply says of the jobs at these places, which are sent again, in their order.
 pub(crate) fn resent_jobs<S: Draft>(
     alloc: Global,
@@ -153,7 +122,16 @@ pub(crate) fn resent_jobs<S: Draft>(
 {
     let mut jobs = Listed::new(alloc);
     for place in places {
-        add_resent(alloc, sheet, host, *place, &mut jobs)?;
+        let version = version_at_unit(alloc, sheet, host, place.unit)?;
+        add_job(
+            alloc,
+            sheet,
+            host,
+            true,
+            *place,
+            version.as_ref(),
+            &mut jobs,
+        )?;
     }
     Ok(jobs)
 }

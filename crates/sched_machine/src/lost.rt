@@ -1,12 +1,11 @@
 //! What becomes of the jobs that a call's client lost, and those of them that are sent again.
 
-ghost use Rattle.std.specs.Prelude.{◌≡◌, [], ◌++◌, IfOk, OnOk};
-ghost use Rattle.std.specs.List.{cons_option};
+ghost use Rattle.std.specs.Prelude.{◌≡◌, IfOk, OnOk};
 ghost use Rattle.sched_book.specs.Delta.{Fits};
 ghost use Rattle.sched_book.specs.Places.{held_by};
 ghost use Rattle.sched_book.specs.Step.{after_reports, after_lost, resent_of};
 ghost use Rattle.sched_book.specs.Trusted.{Trusted};
-ghost use Rattle.sched_machine.specs.Asked.{resent_places, place_resent};
+ghost use Rattle.sched_machine.specs.Asked.{resent_places};
 ghost use Rattle.sched_machine.specs.Calling.{IsCalling};
 
 use crate::caller::Calling;
@@ -17,23 +16,15 @@ use sched_book::{Moment, Place, Unavailable};
 use std::alloc::Global;
 use texts::{Listed, Memory};
 
-/// Puts the place of a lost job behind the others, where it is sent again.
-fn add_resent(places: &mut Listed<Place>, fate: Fate) -> Result<(), Memory>
-    ensures { OnOk result (places.new ≡ places.old ++ cons_option (place_resent fate.resent fate.place) []) }
-{
-    match fate.resent {
-        None => Ok(()),
-        Some(_) => places.push(fate.place),
-    }
-}
-
 /// The places of the jobs that are sent again.
 fn resent_places(alloc: Global, fates: &[Fate]) -> Result<Listed<Place>, Memory>
     ensures { IfOk result (λ places. places ≡ resent_places fates.now) }
 {
     let mut places = Listed::new(alloc);
     for fate in fates {
-        add_resent(&mut places, *fate)?;
+        if fate.resent.is_some() {
+            places.push(fate.place)?;
+        }
     }
     Ok(places)
 }

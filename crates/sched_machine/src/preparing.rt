@@ -8,7 +8,7 @@ ghost use Rattle.sched_book.specs.Sound.{Sound};
 ghost use Rattle.sched_book.specs.Step.{HasRoom};
 ghost use Rattle.sched_book.specs.Trusted.{Trusted};
 ghost use Rattle.lost_jobs.specs.Holding.{HoldsNoMore};
-ghost use Rattle.sched_machine.specs.Asked.{still_holds, count_with};
+ghost use Rattle.sched_machine.specs.Asked.{still_holds};
 ghost use Rattle.sched_machine.specs.Calling.{IsAdmitted, IsEntered, LacksRoom};
 ghost use Rattle.sched_machine.specs.Prepared.{IsPrepared, IsReady};
 ghost use Rattle.sched_machine.specs.declared.admission.Refused.TheVariants as refused;
@@ -39,53 +39,25 @@ fn still_holds(leaf: Option<&Leaf>, host: u32, number: u32) -> bool
     }
 }
 
-/// One more where a place is held.
-fn count_with(count: u32, held: bool) -> Result<u32, Unavailable>
-    ensures { IfOk result (λ sum. sum ≡ count_with count held) }
-{
-    if !held {
-        return Ok(count);
-    }
-    match count.checked_add(1) {
-        // Not met in a sound world, where no host holds more than 20,000,000: `sched_book::laws::instances_are_few`.
-        None => Err(Unavailable),
-        Some(sum) => Ok(sum),
-    }
-}
-
 /// How many of the instances that the host held when the call came it still holds.
 fn held_now<S: Draft>(sheet: &S, host: u32, held: &[Place]) -> Result<u32, Unavailable>
     ensures { IfOk result (λ count. count ≡ count_by (λ (p : Place). still_holds (S.kept sheet.now p.unit) host p.number) held.now) }
 {
     let mut count: u32 = 0;
     for place in held {
-        count = count_with(
-            count,
-            still_holds(sheet.leaf(place.unit), host, place.number),
-        )?;
+        if still_holds(sheet.leaf(place.unit), host, place.number) {
+            let Some(sum) = count.checked_add(1) else {
+                // Not met in a sound world, where no host holds more than 20,000,000: `sched_book::laws::instances_are_few`.
+                return Err(Unavailable);
+            };
+            count = sum;
+        }
     }
     Ok(count)
 }
 
-/// The seconds that the job at a place takes the host; none where no workunit stands.
+/// The seconds that the jobs at these places take the host; none where no workunit stands. A sum past 64 bits is refused.
 #[tactic(auto, using(crate::proofs::AskedSeconds::estimate_none, crate::proofs::AskedSeconds::estimate_some))]
-fn estimate_at<S: Draft>(
-    alloc: Global,
-    sheet: &mut S,
-    host: &HostRow,
-    place: Place,
-) -> Result<u64, Unavailable>
-    ensures reads { S.reads sheet.old sheet.new }
-    ensures answer { Trusted S.Units sheet.old sheet.new (
-        IfOk result (λ seconds. seconds ≡ estimate_at (S.world sheet.old) host.now place)) }
-{
-    match sheet.unit(alloc, place.unit)? {
-        None => Ok(0),
-        Some(unit) => Ok(seconds_at(unit.rsc_fpops_est, host.p_fpops)),
-    }
-}
-
-/// The seconds of the jobs at these places. A sum past 64 bits is refused.
 fn seconds_of<S: Draft>(
     alloc: Global,
     sheet: &mut S,
@@ -98,7 +70,10 @@ fn seconds_of<S: Draft>(
 {
     let mut seconds: u64 = 0;
     for place in places {
-        let more = estimate_at(alloc, sheet, host, *place)?;
+        let Some(unit) = sheet.unit(alloc, place.unit)? else {
+            continue;
+        };
+        let more = seconds_at(unit.rsc_fpops_est, host.p_fpops);
         let Some(sum) = seconds.checked_add(more) else {
             // Not met in a sound world, where these are at most 2 * 10^15: `laws::resent_seconds_are_bounded`.
             return Err(Unavailable);

@@ -1,15 +1,10 @@
 //! The reply to a call: new jobs are given to its host, and what it says of them and of credit.
 
-ghost use Rattle.std.specs.Prelude.{◌≡◌, [], option_map, unwrap_or, is_some, IsTrue, IfOk, OnOk};
-ghost use Rattle.sched_book.specs.Delta.{Fits};
-ghost use Rattle.sched_book.specs.Places.{host_at};
-ghost use Rattle.sched_book.specs.Sound.{Sound};
+ghost use Rattle.std.specs.Prelude.{◌≡◌, IfOk, OnOk};
 ghost use Rattle.sched_book.specs.Step.{IsCaller, granted, user_name};
 ghost use Rattle.sched_book.specs.Trusted.{Trusted};
-ghost use Rattle.sched_book.specs.declared.desk.Placed.{Placed};
-ghost use Rattle.sched_book.specs.declared.rows.Account.{Account};
 ghost use Rattle.job_choice.specs.Chosen.{places_of};
-ghost use Rattle.sched_machine.specs.Granting.{AreRunBy};
+ghost use Rattle.sched_machine.specs.Granting.{AreRunBy, FitWithHost};
 ghost use Rattle.sched_machine.specs.Replying.{IsTold, reply_of};
 
 use crate::jobs::{add_granted, resent_jobs};
@@ -19,9 +14,9 @@ use crate::totals::{host_total, user_total};
 use call_sheet::Draft;
 use job_choice::Granted;
 use rpc_records::{EndWord, Job, Reply, Request};
-use sched_book::{Account, Caller, Moment, Placed, Unavailable};
+use sched_book::{Caller, Moment, Unavailable};
 use std::alloc::Global;
-use texts::{Listed, Memory, Text};
+use texts::{Listed, Text};
 
 /// What a reply says of jobs and of its user once new jobs are given.
 #[derive(Drop)]
@@ -31,16 +26,6 @@ pub(crate) struct Told {
     pub(crate) host_credit: u64,
     pub(crate) user_credit: u64,
     pub(crate) user_name: Text,
-}
-
-/// The name of the account that was found; empty where none was.
-fn name_of(found: Option<Placed<Account>>, alloc: Global) -> Result<Text, Memory>
-    ensures { IfOk result (λ name. name ≡ unwrap_or (option_map (λ (account : Placed Account). account.row.name) found) []) }
-{
-    match found {
-        None => Text::copied(alloc, ""),
-        Some(account) => Ok(account.row.name),
-    }
 }
 
 /// The name of the caller's user.
@@ -54,36 +39,10 @@ fn user_name<S: Draft>(
     ensures answer { Trusted S.Units sheet.old sheet.new (IfOk result (λ name.
         IsCaller (S.entry sheet.old) caller request.now → name ≡ user_name (S.entry sheet.old) caller.account)) }
 {
-    let found = sheet.account_by_key(alloc, request.authenticator.as_str())?;
-    Ok(name_of(found, alloc)?)
-}
-
-/// What a reply says of the jobs and the user of a call to whose host these jobs were given.
-fn tell<S: Draft>(
-    alloc: Global,
-    sheet: &mut S,
-    ready: &Ready,
-    request: &Request,
-    jobs: &[Granted],
-) -> Result<Told, Unavailable>
-    ensures reads { S.reads sheet.old sheet.new }
-    ensures told { Trusted S.Units sheet.old sheet.new (IfOk result (λ told.
-        IsCaller (S.entry sheet.old) ready.now.call.caller request.now → AreRunBy (S.entry sheet.old) ready.now.call.host jobs.now →
-        IsTold (S.entry sheet.old) (S.world sheet.old) ready.now (places_of jobs.now) told)) }
-{
-    let call = &ready.call;
-    let settled = &ready.prepared.settled;
-    let host_credit = host_total(sheet, call.number, settled.marks.as_slice())?;
-    let user_credit = user_total(alloc, sheet, call.caller.account, settled.marks.as_slice())?;
-    let user_name = user_name(alloc, sheet, call.caller, request)?;
-    let mut results = resent_jobs(alloc, sheet, &call.host, settled.resent.as_slice())?;
-    add_granted(alloc, sheet, &call.host, jobs, &mut results)?;
-    Ok(Told {
-        results,
-        host_credit,
-        user_credit,
-        user_name,
-    })
+    match sheet.account_by_key(alloc, request.authenticator.as_str())? {
+        None => Ok(Text::copied(alloc, "")?),
+        Some(account) => Ok(account.row.name),
+    }
 }
 
 /// Gives new jobs to the host of a call, and tells what the reply says of its jobs and its user then.
@@ -98,16 +57,27 @@ pub(crate) fn conclude<S: Draft>(
     ensures works { S.works sheet.old sheet.new }
     ensures left { Trusted S.Units sheet.old sheet.new (OnOk result (
         S.world sheet.new ≡ granted (S.world sheet.old) ready.now.call.number now (places_of jobs.now))) }
-    ensures fits { Trusted S.Units sheet.old sheet.new (OnOk result (Sound (S.world sheet.old) →
-        IsTrue (is_some (host_at (S.world sheet.old) ready.now.call.number)) →
-        Fits (S.entry sheet.old) (S.delta sheet.old) → Fits (S.entry sheet.old) (S.delta sheet.new))) }
+    ensures fits { Trusted S.Units sheet.old sheet.new (OnOk result (
+        FitWithHost (S.entry sheet.old) ready.now.call.number (S.delta sheet.old) →
+        FitWithHost (S.entry sheet.old) ready.now.call.number (S.delta sheet.new))) }
     ensures told { Trusted S.Units sheet.old sheet.new (IfOk result (λ told.
         IsCaller (S.entry sheet.old) ready.now.call.caller request.now → AreRunBy (S.entry sheet.old) ready.now.call.host jobs.now →
         IsTold (S.entry sheet.old) (S.world sheet.new) ready.now (places_of jobs.now) told)) }
 {
-    give(alloc, sheet, ready.call.number, now, jobs)?;
-    let told = tell(alloc, sheet, ready, request, jobs)?;
-    Ok(told)
+    let call = &ready.call;
+    let settled = &ready.prepared.settled;
+    give(alloc, sheet, call.number, now, jobs)?;
+    let host_credit = host_total(sheet, call.number, settled.marks.as_slice())?;
+    let user_credit = user_total(alloc, sheet, call.caller.account, settled.marks.as_slice())?;
+    let user_name = user_name(alloc, sheet, call.caller, request)?;
+    let mut results = resent_jobs(alloc, sheet, &call.host, settled.resent.as_slice())?;
+    add_granted(alloc, sheet, &call.host, jobs, &mut results)?;
+    Ok(Told {
+        results,
+        host_credit,
+        user_credit,
+        user_name,
+    })
 }
 
 /// The reply to a call, from what it comes to.

@@ -1,19 +1,16 @@
 //! One step of the job machine: a call, an import or a tick.
 
-ghost use Rattle.std.specs.Prelude.{◌≡◌, [], is_some, IsTrue, IfOk, OnOk, IsErrOf};
+ghost use Rattle.std.specs.Prelude.{◌≡◌, [], IfOk, IsErrOf};
 ghost use Rattle.sched_book.specs.Delta.{applied, Fits};
 ghost use Rattle.sched_book.specs.Imports.{AreChecked};
-ghost use Rattle.sched_book.specs.Places.{host_at};
 ghost use Rattle.sched_book.specs.Sound.{Sound};
 ghost use Rattle.sched_book.specs.declared.world.World.{World};
-ghost use Rattle.sched_book.specs.Step.{IsCaller, HasRoom, granted, RpcStep, TickStep, ImportStep, Step};
+ghost use Rattle.sched_book.specs.Step.{HasRoom, RpcStep, TickStep, ImportStep, Step};
 ghost use Rattle.sched_book.specs.Trusted.{Trusted};
-ghost use Rattle.job_choice.specs.Chosen.{IsChoice, places_of};
 ghost use Rattle.call_sheet.specs.Sheets.{IsPageOf};
 ghost use Rattle.sched_machine.specs.Calling.{LacksRoom, IsAdmitted, IsFull, MayBeHeard};
-ghost use Rattle.sched_machine.specs.Granting.{AreRunBy};
-ghost use Rattle.sched_machine.specs.Prepared.{IsReady, asking_by};
-ghost use Rattle.sched_machine.specs.Replying.{IsTold, IsGranted};
+ghost use Rattle.sched_machine.specs.Prepared.{IsReady};
+ghost use Rattle.sched_machine.specs.Replying.{IsGranted};
 ghost use Rattle.sched_machine.specs.declared.admission.Refused.TheVariants as refused;
 
 use crate::admission::Refused;
@@ -21,39 +18,14 @@ use crate::imports::{changes_of, row_count};
 use crate::preparing::{Ready, prepare};
 use crate::reply::{Told, conclude, reply_of};
 use call_sheet::{Page, Sheet};
-use job_choice::{Grant, Granted, choose};
+use job_choice::choose;
 use quorum_credit::lapse_places;
 use rpc_records::{EndWord, Reply, Request};
 use sched_book::{Answered, Call, Caller, Delta, Desk, Moment, Rows, Unavailable};
 use std::alloc::Global;
 
-/// Chooses new jobs for the host of a call. The candidates are read as they were before the call: for its host they are the
-/// same.
-fn choose_jobs<D: Desk>(
-    alloc: Global,
-    desk: &mut D,
-    ready: &Ready,
-    request: &Request,
-    now: Moment,
-) -> Result<Grant, Unavailable>
-    ensures reads { D.reads desk.old desk.new }
-    ensures answer { Trusted D.Units desk.old desk.new (IfOk result (λ grant.
-        IsChoice (D.world desk.old) (asking_by ready.now request.now now) grant)) }
-{
-    let wish = &ready.prepared.wish;
-    choose(
-        alloc,
-        desk,
-        ready.call.number,
-        &wish.row,
-        wish.before,
-        wish.held,
-        request.asked,
-        now,
-    )
-}
-
-/// Chooses new jobs for the host of a call and gives them to it: what the reply says of them, and why there are no more.
+/// Chooses new jobs for the host of a call and gives them to it: what the reply says of them, and why there are no more. The
+/// candidates are read as they were before the call: for its host they are the same.
 fn grant_jobs<D: Desk>(
     alloc: Global,
     desk: &mut D,
@@ -67,7 +39,17 @@ fn grant_jobs<D: Desk>(
         IsReady (D.world desk.old) request.now now ready.now (applied (D.world desk.old) page.old.delta) page.old.delta →
         IsGranted (D.world desk.old) request.now now ready.now (applied (D.world desk.old) page.new.delta) page.new.delta told.0 told.1)) }
 {
-    let grant = choose_jobs(alloc, desk, ready, request, now)?;
+    let wish = &ready.prepared.wish;
+    let grant = choose(
+        alloc,
+        desk,
+        ready.call.number,
+        &wish.row,
+        wish.before,
+        wish.held,
+        request.asked,
+        now,
+    )?;
     let mut sheet = Sheet { desk, page };
     let told = conclude(
         alloc,
@@ -132,6 +114,7 @@ fn hear_call<D: Desk>(
 }
 
 /// Adds the rows of an import.
+#[tactic(auto, using(crate::proofs::RowsAdded::import_steps))]
 fn hear_import(alloc: Global, rows: &Rows) -> Result<(Delta, u32), Unavailable>
     ensures step { IfOk result (λ done. (w : World) → Sound w → AreChecked w rows.now → ImportStep w rows.now (applied w done.0) done.1) }
     ensures fits { IfOk result (λ done. (w : World) → Sound w → AreChecked w rows.now → Fits w done.0) }

@@ -1,4 +1,4 @@
-use Rattle.std.proofs.Common.{[], ◌∷◌, ◌++◌, sym, ap, ap₂, ◌∙◌}
+use Rattle.std.proofs.Common.{[], ◌∷◌, ◌++◌, sym, ap, ◌∙◌}
 use Rattle.sched_book.specs.Delta.{applied, applied_one}
 use Rattle.sched_book.specs.Places.{host_at}
 use Rattle.sched_book.specs.declared.delta.Change.TheVariants as change

@@ -1,4 +1,4 @@
-use Rattle.std.proofs.Common.{◌≡◌, rules, ◌++◌, filter_map, map, sym, ap, ap₂, ◌∙◌, subst, List}
+use Rattle.std.proofs.Common.{◌≡◌, rules, ◌++◌, filter_map, map, ap, ap₂, ◌∙◌, List}
 use Rattle.sched_book.specs.Delta.{applied}
 use Rattle.sched_book.specs.Places.{held_by}
 use Rattle.sched_book.specs.declared.delta.Change.{Change}

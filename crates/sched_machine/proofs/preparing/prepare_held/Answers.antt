@@ -1,4 +1,4 @@
-use Rattle.std.proofs.Common.{◌≡◌, length, sym, ◌∙◌, subst}
+use Rattle.std.proofs.Common.{◌≡◌, length, ◌∙◌, subst}
 use Rattle.sched_book.specs.Places.{held_by}
 use Rattle.sched_book.specs.declared.world.World.{World}
 use Rattle.lost_jobs.specs.Holding.{HoldsNoMore}

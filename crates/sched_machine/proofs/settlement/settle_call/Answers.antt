@@ -1,4 +1,4 @@
-use Rattle.std.proofs.Common.{◌≡◌, sym, ap, ap₂, ◌∙◌, subst}
+use Rattle.std.proofs.Common.{◌≡◌, ◌∙◌, subst}
 use Rattle.sched_book.specs.Delta.{Fits}
 use Rattle.sched_book.specs.Places.{held_by}
 use Rattle.sched_book.specs.Settle.{settled}

@@ -1,14 +1,11 @@
-use Rattle.std.proofs.Common.{◌≡◌, rules, sym, ap, ◌∙◌, subst}
-use Rattle.std.specs.Prelude.{IsTrue, is_some}
-use Rattle.sched_book.specs.Delta.{applied, Fits}
-use Rattle.sched_book.specs.Places.{host_at}
-use Rattle.sched_book.specs.Sound.{Sound}
+use Rattle.std.proofs.Common.{◌≡◌, rules, refl, sym, ap, ◌∙◌, subst}
+use Rattle.sched_book.specs.Delta.{applied}
 use Rattle.sched_book.specs.Step.{IsCaller, granted}
 use Rattle.sched_book.specs.declared.world.World.{World}
 use Rattle.job_choice.specs.Chosen.{places_of}
 use Rattle.call_sheet.specs.Sheets.{IsPageOf}
 use Rattle.call_sheet.specs.declared.page.Page.{Page}
-use Rattle.sched_machine.specs.Granting.{AreRunBy}
+use Rattle.sched_machine.specs.Granting.{AreRunBy, FitWithHost}
 use Rattle.sched_machine.specs.Replying.{IsTold, IsGranted}
 use Rattle.sched_machine.proofs.CallsDone.{granted_is}
 use Rattle.sched_machine.proofs.ReadyChoice.{choice_settled, choice_ends, jobs_run}
@@ -31,8 +28,8 @@ returns-clause-step g c = λ honest kept page ready.
     let same_page : sheet.page.now ≡ c.page-2-1.given.0 = search rules in
     let honest_2 = subst g.D.Units.honest (sym same_desk) honest in
     let honest_1 = d.stays_honest _ _ worked.0 honest_2 in
-    let kept_1 = d.stays_kept _ _ c.choose_jobs.ensures.reads honest_1 kept in
-    let same = d.stays_same _ _ c.choose_jobs.ensures.reads honest_1 kept in
+    let kept_1 = d.stays_kept _ _ c.choose.ensures.reads honest_1 kept in
+    let same = d.stays_same _ _ c.choose.ensures.reads honest_1 kept in
     let same_2 = d.stays_same _ _ worked.0 honest_2 kept_1 in
     let chosen = c.in_ok-grant.ensures.answer honest_1 kept in
     let here = subst (λ (e : World). IsPageOf e c.args.page.now) (sym same) page in
@@ -45,10 +42,11 @@ returns-clause-step g c = λ honest kept page ready.
     (subst (λ (e : World). applied e after ≡ granted (applied e before) k.call.number c.args.now (places_of jobs)) same
     (ap (λ (e : World). applied e after) (sym same_2) ∙ c.in_ok-told.ensures.left honest_2 (kept_1, here))
     ∙ ap (λ js. granted (applied w before) k.call.number c.args.now (places_of js)) c.as_slice.ensures)
-    (subst (λ (e : World). Sound (applied e before) → IsTrue (is_some (host_at (applied e before) k.call.number)) → Fits e before → Fits e after) same
+    refl
+    (subst (λ (e : World). FitWithHost e k.call.number before → FitWithHost e k.call.number after) same
     (c.in_ok-told.ensures.fits honest_2 (kept_1, here)))
     (subst (λ js. IsTold w (applied w after) k (places_of js) told) c.as_slice.ensures
     (subst (λ (e : World). IsCaller e k.call.caller r → AreRunBy e k.call.host jobs → IsTold e (applied e after) k (places_of jobs) told) same
-    (λ caller run. subst (λ (e : World). IsTold (g.D.Units.world c.choose_jobs.new.desk) (applied e after) k (places_of jobs) told) same_2
+    (λ caller run. subst (λ (e : World). IsTold (g.D.Units.world c.choose.new.desk) (applied e after) k (places_of jobs) told) same_2
     (c.in_ok-told.ensures.told honest_2 (kept_1, here) caller run)) ready.calling.admitted.caller
     (subst (AreRunBy w k.call.host) (sym c.as_slice.ensures) runs))))
