@@ -1,4 +1,4 @@
 pub mod NumberTexts
-pub mod Subcommands
+pub mod Options
 pub mod PlainProgram
 pub mod Sayings

@@ -1,7 +1,9 @@
 -- The words that the program takes, as a command of `clap`. (This profile.)
-use Rattle.std.specs.Prelude.{List, [], ◌∷◌, codes, Some, true, false}
-use Rattle.clap.specs.Words.{App, Rule, Text, new_app, new_rule}
+use Rattle.std.specs.Prelude.{◌≡◌, List, [], ◌∷◌, codes, Some, true, false}
+use Rattle.clap.specs.Words.{App, Rule, Text, app_of, new_app, new_rule}
 use Rattle.clap.specs.Simple.{new_shape}
+use Rattle.clap.specs.declared.builder.command.Command.{Command}
+use Rattle.clap.specs.declared.builder.command.Command.TheViews.{out-Command}
 
 -- an option `--NAME VALUE`
 abbrev pub optional : Text → Rule
@@ -14,6 +16,11 @@ wanted name = record (optional name) { required = true }
 -- a command with these options, and no subcommands
 abbrev pub command : Text → List Rule → App
 command name options = record (new_app name) { top = record (new_shape name) { rules = options } }
+
+-- it is this command, and none of its options holds for commands below it
+pub record IsSubcommand (app : App) (c : Command) : Type 0 where
+  pub is : app_of c ≡ app
+  pub local : (out-Command c).has_globals ≡ false
 
 abbrev pub create_command : App
 create_command = command (codes "create") (wanted (codes "settings") ∷ wanted (codes "tables") ∷ [])

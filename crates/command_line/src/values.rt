@@ -162,23 +162,13 @@ pub(crate) fn order_named(
 ) -> Result<Option<Order>, Memory>
     ensures { IfOk result (λ order. order ≡ spec.order_named name.now (rows_of (found_of values.now))) }
 {
-    if name == "create" {
-        return create_order(alloc, values);
+    match name {
+        "create" => create_order(alloc, values),
+        "serve" => serve_order(alloc, values),
+        "import" => import_order(alloc, values),
+        "tick" => tick_order(alloc, values),
+        "statement" => statement_order(alloc, values),
+        "replay" => replay_order(alloc, values),
+        _ => Ok(None),
     }
-    if name == "serve" {
-        return serve_order(alloc, values);
-    }
-    if name == "import" {
-        return import_order(alloc, values);
-    }
-    if name == "tick" {
-        return tick_order(alloc, values);
-    }
-    if name == "statement" {
-        return statement_order(alloc, values);
-    }
-    if name == "replay" {
-        return replay_order(alloc, values);
-    }
-    Ok(None)
 }

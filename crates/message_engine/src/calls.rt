@@ -6,10 +6,11 @@ ghost use Rattle.rpc_records.specs.Replies.{reply_text_of};
 ghost use Rattle.rpc_records.specs.Spelling.{canonical_text};
 ghost use Rattle.sched_book.specs.Delta.{applied, Fits};
 ghost use Rattle.sched_book.specs.Sound.{Sound};
-ghost use Rattle.sched_book.specs.Step.{RpcStep};
+ghost use Rattle.sched_book.specs.Step.{RpcStep, Step};
 ghost use Rattle.sched_book.specs.Trusted.{Trusted};
+ghost use Rattle.sched_book.specs.declared.machine.Answered.TheVariants as answered;
 ghost use Rattle.sched_book.specs.declared.machine.Call.TheVariants as call;
-ghost use Rattle.sched_machine.specs.Calling.{IsAdmitted, IsFull};
+ghost use Rattle.sched_machine.specs.Calling.{IsAdmitted, IsFull, MayBeHeard};
 ghost use Rattle.sched_machine.specs.declared.admission.Refused.TheVariants as refused;
 ghost use Rattle.pasts.specs.ByNumber.{kept_at};
 ghost use Rattle.pasts.specs.Messages.{Rpc};
@@ -20,6 +21,7 @@ ghost use Rattle.message_engine.specs.Stops.{AtAStop};
 ghost use Rattle.message_engine.specs.Stores.{ServesIn, IsServed, IsCommitted, IsLeft};
 ghost use Rattle.message_engine.specs.declared.entry.Entry.TheVariants as entry;
 
+use crate::commits::commit_and_answer;
 use crate::entry::Entry;
 use crate::store::Store;
 use pasts::Answer;
@@ -77,6 +79,32 @@ fn told_kept<S: Store>(
     Ok(told_beside(kept.as_slice(), seqno, text)?)
 }
 
+/// The step of a call whose answer is a reply: its changes and that reply.
+fn replied_step<D: Desk>(
+    alloc: Global,
+    desk: &mut D,
+    call: &Call,
+    now: Moment,
+) -> Result<(Delta, Reply), Refused>
+    ensures reads { D.reads desk.old desk.new }
+    ensures step { Trusted D.Units desk.old desk.new (IfOk result (λ done.
+        Sound (D.world desk.old) → MayBeHeard (D.world desk.old) call.now →
+        Step (D.world desk.old) call.now now (applied (D.world desk.old) done.0) (answered.Rpc done.1))) }
+    ensures sound { Trusted D.Units desk.old desk.new (IfOk result (λ done.
+        Sound (D.world desk.old) → MayBeHeard (D.world desk.old) call.now → Sound (applied (D.world desk.old) done.0))) }
+    ensures fits { Trusted D.Units desk.old desk.new (IfOk result (λ done.
+        Sound (D.world desk.old) → MayBeHeard (D.world desk.old) call.now → Fits (D.world desk.old) done.0)) }
+    ensures full { Trusted D.Units desk.old desk.new (IsErrOf result refused.HostsFull → IsFull (D.world desk.old) call.now) }
+{
+    match step(alloc, desk, call, now) {
+        Ok((delta, answered)) => match answered {
+            Answered::Rpc(reply) => Ok((delta, reply)),
+            _ => Err(Refused::Unavailable),
+        },
+        Err(refused) => Err(refused),
+    }
+}
+
 /// The step of a first-heard call of this caller: its changes and its reply.
 fn call_step<D: Desk>(
     alloc: Global,
@@ -96,16 +124,19 @@ fn call_step<D: Desk>(
     ensures full { Trusted D.Units desk.old desk.new (IsErrOf result refused.HostsFull →
         IsFull (D.world desk.old) (call.Rpc caller request)) }
 {
-    let done = step(alloc, desk, &Call::Rpc(caller, request), now);
-    let (delta, answered) = done?;
-    match answered {
-        Answered::Rpc(reply) => Ok((delta, reply)),
-        _ => Err(Refused::Unavailable),
-    }
+    let call = Call::Rpc(caller, request);
+    replied_step(alloc, desk, &call, now)
 }
 
-/// Makes the changes of a call and keeps it with its reply, which is the answer. No memory is asked for once they are
-/// made.
+/// What is kept of a call of this host, with the body of its reply.
+fn call_entry(host: u32, seqno: u32, text: Text, body: &Text) -> Result<Entry, Memory>
+    ensures { IfOk result (λ made. made ≡ entry.Kept host (record { seqno = seqno; text = text; reply = body.now })) }
+{
+    let reply = body.clone()?;
+    Ok(Entry::Kept(host, Kept { seqno, text, reply }))
+}
+
+/// Makes the changes of a call and keeps it with its reply, which is the answer.
 fn keep<S: Store>(
     alloc: Global,
     store: &mut S,
@@ -128,13 +159,8 @@ fn keep<S: Store>(
         (S.world store.old) (S.calls store.old) (S.batches store.old) w calls batches) }
 {
     let body = reply_text(alloc, reply)?;
-    let kept = Kept {
-        seqno,
-        text,
-        reply: body.clone()?,
-    };
-    store.commit(delta, &Entry::Kept(reply.hostid, kept))?;
-    Ok(Answer::Good(body))
+    let entry = call_entry(reply.hostid, seqno, text, &body)?;
+    commit_and_answer(store, delta, &entry, body)
 }
 
 /// Answers a fresh call: it is a step of the machine and is kept with its reply, where there is room for its host.

@@ -21,6 +21,7 @@ ghost use Rattle.message_engine.specs.Stores.{IsCommitted, IsLeft, IsServed, Ser
 ghost use Rattle.message_engine.specs.declared.entry.Entry.TheVariants as entry;
 
 use crate::bodies::imported;
+use crate::commits::commit_and_answer;
 use crate::entry::Entry;
 use crate::steps::import_step;
 use crate::store::Store;
@@ -75,31 +76,6 @@ fn batch_entry(
     Ok(Entry::Batch(kind, batch.clone()?, kept))
 }
 
-/// Makes the changes of an import, and keeps it with the body of its answer.
-fn commit_batch<S: Store>(
-    alloc: Global,
-    store: &mut S,
-    kind: Kind,
-    batch: &Text,
-    text: &[u8],
-    body: &Text,
-    delta: &Delta,
-) -> Result<(), Unavailable>
-    ensures honest { S.honest store.new → S.honest store.old }
-    ensures kept { Trusted S.Units store.old store.new (S.well_kept store.new) }
-    ensures ok { Trusted S.Units store.old store.new (OnOk result (Fits (S.world store.old) delta.now →
-        IsCommitted delta.now (entry.Batch kind batch.now (record { text = text.now; answer = body.now }))
-        (S.world store.old) (S.calls store.old) (S.batches store.old) (S.world store.new) (S.calls store.new) (S.batches store.new))) }
-    ensures err { Trusted S.Units store.old store.new (OnErr result (
-        IsLeft (S.world store.old) (S.calls store.old) (S.batches store.old) (S.world store.new) (S.calls store.new) (S.batches store.new))) }
-    ensures stop { AtAStop S.Units S.may_leave store.old store.new (λ w calls batches.
-        Fits (S.world store.old) delta.now → Sound (applied (S.world store.old) delta.now) →
-        IsCommitted delta.now (entry.Batch kind batch.now (record { text = text.now; answer = body.now })) (S.world store.old) (S.calls store.old) (S.batches store.old) w calls batches) }
-{
-    let entry = batch_entry(alloc, kind, batch, text, body)?;
-    store.commit(delta, &entry)
-}
-
 /// Makes the changes of an import and keeps it, and tells how many rows it brought.
 fn keep_batch<S: Store>(
     alloc: Global,
@@ -123,8 +99,8 @@ fn keep_batch<S: Store>(
         IsCommitted delta.now (entry.Batch kind batch.now (record { text = text.now; answer = imported_text (kind_name kind) batch.now count })) (S.world store.old) (S.calls store.old) (S.batches store.old) w calls batches) }
 {
     let body = imported(alloc, kind.name(), batch.as_str(), count as u64)?;
-    commit_batch(alloc, store, kind, batch, text, &body, delta)?;
-    Ok(Answer::Good(body))
+    let entry = batch_entry(alloc, kind, batch, text, &body)?;
+    commit_and_answer(store, delta, &entry, body)
 }
 
 /// Adds rows that nothing forbids, and keeps their batch.

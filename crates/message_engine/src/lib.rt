@@ -8,6 +8,7 @@
 
 mod bodies;
 mod calls;
+mod commits;
 mod copies;
 mod entry;
 mod imports;

@@ -12,6 +12,7 @@ ghost use Rattle.message_engine.specs.Stores.{IsCommitted, IsLeft, IsServed, Ser
 ghost use Rattle.message_engine.specs.declared.entry.Entry.TheVariants as entry;
 
 use crate::bodies::lapsed;
+use crate::commits::commit_and_answer;
 use crate::entry::Entry;
 use crate::steps::tick_step;
 use crate::store::Store;
@@ -39,8 +40,7 @@ fn make_lapse<S: Store>(
         IsCommitted delta.now entry.Nothing (S.world store.old) (S.calls store.old) (S.batches store.old) w calls batches) }
 {
     let body = lapsed(alloc, count)?;
-    store.commit(delta, &Entry::Nothing)?;
-    Ok(Answer::Good(body))
+    commit_and_answer(store, delta, &Entry::Nothing, body)
 }
 
 /// Lets time go by: a step of the job machine, whose answer tells how many instances lapsed. A stop at any moment leaves

@@ -4,10 +4,10 @@ pub mod LookUps
 pub mod FromTheFront
 pub mod TakenNames
 pub mod TextRecords
+pub mod FirstFaults
 pub mod InOrder
 pub mod OnlySettings
 pub mod OneSettings
-pub mod StatementLines
 pub mod StatementTexts
 pub mod WholeStatements
 pub mod LineMoments

@@ -16,7 +16,9 @@ use Rattle.office_files.specs.Civil.{last_civil}
 use Rattle.office_files.specs.Statements.{line_at, line_by, line_in, sent_of}
 use Rattle.office_files.specs.StatementLaws.{HaveTexts, MomentsHaveTexts}
 use Rattle.office_files.specs.declared.statement.line.Line.{Line}
-use Rattle.office_files.proofs.StatementLines.{same_item}
+
+same_item : {X : Type 0} (x y : X) → Some x ≡ Some y → x ≡ y
+same_item x y e = cc
 
 -- what is said of all is said of the one at an index
 at_index : {X : Type 0} (P : X → Type 0) (xs : List X) (i : ℕ) (x : X) → All P xs → slice_get xs i ≡ Some x → P x

@@ -16,7 +16,7 @@
 
 ghost use Rattle.std.specs.Prelude.{◌≡◌, IfOk};
 ghost use Rattle.sched_book.specs.Trusted.{Trusted};
-ghost use Rattle.office_files.specs.Statements.{statement_of};
+ghost use Rattle.office_files.specs.Statements as spec;
 
 mod civil;
 pub mod line;
@@ -27,9 +27,19 @@ mod states;
 pub use line::Line;
 use lines::lines_at;
 use rows::text_of_lines;
-use sched_book::{Desk, Unavailable};
+use sched_book::{Desk, Place, Unavailable};
 use std::alloc::Global;
 use texts::Text;
+
+/// The text of a statement of the instances at these places.
+fn text_at<D: Desk>(alloc: Global, desk: &mut D, places: &[Place]) -> Result<Text, Unavailable>
+    ensures reads { D.reads desk.old desk.new }
+    ensures answer { Trusted D.Units desk.old desk.new (
+        IfOk result (λ text. text ≡ spec.text_of_lines (spec.lines_at (D.world desk.old) places.now))) }
+{
+    let lines = lines_at(alloc, desk, places)?;
+    text_of_lines(alloc, lines.as_slice())
+}
 
 /// The statement of the host of this number, or none where no such host stands.
 ///
@@ -42,12 +52,11 @@ pub fn host_statement<D: Desk>(
 ) -> Result<Option<Text>, Unavailable>
     ensures reads { D.reads desk.old desk.new }
     ensures answer { Trusted D.Units desk.old desk.new (
-        IfOk result (λ text. text ≡ statement_of (D.world desk.old) host)) }
+        IfOk result (λ text. text ≡ spec.statement_of (D.world desk.old) host)) }
 {
     if desk.host_by_id(alloc, host)?.is_none() {
         return Ok(None);
     }
     let places = desk.owned_by(alloc, host)?;
-    let lines = lines_at(alloc, desk, places.as_slice())?;
-    Ok(Some(text_of_lines(alloc, lines.as_slice())?))
+    Ok(Some(text_at(alloc, desk, places.as_slice())?))
 }

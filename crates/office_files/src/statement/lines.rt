@@ -1,6 +1,7 @@
 //! The lines of a host's statement, from a desk.
 
 ghost use Rattle.std.specs.Prelude.{◌≡◌, ◌≤◌, length, IfOk};
+ghost use Rattle.sched_book.specs.Desk.{instances_at};
 ghost use Rattle.sched_book.specs.Limits.{most_instances};
 ghost use Rattle.sched_book.specs.Trusted.{Trusted};
 ghost use Rattle.office_files.specs.Statements as spec;
@@ -37,21 +38,37 @@ fn line_by(
 /// The line of the instance of this number, where the workunit has it.
 fn line_in(
     alloc: Global,
-    agreement: &Agreement,
+    agreement: Agreement,
     unit: &Workunit,
     instances: &[Instance],
     number: u32,
 ) -> Result<Option<Line>, Memory>
     requires { length instances.now ≤ most_instances }
-    ensures { IfOk result (λ line. line ≡ spec.line_in agreement.now unit.now instances.now number) }
+    ensures { IfOk result (λ line. line ≡ spec.line_in agreement unit.now instances.now number) }
 {
     match instances.get(number as usize) {
         None => Ok(None),
         Some(instance) => {
-            let verdict = verdict(agreement, unit, instances, instance);
+            let verdict = verdict(&agreement, unit, instances, instance);
             Ok(Some(line_by(alloc, verdict, unit, number, instance)?))
         }
     }
+}
+
+/// The line of the instance at this place, whose workunit is this one.
+fn line_of<D: Desk>(
+    alloc: Global,
+    desk: &mut D,
+    agreement: Agreement,
+    unit: &Workunit,
+    place: Place,
+) -> Result<Option<Line>, Unavailable>
+    ensures reads { D.reads desk.old desk.new }
+    ensures answer { Trusted D.Units desk.old desk.new (
+        IfOk result (λ line. line ≡ spec.line_in agreement unit.now (instances_at (D.world desk.old) place.unit) place.number)) }
+{
+    let instances = desk.instances_of(alloc, place.unit)?;
+    Ok(line_in(alloc, agreement, unit, instances.as_slice(), place.number)?)
 }
 
 /// The line of the instance at this place, where one stands.
@@ -60,18 +77,12 @@ fn line_at<D: Desk>(alloc: Global, desk: &mut D, place: Place) -> Result<Option<
     ensures answer { Trusted D.Units desk.old desk.new (
         IfOk result (λ line. line ≡ spec.line_at (D.world desk.old) place)) }
 {
-    let unit = desk.unit(alloc, place.unit)?;
-    let agreement = desk.agreement_of(alloc, place.unit)?;
-    let instances = desk.instances_of(alloc, place.unit)?;
-    match (unit, agreement) {
-        (Some(unit), Some(agreement)) => Ok(line_in(
-            alloc,
-            &agreement,
-            &unit,
-            instances.as_slice(),
-            place.number,
-        )?),
-        _ => Ok(None),
+    let Some(agreement) = desk.agreement_of(alloc, place.unit)? else {
+        return Ok(None);
+    };
+    match desk.unit(alloc, place.unit)? {
+        None => Ok(None),
+        Some(unit) => line_of(alloc, desk, agreement, &unit, place),
     }
 }
 

@@ -39,6 +39,36 @@ fn write_row<W: Write + Drop>(writer: &mut Writer<W>, fields: &[&[u8]]) -> Resul
     }
 }
 
+/// Writes the row of a line, whose moments and credit have these texts.
+fn write_states<'a, W: Write + Drop>(
+    alloc: Global,
+    writer: &mut Writer<W>,
+    line: &'a Line,
+    sent: &'a str,
+    deadline: &'a str,
+    credit: &'a str,
+) -> Result<(), Unavailable>
+    ensures { (before : List ℕ) → HasWritten W.contents writer.old before
+        → OnOk result (HasWritten W.contents writer.new (before ++ row_text default_writer (spec.fields_beside line.now sent.now deadline.now credit.now))) }
+{
+    let server_state = number_text(alloc, line.server_state)?;
+    let outcome = number_text(alloc, line.outcome)?;
+    let validate_state = number_text(alloc, line.validate_state)?;
+    write_row(
+        writer,
+        &[
+            line.result.as_str().as_bytes(),
+            line.app.as_str().as_bytes(),
+            sent.as_bytes(),
+            deadline.as_bytes(),
+            server_state.as_str().as_bytes(),
+            outcome.as_str().as_bytes(),
+            validate_state.as_str().as_bytes(),
+            credit.as_bytes(),
+        ],
+    )
+}
+
 /// Writes the row of a line.
 fn write_line<W: Write + Drop>(
     alloc: Global,
@@ -50,22 +80,14 @@ fn write_line<W: Write + Drop>(
 {
     let sent = civil_text(alloc, line.sent)?;
     let deadline = civil_text(alloc, line.deadline)?;
-    let server_state = number_text(alloc, line.server_state)?;
-    let outcome = number_text(alloc, line.outcome)?;
-    let validate_state = number_text(alloc, line.validate_state)?;
     let credit = credit_text(alloc, u64::from(line.credit))?;
-    write_row(
+    write_states(
+        alloc,
         writer,
-        &[
-            line.result.as_str().as_bytes(),
-            line.app.as_str().as_bytes(),
-            sent.as_str().as_bytes(),
-            deadline.as_str().as_bytes(),
-            server_state.as_str().as_bytes(),
-            outcome.as_str().as_bytes(),
-            validate_state.as_str().as_bytes(),
-            credit.as_str().as_bytes(),
-        ],
+        line,
+        sent.as_str(),
+        deadline.as_str(),
+        credit.as_str(),
     )
 }
 
