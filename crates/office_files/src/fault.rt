@@ -6,7 +6,7 @@ use rpc_records::Fault;
 use texts::Memory;
 
 /// Why the rows of an import are refused.
-#[derive(Clone, Copy)]
+#[derive(Clone, Copy, Debug, PartialEq, Eq)]
 pub enum RowsFault {
     /// The first faulty row of the text, and in it the first faulty column. Both count from 1; row 0 is the header,
     /// and column 0 the whole row.

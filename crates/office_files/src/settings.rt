@@ -32,7 +32,7 @@ const MOST_REQUEST_DELAY: u32 = 2_592_000;
 const LEAST_KEY_BYTES: usize = 8;
 
 /// Why a text is not that of settings.
-#[derive(Clone, Copy)]
+#[derive(Clone, Copy, Debug, PartialEq, Eq)]
 pub enum SettingsFault {
     /// It is no TOML text, or no table of just the seven settings, each of its kind and in its range.
     Bad,
