@@ -22,6 +22,7 @@ use rows::first_wrong;
 use sched_book::Settings;
 use sched_server::Service;
 use sched_tables::Tables;
+use sqlite::{Alter, Connection};
 use std::alloc::Global;
 use std::io;
 use std::io::{BufRead, BufReader, ErrorKind, Read};
@@ -35,9 +36,10 @@ fn service_over<S: Store + Drop>(alloc: Global, store: S) -> Result<Service<S>, 
     }
 }
 
-/// The service over new lists in memory.
-fn new_service(alloc: Global) -> Result<Service<ListStore>, Fail> {
-    service_over(alloc, ListStore::new(alloc, &default_settings(alloc)?)?)
+/// A store of new lists in memory. (What owns the service over it is generic in the store, as over tables: the proof of a
+/// function that owns one over lists by name takes a minute.)
+fn new_store(alloc: Global) -> Result<ListStore, Fail> {
+    Ok(ListStore::new(alloc, &default_settings(alloc)?)?)
 }
 
 /// What a replay of the lines of a reader by a service prints, and how it ends.
@@ -70,6 +72,16 @@ fn replayed_over<S: Store + Drop>(
     replayed_by(alloc, &mut service, lines)
 }
 
+/// What a replay of these lines prints over new tables with these settings in a database, and how it ends.
+fn replayed_in<S: Alter + Drop>(
+    alloc: Global,
+    conn: Connection<S>,
+    settings: &Settings,
+    lines: &[u8],
+) -> Result<(Vec<u8>, Ended), Fail> {
+    replayed_over(alloc, Tables::create(alloc, conn, settings)?, lines)
+}
+
 /// What a replay of these lines prints over tables with these settings, and how it ends; it fails where the plain lists
 /// print anything else.
 fn replayed_under(
@@ -78,7 +90,7 @@ fn replayed_under(
     lines: &[u8],
 ) -> Result<(Vec<u8>, Ended), Fail> {
     let by_lists = replayed_over(alloc, ListStore::new(alloc, settings)?, lines)?;
-    let by_tables = replayed_over(alloc, Tables::in_memory(alloc, settings)?, lines)?;
+    let by_tables = replayed_in(alloc, Connection::open_in_memory(alloc)?, settings, lines)?;
     if by_tables != by_lists {
         return Err(Fail::new("the tables answer otherwise than the lists"));
     }
@@ -394,29 +406,42 @@ fn short_answers(alloc: Global) -> Result<String, Fail> {
     )?)
 }
 
-/// What a replay prints whose reader is interrupted before each few bytes, and how it ends.
-fn replayed_interrupted(alloc: Global, text: &[u8]) -> Result<(Vec<u8>, Ended), Fail> {
+/// What a replay over a store prints whose reader is interrupted before each few bytes, and how it ends.
+fn replayed_interrupted<S: Store + Drop>(
+    alloc: Global,
+    store: S,
+    text: &[u8],
+) -> Result<(Vec<u8>, Ended), Fail> {
+    let mut service = service_over(alloc, store)?;
     let interrupted = Interrupted {
         text,
         is_ready: false,
     };
     let reader = BufReader::with_capacity(alloc, 7, interrupted)?;
-    let mut service = new_service(alloc)?;
     Ok(replayed_from(alloc, &mut service, reader))
 }
 
-/// What a replay prints whose reader fails behind these bytes, and how it ends.
-fn replayed_before_a_fault(alloc: Global, front: &[u8]) -> Result<(Vec<u8>, Ended), Fail> {
+/// What a replay over a store prints whose reader fails behind these bytes, and how it ends.
+fn replayed_before_a_fault<S: Store + Drop>(
+    alloc: Global,
+    store: S,
+    front: &[u8],
+) -> Result<(Vec<u8>, Ended), Fail> {
+    let mut service = service_over(alloc, store)?;
     let reader = BufReader::new(alloc, front.chain(Broken))?;
-    let mut service = new_service(alloc)?;
     Ok(replayed_from(alloc, &mut service, reader))
 }
 
-/// What a replay prints into so many bytes of room, and how it ends.
-fn replayed_into(alloc: Global, length: usize, lines: &[u8]) -> Result<(Vec<u8>, Ended), Fail> {
+/// What a replay over a store prints into so many bytes of room, and how it ends.
+fn replayed_into<S: Store + Drop>(
+    alloc: Global,
+    store: S,
+    length: usize,
+    lines: &[u8],
+) -> Result<(Vec<u8>, Ended), Fail> {
+    let mut service = service_over(alloc, store)?;
     let mut room = vec![in alloc; b' '; length]?;
     let reader = BufReader::new(alloc, lines)?;
-    let mut service = new_service(alloc)?;
     let ended = replay(alloc, &mut service, reader, room.as_mut_slice());
     Ok((room, ended))
 }
@@ -432,7 +457,7 @@ fn an_interrupted_reader_is_read_on(rt: HostRuntime) -> Result<(), Fail> {
     let alloc = rt.alloc();
     let lines = short_run(alloc)?;
     let told = short_answers(alloc)?;
-    let (printed, ended) = replayed_interrupted(alloc, lines.as_bytes())?;
+    let (printed, ended) = replayed_interrupted(alloc, new_store(alloc)?, lines.as_bytes())?;
     assert!(rt; ended == Ended::Good && printed.as_slice() == told.as_bytes());
     Ok(())
 }
@@ -444,7 +469,7 @@ fn a_broken_reader_ends_the_run(rt: HostRuntime) -> Result<(), Fail> {
     let told = short_answers(alloc)?;
     for length in 0..lines.len() {
         let front = lines.as_bytes().get(..length).unwrap_or(&[]);
-        let run = replayed_before_a_fault(alloc, front)?;
+        let run = replayed_before_a_fault(alloc, new_store(alloc)?, front)?;
         assert!(rt; broke(&run, told.as_bytes()), "{length}");
     }
     Ok(())
@@ -456,7 +481,7 @@ fn a_broken_writer_ends_the_run(rt: HostRuntime) -> Result<(), Fail> {
     let lines = short_run(alloc)?;
     let told = short_answers(alloc)?;
     for length in 0..told.len() {
-        let run = replayed_into(alloc, length, lines.as_bytes())?;
+        let run = replayed_into(alloc, new_store(alloc)?, length, lines.as_bytes())?;
         assert!(rt; broke(&run, told.as_bytes()), "{length}");
     }
     Ok(())

@@ -44,22 +44,37 @@ fn settings_told(alloc: Global, bytes: &[u8]) -> Result<Settings, Failure> {
     }
 }
 
-/// Makes tables in a file, which is closed then.
-pub(crate) fn create_tables(
-    rt: &HostRuntime,
-    path: &str,
-    settings: &Settings,
-) -> Result<(), Failure> {
-    create_in(rt.alloc(), Connection::open(rt, path)?, settings)
+/// What is done with a database, whatever it is stored in.
+pub trait Visit {
+    /// What comes of it.
+    type Found;
+
+    /// Does it with the database of a connection, which is closed then.
+    fn visit<S: Alter + Drop>(
+        &self,
+        rt: &HostRuntime,
+        conn: Connection<S>,
+    ) -> Result<Self::Found, Failure>;
 }
 
-fn create_in<S: Alter + Drop>(
-    alloc: Global,
-    conn: Connection<S>,
-    settings: &Settings,
-) -> Result<(), Failure> {
-    Tables::create(alloc, conn, settings)?;
-    Ok(())
+/// Pays a visit to the database in a file, which is made where none stands.
+pub fn visit_file<V: Visit>(rt: &HostRuntime, path: &str, visit: &V) -> Result<V::Found, Failure> {
+    visit.visit(rt, Connection::open(rt, path)?)
+}
+
+/// Makes new tables with these settings.
+#[derive(Drop)]
+pub(crate) struct Creation<'a> {
+    pub(crate) settings: &'a Settings,
+}
+
+impl Visit for Creation<'_> {
+    type Found = ();
+
+    fn visit<S: Alter + Drop>(&self, rt: &HostRuntime, conn: Connection<S>) -> Result<(), Failure> {
+        Tables::create(rt.alloc(), conn, self.settings)?;
+        Ok(())
+    }
 }
 
 /// The service over the tables of a database.

@@ -10,5 +10,6 @@ mod orders;
 mod serving;
 
 pub use ending::{Failure, Outcome};
+pub use files::{Visit, visit_file};
 pub use orders::{default_settings, perform};
 pub use serving::serve_on;

@@ -4,7 +4,7 @@ ghost use Rattle.std.specs.Prelude.{IfOk};
 ghost use Rattle.sched_book.specs.Limits.{AreSettingsInLimits};
 
 use crate::ending::{Failure, Outcome, ended};
-use crate::files::{bytes_of, create_tables, open_in, service_over, settings_in};
+use crate::files::{Creation, Visit, bytes_of, open_in, service_over, settings_in, visit_file};
 use crate::serving::serve_on;
 use command_line::Order;
 use http_requests::{import_request, statement_request, tick_request};
@@ -86,19 +86,23 @@ pub fn perform(rt: &HostRuntime, order: &Order) -> Result<Outcome, Failure> {
     perform_on(rt, tables.as_str(), &task)
 }
 
-/// Does a task over the tables of a file, which is closed then. A file that does not stand is not made.
+/// Does a task over the tables of a file. A file that does not stand is not made.
 fn perform_on(rt: &HostRuntime, tables: &str, task: &Task<'_>) -> Result<Outcome, Failure> {
     fs::metadata(rt, tables)?;
-    perform_in(rt, Connection::open(rt, tables)?, task)
+    visit_file(rt, tables, task)
 }
 
-fn perform_in<S: Alter + Drop>(
-    rt: &HostRuntime,
-    conn: Connection<S>,
-    task: &Task<'_>,
-) -> Result<Outcome, Failure> {
-    let mut service = open_in(rt.alloc(), conn)?;
-    perform_by(rt, &mut service, task)
+impl Visit for Task<'_> {
+    type Found = Outcome;
+
+    fn visit<S: Alter + Drop>(
+        &self,
+        rt: &HostRuntime,
+        conn: Connection<S>,
+    ) -> Result<Outcome, Failure> {
+        let mut service = open_in(rt.alloc(), conn)?;
+        perform_by(rt, &mut service, self)
+    }
 }
 
 fn perform_by<S: Store>(
@@ -117,7 +121,13 @@ fn perform_by<S: Store>(
 /// Makes tables in a file, with the settings of another.
 fn create(rt: &HostRuntime, settings: &str, tables: &str) -> Result<Outcome, Failure> {
     let settings = settings_in(rt, settings)?;
-    create_tables(rt, tables, &settings)?;
+    visit_file(
+        rt,
+        tables,
+        &Creation {
+            settings: &settings,
+        },
+    )?;
     writeln!(io::writer(rt), "created")?;
     Ok(Outcome::Done)
 }

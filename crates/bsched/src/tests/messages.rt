@@ -1,10 +1,10 @@
 //! Messages of HTTP by their bytes, streams that stop in the middle, a socket, and the words of a command line.
 
-use super::{Broken, CALL_START, PROJECT, REPLY, new_service, replayed_by};
+use super::{Broken, CALL_START, PROJECT, REPLY, new_store, replayed_by, service_over};
 use command_line::{Order, OrderFault, order_of};
 use commands::serve_on;
 use http_serving::{FromRead, FromWrite, IoFault, serve_one};
-use message_engine::{ListStore, Store};
+use message_engine::Store;
 use replay_lines::line_of;
 use sched_server::Service;
 use std::alloc::Global;
@@ -12,6 +12,7 @@ use std::io;
 use std::io::{Read, Write};
 use std::net::{TcpListener, TcpStream};
 use std::test::Fail;
+use texts::Memory;
 
 /// A message, and the status and the body of its answer.
 type Exchange = (&'static str, u16, &'static str);
@@ -185,18 +186,15 @@ fn tells(alloc: Global, answer: &[u8], status: u16, body: &str) -> Result<bool, 
     Ok(answer.starts_with(start.as_bytes()) && answer.ends_with(end.as_bytes()))
 }
 
-/// The first message that is answered otherwise.
-fn first_otherwise(alloc: Global, exchanges: &[Exchange]) -> Result<Option<&'static str>, Fail> {
-    first_otherwise_by(alloc, &mut new_service(alloc)?, exchanges)
-}
-
-fn first_otherwise_by<S: Store>(
+/// The first message that is answered otherwise over a store.
+fn first_otherwise<S: Store + Drop>(
     alloc: Global,
-    service: &mut Service<S>,
+    store: S,
     exchanges: &[Exchange],
 ) -> Result<Option<&'static str>, Fail> {
+    let mut service = service_over(alloc, store)?;
     for (message, status, body) in exchanges {
-        let answer = answered(alloc, service, message.as_bytes())?;
+        let answer = answered(alloc, &mut service, message.as_bytes())?;
         if !tells(alloc, &answer, *status, body)? {
             return Ok(Some(message));
         }
@@ -206,19 +204,28 @@ fn first_otherwise_by<S: Store>(
 
 #[test]
 fn heads_paths_and_methods(rt: HostRuntime) -> Result<(), Fail> {
-    assert_eq!(rt; first_otherwise(rt.alloc(), HEADS)?, None);
+    assert_eq!(rt;
+        first_otherwise(rt.alloc(), new_store(rt.alloc())?, HEADS)?,
+        None
+    );
     Ok(())
 }
 
 #[test]
 fn the_operators_key(rt: HostRuntime) -> Result<(), Fail> {
-    assert_eq!(rt; first_otherwise(rt.alloc(), KEYS)?, None);
+    assert_eq!(rt;
+        first_otherwise(rt.alloc(), new_store(rt.alloc())?, KEYS)?,
+        None
+    );
     Ok(())
 }
 
 #[test]
 fn bodies_and_their_lengths(rt: HostRuntime) -> Result<(), Fail> {
-    assert_eq!(rt; first_otherwise(rt.alloc(), BODIES)?, None);
+    assert_eq!(rt;
+        first_otherwise(rt.alloc(), new_store(rt.alloc())?, BODIES)?,
+        None
+    );
     Ok(())
 }
 
@@ -236,16 +243,30 @@ fn tick_of(alloc: Global, size: usize) -> Result<String, Fail> {
 }
 
 /// Whether a tick whose head has so many bytes is told this status and this body.
-fn is_tick_told(alloc: Global, size: usize, status: u16, body: &str) -> Result<bool, Fail> {
+fn is_tick_told<S: Store>(
+    alloc: Global,
+    service: &mut Service<S>,
+    size: usize,
+    status: u16,
+    body: &str,
+) -> Result<bool, Fail> {
     let message = tick_of(alloc, size)?;
-    let answer = answered(alloc, &mut new_service(alloc)?, message.as_bytes())?;
+    let answer = answered(alloc, service, message.as_bytes())?;
     tells(alloc, &answer, status, body)
+}
+
+/// Whether a head of 8,192 bytes is taken over a store, and one of a byte more is not.
+fn takes_heads_up_to_8192<S: Store + Drop>(alloc: Global, store: S) -> Result<bool, Fail> {
+    let mut service = service_over(alloc, store)?;
+    Ok(
+        is_tick_told(alloc, &mut service, 8192, 200, NONE_LAPSED)?
+            && is_tick_told(alloc, &mut service, 8193, 400, BAD_HTTP)?,
+    )
 }
 
 #[test]
 fn a_head_may_have_8192_bytes(rt: HostRuntime) -> Result<(), Fail> {
-    assert!(rt; is_tick_told(rt.alloc(), 8192, 200, NONE_LAPSED)?);
-    assert!(rt; is_tick_told(rt.alloc(), 8193, 400, BAD_HTTP)?);
+    assert!(rt; takes_heads_up_to_8192(rt.alloc(), new_store(rt.alloc())?)?);
     Ok(())
 }
 
@@ -267,31 +288,36 @@ fn answers_wholly<S: Store>(alloc: Global, service: &mut Service<S>) -> Result<b
     Ok(ninth.as_slice() == NINTH_IS_NONE.as_bytes() && put.as_slice() == ONLY_POST.as_bytes())
 }
 
-fn is_answered_wholly(alloc: Global) -> Result<bool, Fail> {
-    answers_wholly(alloc, &mut new_service(alloc)?)
+fn is_answered_wholly<S: Store + Drop>(alloc: Global, store: S) -> Result<bool, Fail> {
+    answers_wholly(alloc, &mut service_over(alloc, store)?)
 }
 
 #[test]
 fn answers_to_their_last_byte(rt: HostRuntime) -> Result<(), Fail> {
-    assert!(rt; is_answered_wholly(rt.alloc())?);
+    assert!(rt; is_answered_wholly(rt.alloc(), new_store(rt.alloc())?)?);
     Ok(())
+}
+
+/// What a socket gets that asks for the ninth host of a store.
+fn answer_on_a_socket<S: Store + Drop>(rt: &HostRuntime, store: S) -> Result<String, Fail> {
+    let mut service = service_over(rt.alloc(), store)?;
+    let listener = TcpListener::bind(rt, ("127.0.0.1", 0u16))?;
+    let mut stream = TcpStream::connect(rt, listener.local_addr()?)?;
+    stream.write_all(READS_NINTH.as_bytes())?;
+    serve_on(rt, &mut service, &listener, 1);
+    Ok(io::read_to_string(rt.alloc(), stream)?)
 }
 
 #[test]
 fn a_socket_is_served(rt: HostRuntime) -> Result<(), Fail> {
-    let mut service = new_service(rt.alloc())?;
-    let listener = TcpListener::bind(&rt, ("127.0.0.1", 0u16))?;
-    let mut stream = TcpStream::connect(&rt, listener.local_addr()?)?;
-    stream.write_all(READS_NINTH.as_bytes())?;
-    serve_on(&rt, &mut service, &listener, 1);
-    let answer = io::read_to_string(rt.alloc(), stream)?;
+    let answer = answer_on_a_socket(&rt, new_store(rt.alloc())?)?;
     assert_eq!(rt; answer.as_str(), NINTH_IS_NONE);
     Ok(())
 }
 
-/// The service after the imports of the project, in which no host stands.
-fn project(alloc: Global) -> Result<Service<ListStore>, Fail> {
-    let mut service = new_service(alloc)?;
+/// The service over a store after the imports of the project, in which no host stands.
+fn project<S: Store + Drop>(alloc: Global, store: S) -> Result<Service<S>, Fail> {
+    let mut service = service_over(alloc, store)?;
     let _printed = replayed_by(alloc, &mut service, PROJECT.as_bytes())?;
     Ok(service)
 }
@@ -370,14 +396,14 @@ fn fronts_are_no_message<S: Store>(
     Ok(!has_host(alloc, service)?)
 }
 
-fn no_front_is_a_message(alloc: Global) -> Result<bool, Fail> {
-    let message = first_call(alloc)?;
-    fronts_are_no_message(alloc, &mut project(alloc)?, &message)
+fn no_front_is_a_message<S: Store + Drop>(alloc: Global, store: S) -> Result<bool, Fail> {
+    let mut service = project(alloc, store)?;
+    fronts_are_no_message(alloc, &mut service, &first_call(alloc)?)
 }
 
 #[test]
 fn a_message_that_is_not_read_whole_never_was(rt: HostRuntime) -> Result<(), Fail> {
-    assert!(rt; no_front_is_a_message(rt.alloc())?);
+    assert!(rt; no_front_is_a_message(rt.alloc(), new_store(rt.alloc())?)?);
     Ok(())
 }
 
@@ -403,20 +429,20 @@ fn fronts_come_again<S: Store>(
     Ok(true)
 }
 
-fn each_front_comes_again(alloc: Global) -> Result<bool, Fail> {
-    let message = first_call(alloc)?;
+fn each_front_comes_again<S: Store + Drop>(alloc: Global, store: S) -> Result<bool, Fail> {
+    let mut service = project(alloc, store)?;
     let body = REPLY.trim_start_matches("200 ").trim_end();
-    fronts_come_again(alloc, &mut project(alloc)?, &message, body)
+    fronts_come_again(alloc, &mut service, &first_call(alloc)?, body)
 }
 
 #[test]
 fn a_reply_that_is_not_written_whole_comes_again(rt: HostRuntime) -> Result<(), Fail> {
-    assert!(rt; each_front_comes_again(rt.alloc())?);
+    assert!(rt; each_front_comes_again(rt.alloc(), new_store(rt.alloc())?)?);
     Ok(())
 }
 
 /// What a command line of these words orders.
-fn ordered(alloc: Global, words: &str) -> Result<Result<Order, OrderFault>, Fail> {
+fn ordered(alloc: Global, words: &str) -> Result<Result<Order, OrderFault>, Memory> {
     let mut all = Vec::new(alloc);
     for word in words.split(' ') {
         all.push(String::from_str(alloc, word)?)?;
@@ -424,17 +450,25 @@ fn ordered(alloc: Global, words: &str) -> Result<Result<Order, OrderFault>, Fail
     Ok(order_of(alloc, &all))
 }
 
+/// Whether these words order a tick over the tables `t` at moment 0.
+fn order_the_first_tick(alloc: Global, words: &str) -> Result<bool, Memory> {
+    Ok(
+        matches!(&ordered(alloc, words)?, Ok(Order::Tick { tables, at }) if tables.is("t") && at.seconds() == 0),
+    )
+}
+
+fn are_refused(alloc: Global, words: &str) -> Result<bool, Memory> {
+    Ok(matches!(&ordered(alloc, words)?, Err(OrderFault::Refused)))
+}
+
 #[test]
 fn words_order_a_tick(rt: HostRuntime) -> Result<(), Fail> {
-    let alloc = rt.alloc();
-    match ordered(alloc, "bsched tick --tables t --at 1970-01-01T00:00:00Z")? {
-        Ok(Order::Tick { tables, at }) => {
-            assert!(rt; tables.is("t") && at.seconds() == 0);
-        }
-        _ => return Err(Fail::new("these words order a tick")),
-    }
-    match ordered(alloc, "bsched tick --tables t --at x")? {
-        Err(OrderFault::Refused) => Ok(()),
-        _ => Err(Fail::new("x is no instant")),
-    }
+    assert!(rt;
+        order_the_first_tick(
+            rt.alloc(),
+            "bsched tick --tables t --at 1970-01-01T00:00:00Z"
+        )?
+    );
+    assert!(rt; are_refused(rt.alloc(), "bsched tick --tables t --at x")?);
+    Ok(())
 }

@@ -5,10 +5,12 @@
 
 use super::replayed_under;
 use commands::default_settings;
-use replay_lines::Ended;
+use sched_book::Settings;
 use std::alloc::Global;
+use std::fmt::Write;
 use std::str;
 use std::test::Fail;
+use texts::Memory;
 
 /// The rounds, and the lines of all.
 const ROUNDS: u32 = 30;
@@ -19,50 +21,44 @@ const LINES: u32 = 300;
 const SETUP: &str =
     "1970-01-01T00:00:00Z import/accounts/a0 \"authenticator,name\\nk1,Ann\\nk2,Bob\\nk3,Cid\\nk4,Dan\\n\"\n1970-01-01T00:00:00Z import/apps/a0 \"name,agreement\\ndock,exact\\n\"\n1970-01-01T00:00:00Z import/versions/a0 \"app,platform,version_num\\ndock,linux,102\\n\"\n1970-01-01T00:00:00Z import/workunits/a0 \"name,app,min_quorum,target_nresults,max_error_results,max_total_results,max_success_results,delay_bound,rsc_fpops_est,rsc_memory_bound,rsc_disk_bound,credit\\n";
 
-/// The names that are reported in a round: jobs of three workunits, whosever they are, an unknown one, and the first
-/// again.
-fn names(alloc: Global, round: u32) -> Result<Vec<String>, Fail> {
-    let mut names = Vec::new(alloc);
-    for job in 0..8u32 {
+/// Writes a name that is reported in a round: of the first eight each is a job of one of three workunits, whosever it is,
+/// the ninth is unknown, and the tenth is the first again.
+fn push_name(text: &mut String, round: u32, place: u32) -> Result<(), Memory> {
+    let job = place % 9;
+    if job == 8 {
+        write!(text, "\"zz_{round}\"")?;
+    } else {
         let unit = round % ROUNDS + job / 3;
         let number = job % 3;
-        names.push(format!(in alloc; "\"w{unit}_{number}\"")?)?;
+        write!(text, "\"w{unit}_{number}\"")?;
     }
-    names.push(format!(in alloc; "\"zz_{round}\"")?)?;
-    let first = round % ROUNDS;
-    names.push(format!(in alloc; "\"w{first}_0\"")?)?;
-    Ok(names)
+    Ok(())
 }
 
-/// The reports of a round. In each fifth round they are of errors.
-fn reports(alloc: Global, round: u32) -> Result<String, Fail> {
+/// Writes the reports of a round. In each fifth round they are of errors.
+fn push_reports(text: &mut String, round: u32) -> Result<(), Memory> {
     let status = if round % 5 == 4 { 1 } else { 0 };
-    let mut text = String::from_str(alloc, ",\"work_req_seconds\":3600,\"results\":")?;
-    let mut before = "[";
-    for name in &names(alloc, round)? {
-        let report = format!(in alloc;
-            "{before}{{\"name\":{name},\"exit_status\":{status},\"output\":\"x\"}}"
-        )?;
-        text.push_str(report.as_str())?;
+    let mut before = ",\"work_req_seconds\":3600,\"results\":[";
+    for place in 0..10 {
+        write!(text, "{before}{{\"name\":")?;
+        push_name(text, round, place)?;
+        write!(text, ",\"exit_status\":{status},\"output\":\"x\"}}")?;
         before = ",";
     }
     text.push_str("]")?;
-    Ok(text)
+    Ok(())
 }
 
-/// The names of a round, each distinct one once, as they are acknowledged.
-fn acks(alloc: Global, round: u32) -> Result<String, Fail> {
-    let mut text = String::from_str(alloc, "\"result_ack\":")?;
-    let mut before = "[";
-    for name in &names(alloc, round)? {
-        if !text.as_str().contains(name.as_str()) {
-            text.push_str(before)?;
-            text.push_str(name.as_str())?;
-            before = ",";
-        }
+/// Writes the names of a round, each distinct one once, as they are acknowledged.
+fn push_acks(text: &mut String, round: u32) -> Result<(), Memory> {
+    let mut before = "\"result_ack\":[";
+    for place in 0..9 {
+        text.push_str(before)?;
+        push_name(text, round, place)?;
+        before = ",";
     }
     text.push_str("]")?;
-    Ok(text)
+    Ok(())
 }
 
 /// What a host does in a round.
@@ -85,18 +81,24 @@ fn turn_of(round: u32, host: u32) -> Turn {
     }
 }
 
-/// What the new call of a host has behind its facts.
-fn members(alloc: Global, round: u32, host: u32) -> Result<String, Fail> {
+/// Writes what the new call of a host has behind its facts.
+fn push_members(text: &mut String, round: u32, host: u32) -> Result<(), Memory> {
     match turn_of(round, host) {
-        Turn::Asks => Ok(String::from_str(alloc, ",\"work_req_seconds\":7200")?),
-        Turn::Lost => Ok(String::from_str(alloc, ",\"other_results\":[]")?),
-        Turn::Reports => reports(alloc, round),
+        Turn::Asks => text.push_str(",\"work_req_seconds\":7200")?,
+        Turn::Lost => text.push_str(",\"other_results\":[]")?,
+        Turn::Reports => push_reports(text, round)?,
     }
+    Ok(())
 }
 
-/// The moment of a round: three rounds behind a job is its deadline.
-fn moment_of(round: u32) -> u32 {
-    round % ROUNDS * 2400 + 10_000
+/// The moment of a line: three rounds behind a job is its deadline. Repeats and the second tick come later than the rest.
+fn moment_of(round: u32, place: u32) -> u32 {
+    let start = round % ROUNDS * 2400 + 10_000;
+    match place {
+        4 | 7 => start + place,
+        9 => start + 1,
+        _ => start,
+    }
 }
 
 /// The number of a round's new calls.
@@ -104,28 +106,14 @@ fn seqno_of(round: u32) -> u32 {
     round % ROUNDS * 2 + 2
 }
 
-/// A moment of the first days of 1970 as an instant.
-fn instant(alloc: Global, moment: u32) -> Result<String, Fail> {
+/// Writes a moment of the first days of 1970 as an instant.
+fn push_instant(text: &mut String, moment: u32) -> Result<(), Memory> {
     let day = moment / 86_400 % 30 + 1;
     let hour = moment / 3600 % 24;
     let minute = moment / 60 % 60;
     let second = moment % 60;
-    Ok(format!(in alloc; "1970-01-{day:02}T{hour:02}:{minute:02}:{second:02}Z")?)
-}
-
-/// The line of a call.
-fn call(alloc: Global, moment: u32, host: u32, seqno: u32, members: &str) -> Result<String, Fail> {
-    let moment = instant(alloc, moment)?;
-    let number = host % 4 + 1;
-    Ok(format!(in alloc;
-        "{moment} scheduler {{\"authenticator\":\"k{number}\",\"rpc_seqno\":{seqno},\"host_info\":{{\"host_cpid\":\"c{number}\",\"p_fpops\":1000,\"m_nbytes\":8000,\"d_free\":9000}},\"platform_name\":\"linux\"{members}}}\n"
-    )?)
-}
-
-/// The line of a tick.
-fn tick(alloc: Global, moment: u32) -> Result<String, Fail> {
-    let moment = instant(alloc, moment)?;
-    Ok(format!(in alloc; "{moment} tick\n")?)
+    write!(text, "1970-01-{day:02}T{hour:02}:{minute:02}:{second:02}Z")?;
+    Ok(())
 }
 
 /// The host of a round's line.
@@ -137,63 +125,91 @@ fn host_at(round: u32, place: u32) -> u32 {
     }
 }
 
-/// The line at a place of a round.
-fn line(alloc: Global, round: u32, place: u32) -> Result<String, Fail> {
+/// Writes what a call at a place of a round says, from its number on.
+fn push_call(text: &mut String, round: u32, place: u32) -> Result<(), Memory> {
     let host = host_at(round, place);
-    let moment = moment_of(round);
-    let seqno = seqno_of(round);
-    let members = members(alloc, round, host)?;
-    match place {
-        5 => call(
-            alloc,
-            moment,
-            host,
-            seqno.saturating_sub(1),
-            members.as_str(),
-        ),
-        6 => call(alloc, moment, host, seqno, ",\"work_req_seconds\":7"),
-        8 => tick(alloc, moment),
-        9 => tick(alloc, moment.saturating_add(1)),
-        4 | 7 => call(
-            alloc,
-            moment.saturating_add(place),
-            host,
-            seqno,
-            members.as_str(),
-        ),
-        _ => call(alloc, moment, host, seqno, members.as_str()),
+    let number = host % 4 + 1;
+    let last = seqno_of(round);
+    let seqno = if place == 5 {
+        last.saturating_sub(1)
+    } else {
+        last
+    };
+    write!(
+        text,
+        " scheduler {{\"authenticator\":\"k{number}\",\"rpc_seqno\":{seqno},\"host_info\":{{\"host_cpid\":\"c{number}\",\"p_fpops\":1000,\"m_nbytes\":8000,\"d_free\":9000}},\"platform_name\":\"linux\""
+    )?;
+    if place == 6 {
+        text.push_str(",\"work_req_seconds\":7")?;
+    } else {
+        push_members(text, round, host)?;
     }
+    text.push_str("}\n")?;
+    Ok(())
+}
+
+/// Writes the line at a place of a round.
+fn push_line(text: &mut String, round: u32, place: u32) -> Result<(), Memory> {
+    push_instant(text, moment_of(round, place))?;
+    if place < 8 {
+        push_call(text, round, place)?;
+    } else {
+        text.push_str(" tick\n")?;
+    }
+    Ok(())
+}
+
+/// Writes all lines.
+fn push_lines(text: &mut String) -> Result<(), Memory> {
+    text.push_str(SETUP)?;
+    for unit in 1..=60u32 {
+        write!(
+            text,
+            "w{unit},dock,2,2,3,6,4,7200,3600000,1000,1000,5000\\n"
+        )?;
+    }
+    text.push_str("\"\n")?;
+    for i in 0..LINES {
+        push_line(text, i / 10, i % 10)?;
+    }
+    Ok(())
 }
 
 /// All lines.
-fn lines(alloc: Global) -> Result<String, Fail> {
-    let mut lines = String::from_str(alloc, SETUP)?;
-    for unit in 1..=60u32 {
-        let row = format!(in alloc; "w{unit},dock,2,2,3,6,4,7200,3600000,1000,1000,5000\\n")?;
-        lines.push_str(row.as_str())?;
-    }
-    lines.push_str("\"\n")?;
-    for i in 0..LINES {
-        lines.push_str(line(alloc, i / 10, i % 10)?.as_str())?;
-    }
+fn lines(alloc: Global) -> Result<String, Memory> {
+    let mut lines = String::new(alloc);
+    push_lines(&mut lines)?;
     Ok(lines)
 }
 
-/// What the replay of all lines prints.
-fn printed(alloc: Global) -> Result<String, Fail> {
+fn settings(alloc: Global) -> Result<Settings, Memory> {
     let mut settings = default_settings(alloc)?;
     settings.max_hosts = 4;
     settings.max_wus_in_progress = 4;
     settings.daily_result_quota = 100;
-    let lines = lines(alloc)?;
-    let (out, ended) = replayed_under(alloc, &settings, lines.as_bytes())?;
-    if ended != Ended::Good {
-        return Ok(String::new(alloc));
+    Ok(settings)
+}
+
+/// What the replay of all lines prints.
+fn printed(alloc: Global) -> Result<String, Fail> {
+    let (out, _) = replayed_under(alloc, &settings(alloc)?, lines(alloc)?.as_bytes())?;
+    Ok(String::from_str(alloc, str::from_utf8(&out).unwrap_or(""))?)
+}
+
+/// Writes the acknowledged names that the answer to a round's new call has.
+fn push_acks_to(text: &mut String, round: u32, host: u32) -> Result<(), Memory> {
+    match turn_of(round, host) {
+        Turn::Reports => push_acks(text, round)?,
+        _ => text.push_str("\"result_ack\":[]")?,
     }
-    match str::from_utf8(out.as_slice()) {
-        Ok(text) => Ok(String::from_str(alloc, text)?),
-        Err(_) => Ok(String::new(alloc)),
-    }
+    Ok(())
+}
+
+/// Whether the answer to a round's new call acknowledges each distinct name that it reports, in order.
+fn acknowledges(alloc: Global, round: u32, host: u32, answer: &str) -> Result<bool, Memory> {
+    let mut acks = String::new(alloc);
+    push_acks_to(&mut acks, round, host)?;
+    Ok(answer.contains(acks.as_str()))
 }
 
 /// Whether an answer is as its line wants it: a repeat is told the same as `first`, the answer to the call that it
@@ -204,34 +220,36 @@ fn is_wanted(
     place: u32,
     answer: &str,
     first: &str,
-) -> Result<bool, Fail> {
+) -> Result<bool, Memory> {
     let last = seqno_of(round);
     match place {
         4 | 7 => Ok(answer == first),
-        5 => {
-            let stale = format!(in alloc;
-                "409 {{\"error\":\"stale\",\"last\":{last},\"number\":10}}"
-            )?;
-            Ok(answer == stale.as_str())
-        }
-        6 => {
-            let reused = format!(in alloc;
-                "409 {{\"error\":\"reused\",\"last\":{last},\"number\":11}}"
-            )?;
-            Ok(answer == reused.as_str())
-        }
+        5 => is_refused(alloc, "stale", last, 10, answer),
+        6 => is_refused(alloc, "reused", last, 11, answer),
         // no deadline is below now
         8 => Ok(answer == "200 {\"lapsed\":0}"),
         9 => Ok(answer.starts_with("200 {\"lapsed\":")),
         _ => {
-            let acks = if turn_of(round, place) == Turn::Reports {
-                acks(alloc, round)?
-            } else {
-                String::from_str(alloc, "\"result_ack\":[]")?
-            };
-            Ok(answer.starts_with("200 {\"end_word\":") && answer.contains(acks.as_str()))
+            Ok(
+                answer.starts_with("200 {\"end_word\":")
+                    && acknowledges(alloc, round, place, answer)?,
+            )
         }
     }
+}
+
+/// Whether an answer refuses a call for its number with this word, where the last number is this one.
+fn is_refused(
+    alloc: Global,
+    word: &str,
+    last: u32,
+    number: u32,
+    answer: &str,
+) -> Result<bool, Memory> {
+    let refusal = format!(in alloc;
+        "409 {{\"error\":\"{word}\",\"last\":{last},\"number\":{number}}}"
+    )?;
+    Ok(answer == refusal.as_str())
 }
 
 /// The answer at this place of a round, where there is one.

@@ -1,12 +1,13 @@
 //! The worked rows with each message sent twice, through the service's `run`: the first answer is thrown away.
 
 use super::rows::{NEXT, lines_of, name_of};
+use super::stored::{Seen, is_seen_in_file};
 use super::{PROJECT, service_over};
 use commands::default_settings;
 use message_engine::Store;
 use replay_lines::line_of;
 use sched_book::Settings;
-use sched_server::{Answer, Arrival};
+use sched_server::{Answer, Arrival, Service};
 use sched_tables::Tables;
 use sqlite::{Alter, Connection};
 use std::alloc::Global;
@@ -51,13 +52,31 @@ fn are_told_again(lines: &str, answers: &[Answer]) -> bool {
     true
 }
 
+/// The answers to these arrivals. (It has no clause, so that the proof of a test does not carry what many messages do.)
+fn answers_to<S: Store>(
+    alloc: Global,
+    service: &mut Service<S>,
+    arrivals: &[Arrival],
+) -> Result<Vec<Answer>, Fail> {
+    Ok(service.run(alloc, arrivals)?)
+}
+
+/// Whether the messages of these lines, each sent twice, get their first answers again.
+fn answers_again<S: Store>(
+    alloc: Global,
+    service: &mut Service<S>,
+    lines: &str,
+) -> Result<bool, Fail> {
+    let arrivals = arrivals_of(alloc, service.operator_key(), lines)?;
+    let answers = answers_to(alloc, service, &arrivals)?;
+    Ok(answers.len() == arrivals.len() && are_told_again(lines, &answers))
+}
+
 /// Whether the messages of a row, each sent twice behind the project's imports, get their first answers again over a store.
 fn is_answered_again<S: Store + Drop>(alloc: Global, store: S, row: &str) -> Result<bool, Fail> {
     let mut service = service_over(alloc, store)?;
     let lines = format!(in alloc; "{PROJECT}{}", lines_of(alloc, row)?)?;
-    let arrivals = arrivals_of(alloc, service.operator_key(), lines.as_str())?;
-    let answers = service.run(alloc, &arrivals)?;
-    Ok(answers.len() == arrivals.len() && are_told_again(lines.as_str(), &answers))
+    answers_again(alloc, &mut service, lines.as_str())
 }
 
 /// The default settings, but that five hosts may stand.
@@ -73,16 +92,15 @@ pub fn first_answered_otherwise(
     text: &'static str,
 ) -> Result<Option<&'static str>, Fail> {
     for row in text.split(NEXT).skip(1) {
-        let tables = Tables::in_memory(alloc, &settings(alloc)?)?;
-        if !is_answered_again(alloc, tables, row)? {
+        if !is_answered_again_in(alloc, Connection::open_in_memory(alloc)?, row)? {
             return Ok(Some(name_of(row)));
         }
     }
     Ok(None)
 }
 
-/// Whether the messages of a row get their first answers again over new tables of a connection.
-fn is_answered_again_in<S: Alter + Drop>(
+/// Whether the messages of a row, each sent twice, get their first answers again over new tables of a database.
+pub fn is_answered_again_in<S: Alter + Drop>(
     alloc: Global,
     conn: Connection<S>,
     row: &str,
@@ -98,8 +116,7 @@ pub fn first_answered_otherwise_in_files(
 ) -> Result<Option<&'static str>, Fail> {
     for row in text.split(NEXT).skip(1) {
         let path = format!(in rt.alloc(); "{}.db", name_of(row))?;
-        let conn = Connection::open(rt, path.as_str())?;
-        if !is_answered_again_in(rt.alloc(), conn, row)? {
+        if !is_seen_in_file(rt, path.as_str(), &Seen::AnsweredAgain { row })? {
             return Ok(Some(name_of(row)));
         }
     }

@@ -1,12 +1,15 @@
 //! Tables that are spoiled, and tables in a file.
 
+use super::repeats::is_answered_again_in;
 use super::{CALL_START, PROJECT, replayed, replayed_by, replayed_over, service_over};
-use commands::default_settings;
+use commands::{Failure, Visit, default_settings, visit_file};
 use message_engine::Store;
 use replay_lines::Ended;
+use sched_server::Service;
 use sched_tables::{OpenFault, Tables};
 use sqlite::{Alter, Connection, Error, MemStore};
 use std::alloc::Global;
+use std::str;
 use std::test::Fail;
 
 /// The rows of two workunits: for one a single result is enough.
@@ -30,29 +33,41 @@ fn run<S: Alter>(conn: &mut Connection<S>, sql: &str) -> Result<usize, Error> {
     conn.execute(sql, &[])
 }
 
-/// A store after the lines.
-fn after_lines<S: Store + Drop>(alloc: Global, store: S) -> Result<S, Fail> {
-    let mut service = service_over(alloc, store)?;
-    let (_, ended) = replayed_by(alloc, &mut service, lines(alloc)?.as_bytes())?;
+/// Has a service answer the lines.
+fn answer_lines<S: Store>(alloc: Global, service: &mut Service<S>) -> Result<(), Fail> {
+    let (_, ended) = replayed_by(alloc, service, lines(alloc)?.as_bytes())?;
     if ended != Ended::Good {
         return Err(Fail::new("the lines end otherwise"));
     }
+    Ok(())
+}
+
+/// A store after the lines.
+fn after_lines<S: Store + Drop>(alloc: Global, store: S) -> Result<S, Fail> {
+    let mut service = service_over(alloc, store)?;
+    answer_lines(alloc, &mut service)?;
     Ok(service.into_tables())
 }
 
-/// Tables in memory after the lines.
-fn filled(alloc: Global) -> Result<Tables<MemStore>, Fail> {
-    after_lines(alloc, Tables::in_memory(alloc, &default_settings(alloc)?)?)
+/// A database with tables after the lines.
+fn with_lines<S: Alter + Drop>(alloc: Global, conn: Connection<S>) -> Result<Connection<S>, Fail> {
+    let tables = Tables::create(alloc, conn, &default_settings(alloc)?)?;
+    Ok(after_lines(alloc, tables)?.into_connection())
 }
 
-/// How the tables are refused after a statement, or none where they are opened.
-fn refused_after(alloc: Global, sql: &str) -> Result<Option<OpenFault>, Fail> {
-    let mut conn = filled(alloc)?.into_connection();
+/// A database in memory with tables after the lines.
+fn filled(alloc: Global) -> Result<Connection<MemStore>, Fail> {
+    with_lines(alloc, Connection::open_in_memory(alloc)?)
+}
+
+/// How the tables of a database are refused after a statement, or none where they are opened.
+fn refused_after<S: Alter + Drop>(
+    alloc: Global,
+    mut conn: Connection<S>,
+    sql: &str,
+) -> Result<Option<OpenFault>, Fail> {
     run(&mut conn, sql)?;
-    match Tables::open(alloc, conn) {
-        Ok(_) => Ok(None),
-        Err(fault) => Ok(Some(fault)),
-    }
+    Ok(Tables::open(alloc, conn).err())
 }
 
 /// Statements that make tables of another schema.
@@ -111,7 +126,7 @@ fn first_taken(
     fault: OpenFault,
 ) -> Result<Option<&'static str>, Fail> {
     for sql in statements {
-        if refused_after(alloc, sql)? != Some(fault) {
+        if refused_after(alloc, filled(alloc)?, sql)? != Some(fault) {
             return Ok(Some(sql));
         }
     }
@@ -133,51 +148,98 @@ fn spoiled_rows_are_refused(rt: HostRuntime) -> Result<(), Fail> {
     Ok(())
 }
 
+/// How new tables in a database are refused, or none where they are made.
+fn refused_to_make<S: Alter + Drop>(
+    alloc: Global,
+    conn: Connection<S>,
+) -> Result<Option<OpenFault>, Fail> {
+    Ok(Tables::create(alloc, conn, &default_settings(alloc)?).err())
+}
+
 #[test]
 fn tables_are_no_new_tables(rt: HostRuntime) -> Result<(), Fail> {
     let alloc = rt.alloc();
-    let conn = filled(alloc)?.into_connection();
-    match Tables::create(alloc, conn, &default_settings(alloc)?) {
-        Ok(_) => Err(Fail::new("tables were made over tables")),
-        Err(fault) => {
-            assert_eq!(rt; fault, OpenFault::NotTables);
-            Ok(())
+    assert_eq!(rt;
+        refused_to_make(alloc, filled(alloc)?)?,
+        Some(OpenFault::NotTables)
+    );
+    Ok(())
+}
+
+/// What is to be seen of a database in a file, which is closed then.
+#[derive(Drop)]
+pub enum Seen<'a> {
+    /// New tables are made.
+    Made,
+    /// Behind this line its tables tell this.
+    Told { line: &'a str, told: &'a str },
+    /// Over new tables the messages of a row, each sent twice, get their first answers again.
+    AnsweredAgain { row: &'a str },
+}
+
+impl Seen<'_> {
+    /// Whether it is seen of a database.
+    fn is_seen_in<S: Alter + Drop>(
+        &self,
+        alloc: Global,
+        conn: Connection<S>,
+    ) -> Result<bool, Fail> {
+        match self {
+            Seen::Made => Ok(refused_to_make(alloc, conn)?.is_none()),
+            Seen::Told { line, told } => is_told_over(alloc, conn, line, told),
+            Seen::AnsweredAgain { row } => is_answered_again_in(alloc, conn, row),
         }
     }
 }
 
-/// Makes tables in a database, which is closed then.
-fn make<S: Alter + Drop>(alloc: Global, conn: Connection<S>) -> Result<(), Fail> {
-    Tables::create(alloc, conn, &default_settings(alloc)?)?;
-    Ok(())
+impl Visit for Seen<'_> {
+    type Found = Result<bool, Fail>;
+
+    fn visit<S: Alter + Drop>(
+        &self,
+        rt: &HostRuntime,
+        conn: Connection<S>,
+    ) -> Result<Result<bool, Fail>, Failure> {
+        Ok(self.is_seen_in(rt.alloc(), conn))
+    }
 }
 
-/// What a replay of these lines prints over the tables of a database, which is closed then.
-fn printed_over<S: Alter + Drop>(
+/// Whether a line over the tables of a database is told this.
+fn is_told_over<S: Alter + Drop>(
     alloc: Global,
     conn: Connection<S>,
-    lines: &str,
-) -> Result<Vec<u8>, Fail> {
-    let (printed, _) = replayed_over(alloc, Tables::open(alloc, conn)?, lines.as_bytes())?;
-    Ok(printed)
+    line: &str,
+    told: &str,
+) -> Result<bool, Fail> {
+    let (printed, _) = replayed_over(alloc, Tables::open(alloc, conn)?, line.as_bytes())?;
+    Ok(printed.as_slice() == told.as_bytes())
 }
 
-/// What these lines print where the file of the tables is opened for each and closed behind it.
-fn printed_line_by_line(rt: &HostRuntime, path: &str, lines: &str) -> Result<Vec<u8>, Fail> {
-    let alloc = rt.alloc();
-    let mut printed = Vec::new(alloc);
-    for line in lines.split_inclusive('\n') {
-        printed.append(&mut printed_over(alloc, Connection::open(rt, path)?, line)?)?;
+/// Whether this is seen of the database in a file.
+pub fn is_seen_in_file(rt: &HostRuntime, path: &str, seen: &Seen<'_>) -> Result<bool, Fail> {
+    match visit_file(rt, path, seen) {
+        Ok(seen) => seen,
+        Err(_) => Err(Fail::new("the file is not opened")),
     }
-    Ok(printed)
+}
+
+/// Whether the tables in a file, which is opened for each line and closed behind it, tell this line by line.
+fn are_told_in_file(rt: &HostRuntime, path: &str, lines: &str, told: &str) -> Result<bool, Fail> {
+    for (line, told) in lines.split_inclusive('\n').zip(told.split_inclusive('\n')) {
+        if !is_seen_in_file(rt, path, &Seen::Told { line, told })? {
+            return Ok(false);
+        }
+    }
+    Ok(true)
 }
 
 #[test]
 fn a_file_that_is_closed_behind_each_line_answers_on(rt: HostRuntime) -> Result<(), Fail> {
     let lines = lines(rt.alloc())?;
-    make(rt.alloc(), Connection::open(&rt, "project.db")?)?;
-    let printed = printed_line_by_line(&rt, "project.db", lines.as_str())?;
-    let (whole, _) = replayed(rt.alloc(), lines.as_bytes())?;
-    assert_eq!(rt; printed, whole);
+    let (told, _) = replayed(rt.alloc(), lines.as_bytes())?;
+    let told = str::from_utf8(&told).unwrap_or("");
+    assert_eq!(rt; told.lines().count(), lines.as_str().lines().count());
+    assert!(rt; is_seen_in_file(&rt, "project.db", &Seen::Made)?);
+    assert!(rt; are_told_in_file(&rt, "project.db", lines.as_str(), told)?);
     Ok(())
 }
