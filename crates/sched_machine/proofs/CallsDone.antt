@@ -44,12 +44,12 @@ module _ (w v : World) (r : Request) (now : ℕ) (ready : Ready) (changes : List
   -- the world before the grant is sound, and has the call's host
   ready_sound : Sound v
   ready_sound =
-      subst Sound (sym is.prepared.settled.left)
+      subst Sound (sym is.settled.left)
       (settled_sound w ready.call.caller r now is.calling.sound is.calling.admitted.caller is.calling.room is.calling.admitted.limits soon)
 
   ready_has_host : IsTrue (is_some (host_at v ready.call.number))
   ready_has_host =
-      ap₂ (λ (z : World) n. is_some (host_at z n)) is.prepared.settled.left is.calling.number
+      ap₂ (λ (z : World) n. is_some (host_at z n)) is.settled.left is.calling.number
       ∙ ap is_some (host_stands w ready.call.caller r now is.calling.sound is.calling.admitted.caller is.calling.room is.calling.admitted.limits soon)
 
   -- the grant, and what is told of it
@@ -64,10 +64,10 @@ module _ (w v : World) (r : Request) (now : ℕ) (ready : Ready) (changes : List
     jobs = jobs;
     grant = grant;
     ends = ends;
-    left = given ∙ ap₂ (λ (z : World) n. granted z n now jobs) is.prepared.settled.left is.calling.number;
+    left = given ∙ ap₂ (λ (z : World) n. granted z n now jobs) is.settled.left is.calling.number;
     fits = (fits (record {
       units = units_in_limits w [] is.calling.sound refl;
-      within = record { fits = is.prepared.settled.fits; limited = subst IsLimited here (limited_from_sound v ready_sound) };
+      within = record { fits = is.settled.fits; limited = subst IsLimited here (limited_from_sound v ready_sound) };
       stands = subst (λ z. IsTrue (is_some (host_at z ready.call.number))) here ready_has_host;
     })).within.fits;
     tells = said;
@@ -81,25 +81,25 @@ module _ (w v : World) (r : Request) (now : ℕ) (ready : Ready) (changes : List
     abbrev number : ℕ
     number = host_number w caller
 
-    totals : ((n : ℕ) → host_credit (granted (after_settlement w caller r now) number now done.jobs) n ≡ host_credit w n + credits_in ready.prepared.settled.marks n)
+    totals : ((n : ℕ) → host_credit (granted (after_settlement w caller r now) number now done.jobs) n ≡ host_credit w n + credits_in ready.settled.marks n)
         × ((account : ℕ) → user_credit (granted (after_settlement w caller r now) number now done.jobs) account
-        ≡ user_credit w account + user_credits_in (after_settlement w caller r now).hosts account ready.prepared.settled.marks)
+        ≡ user_credit w account + user_credits_in (after_settlement w caller r now).hosts account ready.settled.marks)
     totals =
-        totals_known w caller r now ready.prepared.settled.marks done.jobs is.calling.sound is.calling.admitted.caller is.calling.room is.calling.admitted.limits soon
-        (subst (λ z. AreMarks w z ready.prepared.settled.marks) is.prepared.settled.left is.prepared.settled.marks) done.grant
+        totals_known w caller r now ready.settled.marks done.jobs is.calling.sound is.calling.admitted.caller is.calling.room is.calling.admitted.limits soon
+        (subst (λ z. AreMarks w z ready.settled.marks) is.settled.left is.settled.marks) done.grant
 
     host_total : told.host_credit ≡ host_credit u number
     host_total =
         done.tells.host_credit
-        ∙ ap (λ n. host_credit w n + credits_in ready.prepared.settled.marks n) is.calling.number
+        ∙ ap (λ n. host_credit w n + credits_in ready.settled.marks n) is.calling.number
         ∙ sym (totals.0 number)
         ∙ ap (λ (z : World). host_credit z number) (sym done.left)
 
     user_total : told.user_credit ≡ user_credit u caller.account
     user_total =
         done.tells.user_credit
-        ∙ ap (λ (z : World). user_credit w caller.account + user_credits_in z.hosts caller.account ready.prepared.settled.marks) done.left
-        ∙ ap (λ hosts. user_credit w caller.account + user_credits_in hosts caller.account ready.prepared.settled.marks)
+        ∙ ap (λ (z : World). user_credit w caller.account + user_credits_in z.hosts caller.account ready.settled.marks) done.left
+        ∙ ap (λ hosts. user_credit w caller.account + user_credits_in hosts caller.account ready.settled.marks)
         (grants_are_by_place (after_settlement w caller r now) number now done.jobs).rest.hosts
         ∙ sym (totals.1 caller.account)
         ∙ ap (λ (z : World). user_credit z caller.account) (sym done.left)
@@ -108,12 +108,12 @@ module _ (w v : World) (r : Request) (now : ℕ) (ready : Ready) (changes : List
     said host resent = filter_map (job_at u host true) resent ++ filter_map (job_at u host false) done.jobs
 
     results_are : told.results ≡ said (host_at_entry w caller r) (resent_of w caller r)
-    results_are = done.tells.results ∙ ap₂ said is.calling.host is.prepared.settled.resent
+    results_are = done.tells.results ∙ ap₂ said is.calling.host is.settled.resent
 
-    aborted_are : ready.prepared.aborted ≡ aborts (after_settlement w caller r now) number r.other_results
+    aborted_are : ready.aborted ≡ aborts (after_settlement w caller r now) number r.other_results
     aborted_are =
-        is.prepared.aborted
-        ∙ ap₂ (λ (z : World) n. aborts z n r.other_results) is.prepared.settled.left is.calling.number
+        is.aborted
+        ∙ ap₂ (λ (z : World) n. aborts z n r.other_results) is.settled.left is.calling.number
 
     -- the reply, part by part
     parts_are : (delay : ℕ) → delay ≡ w.settings.request_delay → reply_of ready told word r delay ≡ record {
@@ -134,7 +134,7 @@ module _ (w v : World) (r : Request) (now : ℕ) (ready : Ready) (changes : List
       hostid = is.calling.number i;
       request_delay = delay_is i;
       result_abort = aborted_are i;
-      result_ack = is.prepared.settled.acked i;
+      result_ack = is.settled.acked i;
       results = results_are i;
       rpc_seqno = r.rpc_seqno;
       user_name = done.tells.user_name i;

@@ -25,6 +25,7 @@ use Rattle.sched_book.proofs.Settling.{nth-map}
 use Rattle.sched_machine.proofs.UnitsAlike.{length_changed}
 use Rattle.sched_machine.proofs.DecidedGood.{IsLate, BecameAt, AllBecame}
 use Rattle.sched_machine.proofs.DecidedUnits.{judged_became, status_stays}
+use Rattle.sched_machine.proofs.UnitsReported.{unreported}
 
 -- A workunit and what became of it: nothing but its instances changes, and where it had failed they stay as many.
 pub record UnitBecame (apps : List App) (b c : UnitBook) : Type 0 where
@@ -180,11 +181,6 @@ owner_mild o y free = record {
 }
 
 -- a report that is new is late, or not judged
-unreported : (o : Option Outcome) (b : Bool) → (b && is_none o) ≡ true → o ≡ None
-unreported None b awaits = refl
-unreported (Some r) true awaits = absurd cc
-unreported (Some r) false awaits = absurd cc
-
 report_late : (n : ℕ) (failed : Bool) (m : ℕ) (r : Report) (y : Instance) → n < m → IsLate n failed (with_report r (cond failed None (Some m)) y)
 report_late n true m r y past judged = absurd cc
 report_late n false m r y past judged = (past, refl)

@@ -35,7 +35,7 @@ use Rattle.sched_machine.proofs.HeldGranted.{IsUnspoiled, grant_gives, grant_kee
 use Rattle.sched_machine.proofs.HeldLists.{held_is_listed, listed_is_held}
 use Rattle.sched_machine.proofs.HeldLost.{lost_elsewhere, lost_held, lost_resent}
 use Rattle.sched_machine.proofs.HeldReported.{reports_end_holding}
-use Rattle.sched_machine.proofs.RunKept.{settled_stands}
+use Rattle.sched_machine.proofs.RunKept.{free_first, settled_stands}
 use Rattle.sched_machine.proofs.SettledHolds.{is_held_in, lost_hold_no_more, settled_same}
 
 -- nobody owns or holds what was given to nobody
@@ -163,12 +163,8 @@ module _ (w : World) (c : Caller) (r : Request) where
           stands : instance_at w p ≡ Some at.x
           stands = ap (option_and_then (λ (b : UnitBook). slice_get b.instances p.number)) at.at ∙ at.stands
 
-          none_of : (o : Option Owner) → is_none o ≡ true → o ≡ None
-          none_of None is = refl
-          none_of (Some o) is = absurd cc
-
           free : at.x.owner ≡ None
-          free = none_of at.x.owner (and_parts (is_none at.x.owner) (is_for w (asking_of w c r now).host at.book) at.passed).0
+          free = free_first at.x.owner (is_for w (asking_of w c r now).host at.book) at.passed
 
           bare : (at.x.lapse ≡ None) × (at.x.report ≡ None)
           bare =

@@ -11,26 +11,28 @@ use Rattle.sched_book.specs.declared.instance.Place.{Place}
 use Rattle.sched_book.specs.declared.world.World.{World}
 use Rattle.lost_jobs.specs.Holding.{HoldsNoMore}
 use Rattle.sched_machine.specs.Calling.{IsCalling, IsEntered}
-use Rattle.sched_machine.specs.Prepared.{IsSettledCall, IsPrepared}
+use Rattle.sched_machine.specs.Prepared.{IsSettledCall, IsReady}
 use Rattle.sched_machine.specs.declared.caller.Calling.{Calling}
-use Rattle.sched_machine.specs.declared.preparing.Prepared.{Prepared}
+use Rattle.sched_machine.specs.declared.preparing.Ready.{Ready}
 use Rattle.sched_machine.proofs.SettledHolds.{after_settlement_holds}
 
 -- v is the world that settlement left, u that in which the host was asked about, and t that after it
-pub prepared_call : (w v u t : World) (r : Request) (k : Calling) (now : ℕ) (p : Prepared) (before after : List Change) (resent : List Place) → u ≡ v → t ≡ u
-    → after ≡ before → resent ≡ p.settled.resent → IsCalling w r k → IsSettledCall w r k now p.settled v before
-    → p.aborted ≡ aborts v k.number r.other_results
-    → p.wish.row ≡ unwrap_or (host_at u k.number) k.host
-    → (HoldsNoMore w u k.number → p.wish.held ≡ length (held_by u k.number))
-    → p.wish.before ≡ sum_by (estimate_at u k.host) resent
-    → IsPrepared w r k now p t after
-prepared_call w v u t r k now p before after resent asked last same slice calling settled aborted row held seconds =
+pub ready_call : (w v u t : World) (r : Request) (now : ℕ) (ready : Ready) (before after : List Change) (resent : List Place) → u ≡ v → t ≡ u
+    → after ≡ before → resent ≡ ready.settled.resent → IsCalling w r ready.call → IsSettledCall w r ready.call now ready.settled v before
+    → ready.aborted ≡ aborts v ready.call.number r.other_results
+    → ready.wish.row ≡ unwrap_or (host_at u ready.call.number) ready.call.host
+    → (HoldsNoMore w u ready.call.number → ready.wish.held ≡ length (held_by u ready.call.number))
+    → ready.wish.before ≡ sum_by (estimate_at u ready.call.host) resent
+    → IsReady w r now ready t after
+ready_call w v u t r now ready before after resent asked last same slice calling settled aborted row held seconds =
+    let k = ready.call in
     let all : t ≡ v = last ∙ asked in
     let holds : HoldsNoMore w u k.number =
     subst (λ z. HoldsNoMore w z k.number) (sym (asked ∙ settled.left))
     (subst (λ n. HoldsNoMore w (after_settlement w k.caller r now) n) (sym calling.number) (after_settlement_holds w k.caller r now)) in
     record {
-      settled = subst (IsSettledCall w r k now p.settled t) (sym same) (subst (λ z. IsSettledCall w r k now p.settled z before) (sym all) settled);
+      calling = calling;
+      settled = subst (IsSettledCall w r k now ready.settled t) (sym same) (subst (λ z. IsSettledCall w r k now ready.settled z before) (sym all) settled);
       aborted = aborted ∙ ap (λ z. aborts z k.number r.other_results) (sym all);
       row = row ∙ ap (λ z. unwrap_or (host_at z k.number) k.host) (sym last);
       held = held holds ∙ ap (λ z. length (held_by z k.number)) (sym last);

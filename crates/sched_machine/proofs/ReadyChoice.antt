@@ -33,7 +33,7 @@ module _ (w v : World) (r : Request) (now : ℕ) (ready : Ready) (changes : List
   settlement = after_settlement w caller r now
 
   left : v ≡ settlement
-  left = is.prepared.settled.left
+  left = is.settled.left
 
   -- what is asked for by these parts
   abbrev parts : ℕ → World → HostRow → List Place → Asking
@@ -52,13 +52,13 @@ module _ (w v : World) (r : Request) (now : ℕ) (ready : Ready) (changes : List
   -- it is what is asked for behind settlement
   asking_is : asking_by ready r now ≡ asking_of w caller r now
   asking_is =
-      ap (λ row. asked_with row ready.prepared.wish.before ready.prepared.wish.held) is.prepared.row
-      ∙ ap (λ n. asked_with (unwrap_or (host_at v ready.call.number) ready.call.host) n ready.prepared.wish.held) is.prepared.before
-      ∙ ap (asked_with (unwrap_or (host_at v ready.call.number) ready.call.host) (sum_by (estimate_at v ready.call.host) ready.prepared.settled.resent)) is.prepared.held
-      ∙ ap (λ n. parts n v ready.call.host ready.prepared.settled.resent) is.calling.number
-      ∙ ap (λ z. parts (host_number w caller) z ready.call.host ready.prepared.settled.resent) left
-      ∙ ap (λ h. parts (host_number w caller) settlement h ready.prepared.settled.resent) is.calling.host
-      ∙ ap (parts (host_number w caller) settlement (host_at_entry w caller r)) is.prepared.settled.resent
+      ap (λ row. asked_with row ready.wish.before ready.wish.held) is.row
+      ∙ ap (λ n. asked_with (unwrap_or (host_at v ready.call.number) ready.call.host) n ready.wish.held) is.before
+      ∙ ap (asked_with (unwrap_or (host_at v ready.call.number) ready.call.host) (sum_by (estimate_at v ready.call.host) ready.settled.resent)) is.held
+      ∙ ap (λ n. parts n v ready.call.host ready.settled.resent) is.calling.number
+      ∙ ap (λ z. parts (host_number w caller) z ready.call.host ready.settled.resent) left
+      ∙ ap (λ h. parts (host_number w caller) settlement h ready.settled.resent) is.calling.host
+      ∙ ap (parts (host_number w caller) settlement (host_at_entry w caller r)) is.settled.resent
 
   -- what is chosen before is a grant behind it, and ends for the same reason
   module _ (g : Grant) (chosen : IsChoice w (asking_by ready r now) g) where

@@ -26,7 +26,7 @@ use Rattle.sched_machine.proofs.UnitsWell.{Keeps, IsGoodChange, changed_well}
 awaits_given : (host : ℕ) (x : Instance) → awaits_report host x ≡ true → is_some x.owner ≡ true
 awaits_given host x awaits = owned_given host x (and_parts (is_owned_by host x) (is_none x.report) awaits).0
 
-unreported : (o : Option Outcome) (b : Bool) → (b && is_none o) ≡ true → o ≡ None
+pub unreported : (o : Option Outcome) (b : Bool) → (b && is_none o) ≡ true → o ≡ None
 unreported None b awaits = refl
 unreported (Some r) true awaits = absurd cc
 unreported (Some r) false awaits = absurd cc

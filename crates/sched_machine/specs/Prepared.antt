@@ -14,7 +14,6 @@ use Rattle.sched_book.specs.declared.world.World.{World}
 use Rattle.quorum_credit.specs.Settling.{AreMarks}
 use Rattle.sched_machine.specs.Calling.{IsCalling}
 use Rattle.sched_machine.specs.declared.caller.Calling.{Calling}
-use Rattle.sched_machine.specs.declared.preparing.Prepared.{Prepared}
 use Rattle.sched_machine.specs.declared.preparing.Ready.{Ready}
 use Rattle.sched_machine.specs.declared.settlement.SettledCall.{SettledCall}
 
@@ -27,25 +26,22 @@ pub record IsSettledCall (w : World) (r : Request) (k : Calling) (now : ℕ) (do
   pub resent : done.resent ≡ resent_of w k.caller r
   pub marks : AreMarks w v done.marks
 
--- The same, with the names that the client may forget, and what the host asks for.
-pub record IsPrepared (w : World) (r : Request) (k : Calling) (now : ℕ) (p : Prepared) (v : World) (changes : List Change) : Type 0 where
-  pub settled : IsSettledCall w r k now p.settled v changes
-  pub aborted : p.aborted ≡ aborts v k.number r.other_results
-  pub row : p.wish.row ≡ unwrap_or (host_at v k.number) k.host
-  pub held : p.wish.held ≡ length (held_by v k.number)
-  pub before : p.wish.before ≡ sum_by (estimate_at v k.host) p.settled.resent
-
+-- A call is settled, with the names that its client may forget, and what its host asks for.
 pub record IsReady (w : World) (r : Request) (now : ℕ) (ready : Ready) (v : World) (changes : List Change) : Type 0 where
   pub calling : IsCalling w r ready.call
-  pub prepared : IsPrepared w r ready.call now ready.prepared v changes
+  pub settled : IsSettledCall w r ready.call now ready.settled v changes
+  pub aborted : ready.aborted ≡ aborts v ready.call.number r.other_results
+  pub row : ready.wish.row ≡ unwrap_or (host_at v ready.call.number) ready.call.host
+  pub held : ready.wish.held ≡ length (held_by v ready.call.number)
+  pub before : ready.wish.before ≡ sum_by (estimate_at v ready.call.host) ready.settled.resent
 
 -- what is asked of the choice of new jobs
 abbrev pub asking_by : Ready → Request → ℕ → Asking
 asking_by ready r now = record {
   number = ready.call.number;
-  host = ready.prepared.wish.row;
-  before = ready.prepared.wish.before;
-  held = ready.prepared.wish.held;
+  host = ready.wish.row;
+  before = ready.wish.before;
+  held = ready.wish.held;
   asked = r.asked;
   now = now;
 }

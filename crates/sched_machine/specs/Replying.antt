@@ -18,10 +18,10 @@ use Rattle.sched_machine.specs.declared.reply.Told.{Told}
 -- What is told of the jobs and the user of a call that found the world w, in the world v where these jobs are its host's.
 pub record IsTold (w v : World) (ready : Ready) (jobs : List Place) (told : Told) : Type 0 where
   pub results : told.results ≡
-      filter_map (job_at v ready.call.host true) ready.prepared.settled.resent ++ filter_map (job_at v ready.call.host false) jobs
-  pub host_credit : told.host_credit ≡ host_credit w ready.call.number + credits_in ready.prepared.settled.marks ready.call.number
+      filter_map (job_at v ready.call.host true) ready.settled.resent ++ filter_map (job_at v ready.call.host false) jobs
+  pub host_credit : told.host_credit ≡ host_credit w ready.call.number + credits_in ready.settled.marks ready.call.number
   pub user_credit : told.user_credit ≡
-      user_credit w ready.call.caller.account + user_credits_in v.hosts ready.call.caller.account ready.prepared.settled.marks
+      user_credit w ready.call.caller.account + user_credits_in v.hosts ready.call.caller.account ready.settled.marks
   pub user_name : told.user_name ≡ user_name w ready.call.caller.account
 
 -- New jobs were chosen for a call's host and given to it: that is told, and why there are no more.
@@ -40,8 +40,8 @@ reply_of ready told word r delay = record {
   host_total_credit = told.host_credit;
   hostid = ready.call.number;
   request_delay = delay;
-  result_abort = ready.prepared.aborted;
-  result_ack = ready.prepared.settled.acked;
+  result_abort = ready.aborted;
+  result_ack = ready.settled.acked;
   results = told.results;
   rpc_seqno = r.rpc_seqno;
   user_name = told.user_name;

@@ -2,70 +2,25 @@
 
 ghost use Rattle.std.specs.Prelude.{◌≡◌, map, IfOk};
 ghost use Rattle.sched_book.specs.Imports.{row_count};
+ghost use Rattle.sched_book.specs.declared.delta.Change.{Change};
 ghost use Rattle.sched_machine.specs.Importing.{changes_of};
 
-use sched_book::{Account, App, Change, Delta, Rows, Unavailable, Version, Workunit};
+use sched_book::{Change, Delta, Rows, Unavailable};
 use std::alloc::Global;
 use texts::{Listed, Memory, Same};
 
-/// A row that an import can add.
-trait NewRow: Same + Drop {
-    ghost use Rattle.sched_book.specs.declared.delta.Change.{Change};
-
-    /// The change that adds it.
-    ghost added: { Self → Change };
-
-    fn added(self) -> Change
-        ensures { result ≡ added self };
-}
-
-impl NewRow for Account {
-    ghost use Rattle.sched_book.specs.declared.delta.Change.TheVariants as change;
-
-    ghost added = { change.Account };
-
-    fn added(self) -> Change {
-        Change::Account(self)
-    }
-}
-
-impl NewRow for App {
-    ghost use Rattle.sched_book.specs.declared.delta.Change.TheVariants as change;
-
-    ghost added = { change.App };
-
-    fn added(self) -> Change {
-        Change::App(self)
-    }
-}
-
-impl NewRow for Version {
-    ghost use Rattle.sched_book.specs.declared.delta.Change.TheVariants as change;
-
-    ghost added = { change.Version };
-
-    fn added(self) -> Change {
-        Change::Version(self)
-    }
-}
-
-impl NewRow for Workunit {
-    ghost use Rattle.sched_book.specs.declared.delta.Change.TheVariants as change;
-
-    ghost added = { change.Workunit };
-
-    fn added(self) -> Change {
-        Change::Workunit(self)
-    }
-}
-
-/// The changes that add copies of these rows.
-fn added_rows<R: NewRow>(alloc: Global, rows: &[R]) -> Result<Delta, Memory>
-    ensures { IfOk result (λ delta. delta ≡ map R.added rows.now) }
+/// The changes that add copies of these rows, each by what makes a change of a row.
+fn added_rows<R: Same + Drop, F: Fn(R) -> Change>(
+    alloc: Global,
+    rows: &[R],
+    added: F,
+) -> Result<Delta, Memory>
+    requires { F.IsAlwaysCallable added }
+    ensures { (change : R → Change) → ((row : R) (made : Change) → F.post added row made → made ≡ change row) → IfOk result (λ delta. delta ≡ map change rows.now) }
 {
     let mut delta = Listed::new(alloc);
     for row in rows {
-        delta.push(row.clone()?.added())?;
+        delta.push(added(row.clone()?))?;
     }
     Ok(delta)
 }
@@ -75,10 +30,10 @@ pub(crate) fn changes_of(alloc: Global, rows: &Rows) -> Result<Delta, Memory>
     ensures { IfOk result (λ delta. delta ≡ changes_of rows.now) }
 {
     match rows {
-        Rows::Accounts(accounts) => added_rows(alloc, accounts.as_slice()),
-        Rows::Apps(apps) => added_rows(alloc, apps.as_slice()),
-        Rows::Versions(versions) => added_rows(alloc, versions.as_slice()),
-        Rows::Workunits(workunits) => added_rows(alloc, workunits.as_slice()),
+        Rows::Accounts(accounts) => added_rows(alloc, accounts.as_slice(), Change::Account),
+        Rows::Apps(apps) => added_rows(alloc, apps.as_slice(), Change::App),
+        Rows::Versions(versions) => added_rows(alloc, versions.as_slice(), Change::Version),
+        Rows::Workunits(workunits) => added_rows(alloc, workunits.as_slice(), Change::Workunit),
     }
 }
 

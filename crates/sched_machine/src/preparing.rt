@@ -9,8 +9,8 @@ ghost use Rattle.sched_book.specs.Step.{HasRoom};
 ghost use Rattle.sched_book.specs.Trusted.{Trusted};
 ghost use Rattle.lost_jobs.specs.Holding.{HoldsNoMore};
 ghost use Rattle.sched_machine.specs.Asked.{still_holds};
-ghost use Rattle.sched_machine.specs.Calling.{IsAdmitted, IsEntered, LacksRoom};
-ghost use Rattle.sched_machine.specs.Prepared.{IsPrepared, IsReady};
+ghost use Rattle.sched_machine.specs.Calling.{IsAdmitted, LacksRoom};
+ghost use Rattle.sched_machine.specs.Prepared.{IsReady};
 ghost use Rattle.sched_machine.specs.declared.admission.Refused.TheVariants as refused;
 
 use crate::admission::Refused;
@@ -120,47 +120,15 @@ fn wish_of<S: Draft>(
     Ok(Wish { row, held, before })
 }
 
-/// What a call whose host was put comes to before new jobs are chosen.
+/// A call that is acted on, up to where new jobs are chosen.
 #[derive(Drop)]
-pub(crate) struct Prepared {
+pub(crate) struct Ready {
+    pub(crate) call: Calling,
     pub(crate) settled: SettledCall,
     /// The names that the client may forget.
     pub(crate) aborted: Listed<Text>,
     /// What the host asks of the choice.
     pub(crate) wish: Wish,
-}
-
-/// Acts on a call up to its settlement, and looks what its client may forget then, and what its host asks for: `held` is
-/// what it held when the call came.
-fn prepare_held<S: Draft>(
-    alloc: Global,
-    sheet: &mut S,
-    call: &Calling,
-    held: &[Place],
-    request: &Request,
-    now: Moment,
-) -> Result<Prepared, Unavailable>
-    ensures works { S.works sheet.old sheet.new }
-    ensures prepared { Trusted S.Units sheet.old sheet.new (IfOk result (λ prepared.
-        IsEntered (S.entry sheet.old) request.now call.now (S.world sheet.old) (S.delta sheet.old) →
-        held.now ≡ held_by (S.entry sheet.old) call.now.number →
-        IsPrepared (S.entry sheet.old) request.now call.now now prepared (S.world sheet.new) (S.delta sheet.new))) }
-{
-    let settled = settle_call(alloc, sheet, call, held, request, now)?;
-    let aborted = aborts(alloc, sheet, call.number, request)?;
-    let wish = wish_of(alloc, sheet, call, held, settled.resent.as_slice())?;
-    Ok(Prepared {
-        settled,
-        aborted,
-        wish,
-    })
-}
-
-/// A call that is acted on, up to where new jobs are chosen.
-#[derive(Drop)]
-pub(crate) struct Ready {
-    pub(crate) call: Calling,
-    pub(crate) prepared: Prepared,
 }
 
 /// Puts the host of a call, takes its reports, sends its lost jobs again or drops them, settles what all this touches, and
@@ -183,6 +151,19 @@ pub(crate) fn prepare<S: Draft>(
 {
     let call = enter(alloc, sheet, caller, request)?;
     let held = sheet.held_before(alloc, call.number)?;
-    let prepared = prepare_held(alloc, sheet, &call, held.as_slice(), request, now)?;
-    Ok(Ready { call, prepared })
+    let settled = settle_call(alloc, sheet, &call, held.as_slice(), request, now)?;
+    let aborted = aborts(alloc, sheet, call.number, request)?;
+    let wish = wish_of(
+        alloc,
+        sheet,
+        &call,
+        held.as_slice(),
+        settled.resent.as_slice(),
+    )?;
+    Ok(Ready {
+        call,
+        settled,
+        aborted,
+        wish,
+    })
 }

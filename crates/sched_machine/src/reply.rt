@@ -9,7 +9,7 @@ ghost use Rattle.sched_machine.specs.Replying.{IsTold, reply_of};
 
 use crate::jobs::{add_granted, resent_jobs};
 use crate::owners::give;
-use crate::preparing::{Prepared, Ready};
+use crate::preparing::Ready;
 use crate::totals::{host_total, user_total};
 use call_sheet::Draft;
 use job_choice::Granted;
@@ -65,7 +65,7 @@ pub(crate) fn conclude<S: Draft>(
         IsTold (S.entry sheet.old) (S.world sheet.new) ready.now (places_of jobs.now) told)) }
 {
     let call = &ready.call;
-    let settled = &ready.prepared.settled;
+    let settled = &ready.settled;
     give(alloc, sheet, call.number, now, jobs)?;
     let host_credit = host_total(sheet, call.number, settled.marks.as_slice())?;
     let user_credit = user_total(alloc, sheet, call.caller.account, settled.marks.as_slice())?;
@@ -90,12 +90,12 @@ pub(crate) fn reply_of(
 ) -> Reply
     ensures { result ≡ reply_of ready told end_word request.now request_delay }
 {
-    let Ready { call, prepared } = ready;
-    let Prepared {
+    let Ready {
+        call,
         settled,
         aborted,
         wish: _,
-    } = prepared;
+    } = ready;
     Reply {
         end_word,
         host_total_credit: told.host_credit,

@@ -39,7 +39,7 @@ fn grant_jobs<D: Desk>(
         IsReady (D.world desk.old) request.now now ready.now (applied (D.world desk.old) page.old.delta) page.old.delta →
         IsGranted (D.world desk.old) request.now now ready.now (applied (D.world desk.old) page.new.delta) page.new.delta told.0 told.1)) }
 {
-    let wish = &ready.prepared.wish;
+    let wish = &ready.wish;
     let grant = choose(
         alloc,
         desk,

@@ -30,6 +30,21 @@ returns-in_err-add_granted-clause-works g c =
     (u.reads_on _ _ _ c.host_total.ensures.reads (u.reads_on _ _ _ c.user_total.ensures.reads (u.reads_on _ _ _ c.user_name.ensures.reads
     (u.reads_on _ _ _ c.resent_jobs.ensures.reads c.add_granted.ensures.reads)))))
 
+pub returns-in_err-user_credit-clause-works : goal.returns-in_err-user_credit-clause-works
+returns-in_err-user_credit-clause-works g c =
+    let u = g.met.S.Units in
+    g.met.S.Draft.works_on _ _ _ c.give.ensures.works (g.met.S.Draft.reads_works _ _ (u.reads_on _ _ _ c.host_total.ensures.reads c.user_total.ensures.reads))
+
+pub returns-in_err-user_name-clause-works : goal.returns-in_err-user_name-clause-works
+returns-in_err-user_name-clause-works g c =
+    let u = g.met.S.Units in
+    g.met.S.Draft.works_on _ _ _ c.give.ensures.works (g.met.S.Draft.reads_works _ _ (u.reads_on _ _ _ c.host_total.ensures.reads (u.reads_on _ _ _ c.user_total.ensures.reads c.user_name.ensures.reads)))
+
+pub returns-in_err-results-clause-works : goal.returns-in_err-results-clause-works
+returns-in_err-results-clause-works g c =
+    let u = g.met.S.Units in
+    g.met.S.Draft.works_on _ _ _ c.give.ensures.works (g.met.S.Draft.reads_works _ _ (u.reads_on _ _ _ c.host_total.ensures.reads (u.reads_on _ _ _ c.user_total.ensures.reads (u.reads_on _ _ _ c.user_name.ensures.reads c.resent_jobs.ensures.reads))))
+
 pub returns-clause-left : goal.returns-clause-left
 returns-clause-left g c = λ honest kept.
     let u = g.met.S.Units in
