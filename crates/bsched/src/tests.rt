@@ -412,12 +412,12 @@ fn replayed_interrupted<S: Store + Drop>(
     store: S,
     text: &[u8],
 ) -> Result<(Vec<u8>, Ended), Fail> {
-    let mut service = service_over(alloc, store)?;
     let interrupted = Interrupted {
         text,
         is_ready: false,
     };
     let reader = BufReader::with_capacity(alloc, 7, interrupted)?;
+    let mut service = service_over(alloc, store)?;
     Ok(replayed_from(alloc, &mut service, reader))
 }
 
@@ -427,9 +427,22 @@ fn replayed_before_a_fault<S: Store + Drop>(
     store: S,
     front: &[u8],
 ) -> Result<(Vec<u8>, Ended), Fail> {
-    let mut service = service_over(alloc, store)?;
     let reader = BufReader::new(alloc, front.chain(Broken))?;
+    let mut service = service_over(alloc, store)?;
     Ok(replayed_from(alloc, &mut service, reader))
+}
+
+/// What a replay by a service prints into so many bytes of room, and how it ends.
+fn printed_into<S: Store>(
+    alloc: Global,
+    service: &mut Service<S>,
+    length: usize,
+    lines: &[u8],
+) -> Result<(Vec<u8>, Ended), Fail> {
+    let reader = BufReader::new(alloc, lines)?;
+    let mut room = vec![in alloc; b' '; length]?;
+    let ended = replay(alloc, service, reader, room.as_mut_slice());
+    Ok((room, ended))
 }
 
 /// What a replay over a store prints into so many bytes of room, and how it ends.
@@ -439,11 +452,7 @@ fn replayed_into<S: Store + Drop>(
     length: usize,
     lines: &[u8],
 ) -> Result<(Vec<u8>, Ended), Fail> {
-    let mut service = service_over(alloc, store)?;
-    let mut room = vec![in alloc; b' '; length]?;
-    let reader = BufReader::new(alloc, lines)?;
-    let ended = replay(alloc, &mut service, reader, room.as_mut_slice());
-    Ok((room, ended))
+    printed_into(alloc, &mut service_over(alloc, store)?, length, lines)
 }
 
 /// Whether a run printed a front of what is told and ended as its reader or its writer failed.

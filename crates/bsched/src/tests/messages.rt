@@ -192,9 +192,16 @@ fn first_otherwise<S: Store + Drop>(
     store: S,
     exchanges: &[Exchange],
 ) -> Result<Option<&'static str>, Fail> {
-    let mut service = service_over(alloc, store)?;
+    first_otherwise_by(alloc, &mut service_over(alloc, store)?, exchanges)
+}
+
+fn first_otherwise_by<S: Store>(
+    alloc: Global,
+    service: &mut Service<S>,
+    exchanges: &[Exchange],
+) -> Result<Option<&'static str>, Fail> {
     for (message, status, body) in exchanges {
-        let answer = answered(alloc, &mut service, message.as_bytes())?;
+        let answer = answered(alloc, service, message.as_bytes())?;
         if !tells(alloc, &answer, *status, body)? {
             return Ok(Some(message));
         }
@@ -298,19 +305,26 @@ fn answers_to_their_last_byte(rt: HostRuntime) -> Result<(), Fail> {
     Ok(())
 }
 
-/// What a socket gets that asks for the ninth host of a store.
-fn answer_on_a_socket<S: Store + Drop>(rt: &HostRuntime, store: S) -> Result<String, Fail> {
-    let mut service = service_over(rt.alloc(), store)?;
+/// What a socket gets that asks a service for its ninth host.
+fn answer_on_a_socket<S: Store>(
+    rt: &HostRuntime,
+    service: &mut Service<S>,
+) -> Result<String, Fail> {
     let listener = TcpListener::bind(rt, ("127.0.0.1", 0u16))?;
     let mut stream = TcpStream::connect(rt, listener.local_addr()?)?;
     stream.write_all(READS_NINTH.as_bytes())?;
-    serve_on(rt, &mut service, &listener, 1);
+    serve_on(rt, service, &listener, 1);
     Ok(io::read_to_string(rt.alloc(), stream)?)
+}
+
+/// The same of a store.
+fn answer_over_a_store<S: Store + Drop>(rt: &HostRuntime, store: S) -> Result<String, Fail> {
+    answer_on_a_socket(rt, &mut service_over(rt.alloc(), store)?)
 }
 
 #[test]
 fn a_socket_is_served(rt: HostRuntime) -> Result<(), Fail> {
-    let answer = answer_on_a_socket(&rt, new_store(rt.alloc())?)?;
+    let answer = answer_over_a_store(&rt, new_store(rt.alloc())?)?;
     assert_eq!(rt; answer.as_str(), NINTH_IS_NONE);
     Ok(())
 }
