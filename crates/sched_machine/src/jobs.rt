@@ -109,6 +109,22 @@ fn version_at_unit<S: Draft>(
     }
 }
 
+/// Puts what a reply says of a job that is sent again behind the others.
+fn add_resent<S: Draft>(
+    alloc: Global,
+    sheet: &mut S,
+    host: &HostRow,
+    place: Place,
+    jobs: &mut Listed<Job>,
+) -> Result<(), Unavailable>
+    ensures reads { S.reads sheet.old sheet.new }
+    ensures answer { Trusted S.Units sheet.old sheet.new (
+        OnOk result (jobs.new ≡ jobs.old ++ cons_option (job_at (S.world sheet.old) host.now true place) [])) }
+{
+    let version = version_at_unit(alloc, sheet, host, place.unit)?;
+    add_job(alloc, sheet, host, true, place, version.as_ref(), jobs)
+}
+
 /// What a reply says of the jobs at these places, which are sent again, in their order.
 pub(crate) fn resent_jobs<S: Draft>(
     alloc: Global,
@@ -122,16 +138,7 @@ pub(crate) fn resent_jobs<S: Draft>(
 {
     let mut jobs = Listed::new(alloc);
     for place in places {
-        let version = version_at_unit(alloc, sheet, host, place.unit)?;
-        add_job(
-            alloc,
-            sheet,
-            host,
-            true,
-            *place,
-            version.as_ref(),
-            &mut jobs,
-        )?;
+        add_resent(alloc, sheet, host, *place, &mut jobs)?;
     }
     Ok(jobs)
 }
