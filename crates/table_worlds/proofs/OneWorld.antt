@@ -18,8 +18,9 @@ use Rattle.table_meaning.specs.declared.rows.StoredRow.TheVariants as stored
 use Rattle.table_meaning.specs.Rows.{RowKey, setting_key, account_key, app_key, version_key, unit_key, host_key, instance_key, columns_of, look_up}
 use Rattle.table_meaning.specs.Worlds.{BatchText, account_row, app_row, version_row, unit_row, host_row, instance_row, contents_of}
 use Rattle.table_worlds.specs.OneWorld.{TablesHoldOneWorld}
+use Rattle.table_worlds.specs.ReadBack.{number_at, text_at, account_in, app_in, version_in, unit_in, host_in, job_in}
 use Rattle.table_worlds.proofs.ByPlace.{all_nth}
-use Rattle.table_worlds.proofs.ReadBack.{number_at, text_at, account_in, account_back, app_in, app_back, version_in, version_back, unit_in, unit_back, host_in, host_back, job_in, job_back}
+use Rattle.table_worlds.proofs.ReadBack.{account_back, app_back, version_back, unit_back, host_back, job_back}
 use Rattle.table_worlds.proofs.SameLists.{same_part, same_told, same_elements, same_at_places}
 
 -- the number of a switch
