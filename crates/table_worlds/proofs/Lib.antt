@@ -12,7 +12,6 @@ pub mod NothingGoes
 pub mod OneWorld
 pub mod ReadBack
 pub mod RowsHold
-pub mod SameLists
 pub mod StaysReadable
 pub mod TotalsCounted
 pub mod WorldReadBack
