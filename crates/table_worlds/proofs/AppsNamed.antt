@@ -10,6 +10,7 @@ use Rattle.sched_book.specs.declared.rows.App.{App}
 use Rattle.sched_book.specs.declared.world.World.{World}
 use Rattle.sched_book.proofs.PlacesOf.{place_where-is}
 use Rattle.table_meaning.specs.Worlds.{app_place}
+use Rattle.table_worlds.specs.ReadBack.{app_name_at}
 use Rattle.table_worlds.proofs.ByPlace.{nth_next}
 
 -- where some application passes, the first that does stands at its index
@@ -35,10 +36,6 @@ named_app w name has =
       ap (λ o. nth w.apps (unwrap_or o 0)) (place_where-is p w.apps ∙ first.2) ∙ nth_next w.apps first.0 ∙ first.3,
       (bytes_eq-Decides first.1.name name).0 first.4,
     )
-
--- the name of the application at a place
-abbrev pub app_name_at : List App → ℕ → List ℕ
-app_name_at apps at = unwrap_or (option_map (λ (a : App). a.name) (nth apps at)) []
 
 -- a name is told by its place, in any list that is the world's
 pub name_back : (apps : List App) (w : World) (name : List ℕ) → apps ≡ w.apps → has_app w.apps name ≡ true → app_name_at apps (app_place w name) ≡ name

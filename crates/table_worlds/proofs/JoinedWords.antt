@@ -1,5 +1,5 @@
 -- Words that commas join are the parts between the commas.
-use Rattle.std.proofs.Common.{◌≡◌, ℕ, Bool, true, false, ◌&&◌, List, [], ◌∷◌, ◌++◌, ap, ◌∙◌, eqb, arith, refl}
+use Rattle.std.proofs.Common.{◌≡◌, ℕ, Bool, true, false, ◌&&◌, List, [], ◌∷◌, ◌++◌, ap, ◌∙◌, arith, refl}
 use Rattle.std.specs.Prelude.{◌≤◌, codes, flat_map, length, All}
 use Rattle.std.specs.List.{list_all, slice_split, AllByRecursion}
 use Rattle.std.proofs.lemmas.Bool.Decides.{nat_tests}
@@ -9,12 +9,9 @@ use Rattle.std.proofs.lemmas.List.Splits.{slice_split_none, slice_split_at}
 use Rattle.texts.specs.Words.{is_word_byte, is_word}
 use Rattle.rpc_records.specs.Ranges.{IsWord}
 use Rattle.table_meaning.specs.Worlds.{joined}
+use Rattle.table_worlds.specs.ReadBack.{is_comma}
 
--- a byte is a comma
-abbrev pub is_comma : ℕ → Bool
-is_comma b = eqb b 44
-
--- no byte of a word is one
+-- no byte of a word is a comma
 word_byte_is_none : (b : ℕ) → is_word_byte b ≡ true → is_comma b ≡ false
 word_byte_is_none b h = grind (arith, nat_tests)
 

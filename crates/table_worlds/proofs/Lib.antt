@@ -1,4 +1,5 @@
 pub mod AppsNamed
+pub mod ByNumber
 pub mod ByPlace
 pub mod ChangesFound
 pub mod HostTotals
@@ -11,6 +12,7 @@ pub mod NothingGoes
 pub mod OneWorld
 pub mod ReadBack
 pub mod RowsHold
-pub mod SameLists
+pub mod StaysReadable
 pub mod TotalsCounted
+pub mod WorldReadBack
 pub mod WorldSettled

@@ -1,0 +1,109 @@
+-- A list whose items stand in a table, each at its number, is what is found at the numbers up to the greatest there.
+use Rattle.std.proofs.Common.{◌≡◌, ◌≤◌, ◌<◌, ℕ, zero, suc, ◌+◌, Bool, true, false, cond, List, [], ◌∷◌, find, length, Option, Some, None, option_map, refl, sym, ap, subst, ◌∙◌, arith, inl, inr}
+use Rattle.std.specs.Prelude.{filter_map, slice_get}
+use Rattle.std.specs.List.{range_with_len, cons_option}
+use Rattle.std.proofs.lemmas.Option.{none-some, same_Some}
+use Rattle.sqlite_rules.specs.Lists.{Has}
+use Rattle.sqlite_trees.specs.Tree.{Trees}
+use Rattle.sqlite_value.specs.Order.{Row}
+use Rattle.sched_book.specs.Places.{nth}
+use Rattle.table_meaning.specs.declared.rows.StoredRow.{StoredRow}
+use Rattle.table_meaning.specs.declared.tables.TableName.{TableName}
+use Rattle.table_meaning.specs.Rows.{RowKey, tree_of, shown, rows_in, columns_of, table_at, has_key, look_up}
+use Rattle.table_meaning.proofs.RowsHeld.{mapped}
+use Rattle.table_worlds.specs.ReadBack.{number_at}
+use Rattle.table_worlds.specs.StoredWorld.{greatest, numbers_in}
+use Rattle.table_worlds.proofs.ByPlace.{nth_next}
+
+-- ---- numbers of rows
+
+-- what is found is one of the list
+found_has : {X : Type 0} (p : X → Bool) (xs : List X) (x : X) → find p xs ≡ Some x → Has xs x
+found_has p [] x is = absurd (none-some x is)
+found_has {X} p (y ∷ ys) x is = go (p y) is (found_has p ys x)
+  where
+    go : (b : Bool) → cond b (Some y) (find p ys) ≡ Some x → (find p ys ≡ Some x → Has ys x) → Has (y ∷ ys) x
+    go true here later = inl (sym (same_Some y x here))
+    go false there later = inr (later there)
+
+-- what stands at a key is a row of its table
+row_has : (trees : Trees) (key : RowKey) (row : Row) → look_up trees key ≡ Some row → Has (rows_in trees (table_at key)) row
+row_has trees key row is = go (find (has_key key) (trees (tree_of (table_at key)))) refl is
+  where
+    go : (o : Option Row) → find (has_key key) (trees (tree_of (table_at key))) ≡ o → option_map (shown (table_at key)) o ≡ Some row → Has (rows_in trees (table_at key)) row
+    go None found shows = absurd (none-some row shows)
+    go (Some raw) found shows =
+        subst (Has (rows_in trees (table_at key))) (same_Some (shown (table_at key) raw) row shows)
+        (mapped (shown (table_at key)) (trees (tree_of (table_at key))) raw (found_has (has_key key) (trees (tree_of (table_at key))) raw found))
+
+-- no row has a number above the greatest
+at_most : (at : ℕ) (rows : List Row) (row : Row) → Has rows row → number_at row at ≤ greatest at rows
+at_most at [] row has = absurd has
+at_most at (r ∷ rows) row (inl same) = let number : number_at row at ≡ number_at r at = ap (λ x. number_at x at) same in omega (arith, number)
+at_most at (r ∷ rows) row (inr later) = omega (arith, at_most at rows row later)
+
+-- ---- lists by numbers
+
+-- a list is no longer than a bound of its indices
+no_longer : {X : Type 0} (xs : List X) (bound : ℕ) → ((i : ℕ) (x : X) → slice_get xs i ≡ Some x → i < bound) → length xs ≤ bound
+no_longer [] bound below = omega arith
+no_longer (x ∷ xs) zero below = absurd (omega (arith, below 0 x refl))
+no_longer (x ∷ xs) (suc bound) below = omega (arith, no_longer xs bound (λ i y is. omega (arith, below (suc i) y is)))
+
+-- what is found at so many numbers from one on is the list, where each item is found at its number
+all_found : {X : Type 0} (f : ℕ → Option X) (xs : List X) (from count : ℕ) → length xs ≤ count → ((i n : ℕ) → n ≡ i + from → f n ≡ slice_get xs i) → filter_map f (range_with_len from count) ≡ xs
+all_found f [] from zero few is = refl
+all_found f (x ∷ xs) from zero few is = absurd (omega (arith, few))
+all_found f [] from (suc count) few is =
+    ap (λ o. cons_option o (filter_map f (range_with_len (from + 1) count))) (is 0 from (omega arith))
+    ∙ all_found f [] (from + 1) count (omega arith) (λ i n at. is (suc i) n (omega (arith, at)))
+all_found f (x ∷ xs) from (suc count) few is =
+    ap (λ o. cons_option o (filter_map f (range_with_len (from + 1) count))) (is 0 from (omega arith))
+    ∙ ap (λ ys. x ∷ ys) (all_found f xs (from + 1) count (omega (arith, few)) (λ i n at. is (suc i) n (omega (arith, at))))
+
+-- ---- tables by numbers
+
+-- a table whose keys go by the number in a column, and how an item is written as a row and read back
+module _ {X : Type 0} (trees : Trees) (t : TableName) (column : ℕ) (key : ℕ → RowKey) (of_table : (n : ℕ) → table_at (key n) ≡ t)
+    (row : ℕ → X → StoredRow) (numbered : (n : ℕ) (x : X) → number_at (columns_of (row n x)) column ≡ n) (read : ℕ → Row → X) (xs : List X) where
+  -- what is found at a number
+  abbrev item_at : ℕ → Option X
+  item_at n = option_map (read n) (look_up trees (key n))
+
+  -- where the items stand at the numbers from one on
+  module _ (from : ℕ) (stands : (i n : ℕ) → n ≡ i + from → look_up trees (key n) ≡ option_map columns_of (option_map (row n) (slice_get xs i)))
+      (back : (i n : ℕ) (x : X) → n ≡ i + from → slice_get xs i ≡ Some x → read n (columns_of (row n x)) ≡ x) where
+    item_back : (i n : ℕ) → n ≡ i + from → item_at n ≡ slice_get xs i
+    item_back i n at = ap (option_map (read n)) (stands i n at) ∙ go (slice_get xs i) (λ x is. back i n x at is)
+      where
+        go : (o : Option X) → ((x : X) → o ≡ Some x → read n (columns_of (row n x)) ≡ x) → option_map (read n) (option_map columns_of (option_map (row n) o)) ≡ o
+        go None each = refl
+        go (Some x) each = ap Some (each x refl)
+
+    -- the number of an item is at most the greatest
+    number_within : (i : ℕ) (x : X) → slice_get xs i ≡ Some x → i + from ≤ greatest column (rows_in trees t)
+    number_within i x is =
+        let shows : look_up trees (key (i + from)) ≡ Some (columns_of (row (i + from) x)) =
+        stands i (i + from) refl ∙ ap (λ o. option_map columns_of (option_map (row (i + from)) o)) is in
+        let most : number_at (columns_of (row (i + from) x)) column ≤ greatest column (rows_in trees (table_at (key (i + from)))) =
+        at_most column (rows_in trees (table_at (key (i + from)))) (columns_of (row (i + from) x)) (row_has trees (key (i + from)) (columns_of (row (i + from) x)) shows) in
+        subst (λ u. i + from ≤ greatest column (rows_in trees u)) (of_table (i + from)) (omega (arith, most, numbered (i + from) x))
+
+    -- so the list is what is found at enough numbers
+    pub list_back : (count : ℕ) → greatest column (rows_in trees t) < count + from → filter_map item_at (range_with_len from count) ≡ xs
+    list_back count enough = all_found item_at xs from count (no_longer xs count (λ i x is. omega (arith, number_within i x is, enough))) item_back
+
+-- the same where the items stand at their places and the number is the first column
+module _ {X : Type 0} (trees : Trees) (t : TableName) (key : ℕ → RowKey) (of_table : (n : ℕ) → table_at (key n) ≡ t)
+    (row : ℕ → X → StoredRow) (numbered : (n : ℕ) (x : X) → number_at (columns_of (row n x)) 0 ≡ n) (read : ℕ → Row → X) (xs : List X)
+    (stands : (n : ℕ) → look_up trees (key n) ≡ option_map columns_of (option_map (row n) (nth xs n))) (back : (n : ℕ) (x : X) → nth xs n ≡ Some x → read n (columns_of (row n x)) ≡ x) where
+  -- what stands at the place behind an index
+  at_index : (i n : ℕ) → n ≡ i + 1 → nth xs n ≡ slice_get xs i
+  at_index i n at = ap (nth xs) at ∙ nth_next xs i
+
+  pub places_back : filter_map (λ n. option_map (read n) (look_up trees (key n))) (numbers_in trees t) ≡ xs
+  places_back =
+      list_back trees t 0 key of_table row numbered read xs 1
+      (λ i n at. stands n ∙ ap (λ o. option_map columns_of (option_map (row n) o)) (at_index i n at))
+      (λ i n x at is. back n x (at_index i n at ∙ is))
+      (greatest 0 (rows_in trees t)) (omega arith)
