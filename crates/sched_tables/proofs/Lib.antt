@@ -1,4 +1,5 @@
 pub mod ColumnsCounted
+pub mod CreditsListed
 pub mod EntriesKept
 pub mod Leads
 pub mod NewTables

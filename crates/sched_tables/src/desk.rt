@@ -128,7 +128,7 @@ impl<S: Alter> Desk for Tables<S> {
     }
 
     fn credit_of_user(&mut self, account: u32) -> Result<u64, Unavailable> {
-        self.desk.credit_of_user(account)
+        self.user_credit(account)
     }
 
     fn version_for(

@@ -4,6 +4,7 @@ pub mod Definitions
 pub mod FormatLemmas
 pub mod Keys
 pub mod Knowing
+pub mod Listings
 pub mod LookUps
 pub mod PutFacts
 pub mod PutRows

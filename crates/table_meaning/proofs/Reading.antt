@@ -1,5 +1,5 @@
 -- A read of a whole table shows its rows in the order of its tree.
-use Rattle.std.proofs.Common.{◌≡◌, ℕ, ℤ, Bool, true, false, cond, List, [], ◌∷◌, map, map-id, drop, filter, find, slice_get, Option, Some, None, option_map, refl, sym, ap, ap₂, subst, ◌∙◌, Less}
+use Rattle.std.proofs.Common.{◌≡◌, ℕ, ℤ, Bool, true, List, [], ◌∷◌, map, map-id, drop, filter, find, slice_get, Option, Some, None, option_map, refl, sym, ap, ap₂, subst, ◌∙◌, Less}
 use Rattle.std.specs.List.{AllByRecursion, list_all}
 use Rattle.std.proofs.lemmas.Option.{slice_get-map}
 use Rattle.sqlite_value.specs.declared.value.Value.TheVariants.{Null, Int, Text}
@@ -9,14 +9,14 @@ use Rattle.sqlite_value.proofs.OrderLemmas.{value_cmp-Int}
 use Rattle.sqlite_trees.specs.declared.store.Shape.TheVariants.{Table as TableTree}
 use Rattle.sqlite_trees.specs.Tree.{Trees, rowid, IsTable}
 use Rattle.sqlite_trees.specs.View.{IsShaped, is_int}
-use Rattle.sqlite_sql.specs.Term.{col, holds}
+use Rattle.sqlite_sql.specs.Term.{Term, col, holds}
 use Rattle.sqlite_sql.specs.Program.{overlay}
-use Rattle.sqlite_sql.specs.Query.{IsAnswer}
+use Rattle.sqlite_sql.specs.Query.{Query, IsAnswer}
 use Rattle.sqlite_schema.specs.declared.command.Command.TheVariants.{Select}
 use Rattle.sqlite_rules.specs.Edit.{id_in}
 use Rattle.sqlite_rules.proofs.TableLemmas.{int_is}
 use Rattle.sqlite_keyed.specs.Keyed.{IsKeyedBy}
-use Rattle.sqlite_keyed.proofs.ListLemmas.{map-map, ascending_from_map, ascending_weaker, slice_get-filter}
+use Rattle.sqlite_keyed.proofs.ListLemmas.{map-map, ascending_from_map, ascending_weaker, filter-map, slice_get-filter}
 use Rattle.sqlite_keyed.proofs.KeyedLemmas.{lt_from_Less}
 use Rattle.sqlite_typed.proofs.AnswerLemmas.{at_end, last_table, answer_by_keys, unfiltered}
 use Rattle.sqlite_typed.proofs.TestLemmas.{last_key}
@@ -26,7 +26,7 @@ use Rattle.table_meaning.specs.declared.tables.TableName.{TableName}
 use Rattle.table_meaning.specs.declared.tables.TableName.TheVariants.{Setting, Account, App, Version, Unit, Host, Instance, Kept, Batch}
 use Rattle.table_meaning.specs.Schema.{stored_schema}
 use Rattle.table_meaning.specs.Texts.{read_text}
-use Rattle.table_meaning.specs.Rows.{tree_of, places_of, rows_in, whole, unit_key, host_key, kept_key, batch_key, has_key, look_up}
+use Rattle.table_meaning.specs.Rows.{tree_of, places_of, shown, rows_in, whole, unit_key, host_key, kept_key, batch_key, has_key, look_up}
 use Rattle.table_meaning.specs.Reads.{read_query}
 use Rattle.table_meaning.specs.ByKey.{kept_text, batch_text, counts_text, status_text, counts_in, status_in, key_tests, key_query}
 use Rattle.table_meaning.specs.Formats.{columns_in}
@@ -35,37 +35,43 @@ use Rattle.table_meaning.proofs.ReadTexts.{names_of, each_is_read}
 use Rattle.table_meaning.proofs.ByKey.{kept_is_read, batch_is_read, counts_are_read, status_is_read}
 
 -- a row of a tree as its number and its columns
-abbrev Numbered : Type 0
+abbrev pub Numbered : Type 0
 Numbered = ℤ × Row
 
-abbrev as_row : Numbered → Row
+abbrev pub as_row : Numbered → Row
 as_row n = Int n.0 ∷ n.1
 
-abbrev parted : Row → Numbered
+abbrev pub parted : Row → Numbered
 parted r = (id_in (rowid r), drop 1 r)
 
 whole_row : (r : Row) → is_int (rowid r) ≡ true → r ≡ as_row (parted r)
 whole_row [] h = absurd (let e : is_int Null ≡ true = h in cc)
 whole_row (v ∷ r) h = ap (λ u. u ∷ r) (int_is v h)
 
-as_rows : (rows : List Row) → AllByRecursion (λ r. is_int (rowid r) ≡ true) rows → rows ≡ map as_row (map parted rows)
+pub as_rows : (rows : List Row) → AllByRecursion (λ r. is_int (rowid r) ≡ true) rows → rows ≡ map as_row (map parted rows)
 as_rows [] h = refl
 as_rows (r ∷ rows) h = ap₂ ◌∷◌ (whole_row r h.0) (as_rows rows h.1)
 
-numbers_rise : (xs : List Numbered) → IsTable (map as_row xs) → IsKeyedBy (λ n. n.0) xs
+pub numbers_rise : (xs : List Numbered) → IsTable (map as_row xs) → IsKeyedBy (λ n. n.0) xs
 numbers_rise xs up = ascending_weaker _ _ (λ a b h. lt_from_Less _ _ (sym (value_cmp-Int a.0 b.0) ∙ h)) xs (ascending_from_map (λ a b. value_cmp (rowid a) (rowid b) ≡ Less) as_row xs up)
 
-read_rows : (db : Trees) (tree : ℕ) (places : List ℕ) → overlay db [] tree ≡ db tree → IsShaped TableTree (db tree) → (rows : List Row) → IsAnswer (read_query tree places) (overlay db []) [] rows
-    → rows ≡ map (λ r. map (column r) places) (db tree)
-read_rows db tree places own shaped rows answer =
-    let xs = map parted (db tree) in
-    let is : db tree ≡ map as_row xs = as_rows (db tree) shaped.1 in
-    let source = last_table (overlay db []) tree as_row (λ n. n.0) xs (own ∙ is) (numbers_rise xs (subst IsTable is shaped.0)) (at_end (overlay db [])) in
-    let show = λ (n : Numbered). map (column (as_row n)) places in
-    let all = answer_by_keys (read_query tree places) (overlay db []) [] source (λ _. true) (λ _. refl) (λ r. r) show (λ n. map-map _ (col 1) places) refl refl (λ a b. last_key (value_cmp-Int a.0 b.0)) rows answer in
-    sym (map-id rows) ∙ all ∙ ap (map show) (unfiltered xs refl) ∙ sym (map-map (λ r. map (column r) places) as_row xs) ∙ ap (map (λ r. map (column r) places)) (sym is)
+-- the rows of a tree that pass terms, at these places, in the order of the tree
+abbrev pub passing_query : ℕ → List Term → List ℕ → Query
+passing_query tree terms places = record (read_query tree places) { filter = terms }
 
-own_rows : (t : TableName) (db : Trees) → overlay db [] (tree_of t) ≡ db (tree_of t)
+module _ (db : Trees) (tree : ℕ) (terms : List Term) (places : List ℕ) (params : Row) (p : Row → Bool) (own : overlay db [] tree ≡ db tree) (shaped : IsShaped TableTree (db tree))
+    (tests : (n : Numbered) → list_all (holds (params ∷ as_row n ∷ [])) terms ≡ p (as_row n)) where
+  pub passing_rows : (rows : List Row) → IsAnswer (passing_query tree terms places) (overlay db []) params rows → rows ≡ map (λ r. map (column r) places) (filter p (db tree))
+  passing_rows rows answer =
+      let xs = map parted (db tree) in
+      let is : db tree ≡ map as_row xs = as_rows (db tree) shaped.1 in
+      let source = last_table (overlay db []) tree as_row (λ n. n.0) xs (own ∙ is) (numbers_rise xs (subst IsTable is shaped.0)) (at_end (overlay db [])) in
+      let show = λ (r : Row). map (column r) places in
+      let found = answer_by_keys (passing_query tree terms places) (overlay db []) params source (λ n. p (as_row n)) tests (λ r. r) (λ n. show (as_row n)) (λ n. map-map _ (col 1) places) refl refl
+      (λ a b. last_key (value_cmp-Int a.0 b.0)) rows answer in
+      sym (map-id rows) ∙ found ∙ sym (map-map show as_row (filter (λ n. p (as_row n)) xs)) ∙ ap (map show) (sym (filter-map p as_row xs)) ∙ sym (ap (λ l. map show (filter p l)) is)
+
+pub own_rows : (t : TableName) (db : Trees) → overlay db [] (tree_of t) ≡ db (tree_of t)
 own_rows Setting db = refl
 own_rows Account db = refl
 own_rows App db = refl
@@ -80,31 +86,16 @@ pub shown_rows : (t : TableName) (old new : State) → AreKnown old.now → (row
 shown_rows t old new known rows h =
     let meaning = each_is_read t in
     let read = reads_as (read_text t) [] old new stored_schema known.schema (Select (record { lets = []; body = read_query (tree_of t) (places_of t) }) (names_of t)) meaning.0 meaning.1 meaning.2 rows h in
-    read_rows old.now.trees (tree_of t) (places_of t) (own_rows t old.now.trees) (known.ordered t) rows (read.answer Null)
+    passing_rows old.now.trees (tree_of t) [] (places_of t) [] (λ _. true) (own_rows t old.now.trees) (known.ordered t) (λ _. refl) rows (read.answer Null) ∙ ap (map (shown t)) (unfiltered (old.now.trees (tree_of t)) refl)
 
 -- ---- what stands at a key
-
--- the first row that passes, of numbered rows or of rows
-first_row : (p : Row → Bool) (show : Row → Row) (xs : List Numbered) → option_map (λ n. show (as_row n)) (find (λ n. p (as_row n)) xs) ≡ option_map show (find p (map as_row xs))
-first_row p show [] = refl
-first_row p show (x ∷ xs) = turn (p (as_row x)) (first_row p show xs)
-  where
-    turn : (b : Bool) → option_map (λ n. show (as_row n)) (find (λ n. p (as_row n)) xs) ≡ option_map show (find p (map as_row xs))
-        → option_map (λ n. show (as_row n)) (cond b (Some x) (find (λ n. p (as_row n)) xs)) ≡ option_map show (cond b (Some (as_row x)) (find p (map as_row xs)))
-    turn true later = refl
-    turn false later = later
 
 module _ (db : Trees) (tree : ℕ) (key places : List ℕ) (params : Row) (p : Row → Bool) (own : overlay db [] tree ≡ db tree) (shaped : IsShaped TableTree (db tree))
     (tests : (n : Numbered) → list_all (holds (params ∷ as_row n ∷ [])) (key_tests 0 key) ≡ p (as_row n)) where
   key_rows : (rows : List Row) → IsAnswer (key_query tree key places) (overlay db []) params rows → slice_get rows 0 ≡ option_map (λ r. map (column r) places) (find p (db tree))
   key_rows rows answer =
-      let xs = map parted (db tree) in
-      let is : db tree ≡ map as_row xs = as_rows (db tree) shaped.1 in
-      let source = last_table (overlay db []) tree as_row (λ n. n.0) xs (own ∙ is) (numbers_rise xs (subst IsTable is shaped.0)) (at_end (overlay db [])) in
-      let show = λ (n : Numbered). map (column (as_row n)) places in
-      let found = answer_by_keys (key_query tree key places) (overlay db []) params source (λ n. p (as_row n)) tests (λ r. r) show (λ n. map-map _ (col 1) places) refl refl (λ a b. last_key (value_cmp-Int a.0 b.0)) rows answer in
-      ap (λ l. slice_get l 0) (sym (map-id rows) ∙ found) ∙ slice_get-map show (filter (λ n. p (as_row n)) xs) 0 ∙ ap (option_map show) (slice_get-filter (λ n. p (as_row n)) xs)
-      ∙ first_row p (λ r. map (column r) places) xs ∙ sym (ap (λ l. option_map (λ r. map (column r) places) (find p l)) is)
+      let show = λ (r : Row). map (column r) places in
+      ap (λ l. slice_get l 0) (passing_rows db tree (key_tests 0 key) places params p own shaped tests rows answer) ∙ slice_get-map show (filter p (db tree)) 0 ∙ ap (option_map show) (slice_get-filter p (db tree))
 
 -- columns that a function leaves as they are
 kept_same : (show same : Row → Row) → ((r : Row) → same (show r) ≡ show r) → (found : Option Row) → option_map same (option_map show found) ≡ option_map show found

@@ -2,6 +2,7 @@ pub mod ByKey
 pub mod Formats
 pub mod Holding
 pub mod Kept
+pub mod Listings
 pub mod Making
 pub mod Reads
 pub mod Rows

@@ -1,0 +1,48 @@
+//! What the rows of a table that pass a test have in a column.
+
+ghost use Rattle.std.specs.Prelude.{◌≡◌, map, IfOk};
+ghost use Rattle.sqlite.specs.Held.{state};
+ghost use Rattle.sqlite.specs.State.{HasCleanDisk};
+ghost use Rattle.sqlite_value.specs.declared.value.Value.TheVariants.{Int as SqlInt};
+ghost use Rattle.sqlite_value.specs.Order.{column};
+ghost use Rattle.table_meaning.specs.declared.tables.TableName.TheVariants as named;
+ghost use Rattle.table_meaning.specs.Listings.{rows_where, is_of_user, credit_in};
+ghost use Rattle.table_meaning.specs.Reads.{Reads};
+ghost use Rattle.table_meaning.specs.Holding.{AreKnown};
+
+use crate::fields::int;
+use crate::opening::OpenFault;
+use crate::read::shown_by;
+use crate::values::whole;
+use sqlite::{Alter, Connection, Row};
+use std::alloc::Global;
+use texts::Listed;
+
+/// The integers in the first column of these rows.
+fn integers(alloc: Global, rows: &[Row]) -> Result<Listed<i64>, OpenFault>
+    ensures { IfOk result (λ all. map SqlInt all ≡ map (λ row. column row 0) rows.now) }
+{
+    let mut all = Listed::new(alloc);
+    for row in rows {
+        all.push(int(alloc, row, 0)?)?;
+    }
+    Ok(all)
+}
+
+/// The credits of the hosts of this account, in millicredits. The connection shows what it showed.
+pub fn credits_of_user<S: Alter>(
+    alloc: Global,
+    conn: &mut Connection<S>,
+    account: u32,
+) -> Result<Listed<i64>, OpenFault>
+    ensures reads { Reads (state S.Store conn.old) (state S.Store conn.new) }
+    ensures credits { HasCleanDisk (state S.Store conn.new) → AreKnown (state S.Store conn.old).now
+        → IfOk result (λ credits. map SqlInt credits ≡ map credit_in (rows_where (state S.Store conn.old).now.trees named.Host (is_of_user account))) }
+{
+    let rows = shown_by(
+        conn,
+        "SELECT credit FROM host WHERE id > 0 AND account_id = ?1 ORDER BY id",
+        &[whole(account)],
+    )?;
+    integers(alloc, rows.as_slice())
+}
