@@ -5,10 +5,10 @@ use Rattle.sqlite_tied.specs.Compute.{everything}
 use Rattle.sqlite.specs.Listing.{understood, reads_listing}
 use Rattle.sqlite.proofs.Callers.{IsPlain, command_of}
 use Rattle.table_meaning.specs.declared.tables.TableName.{TableName}
-use Rattle.table_meaning.specs.declared.tables.TableName.TheVariants.{Unit, Host, Kept, Batch}
+use Rattle.table_meaning.specs.declared.tables.TableName.TheVariants.{Unit, Host, Instance, Kept, Batch}
 use Rattle.table_meaning.specs.Schema.{stored_schema}
 use Rattle.table_meaning.specs.Rows.{tree_of, places_of, key_places}
-use Rattle.table_meaning.specs.ByKey.{kept_text, batch_text, counts_text, status_text, key_query}
+use Rattle.table_meaning.specs.ByKey.{kept_text, batch_text, unit_text, host_text, instance_text, counts_text, status_text, key_query}
 use Rattle.table_meaning.proofs.ReadTexts.{names_of}
 
 -- the text reads these columns of the rows that have the key
@@ -27,6 +27,18 @@ kept_is_read = (refl, (refl, refl), refl)
 pub batch_is_read : IsReadByKey Batch batch_text
 unfolding understood everything
 batch_is_read = (refl, (refl, refl), refl)
+
+pub unit_is_read : IsReadByKey Unit unit_text
+unfolding understood everything
+unit_is_read = (refl, (refl, refl), refl)
+
+pub host_is_read : IsReadByKey Host host_text
+unfolding understood everything
+host_is_read = (refl, (refl, refl), refl)
+
+pub instance_is_read : IsReadByKey Instance instance_text
+unfolding understood everything
+instance_is_read = (refl, (refl, refl), refl)
 
 pub counts_are_read : ReadsByKey Host (9 ∷ 10 ∷ []) (codes "held" ∷ codes "credit" ∷ []) counts_text
 unfolding understood everything

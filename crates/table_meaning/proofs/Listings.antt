@@ -1,9 +1,9 @@
 -- What the rows of a table that pass a test show together: what stands at its keys in turn, and passes.
-use Rattle.std.proofs.Common.{◌≡◌, ◌⊎◌, ℕ, zero, suc, ◌+◌, ◌≤◌, ◌<◌, ℤ, pos, negsuc, ◌≤ℤ◌, ◌<ℤ◌, Bool, true, false, ◌&&◌, cond, List, [], ◌∷◌, map, filter, find, codes, Option, Some, None, option_map, option_and_then, refl, sym, ap, ap₂, subst, ◌∙◌, inl, inr, arith, int_eq}
+use Rattle.std.proofs.Common.{◌≡◌, ◌⊎◌, ℕ, zero, suc, ◌+◌, ◌≤◌, ◌<◌, ℤ, pos, negsuc, ◌≤ℤ◌, ◌<ℤ◌, Bool, true, false, ◌&&◌, cond, List, [], ◌∷◌, map, filter, find, slice_get, codes, Option, Some, None, option_map, option_and_then, refl, sym, ap, ap₂, subst, ◌∙◌, inl, inr, arith, int_eq}
 use Rattle.std.specs.Prelude.{filter_map}
 use Rattle.std.specs.List.{AllByRecursion, list_all, range_with_len, cons_option}
 use Rattle.std.proofs.lemmas.Int.{ints}
-use Rattle.std.proofs.lemmas.Option.{none-some}
+use Rattle.std.proofs.lemmas.Option.{none-some, slice_get-map}
 use Rattle.sqlite_value.specs.declared.value.Value.TheVariants.{Null}
 use Rattle.sqlite_value.specs.Order.{Row, column}
 use Rattle.sqlite_value.specs.Keys.{plain, first_key}
@@ -27,16 +27,16 @@ use Rattle.sqlite.specs.State.{State, Shown}
 use Rattle.sqlite.specs.Listing.{understood, reads_listing}
 use Rattle.sqlite.proofs.Callers.{IsPlain, command_of, reads_as}
 use Rattle.table_meaning.specs.declared.tables.TableName.{TableName}
-use Rattle.table_meaning.specs.declared.tables.TableName.TheVariants.{Host}
+use Rattle.table_meaning.specs.declared.tables.TableName.TheVariants.{Account, App, Version, Unit, Host}
 use Rattle.table_meaning.specs.Schema.{stored_schema}
-use Rattle.table_meaning.specs.Rows.{tree_of, shown, whole, columns_of, RowKey, host_key, look_up}
+use Rattle.table_meaning.specs.Rows.{tree_of, shown, whole, columns_of, RowKey, account_key, app_key, version_key, unit_key, host_key, look_up}
 use Rattle.table_meaning.specs.Holding.{AreKnown, Contents, Hold}
 use Rattle.table_meaning.specs.Listings.{is_numbered, rows_where, standing, listing_query, is_first, credits_text, is_of_user, credit_in}
 use Rattle.table_meaning.proofs.Reading.{Numbered, as_row, parted, as_rows, numbers_rise, own_rows, passing_rows}
 
 -- ---- lists
 
-filter-passed : {X : Type 0} (p q : X → Bool) (xs : List X) → filter (λ x. q x && p x) xs ≡ filter p (filter q xs)
+pub filter-passed : {X : Type 0} (p q : X → Bool) (xs : List X) → filter (λ x. q x && p x) xs ≡ filter p (filter q xs)
 filter-passed p q [] = refl
 filter-passed p q (x ∷ xs) = turn (q x) (filter-passed p q xs)
   where
@@ -44,7 +44,7 @@ filter-passed p q (x ∷ xs) = turn (q x) (filter-passed p q xs)
     turn true later = ap (λ l. cond (p x) (x ∷ l) l) later
     turn false later = later
 
-map-filter_map : {X Y Z : Type 0} (f : Y → Z) (h : X → Option Y) (xs : List X) → map f (filter_map h xs) ≡ filter_map (λ x. option_map f (h x)) xs
+pub map-filter_map : {X Y Z : Type 0} (f : Y → Z) (h : X → Option Y) (xs : List X) → map f (filter_map h xs) ≡ filter_map (λ x. option_map f (h x)) xs
 map-filter_map f h [] = refl
 map-filter_map f h (x ∷ xs) = turn (h x) (map-filter_map f h xs)
   where
@@ -123,6 +123,18 @@ module _ {X Y : Type 0} (key : X → ℤ) (show : X → Y) where
 abbrev pub IsByNumber : TableName → (ℕ → RowKey) → Type 0
 IsByNumber t key = (trees : Trees) (n : ℕ) → look_up trees (key n) ≡ option_map (shown t) (find (λ r. agree plain (0 ∷ []) r (0 ∷ []) (whole n ∷ [])) (trees (tree_of t)))
 
+pub accounts_by_number : IsByNumber Account account_key
+accounts_by_number trees n = refl
+
+pub apps_by_number : IsByNumber App app_key
+apps_by_number trees n = refl
+
+pub versions_by_number : IsByNumber Version version_key
+versions_by_number trees n = refl
+
+pub units_by_number : IsByNumber Unit unit_key
+units_by_number trees n = refl
+
 pub hosts_by_number : IsByNumber Host host_key
 hosts_by_number trees n = refl
 
@@ -174,6 +186,15 @@ module _ (t : TableName) (key : ℕ → RowKey) (by : IsByNumber t key) (db : Da
 
 -- ---- what a statement lists
 
+-- what is picked of each row that the text shows is what is picked of all columns of each row that passes
+abbrev pub Lists : {X : Type 0} → List ℕ → Row → (Row → X) → TableName → (Row → Bool) → (Row → X) → Type 1
+Lists text params pick t test from = (old new : State) → AreKnown old.now → (rows : List Row) → Shown text params old new rows → map pick rows ≡ map from (rows_where old.now.trees t test)
+
+-- and so of the first row
+abbrev pub ListsFirst : {X : Type 0} → List ℕ → Row → (Row → X) → TableName → (Row → Bool) → (Row → X) → Type 1
+ListsFirst text params pick t test from =
+    (old new : State) → AreKnown old.now → (rows : List Row) → Shown text params old new rows → option_map pick (slice_get rows 0) ≡ option_map from (slice_get (rows_where old.now.trees t test) 0)
+
 -- the text lists these columns of the rows that pass the terms
 abbrev pub IsListed : TableName → List Term → List ℕ → List (List ℕ) → List ℕ → Type 0
 IsListed t terms places names text = (command_of (understood stored_schema text) ≡ Select (record { lets = []; body = listing_query (tree_of t) terms places }) names) × IsPlain (understood stored_schema text)
@@ -189,12 +210,18 @@ module _ (t : TableName) (terms : List Term) (places : List ℕ) (params : Row) 
       let kept = filter p (trees (tree_of t)) in
       ap (map pick) found ∙ map-map pick (λ r. map (column r) places) kept ∙ map_same _ (λ r. from (shown t r)) same kept ∙ sym (map-map from (shown t) kept)
 
+  module _ (names : List (List ℕ)) (text : List ℕ) (meaning : IsListed t terms places names text) where
+    pub listed_by : Lists text params pick t test from
+    listed_by old new known rows h =
+        let read = reads_as text params old new stored_schema known.schema _ meaning.0 meaning.1 meaning.2 rows h in
+        listed_rows old.now.trees (known.ordered t) rows (read.answer Null)
+
+    pub first_listed_by : ListsFirst text params pick t test from
+    first_listed_by old new known rows h = sym (slice_get-map pick rows 0) ∙ ap (λ l. slice_get l 0) (listed_by old new known rows h) ∙ slice_get-map from (rows_where old.now.trees t test) 0
+
 credits_are_listed : IsListed Host (is_first 2 ∷ []) (10 ∷ []) (codes "credit" ∷ []) credits_text
 unfolding understood everything
 credits_are_listed = (refl, (refl, refl), refl)
 
-pub credits_shown : (old new : State) → AreKnown old.now → (account : ℕ) (rows : List Row) → Shown credits_text (whole account ∷ []) old new rows
-    → map (λ r. column r 0) rows ≡ map credit_in (rows_where old.now.trees Host (is_of_user account))
-credits_shown old new known account rows h =
-    let read = reads_as credits_text (whole account ∷ []) old new stored_schema known.schema _ credits_are_listed.0 credits_are_listed.1 credits_are_listed.2 rows h in
-    listed_rows Host (is_first 2 ∷ []) (10 ∷ []) (whole account ∷ []) (is_of_user account) (λ r. last_term refl) (λ r. column r 0) credit_in (λ r. refl) old.now.trees (known.ordered Host) rows (read.answer Null)
+pub credits_shown : (account : ℕ) → Lists credits_text (whole account ∷ []) (λ r. column r 0) Host (is_of_user account) credit_in
+credits_shown account = listed_by Host (is_first 2 ∷ []) (10 ∷ []) (whole account ∷ []) (is_of_user account) (λ r. last_term refl) (λ r. column r 0) credit_in (λ r. refl) _ _ credits_are_listed

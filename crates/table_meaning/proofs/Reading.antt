@@ -26,13 +26,13 @@ use Rattle.table_meaning.specs.declared.tables.TableName.{TableName}
 use Rattle.table_meaning.specs.declared.tables.TableName.TheVariants.{Setting, Account, App, Version, Unit, Host, Instance, Kept, Batch}
 use Rattle.table_meaning.specs.Schema.{stored_schema}
 use Rattle.table_meaning.specs.Texts.{read_text}
-use Rattle.table_meaning.specs.Rows.{tree_of, places_of, shown, rows_in, whole, unit_key, host_key, kept_key, batch_key, has_key, look_up}
+use Rattle.table_meaning.specs.Rows.{tree_of, places_of, key_places, shown, rows_in, whole, RowKey, unit_key, host_key, instance_key, kept_key, batch_key, table_at, has_key, look_up}
 use Rattle.table_meaning.specs.Reads.{read_query}
-use Rattle.table_meaning.specs.ByKey.{kept_text, batch_text, counts_text, status_text, counts_in, status_in, key_tests, key_query}
+use Rattle.table_meaning.specs.ByKey.{kept_text, batch_text, unit_text, host_text, instance_text, counts_text, status_text, counts_in, status_in, key_tests, key_query}
 use Rattle.table_meaning.specs.Formats.{columns_in}
 use Rattle.table_meaning.specs.Holding.{AreKnown}
 use Rattle.table_meaning.proofs.ReadTexts.{names_of, each_is_read}
-use Rattle.table_meaning.proofs.ByKey.{kept_is_read, batch_is_read, counts_are_read, status_is_read}
+use Rattle.table_meaning.proofs.ByKey.{IsReadByKey, kept_is_read, batch_is_read, unit_is_read, host_is_read, instance_is_read, counts_are_read, status_is_read}
 
 -- a row of a tree as its number and its columns
 abbrev pub Numbered : Type 0
@@ -102,21 +102,39 @@ kept_same : (show same : Row → Row) → ((r : Row) → same (show r) ≡ show 
 kept_same show same is None = refl
 kept_same show same is (Some r) = ap Some (is r)
 
-pub kept_shown_at : (old new : State) → AreKnown old.now → (host : ℕ) (rows : List Row) → Shown kept_text (whole host ∷ []) old new rows
-    → option_map (λ r. columns_in r 4) (slice_get rows 0) ≡ look_up old.now.trees (kept_key host)
-unfolding first_key
-kept_shown_at old new known host rows h =
-    let read = reads_as kept_text (whole host ∷ []) old new stored_schema known.schema _ kept_is_read.0 kept_is_read.1 kept_is_read.2 rows h in
-    let found = key_rows old.now.trees 14 (0 ∷ []) (places_of Kept) (whole host ∷ []) (has_key (kept_key host)) refl (known.ordered Kept) (λ n. refl) rows (read.answer Null) in
-    ap (option_map (λ r. columns_in r 4)) found ∙ kept_same _ (λ r. columns_in r 4) (λ r. refl) _
+-- all columns of what a text shows first are those of the row at a key
+abbrev pub ShowsAt : List ℕ → Row → ℕ → RowKey → Type 1
+ShowsAt text params count key = (old new : State) → AreKnown old.now → (rows : List Row) → Shown text params old new rows → option_map (λ r. columns_in r count) (slice_get rows 0) ≡ look_up old.now.trees key
 
-pub batch_shown_at : (old new : State) → AreKnown old.now → (kind name : List ℕ) (rows : List Row) → Shown batch_text (Text kind ∷ Text name ∷ []) old new rows
-    → option_map (λ r. columns_in r 4) (slice_get rows 0) ≡ look_up old.now.trees (batch_key kind name)
+-- the text, given the key as parameters, shows all columns of the row that stands there
+module _ (key : RowKey) (text : List ℕ) (params : Row) (count : ℕ) (meaning : IsReadByKey (table_at key) text) (tests : (n : Numbered) → list_all (holds (params ∷ as_row n ∷ [])) (key_tests 0 (key_places (table_at key))) ≡ has_key key (as_row n))
+    (same : (r : Row) → columns_in (shown (table_at key) r) count ≡ shown (table_at key) r) where
+  row_shown_at : ShowsAt text params count key
+  row_shown_at old new known rows h =
+      let t = table_at key in
+      let read = reads_as text params old new stored_schema known.schema _ meaning.0 meaning.1 meaning.2 rows h in
+      let found = key_rows old.now.trees (tree_of t) (key_places t) (places_of t) params (has_key key) (own_rows t old.now.trees) (known.ordered t) tests rows (read.answer Null) in
+      ap (option_map (λ r. columns_in r count)) found ∙ kept_same _ (λ r. columns_in r count) same _
+
+pub kept_shown_at : (host : ℕ) → ShowsAt kept_text (whole host ∷ []) 4 (kept_key host)
 unfolding first_key
-batch_shown_at old new known kind name rows h =
-    let read = reads_as batch_text (Text kind ∷ Text name ∷ []) old new stored_schema known.schema _ batch_is_read.0 batch_is_read.1 batch_is_read.2 rows h in
-    let found = key_rows old.now.trees 15 (1 ∷ 2 ∷ []) (places_of Batch) (Text kind ∷ Text name ∷ []) (has_key (batch_key kind name)) refl (known.ordered Batch) (λ n. refl) rows (read.answer Null) in
-    ap (option_map (λ r. columns_in r 4)) found ∙ kept_same _ (λ r. columns_in r 4) (λ r. refl) _
+kept_shown_at host = row_shown_at (kept_key host) kept_text (whole host ∷ []) 4 kept_is_read (λ n. refl) (λ r. refl)
+
+pub batch_shown_at : (kind name : List ℕ) → ShowsAt batch_text (Text kind ∷ Text name ∷ []) 4 (batch_key kind name)
+unfolding first_key
+batch_shown_at kind name = row_shown_at (batch_key kind name) batch_text (Text kind ∷ Text name ∷ []) 4 batch_is_read (λ n. refl) (λ r. refl)
+
+pub unit_shown_at : (unit : ℕ) → ShowsAt unit_text (whole unit ∷ []) 14 (unit_key unit)
+unfolding first_key
+unit_shown_at unit = row_shown_at (unit_key unit) unit_text (whole unit ∷ []) 14 unit_is_read (λ n. refl) (λ r. refl)
+
+pub host_shown_at : (host : ℕ) → ShowsAt host_text (whole host ∷ []) 10 (host_key host)
+unfolding first_key
+host_shown_at host = row_shown_at (host_key host) host_text (whole host ∷ []) 10 host_is_read (λ n. refl) (λ r. refl)
+
+pub instance_shown_at : (unit number : ℕ) → ShowsAt instance_text (whole unit ∷ whole number ∷ []) 10 (instance_key unit number)
+unfolding first_key
+instance_shown_at unit number = row_shown_at (instance_key unit number) instance_text (whole unit ∷ whole number ∷ []) 10 instance_is_read (λ n. refl) (λ r. refl)
 
 -- ---- some of its columns
 
@@ -125,18 +143,18 @@ picked : {X : Type 0} (show all : Row → Row) (pick from : Row → X) → ((r :
 picked show all pick from is None = refl
 picked show all pick from is (Some r) = ap Some (is r)
 
-pub counts_shown_at : (old new : State) → AreKnown old.now → (host : ℕ) (rows : List Row) → Shown counts_text (whole host ∷ []) old new rows
+pub counts_shown_at : (host : ℕ) (old new : State) → AreKnown old.now → (rows : List Row) → Shown counts_text (whole host ∷ []) old new rows
     → option_map (λ r. columns_in r 2) (slice_get rows 0) ≡ option_map counts_in (look_up old.now.trees (host_key host))
 unfolding first_key
-counts_shown_at old new known host rows h =
+counts_shown_at host old new known rows h =
     let read = reads_as counts_text (whole host ∷ []) old new stored_schema known.schema _ counts_are_read.0 counts_are_read.1 counts_are_read.2 rows h in
     let found = key_rows old.now.trees 10 (0 ∷ []) (9 ∷ 10 ∷ []) (whole host ∷ []) (has_key (host_key host)) refl (known.ordered Host) (λ n. refl) rows (read.answer Null) in
     ap (option_map (λ r. columns_in r 2)) found ∙ picked _ _ (λ r. columns_in r 2) counts_in (λ r. refl) _
 
-pub status_shown_at : (old new : State) → AreKnown old.now → (unit : ℕ) (rows : List Row) → Shown status_text (whole unit ∷ []) old new rows
+pub status_shown_at : (unit : ℕ) (old new : State) → AreKnown old.now → (rows : List Row) → Shown status_text (whole unit ∷ []) old new rows
     → option_map (λ r. column r 0) (slice_get rows 0) ≡ option_map status_in (look_up old.now.trees (unit_key unit))
 unfolding first_key
-status_shown_at old new known unit rows h =
+status_shown_at unit old new known rows h =
     let read = reads_as status_text (whole unit ∷ []) old new stored_schema known.schema _ status_is_read.0 status_is_read.1 status_is_read.2 rows h in
     let found = key_rows old.now.trees 8 (0 ∷ []) (14 ∷ []) (whole unit ∷ []) (has_key (unit_key unit)) refl (known.ordered Unit) (λ n. refl) rows (read.answer Null) in
     ap (option_map (λ r. column r 0)) found ∙ picked _ _ (λ r. column r 0) status_in (λ r. refl) _

@@ -16,6 +16,16 @@ kept_text = codes "SELECT host_id, seqno, text, reply FROM kept WHERE host_id = 
 abbrev pub batch_text : List ℕ
 batch_text = codes "SELECT kind, name, text, answer FROM batch WHERE kind = ?1 AND name = ?2 ORDER BY rowid"
 
+-- reads a workunit and a host by its number, and an instance by its workunit and its number there
+abbrev pub unit_text : List ℕ
+unit_text = codes "SELECT id, name, app_id, min_quorum, target_nresults, max_error_results, max_total_results, max_success_results, delay_bound, rsc_fpops_est, rsc_memory_bound, rsc_disk_bound, credit, status FROM unit WHERE id = ?1 ORDER BY id"
+
+abbrev pub host_text : List ℕ
+host_text = codes "SELECT id, account_id, cpid, platforms, fpops, memory, disk, quota, held, credit FROM host WHERE id = ?1 ORDER BY id"
+
+abbrev pub instance_text : List ℕ
+instance_text = codes "SELECT unit_id, num, host_id, sent, deadline, lapse, outcome, output, place, queued FROM instance WHERE unit_id = ?1 AND num = ?2 ORDER BY rowid"
+
 -- reads how many instances a host holds with its credit, and the status of a workunit
 abbrev pub counts_text : List ℕ
 counts_text = codes "SELECT held, credit FROM host WHERE id = ?1 ORDER BY id"

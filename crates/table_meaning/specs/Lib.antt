@@ -4,6 +4,7 @@ pub mod Holding
 pub mod Kept
 pub mod Listings
 pub mod Making
+pub mod Places
 pub mod Reads
 pub mod Rows
 pub mod Schema

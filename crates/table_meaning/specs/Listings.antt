@@ -1,8 +1,8 @@
 -- The rows of a table that pass a test of their columns, and the statements that list them.
-use Rattle.std.specs.Prelude.{ℕ, pos, Bool, ◌&&◌, int_lt, List, ◌∷◌, map, filter, filter_map, codes}
-use Rattle.std.specs.List.{range_with_len}
+use Rattle.std.specs.Prelude.{ℕ, pos, Bool, ◌&&◌, int_lt, true, List, [], ◌∷◌, map, filter, filter_map, codes, None, unwrap_or}
+use Rattle.std.specs.List.{range_with_len, last_or}
 use Rattle.sqlite_value.specs.declared.value.Value.{Value}
-use Rattle.sqlite_value.specs.declared.value.Value.TheVariants.{Int}
+use Rattle.sqlite_value.specs.declared.value.Value.TheVariants.{Int, Text}
 use Rattle.sqlite_value.specs.declared.keys.Collation.TheVariants.{Binary}
 use Rattle.sqlite_value.specs.Order.{Row, column}
 use Rattle.sqlite_trees.specs.Tree.{Trees, rowid}
@@ -49,3 +49,45 @@ is_of_user account row = equal Binary (column row 1) (whole account)
 
 abbrev pub credit_in : Row → Value
 credit_in row = column row 9
+
+-- ---- rows by their names
+
+-- the account with this authenticator, and the workunit of this name
+abbrev pub account_text : List ℕ
+account_text = codes "SELECT id, auth, name FROM account WHERE id > 0 AND auth = ?1 ORDER BY id"
+
+abbrev pub unit_named_text : List ℕ
+unit_named_text = codes "SELECT id FROM unit WHERE id > 0 AND name = ?1 ORDER BY id"
+
+-- the column at this place is this text
+abbrev pub has_text : ℕ → List ℕ → Row → Bool
+has_text at text row = equal Binary (column row at) (Text text)
+
+-- the host of this account and name, and all hosts of the account
+abbrev pub host_known_text : List ℕ
+host_known_text = codes "SELECT id FROM host WHERE id > 0 AND account_id = ?1 AND cpid = ?2 ORDER BY id"
+
+abbrev pub hosts_text : List ℕ
+hosts_text = codes "SELECT id FROM host WHERE id > 0 AND account_id = ?1 ORDER BY id"
+
+-- the host is of this account and has this name
+abbrev pub is_host_known : ℕ → List ℕ → Row → Bool
+is_host_known account cpid row = is_of_user account row && has_text 2 cpid row
+
+-- the numbers of the versions of an application for a platform
+abbrev pub versions_text : List ℕ
+versions_text = codes "SELECT num FROM version WHERE id > 0 AND app_id = ?1 AND platform = ?2 ORDER BY id"
+
+-- the version is of this application and for this platform
+abbrev pub is_version_for : ℕ → List ℕ → Row → Bool
+is_version_for app platform row = equal Binary (column row 1) (whole app) && has_text 2 platform row
+
+-- ---- the last row
+
+-- the column at place 0 of the last row of a tree that has a number above 0
+abbrev pub last_query : ℕ → Query
+last_query tree = record (listing_query tree [] (0 ∷ [])) { order = (col 1 0, record { collation = Binary; descending = true }) ∷ []; limit = lit (Int (pos 1)) }
+
+-- the number of the last of these rows, and 0 where there is none
+abbrev pub last_number_in : List Row → Value
+last_number_in rows = unwrap_or (last_or None (map (λ row. column row 0) rows)) (whole 0)

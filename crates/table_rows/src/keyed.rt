@@ -7,19 +7,18 @@ ghost use Rattle.table_meaning.specs.declared.rows.StoredRow.TheVariants as stor
 ghost use Rattle.sqlite_value.specs.declared.value.Value.TheVariants.{Int as SqlInt};
 ghost use Rattle.table_meaning.specs.ByKey.{counts_in, status_in};
 ghost use Rattle.table_meaning.specs.Formats.{columns_in};
-ghost use Rattle.table_meaning.specs.Rows.{whole as sql_whole, unit_key, host_key, kept_key, batch_key, columns_of, look_up};
+ghost use Rattle.table_meaning.specs.Rows.{whole as sql_whole, unit_key, host_key, instance_key, kept_key, batch_key, columns_of, look_up};
 ghost use Rattle.table_meaning.specs.Reads.{Reads};
 ghost use Rattle.table_meaning.specs.Holding.{AreKnown};
 
-use crate::fields;
 use crate::opening::OpenFault;
-use crate::read::shown_by;
-use crate::typed::{batch, call};
+use crate::read::{first_number, first_shown};
 use crate::values::whole;
+use crate::{fields, typed};
 use sqlite::types::ValueRef;
 use sqlite::{Alter, Connection, Row};
 use std::alloc::Global;
-use table_meaning::rows::{StoredBatch, StoredCall};
+use table_meaning::rows::{StoredBatch, StoredCall, StoredHost, StoredInstance, StoredUnit};
 
 /// What is kept of the last call of the host of this number. The connection shows what it showed.
 pub fn kept_of<S: Alter>(
@@ -31,15 +30,13 @@ pub fn kept_of<S: Alter>(
     ensures row { HasCleanDisk (state S.Store conn.new) → AreKnown (state S.Store conn.old).now
         → IfOk result (λ row. option_map (λ k. columns_of (stored.Kept k)) row ≡ look_up (state S.Store conn.old).now.trees (kept_key host)) }
 {
-    let rows = shown_by(
+    first_shown(
+        alloc,
         conn,
         "SELECT host_id, seqno, text, reply FROM kept WHERE host_id = ?1 ORDER BY host_id",
         &[whole(host)],
-    )?;
-    match rows.first() {
-        Some(row) => Ok(Some(call(alloc, row)?)),
-        None => Ok(None),
-    }
+        typed::call,
+    )
 }
 
 /// What is kept of the import of this kind and name. The connection shows what it showed.
@@ -53,18 +50,74 @@ pub fn batch_of<S: Alter>(
     ensures row { HasCleanDisk (state S.Store conn.new) → AreKnown (state S.Store conn.old).now
         → IfOk result (λ row. option_map (λ b. columns_of (stored.Batch b)) row ≡ look_up (state S.Store conn.old).now.trees (batch_key kind.now name.now)) }
 {
-    let rows = shown_by(
+    first_shown(
+        alloc,
         conn,
         "SELECT kind, name, text, answer FROM batch WHERE kind = ?1 AND name = ?2 ORDER BY rowid",
         &[
             ValueRef::Text(kind.as_bytes()),
             ValueRef::Text(name.as_bytes()),
         ],
-    )?;
-    match rows.first() {
-        Some(row) => Ok(Some(batch(alloc, row)?)),
-        None => Ok(None),
-    }
+        typed::batch,
+    )
+}
+
+/// The row of the workunit of this number. The connection shows what it showed.
+pub fn unit_of<S: Alter>(
+    alloc: Global,
+    conn: &mut Connection<S>,
+    unit: u32,
+) -> Result<Option<StoredUnit>, OpenFault>
+    ensures reads { Reads (state S.Store conn.old) (state S.Store conn.new) }
+    ensures row { HasCleanDisk (state S.Store conn.new) → AreKnown (state S.Store conn.old).now
+        → IfOk result (λ row. option_map (λ u. columns_of (stored.Unit u)) row ≡ look_up (state S.Store conn.old).now.trees (unit_key unit)) }
+{
+    first_shown(
+        alloc,
+        conn,
+        "SELECT id, name, app_id, min_quorum, target_nresults, max_error_results, max_total_results, max_success_results, delay_bound, rsc_fpops_est, rsc_memory_bound, rsc_disk_bound, credit, status FROM unit WHERE id = ?1 ORDER BY id",
+        &[whole(unit)],
+        typed::unit,
+    )
+}
+
+/// The row of the host of this number. The connection shows what it showed.
+pub fn host_of<S: Alter>(
+    alloc: Global,
+    conn: &mut Connection<S>,
+    host: u32,
+) -> Result<Option<StoredHost>, OpenFault>
+    ensures reads { Reads (state S.Store conn.old) (state S.Store conn.new) }
+    ensures row { HasCleanDisk (state S.Store conn.new) → AreKnown (state S.Store conn.old).now
+        → IfOk result (λ row. option_map (λ h. columns_of (stored.Host h)) row ≡ look_up (state S.Store conn.old).now.trees (host_key host)) }
+{
+    first_shown(
+        alloc,
+        conn,
+        "SELECT id, account_id, cpid, platforms, fpops, memory, disk, quota, held, credit FROM host WHERE id = ?1 ORDER BY id",
+        &[whole(host)],
+        typed::host,
+    )
+}
+
+/// The row of the instance of this workunit and number. The connection shows what it showed.
+pub fn instance_of<S: Alter>(
+    alloc: Global,
+    conn: &mut Connection<S>,
+    unit: u32,
+    number: u32,
+) -> Result<Option<StoredInstance>, OpenFault>
+    ensures reads { Reads (state S.Store conn.old) (state S.Store conn.new) }
+    ensures row { HasCleanDisk (state S.Store conn.new) → AreKnown (state S.Store conn.old).now
+        → IfOk result (λ row. option_map (λ i. columns_of (stored.Instance i)) row ≡ look_up (state S.Store conn.old).now.trees (instance_key unit number)) }
+{
+    first_shown(
+        alloc,
+        conn,
+        "SELECT unit_id, num, host_id, sent, deadline, lapse, outcome, output, place, queued FROM instance WHERE unit_id = ?1 AND num = ?2 ORDER BY rowid",
+        &[whole(unit), whole(number)],
+        typed::instance,
+    )
 }
 
 /// What is counted of a host.
@@ -95,15 +148,13 @@ pub fn counts_of<S: Alter>(
     ensures row { HasCleanDisk (state S.Store conn.new) → AreKnown (state S.Store conn.old).now
         → IfOk result (λ counts. option_map (λ c. sql_whole c.held ∷ SqlInt c.credit ∷ []) counts ≡ option_map counts_in (look_up (state S.Store conn.old).now.trees (host_key host))) }
 {
-    let rows = shown_by(
+    first_shown(
+        alloc,
         conn,
         "SELECT held, credit FROM host WHERE id = ?1 ORDER BY id",
         &[whole(host)],
-    )?;
-    match rows.first() {
-        Some(row) => Ok(Some(counts(alloc, row)?)),
-        None => Ok(None),
-    }
+        counts,
+    )
 }
 
 /// The status of the workunit at this place, as its row writes it. The connection shows what it showed.
@@ -116,13 +167,10 @@ pub fn status_of<S: Alter>(
     ensures row { HasCleanDisk (state S.Store conn.new) → AreKnown (state S.Store conn.old).now
         → IfOk result (λ status. option_map sql_whole status ≡ option_map status_in (look_up (state S.Store conn.old).now.trees (unit_key unit))) }
 {
-    let rows = shown_by(
+    first_number(
+        alloc,
         conn,
         "SELECT status FROM unit WHERE id = ?1 ORDER BY id",
         &[whole(unit)],
-    )?;
-    match rows.first() {
-        Some(row) => Ok(Some(fields::whole(alloc, row, 0)?)),
-        None => Ok(None),
-    }
+    )
 }

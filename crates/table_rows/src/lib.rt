@@ -6,16 +6,22 @@ pub mod definitions;
 pub mod fields;
 pub mod keyed;
 pub mod listing;
+pub mod names;
 pub mod opening;
+pub mod places;
 pub mod put;
 pub mod read;
 pub mod typed;
 pub mod values;
 
 pub use definitions::create;
-pub use keyed::{HostCounts, batch_of, counts_of, kept_of, status_of};
-pub use listing::credits_of_user;
+pub use keyed::{
+    HostCounts, batch_of, counts_of, host_of, instance_of, kept_of, status_of, unit_of,
+};
+pub use listing::{credits_of_user, hosts_of_user, version_numbers};
+pub use names::{NumberedTable, account_with, host_known, last_number, unit_named};
 pub use opening::{OpenFault, Refused, in_memory, known};
+pub use places::{instances_in, places_due, places_held, places_owned, queued_from, sent_between};
 pub use put::put_rows;
 pub use read::{all_rows, rows_of};
 pub use typed::stored_rows;

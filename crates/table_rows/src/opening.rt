@@ -64,6 +64,12 @@ impl From<Unavailable> for OpenFault {
     }
 }
 
+impl From<OpenFault> for Unavailable {
+    fn from(_: OpenFault) -> Unavailable {
+        Unavailable
+    }
+}
+
 /// New tables in memory, with these rows.
 pub fn in_memory(alloc: Global, rows: &[StoredRow]) -> Result<Connection<MemStore>, OpenFault>
     ensures made { IfOk result (λ c. HoldJust (state over_memory c).now rows.now) }

@@ -1,14 +1,18 @@
-//! Whole tables as rows.
+//! Rows that statements show: of whole tables, or the first one.
 
-ghost use Rattle.std.specs.Prelude.{◌≡◌, IfOk, IsTrue, map};
+ghost use Rattle.std.specs.Prelude.{◌≡◌, ℕ, IfOk, IsTrue, List, Ok, map, slice_get, option_map};
 ghost use Rattle.sqlite.specs.Held.{state};
 ghost use Rattle.sqlite.specs.State.{HasCleanDisk};
 ghost use Rattle.sqlite.specs.Values.{bound};
+ghost use Rattle.sqlite_value.specs.Order.{Row as SqlRow, column};
+ghost use Rattle.table_meaning.specs.Formats.{columns_in};
 ghost use Rattle.table_meaning.specs.Texts.{read_text as sql_read};
-ghost use Rattle.table_meaning.specs.Rows.{rows_in};
+ghost use Rattle.table_meaning.specs.Rows.{rows_in, whole as sql_whole};
 ghost use Rattle.table_meaning.specs.Reads.{Reads, Shows};
 ghost use Rattle.table_meaning.specs.Holding.{AreKnown};
 
+use crate::fields;
+use crate::opening::OpenFault;
 use sqlite::types::ValueRef;
 use sqlite::{Alter, Connection, Error, ErrorCode, Row};
 use std::alloc::Global;
@@ -50,6 +54,45 @@ pub(crate) fn shown_by<S: Alter>(
     let rows = tx.query_all(text, params)?;
     tx.rollback();
     Ok(rows)
+}
+
+/// The first row that a statement shows, as it is read. The connection shows what it showed.
+pub(crate) fn first_shown<S: Alter, T: Drop, F: FnOnce(Global, &Row) -> Result<T, OpenFault>>(
+    alloc: Global,
+    conn: &mut Connection<S>,
+    text: &str,
+    params: &[ValueRef<'_>],
+    read: F,
+) -> Result<Option<T>, OpenFault>
+    requires { F.IsAlwaysCallable read }
+    ensures reads { Reads (state S.Store conn.old) (state S.Store conn.new) }
+    ensures first { (columns : T → SqlRow) (count : ℕ) → ((row : _) (x : T) → F.post read alloc row (Ok x) → columns x ≡ columns_in row.now count)
+        → HasCleanDisk (state S.Store conn.new)
+        → IfOk result (λ found. (rows : List SqlRow) × Shows S.Store conn.old text.now (bound params.now) rows × (option_map columns found ≡ option_map (λ row. columns_in row count) (slice_get rows 0))) }
+{
+    let rows = shown_by(conn, text, params)?;
+    match rows.first() {
+        Some(row) => Ok(Some(read(alloc, row)?)),
+        None => Ok(None),
+    }
+}
+
+/// The number in the first column of the first row that a statement shows.
+pub(crate) fn first_number<S: Alter>(
+    alloc: Global,
+    conn: &mut Connection<S>,
+    text: &str,
+    params: &[ValueRef<'_>],
+) -> Result<Option<u32>, OpenFault>
+    ensures reads { Reads (state S.Store conn.old) (state S.Store conn.new) }
+    ensures first { HasCleanDisk (state S.Store conn.new)
+        → IfOk result (λ number. (rows : List SqlRow) × Shows S.Store conn.old text.now (bound params.now) rows × (option_map sql_whole number ≡ option_map (λ row. column row 0) (slice_get rows 0))) }
+{
+    let rows = shown_by(conn, text, params)?;
+    match rows.first() {
+        Some(row) => Ok(Some(fields::whole(alloc, row, 0)?)),
+        None => Ok(None),
+    }
 }
 
 /// The rows of a table, each with its columns in order. The connection shows what it showed.

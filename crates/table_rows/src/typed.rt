@@ -42,7 +42,7 @@ fn setting(alloc: Global, row: &Row) -> Result<StoredSetting, OpenFault>
     })
 }
 
-fn account(alloc: Global, row: &Row) -> Result<StoredAccount, OpenFault>
+pub(crate) fn account(alloc: Global, row: &Row) -> Result<StoredAccount, OpenFault>
     ensures read { IfOk result (λ a. columns_of (stored.Account a) ≡ columns_in row.now 3) }
     ensures bad { IfErr result (λ e. e ≡ OpenFault.BadRow → ¬ AreOf (kinds_of named.Account) row.now 0) }
 {
@@ -53,7 +53,7 @@ fn account(alloc: Global, row: &Row) -> Result<StoredAccount, OpenFault>
     })
 }
 
-fn app(alloc: Global, row: &Row) -> Result<StoredApp, OpenFault>
+pub(crate) fn app(alloc: Global, row: &Row) -> Result<StoredApp, OpenFault>
     ensures read { IfOk result (λ a. columns_of (stored.App a) ≡ columns_in row.now 3) }
     ensures bad { IfErr result (λ e. e ≡ OpenFault.BadRow → ¬ AreOf (kinds_of named.App) row.now 0) }
 {
@@ -76,7 +76,7 @@ fn version(alloc: Global, row: &Row) -> Result<StoredVersion, OpenFault>
     })
 }
 
-fn unit(alloc: Global, row: &Row) -> Result<StoredUnit, OpenFault>
+pub(crate) fn unit(alloc: Global, row: &Row) -> Result<StoredUnit, OpenFault>
     ensures read { IfOk result (λ u. columns_of (stored.Unit u) ≡ columns_in row.now 14) }
     ensures bad { IfErr result (λ e. e ≡ OpenFault.BadRow → ¬ AreOf (kinds_of named.Unit) row.now 0) }
 {
@@ -98,7 +98,7 @@ fn unit(alloc: Global, row: &Row) -> Result<StoredUnit, OpenFault>
     })
 }
 
-fn host(alloc: Global, row: &Row) -> Result<StoredHost, OpenFault>
+pub(crate) fn host(alloc: Global, row: &Row) -> Result<StoredHost, OpenFault>
     ensures read { IfOk result (λ h. columns_of (stored.Host h) ≡ columns_in row.now 10) }
     ensures bad { IfErr result (λ e. e ≡ OpenFault.BadRow → ¬ AreOf (kinds_of named.Host) row.now 0) }
 {
@@ -116,7 +116,7 @@ fn host(alloc: Global, row: &Row) -> Result<StoredHost, OpenFault>
     })
 }
 
-fn instance(alloc: Global, row: &Row) -> Result<StoredInstance, OpenFault>
+pub(crate) fn instance(alloc: Global, row: &Row) -> Result<StoredInstance, OpenFault>
     ensures read { IfOk result (λ i. columns_of (stored.Instance i) ≡ columns_in row.now 10) }
     ensures bad { IfErr result (λ e. e ≡ OpenFault.BadRow → ¬ AreOf (kinds_of named.Instance) row.now 0) }
 {

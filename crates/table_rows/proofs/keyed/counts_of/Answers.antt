@@ -1,23 +1,12 @@
-use Rattle.std.proofs.Common.{◌≡◌, true, slice_get, Some, None, option_map, sym, ap, ◌∙◌, rules}
-use Rattle.sqlite.specs.Held.{state}
-use Rattle.table_meaning.specs.Formats.{columns_in}
+use Rattle.std.proofs.Common.{true, [], ◌∷◌}
+use Rattle.sqlite_value.specs.declared.value.Value.TheVariants.{Int}
+use Rattle.table_meaning.specs.Rows.{whole}
 use Rattle.table_meaning.proofs.Reading.{counts_shown_at}
+use Rattle.sqlite.specs.Held.{state}
+use Rattle.table_rows.proofs.FirstRows.{first_is}
 use Rattle.table_rows.proofs.keyed.counts_of.Goals as goal
-
-pub returns-in-Some-clause-row : goal.returns-in-Some-clause-row
-returns-in-Some-clause-row g c clean known =
-    let rows = c.in_ok-rows.rows.items in
-    let it = c.in_ok-rows.ensures.shown clean in
-    let old = state g.S.Store (record c.args.conn.now { in_transaction = true }) in
-    let found = counts_shown_at old (state g.S.Store it.0) known c.args.host rows (rw c.whole.ensures at it.1) in
-    let first : slice_get rows 0 ≡ Some c.in-Some.row.now = search rules in
-    ap Some c.in_ok-counts-in-Some.ensures ∙ sym (ap (option_map (λ r. columns_in r 2)) first) ∙ found
 
 pub returns-clause-row : goal.returns-clause-row
 returns-clause-row g c clean known =
-    let rows = c.in_ok-rows.rows.items in
-    let it = c.in_ok-rows.ensures.shown clean in
     let old = state g.S.Store (record c.args.conn.now { in_transaction = true }) in
-    let found = counts_shown_at old (state g.S.Store it.0) known c.args.host rows (rw c.whole.ensures at it.1) in
-    let first : slice_get rows 0 ≡ None = search rules in
-    sym (ap (option_map (λ r. columns_in r 2)) first) ∙ found
+    first_is g.S.Store c.args.conn.now _ _ _ _ c.first_shown.result _ (λ after rows h. counts_shown_at c.args.host old (state g.S.Store after) known rows (rw c.whole.ensures at h)) (c.first_shown.ensures.first (λ counts. whole counts.held ∷ Int counts.credit ∷ []) 2 (λ row x told. told.1) clean)

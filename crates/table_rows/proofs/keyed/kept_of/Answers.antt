@@ -1,23 +1,12 @@
-use Rattle.std.proofs.Common.{◌≡◌, true, slice_get, Some, None, option_map, sym, ap, ◌∙◌, rules}
-use Rattle.sqlite.specs.Held.{state}
-use Rattle.table_meaning.specs.Formats.{columns_in}
+use Rattle.std.proofs.Common.{true}
+use Rattle.table_meaning.specs.declared.rows.StoredRow.TheVariants.{Kept}
+use Rattle.table_meaning.specs.Rows.{columns_of}
 use Rattle.table_meaning.proofs.Reading.{kept_shown_at}
+use Rattle.sqlite.specs.Held.{state}
+use Rattle.table_rows.proofs.FirstRows.{first_is}
 use Rattle.table_rows.proofs.keyed.kept_of.Goals as goal
-
-pub returns-in-Some-clause-row : goal.returns-in-Some-clause-row
-returns-in-Some-clause-row g c clean known =
-    let rows = c.in_ok-rows.rows.items in
-    let it = c.in_ok-rows.ensures.shown clean in
-    let old = state g.S.Store (record c.args.conn.now { in_transaction = true }) in
-    let found = kept_shown_at old (state g.S.Store it.0) known c.args.host rows (rw c.whole.ensures at it.1) in
-    let first : slice_get rows 0 ≡ Some c.in-Some.row.now = search rules in
-    ap Some c.in_ok-call-in-Some.ensures.read ∙ sym (ap (option_map (λ r. columns_in r 4)) first) ∙ found
 
 pub returns-clause-row : goal.returns-clause-row
 returns-clause-row g c clean known =
-    let rows = c.in_ok-rows.rows.items in
-    let it = c.in_ok-rows.ensures.shown clean in
     let old = state g.S.Store (record c.args.conn.now { in_transaction = true }) in
-    let found = kept_shown_at old (state g.S.Store it.0) known c.args.host rows (rw c.whole.ensures at it.1) in
-    let first : slice_get rows 0 ≡ None = search rules in
-    sym (ap (option_map (λ r. columns_in r 4)) first) ∙ found
+    first_is g.S.Store c.args.conn.now _ _ _ _ c.first_shown.result _ (λ after rows h. kept_shown_at c.args.host old (state g.S.Store after) known rows (rw c.whole.ensures at h)) (c.first_shown.ensures.first (λ k. columns_of (Kept k)) 4 (λ row x told. told.1.0) clean)

@@ -10,5 +10,5 @@ pub returns-clause-credits : goal.returns-clause-credits
 returns-clause-credits g c clean known =
     let it = c.in_ok-rows.ensures.shown clean in
     let old = state g.S.Store (record c.args.conn.now { in_transaction = true }) in
-    let listed = credits_shown old (state g.S.Store it.0) known c.args.account c.in_ok-rows.rows.items (rw c.whole.ensures at it.1) in
+    let listed = credits_shown c.args.account old (state g.S.Store it.0) known c.in_ok-rows.rows.items (rw c.whole.ensures at it.1) in
     IfOk-weaker c.integers.result (λ all. map Int all ≡ map (λ row. column row 0) c.as_slice.result.now) _ (λ all is. is ∙ ap (map (λ row. column row 0)) c.as_slice.ensures.value ∙ listed) c.integers.ensures

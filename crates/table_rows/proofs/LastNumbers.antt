@@ -1,0 +1,29 @@
+-- What each text that reads the greatest number of a table means.
+use Rattle.std.proofs.Common.{◌≡◌, ℕ, [], ◌∷◌, codes, Option, Some, None, option_map, unwrap_or, refl}
+use Rattle.sqlite_value.specs.Order.{Row, column}
+use Rattle.sqlite_tied.specs.Compute.{everything}
+use Rattle.sqlite.specs.Listing.{understood}
+use Rattle.table_meaning.specs.Rows.{shown, whole}
+use Rattle.table_meaning.proofs.LastRow.{IsLast}
+use Rattle.table_rows.specs.declared.names.NumberedTable.{NumberedTable}
+use Rattle.table_rows.specs.declared.names.NumberedTable.TheVariants.{Account, App, Version, Unit, Host}
+use Rattle.table_rows.specs.Numbered.{numbered_table, last_text}
+
+pub last_is_read : (t : NumberedTable) → IsLast (numbered_table t) (codes "id" ∷ []) (last_text t)
+unfolding understood everything
+last_is_read Account = (refl, (refl, refl), refl)
+last_is_read App = (refl, (refl, refl), refl)
+last_is_read Version = (refl, (refl, refl), refl)
+last_is_read Unit = (refl, (refl, refl), refl)
+last_is_read Host = (refl, (refl, refl), refl)
+
+pub number_first : (t : NumberedTable) (r : Row) → column (shown (numbered_table t) r) 0 ≡ column r 0
+number_first Account r = refl
+number_first App r = refl
+number_first Version r = refl
+number_first Unit r = refl
+number_first Host r = refl
+
+pub or_none : (found : Option ℕ) → whole (unwrap_or found 0) ≡ unwrap_or (option_map whole found) (whole 0)
+or_none None = refl
+or_none (Some n) = refl

@@ -1,0 +1,212 @@
+//! Instances by their places, of which a test takes some. Each look-up answers Unavailable where memory or the disk
+//! fails, and BadRow where a row that it shows has not the form of its table.
+
+ghost use Rattle.std.specs.Prelude.{◌≡◌, List, length, map, take, IfOk};
+ghost use Rattle.sched_book.specs.declared.instance.Place.{Place as BookPlace};
+ghost use Rattle.sqlite.specs.Held.{state};
+ghost use Rattle.sqlite.specs.State.{HasCleanDisk};
+ghost use Rattle.sqlite.specs.Values.{bound};
+ghost use Rattle.sqlite_value.specs.Value.{owned};
+ghost use Rattle.sqlite_value.specs.declared.value.Value.TheVariants.{Int as SqlInt};
+ghost use Rattle.table_meaning.specs.declared.rows.StoredRow.TheVariants as stored;
+ghost use Rattle.table_meaning.specs.Places.{place_row, AreAllPlaces, ShowsPlaces, places_where, instances_within, is_of_host, is_held_by, waits_from, is_sent_between, is_due};
+ghost use Rattle.table_meaning.specs.Rows.{columns_of};
+ghost use Rattle.table_meaning.specs.Formats.{columns_in};
+ghost use Rattle.table_meaning.specs.Reads.{Reads};
+ghost use Rattle.table_meaning.specs.Holding.{Contents, Hold};
+
+use crate::fields;
+use crate::opening::OpenFault;
+use crate::read::shown_by;
+use crate::typed::stored_row;
+use crate::values::whole;
+use sched_book::Place;
+use sqlite::types::ValueRef;
+use sqlite::{Alter, Connection, Row};
+use std::alloc::Global;
+use table_meaning::rows::{StoredInstance, StoredRow};
+use table_meaning::tables::TableName;
+use texts::Listed;
+
+/// A moment as a parameter, in seconds since 1970-01-01T00:00:00Z.
+fn moment(seconds: i64) -> ValueRef<'static>
+    ensures { owned result ≡ SqlInt seconds }
+{
+    ValueRef::Int(seconds)
+}
+
+/// The place in the first two columns of the row.
+fn place(alloc: Global, row: &Row) -> Result<Place, OpenFault>
+    ensures { IfOk result (λ place. place_row place ≡ columns_in row.now 2) }
+{
+    Ok(Place {
+        unit: fields::whole(alloc, row, 0)?,
+        number: fields::whole(alloc, row, 1)?,
+    })
+}
+
+/// The places in the first two columns of these rows.
+fn places(alloc: Global, rows: &[Row]) -> Result<Listed<Place>, OpenFault>
+    ensures { IfOk result (λ all. map place_row all ≡ map (λ row. columns_in row 2) rows.now) }
+{
+    let mut all = Listed::new(alloc);
+    for row in rows {
+        all.push(place(alloc, row)?)?;
+    }
+    Ok(all)
+}
+
+/// The places that a statement shows. The connection shows what it showed.
+fn places_shown<S: Alter>(
+    alloc: Global,
+    conn: &mut Connection<S>,
+    text: &str,
+    params: &[ValueRef<'_>],
+) -> Result<Listed<Place>, OpenFault>
+    ensures reads { Reads (state S.Store conn.old) (state S.Store conn.new) }
+    ensures shown { HasCleanDisk (state S.Store conn.new) → IfOk result (ShowsPlaces S.Store conn.old text.now (bound params.now)) }
+{
+    let rows = shown_by(conn, text, params)?;
+    places(alloc, rows.as_slice())
+}
+
+/// The row as an instance. BadRow where it has not the form of one.
+fn instance(alloc: Global, row: &Row) -> Result<StoredInstance, OpenFault>
+    ensures { IfOk result (λ instance. columns_of (stored.Instance instance) ≡ row.now) }
+{
+    match stored_row(alloc, TableName::Instance, row)? {
+        StoredRow::Instance(instance) => Ok(instance),
+        _ => Err(OpenFault::BadRow),
+    }
+}
+
+/// The rows as instances.
+fn instances(alloc: Global, rows: &[Row]) -> Result<Listed<StoredInstance>, OpenFault>
+    ensures { IfOk result (λ all. map (λ instance. columns_of (stored.Instance instance)) all ≡ rows.now) }
+{
+    let mut all = Listed::new(alloc);
+    for row in rows {
+        all.push(instance(alloc, row)?)?;
+    }
+    Ok(all)
+}
+
+/// The instances of the workunit at this place, by their numbers. The connection shows what it showed.
+pub fn instances_in<S: Alter>(
+    alloc: Global,
+    conn: &mut Connection<S>,
+    unit: u32,
+) -> Result<Listed<StoredInstance>, OpenFault>
+    ensures reads { Reads (state S.Store conn.old) (state S.Store conn.new) }
+    ensures rows { HasCleanDisk (state S.Store conn.new) → (contents : Contents) (places : List BookPlace) → Hold (state S.Store conn.old).now contents → AreAllPlaces contents places
+        → IfOk result (λ rows. map stored.Instance rows ≡ instances_within contents unit places) }
+{
+    let rows = shown_by(
+        conn,
+        "SELECT unit_id, num, host_id, sent, deadline, lapse, outcome, output, place, queued FROM instance WHERE unit_id > 0 AND num >= 0 AND unit_id = ?1 ORDER BY unit_id, num",
+        &[whole(unit)],
+    )?;
+    instances(alloc, rows.as_slice())
+}
+
+/// The places of the instances that the host of this number holds. The connection shows what it showed.
+pub fn places_held<S: Alter>(
+    alloc: Global,
+    conn: &mut Connection<S>,
+    host: u32,
+) -> Result<Listed<Place>, OpenFault>
+    ensures reads { Reads (state S.Store conn.old) (state S.Store conn.new) }
+    ensures held { HasCleanDisk (state S.Store conn.new) → (contents : Contents) (places : List BookPlace) → Hold (state S.Store conn.old).now contents → AreAllPlaces contents places
+        → IfOk result (λ held. held ≡ places_where contents (is_held_by host) places) }
+{
+    places_shown(
+        alloc,
+        conn,
+        "SELECT unit_id, num FROM instance WHERE unit_id > 0 AND num >= 0 AND host_id = ?1 AND lapse = 0 AND outcome IS NULL ORDER BY unit_id, num",
+        &[whole(host)],
+    )
+}
+
+/// The places of the instances that were given to the host of this number. The connection shows what it showed.
+pub fn places_owned<S: Alter>(
+    alloc: Global,
+    conn: &mut Connection<S>,
+    host: u32,
+) -> Result<Listed<Place>, OpenFault>
+    ensures reads { Reads (state S.Store conn.old) (state S.Store conn.new) }
+    ensures owned { HasCleanDisk (state S.Store conn.new) → (contents : Contents) (places : List BookPlace) → Hold (state S.Store conn.old).now contents → AreAllPlaces contents places
+        → IfOk result (λ owned. owned ≡ places_where contents (is_of_host host) places) }
+{
+    places_shown(
+        alloc,
+        conn,
+        "SELECT unit_id, num FROM instance WHERE unit_id > 0 AND num >= 0 AND host_id = ?1 ORDER BY unit_id, num",
+        &[whole(host)],
+    )
+}
+
+/// The places of the first 64 instances that wait to be given out, from this place on. The connection shows what
+/// it showed.
+pub fn queued_from<S: Alter>(
+    alloc: Global,
+    conn: &mut Connection<S>,
+    from: Place,
+) -> Result<Listed<Place>, OpenFault>
+    ensures reads { Reads (state S.Store conn.old) (state S.Store conn.new) }
+    ensures queued { HasCleanDisk (state S.Store conn.new) → (contents : Contents) (places : List BookPlace) → Hold (state S.Store conn.old).now contents → AreAllPlaces contents places
+        → IfOk result (λ queued. queued ≡ take 64 (places_where contents (waits_from from) places)) }
+{
+    places_shown(
+        alloc,
+        conn,
+        "SELECT unit_id, num FROM instance WHERE unit_id > 0 AND num >= 0 AND queued = 1 AND unit_id >= ?1 AND (unit_id > ?1 OR num >= ?2) ORDER BY unit_id, num LIMIT 64",
+        &[whole(from.unit), whole(from.number)],
+    )
+}
+
+/// How many instances were sent to the host of this number from one moment on and before another, in seconds since
+/// 1970-01-01T00:00:00Z. The connection shows what it showed.
+pub fn sent_between<S: Alter>(
+    alloc: Global,
+    conn: &mut Connection<S>,
+    host: u32,
+    from: i64,
+    until: i64,
+) -> Result<u32, OpenFault>
+    ensures reads { Reads (state S.Store conn.old) (state S.Store conn.new) }
+    ensures sent { HasCleanDisk (state S.Store conn.new) → (contents : Contents) (places : List BookPlace) → Hold (state S.Store conn.old).now contents → AreAllPlaces contents places
+        → IfOk result (λ count. count ≡ length (places_where contents (is_sent_between host from until) places)) }
+{
+    let sent = places_shown(
+        alloc,
+        conn,
+        "SELECT unit_id, num FROM instance WHERE unit_id > 0 AND num >= 0 AND host_id = ?1 AND sent >= ?2 AND sent < ?3 ORDER BY sent",
+        &[whole(host), moment(from), moment(until)],
+    )?;
+    match u32::try_from(sent.len()) {
+        Ok(count) => Ok(count),
+        Err(_) => Err(OpenFault::Unavailable),
+    }
+}
+
+/// The places of the instances that are held and whose deadline, from 1970 on, is before this moment, in seconds
+/// since 1970-01-01T00:00:00Z. The connection shows what it showed.
+pub fn places_due<S: Alter>(
+    alloc: Global,
+    conn: &mut Connection<S>,
+    before: i64,
+) -> Result<Listed<Place>, OpenFault>
+    ensures reads { Reads (state S.Store conn.old) (state S.Store conn.new) }
+    ensures due { HasCleanDisk (state S.Store conn.new) → (contents : Contents) (places : List BookPlace) → Hold (state S.Store conn.old).now contents → AreAllPlaces contents places
+        → IfOk result (λ due. due ≡ places_where contents (is_due before) places) }
+{
+    let due = places_shown(
+        alloc,
+        conn,
+        "SELECT unit_id, num FROM instance WHERE unit_id > 0 AND num >= 0 AND deadline >= 0 AND deadline < ?1 AND lapse = 0 AND outcome IS NULL ORDER BY deadline",
+        &[moment(before)],
+    )?;
+    let mut due = due.into_vec();
+    due.sort_unstable_by_key(|place| (place.unit, place.number));
+    Ok(Listed::of(due))
+}
