@@ -2,6 +2,9 @@
 use Rattle.std.proofs.Common.{◌≡◌, Ok, Err, ◌∙◌}
 use Rattle.std.specs.declared.result.Result.{Result}
 use Rattle.std.specs.Result.{IsErrAnd}
+use Rattle.table_meaning.specs.declared.rows.StoredAccount.{StoredAccount}
+use Rattle.table_meaning.specs.declared.rows.StoredHost.{StoredHost}
+use Rattle.table_meaning.specs.declared.rows.StoredInstance.{StoredInstance}
 use Rattle.table_meaning.specs.declared.rows.StoredUnit.{StoredUnit}
 use Rattle.table_meaning.specs.declared.rows.StoredRow.TheVariants as stored
 use Rattle.table_decoding.specs.declared.fault.RowFault.{RowFault}
@@ -21,3 +24,12 @@ same_given x y is = cc
 
 pub same_unit_row : (x y : StoredUnit) → stored.Unit x ≡ stored.Unit y → x ≡ y
 same_unit_row x y is = cc
+
+pub same_account_row : (x y : StoredAccount) → stored.Account x ≡ stored.Account y → x ≡ y
+same_account_row x y is = cc
+
+pub same_host_row : (x y : StoredHost) → stored.Host x ≡ stored.Host y → x ≡ y
+same_host_row x y is = cc
+
+pub same_instance_row : (x y : StoredInstance) → stored.Instance x ≡ stored.Instance y → x ≡ y
+same_instance_row x y is = cc

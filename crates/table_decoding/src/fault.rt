@@ -1,5 +1,6 @@
 //! Why rows are not those of a world.
 
+use sched_book::Unavailable;
 use std::alloc::AllocError;
 
 /// Why rows are not those of a world.
@@ -15,8 +16,10 @@ pub enum DecodeFault {
 
 /// Why rows are not those of a world, where one tells the schema.
 #[derive(Clone, Copy)]
-pub(crate) enum RowFault {
+pub enum RowFault {
+    /// The row has not the form of its table, or a value out of its range.
     BadRow,
+    /// Memory is wanting.
     Unavailable,
 }
 
@@ -28,6 +31,12 @@ impl From<AllocError> for RowFault {
 
     fn from(_: AllocError) -> RowFault {
         RowFault::Unavailable
+    }
+}
+
+impl From<RowFault> for Unavailable {
+    fn from(_: RowFault) -> Unavailable {
+        Unavailable
     }
 }
 

@@ -1,6 +1,6 @@
 //! The instances of a workunit, from their rows.
 
-ghost use Rattle.std.specs.Prelude.{◌≡◌, ◌≤◌, ℕ, pos, Bool, Option, if◌then◌else◌, length, option_map, option_and_then, All, Some, Ok, IfOk, OnOk, IfSome};
+ghost use Rattle.std.specs.Prelude.{◌≡◌, ◌≤◌, ◌==◌, ℕ, pos, Bool, Option, if◌then◌else◌, length, option_map, option_and_then, All, Some, Ok, IfOk, OnOk, IfSome};
 ghost use Rattle.std.specs.Option.{option_copied};
 ghost use Rattle.sched_book.specs.Limits.{last_moment, most_instances, IsInstanceInLimits};
 ghost use Rattle.sched_book.specs.Places.{unit_at};
@@ -10,9 +10,15 @@ ghost use Rattle.sched_book.specs.declared.instance.Outcome.{Outcome};
 ghost use Rattle.sched_book.specs.declared.instance.Owner.{Owner};
 ghost use Rattle.sched_book.specs.declared.instance.UnitBook.{UnitBook};
 ghost use Rattle.sched_book.specs.declared.world.World.{World};
+ghost use Rattle.sqlite.specs.Values.{or_null};
+ghost use Rattle.sqlite_value.specs.declared.value.Value.TheVariants.{Int, Text};
+ghost use Rattle.sqlite_value.specs.Order.{bytes};
+ghost use Rattle.table_meaning.specs.Kept.{number_of};
+ghost use Rattle.table_meaning.specs.Rows.{columns_of};
 ghost use Rattle.table_meaning.specs.Worlds.{lapse_code, instance_row};
 ghost use Rattle.table_meaning.specs.declared.rows.StoredRow.TheVariants as stored;
 ghost use Rattle.table_worlds.specs.Keys.{row_in};
+ghost use Rattle.table_worlds.specs.ReadBack.{owner_in, lapse_in, report_in, job_in};
 ghost use Rattle.table_worlds.specs.RowsOf.{HaveSame};
 ghost use Rattle.table_worlds.specs.declared.keys.WorldKey.TheVariants as key;
 ghost use Rattle.table_decoding.specs.Decoding.{Gives};
@@ -32,14 +38,16 @@ pub(crate) type Indexes = BTreeMap<(u32, u32), usize>;
 
 /// The moment that a table writes.
 fn moment(written: i64) -> Result<Moment, RowFault>
-    ensures { (n : ℕ) → n ≤ last_moment → written ≡ pos n → result ≡ Ok n }
+    ensures given { (n : ℕ) → n ≤ last_moment → written ≡ pos n → result ≡ Ok n }
+    ensures read { IfOk result (λ moment. written ≡ pos moment) }
 {
     Moment::new(amount(written)?).ok_or(RowFault::BadRow)
 }
 
 /// To which host the instance of a row was given.
 fn owner(row: &StoredInstance) -> Result<Option<Owner>, RowFault>
-    ensures { (o : Option Owner) → IfSome o (λ (o : Owner). o.sent ≤ last_moment) → row.now.host_id ≡ option_map (λ (o : Owner). o.host) o
+    ensures read { IfOk result (λ o. o ≡ owner_in row.now.host_id (number_of (or_null Int row.now.sent)) (number_of (or_null Int row.now.deadline))) }
+    ensures given { (o : Option Owner) → IfSome o (λ (o : Owner). o.sent ≤ last_moment) → row.now.host_id ≡ option_map (λ (o : Owner). o.host) o
         → row.now.sent ≡ option_map (λ (o : Owner). pos o.sent) o → row.now.deadline ≡ option_map (λ (o : Owner). pos o.deadline) o → result ≡ Ok o }
 {
     match (row.host_id, row.sent, row.deadline) {
@@ -55,7 +63,8 @@ fn owner(row: &StoredInstance) -> Result<Option<Owner>, RowFault>
 
 /// The lapse of a code.
 fn lapse(code: u32) -> Result<Option<Lapse>, RowFault>
-    ensures { (l : Option Lapse) → code ≡ lapse_code l → result ≡ Ok l }
+    ensures given { (l : Option Lapse) → code ≡ lapse_code l → result ≡ Ok l }
+    ensures read { IfOk result (λ l. l ≡ lapse_in code) }
 {
     match code {
         0 => Ok(None),
@@ -67,7 +76,8 @@ fn lapse(code: u32) -> Result<Option<Lapse>, RowFault>
 
 /// Whether an outcome of this code is a success.
 fn is_success(code: u32) -> Result<bool, RowFault>
-    ensures { (success : Bool) → code ≡ (if success then 1 else 3) → result ≡ Ok success }
+    ensures given { (success : Bool) → code ≡ (if success then 1 else 3) → result ≡ Ok success }
+    ensures read { IfOk result (λ success. success ≡ (code == 1)) }
 {
     match code {
         1 => Ok(true),
@@ -78,7 +88,8 @@ fn is_success(code: u32) -> Result<bool, RowFault>
 
 /// What was reported of the instance of a row.
 fn report(row: &StoredInstance) -> Result<Option<Outcome>, RowFault>
-    ensures { (o : Option Outcome) → row.now.outcome ≡ option_map (λ (r : Outcome). if r.success then 1 else 3) o
+    ensures read { IfOk result (λ o. o ≡ report_in row.now.outcome (bytes (or_null Text row.now.output)) row.now.place) }
+    ensures given { (o : Option Outcome) → row.now.outcome ≡ option_map (λ (r : Outcome). if r.success then 1 else 3) o
         → row.now.output ≡ option_map (λ (r : Outcome). r.output) o → row.now.place ≡ option_and_then (λ (r : Outcome). r.place) o → Gives result o }
 {
     match (row.outcome, &row.output) {
@@ -93,18 +104,26 @@ fn report(row: &StoredInstance) -> Result<Option<Outcome>, RowFault>
 }
 
 /// The instance of a row.
-fn instance(row: &StoredRow) -> Result<Instance, RowFault>
-    ensures { (w : World) (b : UnitBook) (unit number : ℕ) (x : Instance) → IsInstanceInLimits x
-        → row.now ≡ stored.Instance (instance_row w b unit number x) → Gives result x }
+pub fn instance(row: &StoredInstance) -> Result<Instance, RowFault>
+    ensures given { (w : World) (b : UnitBook) (unit number : ℕ) (x : Instance) → IsInstanceInLimits x → row.now ≡ instance_row w b unit number x → Gives result x }
+    ensures read { IfOk result (λ x. x ≡ job_in (columns_of (stored.Instance row.now))) }
 {
-    let StoredRow::Instance(row) = row else {
-        return Err(RowFault::BadRow);
-    };
     Ok(Instance {
         owner: owner(row)?,
         lapse: lapse(row.lapse)?,
         report: report(row)?,
     })
+}
+
+/// The instance of a row of some table.
+fn told_instance(row: &StoredRow) -> Result<Instance, RowFault>
+    ensures { (w : World) (b : UnitBook) (unit number : ℕ) (x : Instance) → IsInstanceInLimits x
+        → row.now ≡ stored.Instance (instance_row w b unit number x) → Gives result x }
+{
+    match row {
+        StoredRow::Instance(row) => instance(row),
+        _ => Err(RowFault::BadRow),
+    }
 }
 
 /// Keeps the index of an instance's row by its place. A row of another table is passed over.
@@ -155,7 +174,7 @@ pub(crate) fn instances_of(
     for number in 0..=MOST_INSTANCES as u32 {
         match row_at(rows, indexes, unit, number) {
             None => return Ok(instances),
-            Some(row) => instances.push(instance(row)?)?,
+            Some(row) => instances.push(told_instance(row)?)?,
         }
     }
     Err(RowFault::BadRow)

@@ -1,7 +1,9 @@
 //! The platforms of a host, as one text.
 
 ghost use Rattle.std.specs.Prelude.{◌≡◌, ℕ, List, IfOk};
+ghost use Rattle.std.specs.List.{slice_split};
 ghost use Rattle.table_meaning.specs.Worlds.{joined};
+ghost use Rattle.table_worlds.specs.ReadBack.{is_comma};
 ghost use Rattle.table_decoding.specs.Decoding.{ArePlatforms};
 
 use std::alloc::Global;
@@ -9,7 +11,8 @@ use texts::{Listed, Memory, Text};
 
 /// The platforms of a text, in which commas stand between them.
 pub(crate) fn platforms(alloc: Global, text: &str) -> Result<Listed<Text>, Memory>
-    ensures { (words : List (List ℕ)) → ArePlatforms words → text.now ≡ joined words → IfOk result (λ platforms. platforms ≡ words) }
+    ensures given { (words : List (List ℕ)) → ArePlatforms words → text.now ≡ joined words → IfOk result (λ platforms. platforms ≡ words) }
+    ensures read { IfOk result (λ platforms. platforms ≡ slice_split is_comma text.now) }
 {
     let mut platforms = Listed::new(alloc);
     for word in text.split(',') {

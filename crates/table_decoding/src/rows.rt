@@ -1,6 +1,6 @@
 //! Accounts, applications, versions and hosts, each from its row.
 
-ghost use Rattle.std.specs.Prelude.{◌≡◌, ℕ, pos, List, All, IsTrue, Ok};
+ghost use Rattle.std.specs.Prelude.{◌≡◌, ℕ, pos, List, All, IsTrue, Ok, IfOk};
 ghost use Rattle.sched_book.specs.Given.{map_from};
 ghost use Rattle.sched_book.specs.Imports.{has_app};
 ghost use Rattle.sched_book.specs.Sound.{IsSoundVersion};
@@ -10,7 +10,10 @@ ghost use Rattle.sched_book.specs.declared.rows.App.{App};
 ghost use Rattle.sched_book.specs.declared.rows.HostRow.{HostRow};
 ghost use Rattle.sched_book.specs.declared.rows.Version.{Version};
 ghost use Rattle.sched_book.specs.declared.world.World.{World};
-ghost use Rattle.table_meaning.specs.Worlds.{agreement_limit, app_place};
+ghost use Rattle.table_meaning.specs.Rows.{columns_of};
+ghost use Rattle.table_meaning.specs.Worlds.{agreement_limit, app_place, account_row, host_row};
+ghost use Rattle.table_meaning.specs.declared.rows.StoredRow.TheVariants as stored;
+ghost use Rattle.table_worlds.specs.ReadBack.{account_in, app_name_at, host_in};
 ghost use Rattle.table_decoding.specs.Decoding.{Gives, ArePlatforms, of_account, of_app, of_version, of_host};
 
 use crate::fault::RowFault;
@@ -18,34 +21,43 @@ use crate::listed_rows::each;
 use crate::platforms::platforms;
 use sched_book::{Account, Agreement, App, HostRow, Version, nth};
 use std::alloc::Global;
-use table_meaning::rows::StoredRow;
+use table_meaning::rows::{StoredAccount, StoredHost, StoredRow};
 use texts::{Listed, Text};
 
 /// The number that a table writes, which is negative in no world's row.
 pub(crate) fn amount(written: i64) -> Result<u64, RowFault>
-    ensures { (n : ℕ) → written ≡ pos n → result ≡ Ok n }
+    ensures given { (n : ℕ) → written ≡ pos n → result ≡ Ok n }
+    ensures read { IfOk result (λ n. written ≡ pos n) }
 {
     u64::try_from(written).map_err(|_| RowFault::BadRow)
 }
 
 /// The account of a row.
-fn account(row: &StoredRow) -> Result<Account, RowFault>
-    ensures { (id : ℕ) (a : Account) → row.now ≡ of_account id a → Gives result a }
+pub fn account(row: &StoredAccount) -> Result<Account, RowFault>
+    ensures given { (id : ℕ) (a : Account) → row.now ≡ account_row id a → Gives result a }
+    ensures read { IfOk result (λ a. a ≡ account_in (columns_of (stored.Account row.now))) }
 {
-    let StoredRow::Account(row) = row else {
-        return Err(RowFault::BadRow);
-    };
     Ok(Account {
         authenticator: row.auth.clone()?,
         name: row.name.clone()?,
     })
 }
 
+/// The account of a row of some table.
+fn told_account(row: &StoredRow) -> Result<Account, RowFault>
+    ensures { (id : ℕ) (a : Account) → row.now ≡ of_account id a → Gives result a }
+{
+    match row {
+        StoredRow::Account(row) => account(row),
+        _ => Err(RowFault::BadRow),
+    }
+}
+
 /// The accounts of these rows.
 pub(crate) fn accounts(alloc: Global, rows: &[StoredRow]) -> Result<Listed<Account>, RowFault>
     ensures { (xs : List Account) → rows.now ≡ map_from 1 of_account xs → Gives result xs }
 {
-    each(alloc, rows, account)
+    each(alloc, rows, told_account)
 }
 
 /// How outputs are compared that may be so far apart, or have to be equal where it is none.
@@ -80,7 +92,8 @@ pub(crate) fn apps(alloc: Global, rows: &[StoredRow]) -> Result<Listed<App>, Row
 
 /// The name of the application at a place.
 pub(crate) fn app_name(apps: &[App], place: u32) -> Result<Text, RowFault>
-    ensures { (w : World) (name : List ℕ) → apps.now ≡ w.apps → IsTrue (has_app w.apps name) → place ≡ app_place w name → Gives result name }
+    ensures read { IfOk result (λ name. name ≡ app_name_at apps.now place) }
+    ensures given { (w : World) (name : List ℕ) → apps.now ≡ w.apps → IsTrue (has_app w.apps name) → place ≡ app_place w name → Gives result name }
 {
     match nth(apps, place) {
         None => Err(RowFault::BadRow),
@@ -114,12 +127,10 @@ pub(crate) fn versions(
 }
 
 /// The host of a row.
-fn host(alloc: Global, row: &StoredRow) -> Result<HostRow, RowFault>
-    ensures { (held credit : ℕ → ℕ) (id : ℕ) (h : HostRow) → ArePlatforms h.platforms → row.now ≡ of_host held credit id h → Gives result h }
+pub fn host(alloc: Global, row: &StoredHost) -> Result<HostRow, RowFault>
+    ensures given { (held credit id : ℕ) (h : HostRow) → ArePlatforms h.platforms → row.now ≡ host_row held credit id h → Gives result h }
+    ensures read { IfOk result (λ h. h ≡ host_in (columns_of (stored.Host row.now))) }
 {
-    let StoredRow::Host(row) = row else {
-        return Err(RowFault::BadRow);
-    };
     Ok(HostRow {
         account: row.account_id,
         cpid: row.cpid.clone()?,
@@ -131,9 +142,19 @@ fn host(alloc: Global, row: &StoredRow) -> Result<HostRow, RowFault>
     })
 }
 
+/// The host of a row of some table.
+fn told_host(alloc: Global, row: &StoredRow) -> Result<HostRow, RowFault>
+    ensures { (held credit : ℕ → ℕ) (id : ℕ) (h : HostRow) → ArePlatforms h.platforms → row.now ≡ of_host held credit id h → Gives result h }
+{
+    match row {
+        StoredRow::Host(row) => host(alloc, row),
+        _ => Err(RowFault::BadRow),
+    }
+}
+
 /// The hosts of these rows.
 pub(crate) fn hosts(alloc: Global, rows: &[StoredRow]) -> Result<Listed<HostRow>, RowFault>
     ensures { (held credit : ℕ → ℕ) (xs : List HostRow) → All (λ (h : HostRow). ArePlatforms h.platforms) xs → rows.now ≡ map_from 1 (of_host held credit) xs → Gives result xs }
 {
-    each(alloc, rows, |row| host(alloc, row))
+    each(alloc, rows, |row| told_host(alloc, row))
 }

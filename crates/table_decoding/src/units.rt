@@ -1,13 +1,16 @@
 //! The workunits with their instances, from their rows.
 
-ghost use Rattle.std.specs.Prelude.{◌≡◌, ℕ, length, All, IsTrue, Some};
+ghost use Rattle.std.specs.Prelude.{◌≡◌, ℕ, length, All, IsTrue, Some, IfOk};
 ghost use Rattle.sched_book.specs.Given.{map_from};
 ghost use Rattle.sched_book.specs.Imports.{has_app};
 ghost use Rattle.sched_book.specs.Places.{unit_at};
 ghost use Rattle.sched_book.specs.Sound.{IsSoundUnit};
 ghost use Rattle.sched_book.specs.declared.instance.UnitBook.{UnitBook};
 ghost use Rattle.sched_book.specs.declared.world.World.{World};
+ghost use Rattle.table_meaning.specs.Rows.{columns_of};
 ghost use Rattle.table_meaning.specs.Worlds.{unit_row};
+ghost use Rattle.table_meaning.specs.declared.rows.StoredRow.TheVariants as stored;
+ghost use Rattle.table_worlds.specs.ReadBack.{unit_in};
 ghost use Rattle.table_worlds.specs.RowsOf.{HaveSame};
 ghost use Rattle.table_decoding.specs.Decoding.{Gives, of_unit};
 ghost use Rattle.table_decoding.specs.Placed.{AreIndexed, instance_rows};
@@ -22,8 +25,9 @@ use table_meaning::rows::{StoredRow, StoredUnit};
 use texts::Listed;
 
 /// The workunit of a row, beside the applications.
-fn workunit(apps: &[App], row: &StoredUnit) -> Result<Workunit, RowFault>
-    ensures { (w : World) (id : ℕ) (b : UnitBook) → apps.now ≡ w.apps → IsTrue (has_app w.apps b.unit.app) → row.now ≡ unit_row w id b → Gives result b.unit }
+pub fn workunit(apps: &[App], row: &StoredUnit) -> Result<Workunit, RowFault>
+    ensures given { (w : World) (id : ℕ) (b : UnitBook) → apps.now ≡ w.apps → IsTrue (has_app w.apps b.unit.app) → row.now ≡ unit_row w id b → Gives result b.unit }
+    ensures read { IfOk result (λ unit. unit ≡ unit_in apps.now (columns_of (stored.Unit row.now))) }
 {
     Ok(Workunit {
         min_quorum: row.min_quorum,

@@ -18,7 +18,7 @@ use Rattle.table_worlds.specs.declared.keys.NumberedTable.{NumberedTable}
 use Rattle.table_worlds.specs.declared.keys.NumberedTable.TheVariants as table
 use Rattle.table_worlds.specs.declared.keys.WorldKey.{WorldKey}
 use Rattle.table_worlds.specs.declared.keys.WorldKey.TheVariants.{Account, App, Version, Unit, Host, Instance}
-use Rattle.table_worlds.specs.Keys.{row_key, row_in, keyed, numbered, keys_in}
+use Rattle.table_worlds.specs.Keys.{row_key, row_in, keyed, numbered}
 
 -- ---- members of lists put together
 
@@ -100,51 +100,6 @@ instance_listed w (suc i) number = elim (among 1 i number w.units) [
   | inl none ↦ inl (no_instance _ number (unit_at w (suc i)) (ap (option_and_then (λ (b : UnitBook). slice_get b.instances number)) (nth-suc w.units i) ∙ none))
   | inr has ↦ inr (subst (λ u. Has (places w) (place u number)) (let same : i + 1 ≡ suc i = omega arith in same) has)
 ]
-
-module _ (w : World) where
-  abbrev accounts : List WorldKey
-  accounts = numbered table.Account (length w.accounts)
-
-  abbrev apps : List WorldKey
-  apps = numbered table.App (length w.apps)
-
-  abbrev versions : List WorldKey
-  versions = numbered table.Version (length w.versions)
-
-  abbrev units : List WorldKey
-  units = numbered table.Unit (length w.units)
-
-  abbrev hosts : List WorldKey
-  hosts = numbered table.Host (length w.hosts)
-
-  abbrev jobs : List WorldKey
-  jobs = map Instance (places w)
-
-  pub key_listed : (key : WorldKey) → (row_in w key ≡ None) ⊎ Has (keys_in w) key
-  key_listed (Account id) = elim (by_number table.Account w.accounts id) [
-    | inl none ↦ inl (no_row _ _ none)
-    | inr has ↦ inr (has_first _ jobs _ (has_first _ hosts _ (has_first _ units _ (has_first _ versions _ (has_first accounts apps _ has)))))
-  ]
-  key_listed (App id) = elim (by_number table.App w.apps id) [
-    | inl none ↦ inl (no_row _ _ none)
-    | inr has ↦ inr (has_first _ jobs _ (has_first _ hosts _ (has_first _ units _ (has_first _ versions _ (has_later accounts apps _ has)))))
-  ]
-  key_listed (Version id) = elim (by_number table.Version w.versions id) [
-    | inl none ↦ inl (no_row _ _ none)
-    | inr has ↦ inr (has_first _ jobs _ (has_first _ hosts _ (has_first _ units _ (has_later _ versions _ has))))
-  ]
-  key_listed (Unit id) = elim (by_number table.Unit w.units id) [
-    | inl none ↦ inl (no_row _ _ none)
-    | inr has ↦ inr (has_first _ jobs _ (has_first _ hosts _ (has_later _ units _ has)))
-  ]
-  key_listed (Host id) = elim (by_number table.Host w.hosts id) [
-    | inl none ↦ inl (no_row _ _ none)
-    | inr has ↦ inr (has_first _ jobs _ (has_later _ hosts _ has))
-  ]
-  key_listed (Instance p) = elim (instance_listed w p.unit p.number) [
-    | inl none ↦ inl none
-    | inr has ↦ inr (has_later _ jobs _ (has_mapped Instance (places w) p has))
-  ]
 
 -- ---- the row at a key has that key
 

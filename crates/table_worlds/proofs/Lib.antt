@@ -1,7 +1,6 @@
 pub mod AppsNamed
 pub mod ByNumber
 pub mod ByPlace
-pub mod ChangesFound
 pub mod HostTotals
 pub mod InstanceRows
 pub mod JoinedWords

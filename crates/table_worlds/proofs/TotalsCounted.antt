@@ -37,16 +37,13 @@ one_more x o held credit ts is counts =
     ∙ map_from-same 1 _ _ (λ n t. ap (λ (p : Option Owner). cond (option_any (λ m. eqb m n) (option_map (λ (w : Owner). w.host) p)) (more t held credit) t) (sym is)
     ∙ ap (λ m. cond (is_owned_by n x) (more t m credit) t) counts) ts
 
--- what is done, then what is left, is still all, with one instance more
-pub instance_more : (valid : Instance → Bool) (credit earned : ℕ) (x : Instance) (xs : List Instance) (before after : List Total)
-    → earned ≡ cond (valid x) credit 0 → after ≡ map_from 1 (with_instance x earned) before
-    → map_from 1 (with_instances valid credit xs) after ≡ map_from 1 (with_instances valid credit (x ∷ xs)) before
-instance_more valid credit earned x xs before after earns made =
-    ap (map_from 1 (with_instances valid credit xs)) made
-    ∙ map_from-then 1 _ _ before
-    ∙ map_from-same 1 _ _ (λ n t. cases (is_owned_by n x) (is_held x) (valid x) t (count_by (is_held_by n) xs) (count_by (λ y. is_owned_by n y && valid y) xs) earned earns
+-- an instance, and then others, are all of them
+pub instance_first : (valid : Instance → Bool) (credit earned : ℕ) (x : Instance) (xs : List Instance) (n : ℕ) (t : Total) → earned ≡ cond (valid x) credit 0
+    → with_instances valid credit xs n (with_instance x earned n t) ≡ with_instances valid credit (x ∷ xs) n t
+instance_first valid credit earned x xs n t earns =
+    cases (is_owned_by n x) (is_held x) (valid x) t (count_by (is_held_by n) xs) (count_by (λ y. is_owned_by n y && valid y) xs) earned earns
     ∙ same_total _ _ _ _ (ap (λ m. t.held + m) (sym (sum_by-cons (λ y. cond (is_held_by n y) 1 0) x xs)))
-    (ap (λ m. t.credit + credit * m) (sym (sum_by-cons (λ y. cond (is_owned_by n y && valid y) 1 0) x xs)))) before
+    (ap (λ m. t.credit + credit * m) (sym (sum_by-cons (λ y. cond (is_owned_by n y && valid y) 1 0) x xs)))
   where
     cases : (o h v : Bool) (t : Total) (a b c : ℕ) → c ≡ cond v credit 0
         → more (cond o (more t (cond h 1 0) c) t) a (credit * b) ≡ more t (cond (o && h) 1 0 + a) (credit * (cond (o && v) 1 0 + b))
@@ -59,6 +56,15 @@ instance_more valid credit earned x xs before after earns made =
         ∙ (let all : credit * (1 + b) ≡ credit * 1 + credit * b = mul-add credit 1 b in
         let once : credit * 1 ≡ credit = omega arith in omega (arith, all, once)))
 
+-- what is done, then what is left, is still all, with one instance more
+pub instance_more : (valid : Instance → Bool) (credit earned : ℕ) (x : Instance) (xs : List Instance) (before after : List Total)
+    → earned ≡ cond (valid x) credit 0 → after ≡ map_from 1 (with_instance x earned) before
+    → map_from 1 (with_instances valid credit xs) after ≡ map_from 1 (with_instances valid credit (x ∷ xs)) before
+instance_more valid credit earned x xs before after earns made =
+    ap (map_from 1 (with_instances valid credit xs)) made
+    ∙ map_from-then 1 _ _ before
+    ∙ map_from-same 1 _ _ (λ n t. instance_first valid credit earned x xs n t earns) before
+
 -- one workunit more
 pub unit_more : (apps : List App) (b : UnitBook) (bs : List UnitBook) (before after : List Total) → after ≡ map_from 1 (with_unit apps b) before
     → map_from 1 (with_units apps bs) after ≡ map_from 1 (with_units apps (b ∷ bs)) before
@@ -70,12 +76,14 @@ unit_more apps b bs before after made =
     same_total _ _ _ _ (omega (arith, held)) (omega (arith, credit))) before
 
 -- none is left
-nothing_more : (t : Total) → more t 0 0 ≡ t
+pub nothing_more : (t : Total) → more t 0 0 ≡ t
 nothing_more t = same_total (t.held + 0) t.held (t.credit + 0) t.credit (omega arith) (omega arith)
 
+pub no_instance_first : (valid : Instance → Bool) (credit n : ℕ) (t : Total) → with_instances valid credit [] n t ≡ t
+no_instance_first valid credit n t = ap (more t 0) (let none : credit * 0 ≡ 0 = omega arith in none) ∙ nothing_more t
+
 pub no_instance_left : (valid : Instance → Bool) (credit : ℕ) (ts : List Total) → map_from 1 (with_instances valid credit []) ts ≡ ts
-no_instance_left valid credit ts =
-    map_from-none 1 _ (λ n t. ap (more t 0) (let none : credit * 0 ≡ 0 = omega arith in none) ∙ nothing_more t) ts
+no_instance_left valid credit ts = map_from-none 1 _ (no_instance_first valid credit) ts
 
 pub no_unit_left : (apps : List App) (ts : List Total) → map_from 1 (with_units apps []) ts ≡ ts
 no_unit_left apps ts = map_from-none 1 _ (λ n t. nothing_more t) ts
@@ -90,7 +98,7 @@ held-in p unit number (x ∷ xs) = cases (p x) _ (held-in p unit (number + 1) xs
     cases true ps same = omega (arith, same)
     cases false ps same = omega (arith, same)
 
-held-among : (p : Instance → Bool) (unit : ℕ) (bs : List UnitBook) → length (places_among unit (λ b x. p x) bs) ≡ sum_by (λ (b : UnitBook). count_by p b.instances) bs
+pub held-among : (p : Instance → Bool) (unit : ℕ) (bs : List UnitBook) → length (places_among unit (λ b x. p x) bs) ≡ sum_by (λ (b : UnitBook). count_by p b.instances) bs
 held-among p unit [] = refl
 held-among p unit (b ∷ bs) =
     length-append (places_in unit 0 p b.instances) (places_among (unit + 1) (λ b x. p x) bs)

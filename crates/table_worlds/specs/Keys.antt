@@ -1,7 +1,6 @@
 -- The keys of the rows that stand for a world, and the row at each. (The settings never change, and are not among them.)
-use Rattle.std.specs.Prelude.{ℕ, List, ◌++◌, map, length, Option, None}
+use Rattle.std.specs.Prelude.{ℕ, List, map, Option, None}
 use Rattle.std.specs.List.{range_with_len}
-use Rattle.sched_book.specs.Places.{places}
 use Rattle.sched_book.specs.declared.world.World.{World}
 use Rattle.table_meaning.specs.declared.rows.StoredRow.{StoredRow}
 use Rattle.table_meaning.specs.Rows.{RowKey, account_key, app_key, version_key, unit_key, host_key, instance_key}
@@ -34,13 +33,3 @@ keyed table.Host id = Host id
 -- the keys of so many rows of a table, from number 1 on
 abbrev pub numbered : NumberedTable → ℕ → List WorldKey
 numbered t count = map (keyed t) (range_with_len 1 count)
-
--- the keys of all rows, those that others refer to first
-abbrev pub keys_in : World → List WorldKey
-keys_in w =
-    numbered table.Account (length w.accounts)
-    ++ numbered table.App (length w.apps)
-    ++ numbered table.Version (length w.versions)
-    ++ numbered table.Unit (length w.units)
-    ++ numbered table.Host (length w.hosts)
-    ++ map Instance (places w)

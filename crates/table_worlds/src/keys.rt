@@ -1,12 +1,9 @@
 //! The keys of a world's rows.
 
-ghost use Rattle.std.specs.Prelude.{◌≡◌, ◌+◌, true, ◌++◌, map, length, IfOk, OnOk};
-ghost use Rattle.sched_book.specs.Places.{places_in, places_among, places};
-ghost use Rattle.table_worlds.specs.Keys.{keyed, numbered, keys_in};
-ghost use Rattle.table_worlds.specs.declared.keys.WorldKey.TheVariants as key;
+ghost use Rattle.std.specs.Prelude.{◌≡◌, ◌+◌, ◌++◌, IfOk, OnOk};
+ghost use Rattle.table_worlds.specs.Keys.{keyed, numbered};
 
-use sched_book::{Place, Unavailable, UnitBook, World};
-use std::alloc::Global;
+use sched_book::{Place, Unavailable};
 use texts::Listed;
 
 /// What names a row of a world: a place or a number from 1 on, or the place of an instance.
@@ -67,45 +64,4 @@ pub(crate) fn push_numbered(
         keys.push(table.key(number_of(index)?))?;
     }
     Ok(())
-}
-
-/// Puts the keys of a workunit's instances behind others.
-fn push_instances(
-    keys: &mut Listed<WorldKey>,
-    unit: u32,
-    book: &UnitBook,
-) -> Result<(), Unavailable>
-    ensures { OnOk result (keys.new ≡ keys.old ++ map key.Instance (places_in unit 0 (λ x. true) book.now.instances)) }
-{
-    for (index, _) in book.instances.as_slice().iter().enumerate() {
-        match u32::try_from(index) {
-            Ok(number) => keys.push(WorldKey::Instance(Place { unit, number }))?,
-            Err(_) => return Err(Unavailable),
-        }
-    }
-    Ok(())
-}
-
-/// Puts the keys of all instances behind others, in the order of their places.
-fn push_places(keys: &mut Listed<WorldKey>, books: &[UnitBook]) -> Result<(), Unavailable>
-    ensures { OnOk result (keys.new ≡ keys.old ++ map key.Instance (places_among 1 (λ b x. true) books.now)) }
-{
-    for (index, book) in books.iter().enumerate() {
-        push_instances(keys, number_of(index)?, book)?;
-    }
-    Ok(())
-}
-
-/// The keys of all rows of a world, those that others refer to first.
-pub fn keys_of(alloc: Global, world: &World) -> Result<Listed<WorldKey>, Unavailable>
-    ensures { IfOk result (λ keys. keys ≡ keys_in world.now) }
-{
-    let mut keys = Listed::new(alloc);
-    push_numbered(&mut keys, NumberedTable::Account, world.accounts.len())?;
-    push_numbered(&mut keys, NumberedTable::App, world.apps.len())?;
-    push_numbered(&mut keys, NumberedTable::Version, world.versions.len())?;
-    push_numbered(&mut keys, NumberedTable::Unit, world.units.len())?;
-    push_numbered(&mut keys, NumberedTable::Host, world.hosts.len())?;
-    push_places(&mut keys, world.units.as_slice())?;
-    Ok(keys)
 }

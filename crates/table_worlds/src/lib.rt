@@ -1,7 +1,6 @@
 //! Worlds as rows of the stored tables, and rows as worlds. It knows no SQL.
 #![tactic(auto)]
 
-mod changes;
 pub mod keys;
 pub mod laws;
 pub mod matching;
@@ -10,9 +9,8 @@ mod sameness;
 mod settings;
 pub mod totals;
 
-pub use changes::changed_rows;
-pub use keys::{WorldKey, keys_of};
+pub use keys::WorldKey;
 pub use matching::{TableRows, are_rows_of};
-pub use rows::row_at;
+pub use rows::{account_row, app_row, host_row, instance_row, row_at, unit_row, version_row};
 pub use settings::setting_rows;
 pub use totals::{Total, totals_of};

@@ -118,7 +118,7 @@ fn are_table_rows(
 }
 
 /// Whether the row is that of the world at a key.
-pub(crate) fn is_row_at(
+fn is_row_at(
     alloc: Global,
     world: &World,
     totals: &[Total],

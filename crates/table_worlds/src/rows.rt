@@ -3,6 +3,8 @@
 ghost use Rattle.std.specs.Prelude.{◌≡◌, pos, position, option_map, option_and_then, if◌then◌else◌, IfOk};
 ghost use Rattle.std.specs.Str.{bytes_eq};
 ghost use Rattle.sched_book.specs.Places.{status_of};
+ghost use Rattle.sched_book.specs.declared.instance.UnitBook.{UnitBook};
+ghost use Rattle.sched_book.specs.declared.world.World.{World};
 ghost use Rattle.table_meaning.specs.declared.rows.StoredRow.TheVariants as stored;
 ghost use Rattle.table_meaning.specs.Worlds.{agreement_limit, status_code, lapse_code, joined, app_place, is_queued, account_row, app_row, version_row, unit_row, host_row, instance_row};
 ghost use Rattle.table_worlds.specs.Keys.{row_in};
@@ -15,7 +17,7 @@ use sched_book::count::book_status;
 use sched_book::limits::MOST_INSTANCES;
 use sched_book::{
     Account, Agreement, App, HostRow, Instance, Lapse, Outcome, Place, Status, Unavailable,
-    UnitBook, Version, World, nth,
+    UnitBook, Version, Workunit, World, nth,
 };
 use std::alloc::Global;
 use table_meaning::rows::{
@@ -94,7 +96,8 @@ fn app_place(world: &World, name: &str) -> Result<u32, Unavailable>
     }
 }
 
-fn account_row(id: u32, account: &Account) -> Result<StoredRow, Unavailable>
+/// The row of an account. It is unavailable where memory is wanting.
+pub fn account_row(id: u32, account: &Account) -> Result<StoredRow, Unavailable>
     ensures { IfOk result (λ row. row ≡ stored.Account (account_row id account.now)) }
 {
     Ok(StoredRow::Account(StoredAccount {
@@ -104,7 +107,8 @@ fn account_row(id: u32, account: &Account) -> Result<StoredRow, Unavailable>
     }))
 }
 
-fn app_row(id: u32, app: &App) -> Result<StoredRow, Unavailable>
+/// The row of an application. It is unavailable where memory is wanting.
+pub fn app_row(id: u32, app: &App) -> Result<StoredRow, Unavailable>
     ensures { IfOk result (λ row. row ≡ stored.App (app_row id app.now)) }
 {
     Ok(StoredRow::App(StoredApp {
@@ -114,12 +118,13 @@ fn app_row(id: u32, app: &App) -> Result<StoredRow, Unavailable>
     }))
 }
 
-fn version_row(world: &World, id: u32, version: &Version) -> Result<StoredRow, Unavailable>
-    ensures { IfOk result (λ row. row ≡ stored.Version (version_row world.now id version.now)) }
+/// The row of a version in each world where its application is at this place. It is unavailable where memory is wanting.
+pub fn version_row(id: u32, app: u32, version: &Version) -> Result<StoredRow, Unavailable>
+    ensures { IfOk result (λ row. (w : World) → app ≡ app_place w version.now.app → row ≡ stored.Version (version_row w id version.now)) }
 {
     Ok(StoredRow::Version(StoredVersion {
         id,
-        app_id: app_place(world, version.app.as_str())?,
+        app_id: app,
         platform: version.platform.clone()?,
         num: version.version_num,
     }))
@@ -135,14 +140,21 @@ fn status_of(world: &World, book: &UnitBook) -> Result<Status, Unavailable>
     Ok(book_status(world.apps.as_slice(), book))
 }
 
-fn unit_row(world: &World, id: u32, book: &UnitBook) -> Result<StoredRow, Unavailable>
-    ensures { IfOk result (λ row. row ≡ stored.Unit (unit_row world.now id book.now)) }
+/// The row of a workunit in each world where its application is at this place and where it has this status. It is
+/// unavailable where memory is wanting, or a number is not one that a table can hold.
+pub fn unit_row(
+    id: u32,
+    app: u32,
+    unit: &Workunit,
+    status: Status,
+) -> Result<StoredRow, Unavailable>
+    ensures { IfOk result (λ row. (w : World) (b : UnitBook) → b.unit ≡ unit.now → app ≡ app_place w unit.now.app → status ≡ status_of w b
+        → row ≡ stored.Unit (unit_row w id b)) }
 {
-    let unit = &book.unit;
     Ok(StoredRow::Unit(StoredUnit {
         id,
         name: unit.name.clone()?,
-        app_id: app_place(world, unit.app.as_str())?,
+        app_id: app,
         min_quorum: unit.min_quorum,
         target_nresults: unit.target_nresults,
         max_error_results: unit.max_error_results,
@@ -153,11 +165,18 @@ fn unit_row(world: &World, id: u32, book: &UnitBook) -> Result<StoredRow, Unavai
         rsc_memory_bound: written(unit.rsc_memory_bound)?,
         rsc_disk_bound: written(unit.rsc_disk_bound)?,
         credit: unit.credit,
-        status: status_code(status_of(world, book)?),
+        status: status_code(status),
     }))
 }
 
-fn host_row(alloc: Global, id: u32, host: &HostRow, total: Total) -> Result<StoredRow, Unavailable>
+/// The row of a host, with what is counted of it. It is unavailable where memory is wanting, or a number is not one that a
+/// table can hold.
+pub fn host_row(
+    alloc: Global,
+    id: u32,
+    host: &HostRow,
+    total: Total,
+) -> Result<StoredRow, Unavailable>
     ensures { IfOk result (λ row. row ≡ stored.Host (host_row total.held total.credit id host.now)) }
 {
     Ok(StoredRow::Host(StoredHost {
@@ -203,17 +222,18 @@ fn report_columns(
     }
 }
 
-fn instance_row(
-    world: &World,
-    book: &UnitBook,
+/// The row of an instance in each world where its workunit has this status. It is unavailable where memory is wanting, or a
+/// number is not one that a table can hold.
+pub fn instance_row(
     place: Place,
     instance: &Instance,
+    status: Status,
 ) -> Result<StoredRow, Unavailable>
-    ensures { IfOk result (λ row. row ≡ stored.Instance (instance_row world.now book.now place.unit place.number instance.now)) }
+    ensures { IfOk result (λ row. (w : World) (b : UnitBook) → status ≡ status_of w b
+        → row ≡ stored.Instance (instance_row w b place.unit place.number instance.now)) }
 {
     let (sent, deadline) = times(instance)?;
     let (outcome, output, report_place) = report_columns(&instance.report)?;
-    let status = status_of(world, book)?;
     Ok(StoredRow::Instance(StoredInstance {
         unit_id: place.unit,
         num: place.number,
@@ -255,7 +275,7 @@ fn instance_at(world: &World, place: Place) -> Result<Option<StoredRow>, Unavail
     };
     match book.instances.as_slice().get(place.number as usize) {
         None => Ok(None),
-        Some(instance) => Ok(Some(instance_row(world, book, place, instance)?)),
+        Some(instance) => Ok(Some(instance_row(place, instance, status_of(world, book)?)?)),
     }
 }
 
@@ -280,11 +300,20 @@ pub fn row_at(
         },
         WorldKey::Version(id) => match nth(world.versions.as_slice(), id) {
             None => Ok(None),
-            Some(version) => Ok(Some(version_row(world, id, version)?)),
+            Some(version) => Ok(Some(version_row(
+                id,
+                app_place(world, version.app.as_str())?,
+                version,
+            )?)),
         },
         WorldKey::Unit(id) => match nth(world.units.as_slice(), id) {
             None => Ok(None),
-            Some(book) => Ok(Some(unit_row(world, id, book)?)),
+            Some(book) => Ok(Some(unit_row(
+                id,
+                app_place(world, book.unit.app.as_str())?,
+                &book.unit,
+                status_of(world, book)?,
+            )?)),
         },
         WorldKey::Host(id) => host_at(alloc, world, totals, id),
         WorldKey::Instance(place) => instance_at(world, place),

@@ -24,7 +24,7 @@ pub struct Total {
 impl Total {
     /// With so many more instances held, and so much more credit. That either is past what fits comes about in no
     /// world whose tables are no longer than they may be: it has 20 million instances, and 2 * 10^15 millicredits.
-    fn plus(self, held: u32, credit: u64) -> Result<Total, Unavailable>
+    pub fn plus(self, held: u32, credit: u64) -> Result<Total, Unavailable>
         ensures { IfOk result (λ total. total ≡ more self held credit) }
     {
         match (self.held.checked_add(held), self.credit.checked_add(credit)) {
