@@ -1,0 +1,9 @@
+pub mod Adding
+pub mod AppsFound
+pub mod Differences
+pub mod ImportRows
+pub mod InTurn
+pub mod Numbers
+pub mod PageRows
+pub mod ReadableCalls
+pub mod Totals

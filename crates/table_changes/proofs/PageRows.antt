@@ -1,0 +1,374 @@
+-- The rows of a page's world beside those of the world that the call found.
+use Rattle.std.proofs.Common.{◌≡◌, ◌⊎◌, ℕ, pos, ◌+◌, ◌*◌, ◌≤◌, Bool, true, false, cond, eqb, ◌&&◌, List, [], ◌∷◌, length, Option, Some, None, option_map, option_and_then, refl, sym, ap, subst, ◌∙◌, inl, inr, arith, true≢false}
+use Rattle.std.specs.Prelude.{◌||◌, count_by, sum_by, slice_get, unwrap_or, is_none, is_some}
+use Rattle.std.proofs.lemmas.Bool.{eqb-true}
+use Rattle.std.proofs.lemmas.Option.{slice_get_past}
+use Rattle.std.specs.BTreeMap.{get}
+use Rattle.std.specs.Ordering.{nat_cmp}
+use Rattle.sched_book.specs.Count.{status, verdict, is_valid}
+use Rattle.sched_book.specs.Delta.{applied}
+use Rattle.sched_book.specs.Places.{unit_at, host_at, agreement_by, status_of, held_by, host_credit, is_held_by, is_owned_by, credit_in}
+use Rattle.sched_book.specs.declared.instance.Instance.{Instance as Job}
+use Rattle.sched_book.specs.declared.instance.Status.{Status}
+use Rattle.sched_book.specs.declared.instance.UnitBook.{UnitBook}
+use Rattle.sched_book.specs.declared.rows.Agreement.{Agreement}
+use Rattle.sched_book.specs.declared.rows.App.{App}
+use Rattle.sched_book.specs.declared.rows.HostRow.{HostRow}
+use Rattle.sched_book.specs.declared.world.World.{World}
+use Rattle.call_sheet.specs.declared.leaf.Leaf.{Leaf}
+use Rattle.call_sheet.specs.declared.page.Page.{Page}
+use Rattle.call_sheet.specs.Sheets.{book_before, book_now, IsLeafOf, IsLeafAt, IsHostAt, IsPageOf, AreAllOf}
+use Rattle.table_meaning.specs.Worlds.{status_code, lapse_code, unit_row, host_row, instance_row, app_place}
+use Rattle.table_meaning.specs.declared.rows.StoredRow.{StoredRow}
+use Rattle.table_meaning.specs.declared.rows.StoredRow.TheVariants as stored
+use Rattle.table_worlds.proofs.TotalsCounted.{held-among}
+use Rattle.table_worlds.specs.Changes.{IsChange, AreChanges}
+use Rattle.table_worlds.specs.Keys.{row_in}
+use Rattle.table_worlds.specs.Totals.{total_of}
+use Rattle.table_worlds.specs.declared.totals.Total.{Total}
+use Rattle.table_worlds.specs.declared.keys.WorldKey.{WorldKey}
+use Rattle.table_worlds.specs.declared.keys.WorldKey.TheVariants.{Account, App as AppKey, Version, Unit as UnitKey, Host, Instance}
+use Rattle.table_changes.specs.Added.{is_among, is_unit_among, is_host_among, is_instance_among, AreAdded}
+use Rattle.table_changes.specs.Tallies.{no_total, tally, held_on, credit_on, total_on, GoesFrom}
+use Rattle.table_changes.specs.Touching.{AreTouched}
+use Rattle.table_changes.specs.declared.touched.Touched.{Touched}
+use Rattle.table_changes.proofs.Adding.{IsSettled, added_then, all_added}
+use Rattle.table_changes.proofs.Differences.{at_place, sums_differ, same_among}
+use Rattle.table_changes.proofs.InTurn.{one_of}
+
+-- the row after is what is to be put
+pub after_is_change : (before after row : Option StoredRow) → row ≡ after → IsChange before after row
+after_is_change before None row is = inl (is, inl refl)
+after_is_change before (Some r) row is = inr (r, refl, is)
+
+pub same_is_change : (before after : Option StoredRow) → before ≡ after → IsChange before after None
+same_is_change before after same = inl (refl, inr same)
+
+-- ---- workunits
+
+-- where two worlds have a workunit with the same status, and the same applications, they have the same row of it
+unit_rows_same : (w v : World) (id : ℕ) (k : Leaf) → v.apps ≡ w.apps → IsLeafOf w v id k
+    → status k.agreement k.unit k.present ≡ status k.agreement k.unit k.before → row_in w (UnitKey id) ≡ row_in v (UnitKey id)
+unit_rows_same w v id k apps leaf same =
+    ap (option_map (λ b. stored.Unit (unit_row w id b))) leaf.before
+    ∙ ap (λ s. Some (stored.Unit (record (unit_row w id (book_now k)) { status = status_code s }))) status_before
+    ∙ ap (λ s. Some (stored.Unit (record (unit_row w id (book_now k)) { status = status_code s }))) (sym same ∙ sym status_now)
+    ∙ ap (λ (apps : List App). Some (stored.Unit (unit_row (record w { apps = apps }) id (book_now k)))) (sym apps)
+    ∙ sym (ap (option_map (λ b. stored.Unit (unit_row v id b))) leaf.here)
+  where
+    status_before : status_of w (book_before k) ≡ status k.agreement k.unit k.before
+    status_before = ap (λ a. status a k.unit k.before) leaf.agreement
+
+    status_now : status_of w (book_now k) ≡ status k.agreement k.unit k.present
+    status_now = ap (λ a. status a k.unit k.present) leaf.agreement
+
+-- the row of a workunit with its status and the place of its application
+pub unit_changed : (w v : World) (id app : ℕ) (k : Leaf) (s : Status) (row : StoredRow) → v.apps ≡ w.apps → IsLeafOf w v id k → app ≡ app_place w k.unit.app
+    → s ≡ status k.agreement k.unit k.present
+    → ((u : World) (b : UnitBook) → b.unit ≡ k.unit → app ≡ app_place u k.unit.app → s ≡ status_of u b → row ≡ stored.Unit (unit_row u id b))
+    → IsChange (row_in w (UnitKey id)) (row_in v (UnitKey id)) (Some row)
+unit_changed w v id app k s row apps leaf place told is =
+    let here : app_place w k.unit.app ≡ app_place v k.unit.app = ap (λ (apps : List App). app_place (record w { apps = apps }) k.unit.app) (sym apps) in
+    let now : status_of v (book_now k) ≡ status k.agreement k.unit k.present =
+    ap (λ (apps : List App). status (agreement_by apps k.unit.app) k.unit k.present) apps ∙ ap (λ a. status a k.unit k.present) leaf.agreement in
+    after_is_change (row_in w (UnitKey id)) (row_in v (UnitKey id)) (Some row)
+    (ap Some (is v (book_now k) refl (place ∙ here) (told ∙ sym now)) ∙ sym (ap (option_map (λ b. stored.Unit (unit_row v id b))) leaf.here))
+
+-- a workunit whose status stays
+pub unit_stays : (w v : World) (id : ℕ) (k : Leaf) (s t : Status) → v.apps ≡ w.apps → IsLeafOf w v id k → s ≡ status k.agreement k.unit k.present
+    → t ≡ status k.agreement k.unit k.before → s ≡ t → IsChange (row_in w (UnitKey id)) (row_in v (UnitKey id)) None
+unit_stays w v id k s t apps leaf now before same =
+    same_is_change (row_in w (UnitKey id)) (row_in v (UnitKey id)) (unit_rows_same w v id k apps leaf (sym now ∙ same ∙ before))
+
+-- the row of what stands at a place is told by what stands there, and by the applications
+unit_same : (w v : World) (id : ℕ) → v.apps ≡ w.apps → unit_at v id ≡ unit_at w id → row_in w (UnitKey id) ≡ row_in v (UnitKey id)
+unit_same w v id apps here =
+    ap (λ (apps : List App). option_map (λ b. stored.Unit (unit_row (record w { apps = apps }) id b)) (unit_at w id)) (sym apps)
+    ∙ ap (option_map (λ b. stored.Unit (unit_row v id b))) (sym here)
+
+pub unit_unread : (w v : World) (id : ℕ) → v.apps ≡ w.apps → IsLeafAt w v id None → IsChange (row_in w (UnitKey id)) (row_in v (UnitKey id)) None
+unit_unread w v id apps here = same_is_change (row_in w (UnitKey id)) (row_in v (UnitKey id)) (unit_same w v id apps here)
+
+-- ---- instances
+
+abbrev instance_in : World → UnitBook → ℕ → ℕ → Job → StoredRow
+instance_in w b unit number x = stored.Instance (instance_row w b unit number x)
+
+abbrev of_book : World → ℕ → ℕ → UnitBook → Option StoredRow
+of_book w unit number b = option_map (instance_in w b unit number) (slice_get b.instances number)
+
+-- the row by its columns and whether it is queued
+abbrev queued_row : ℕ → ℕ → Job → Bool → StoredRow
+queued_row unit number x queued = stored.Instance (record {
+  unit_id = unit;
+  num = number;
+  host_id = option_map (λ o. o.host) x.owner;
+  sent = option_map (λ o. pos o.sent) x.owner;
+  deadline = option_map (λ o. pos o.deadline) x.owner;
+  lapse = lapse_code x.lapse;
+  outcome = option_map (λ r. cond r.success 1 3) x.report;
+  output = option_map (λ r. r.output) x.report;
+  place = option_and_then (λ r. r.place) x.report;
+  queued = queued;
+})
+
+abbrev waits : Job → Status → Bool
+waits x s = is_none x.owner && eqb (status_code s) 0
+
+module _ (w v : World) (unit number : ℕ) (k : Leaf) (apps : v.apps ≡ w.apps) (leaf : IsLeafOf w v unit k) where
+  before_is : row_in w (Instance (record { unit = unit; number = number })) ≡ of_book w unit number (book_before k)
+  before_is = ap (option_and_then (of_book w unit number)) leaf.before
+
+  now_is : row_in v (Instance (record { unit = unit; number = number })) ≡ of_book v unit number (book_now k)
+  now_is = ap (option_and_then (of_book v unit number)) leaf.here
+
+  status_then : status_of w (book_before k) ≡ status k.agreement k.unit k.before
+  status_then = ap (λ a. status a k.unit k.before) leaf.agreement
+
+  status_now : status_of v (book_now k) ≡ status k.agreement k.unit k.present
+  status_now = ap (λ (apps : List App). status (agreement_by apps k.unit.app) k.unit k.present) apps ∙ ap (λ a. status a k.unit k.present) leaf.agreement
+
+  none_now : slice_get k.present number ≡ None → row_in v (Instance (record { unit = unit; number = number })) ≡ None
+  none_now none = now_is ∙ ap (option_map (instance_in v (book_now k) unit number)) none
+
+  rows_same : (x y : Job) (s t : Status) → slice_get k.before number ≡ Some x → slice_get k.present number ≡ Some y → x ≡ y
+      → s ≡ status k.agreement k.unit k.before → t ≡ status k.agreement k.unit k.present → waits x s ≡ waits y t
+      → row_in w (Instance (record { unit = unit; number = number })) ≡ row_in v (Instance (record { unit = unit; number = number }))
+  rows_same x y s t stood stands same old new waiting =
+      before_is
+      ∙ ap (option_map (instance_in w (book_before k) unit number)) stood
+      ∙ ap (λ u. Some (queued_row unit number x (waits x u))) (status_then ∙ sym old)
+      ∙ ap (λ q. Some (queued_row unit number x q)) waiting
+      ∙ ap (λ z. Some (queued_row unit number z (waits y t))) same
+      ∙ ap (λ u. Some (queued_row unit number y (waits y u))) (new ∙ sym status_now)
+      ∙ sym (now_is ∙ ap (option_map (instance_in v (book_now k) unit number)) stands)
+
+  row_now : (y : Job) (t : Status) (row : StoredRow) → slice_get k.present number ≡ Some y → t ≡ status k.agreement k.unit k.present
+      → ((u : World) (b : UnitBook) → t ≡ status_of u b → row ≡ stored.Instance (instance_row u b unit number y))
+      → Some row ≡ row_in v (Instance (record { unit = unit; number = number }))
+  row_now y t row stands new is =
+      ap Some (is v (book_now k) (new ∙ sym status_now)) ∙ sym (now_is ∙ ap (option_map (instance_in v (book_now k) unit number)) stands)
+
+pub instance_gone : (w v : World) (unit number : ℕ) (k : Leaf) → v.apps ≡ w.apps → IsLeafOf w v unit k → slice_get k.present number ≡ None
+    → row_in v (Instance (record { unit = unit; number = number })) ≡ None
+instance_gone = none_now
+
+pub none_is_change : (before after : Option StoredRow) → after ≡ None → IsChange before after None
+none_is_change before after none = inl (refl, inl none)
+
+pub instance_stays : (w v : World) (unit number : ℕ) (k : Leaf) (x y : Job) (s t : Status) → v.apps ≡ w.apps → IsLeafOf w v unit k
+    → slice_get k.before number ≡ Some x → slice_get k.present number ≡ Some y → x ≡ y
+    → s ≡ status k.agreement k.unit k.before → t ≡ status k.agreement k.unit k.present → waits x s ≡ waits y t
+    → IsChange (row_in w (Instance (record { unit = unit; number = number }))) (row_in v (Instance (record { unit = unit; number = number }))) None
+instance_stays w v unit number k x y s t apps leaf stood stands same old new waiting =
+    same_is_change _ _ (rows_same w v unit number k apps leaf x y s t stood stands same old new waiting)
+
+pub instance_changed : (w v : World) (unit number : ℕ) (k : Leaf) (y : Job) (t : Status) (row : StoredRow) → v.apps ≡ w.apps → IsLeafOf w v unit k
+    → slice_get k.present number ≡ Some y → t ≡ status k.agreement k.unit k.present
+    → ((u : World) (b : UnitBook) → t ≡ status_of u b → row ≡ stored.Instance (instance_row u b unit number y))
+    → IsChange (row_in w (Instance (record { unit = unit; number = number }))) (row_in v (Instance (record { unit = unit; number = number }))) (Some row)
+instance_changed w v unit number k y t row apps leaf stands new is =
+    after_is_change _ _ (Some row) (row_now w v unit number k apps leaf y t row stands new is)
+
+instance_same : (w v : World) (unit number : ℕ) → v.apps ≡ w.apps → unit_at v unit ≡ unit_at w unit
+    → row_in w (Instance (record { unit = unit; number = number })) ≡ row_in v (Instance (record { unit = unit; number = number }))
+instance_same w v unit number apps here =
+    ap (λ (apps : List App). option_and_then (of_book (record w { apps = apps }) unit number) (unit_at w unit)) (sym apps)
+    ∙ ap (option_and_then (of_book v unit number)) (sym here)
+
+-- ---- hosts
+
+abbrev pub host_in : ℕ → ℕ → ℕ → HostRow → StoredRow
+host_in held credit id h = stored.Host (host_row held credit id h)
+
+pub host_changed : (w v : World) (id : ℕ) (t : Total) (o : Option HostRow) (row : Option StoredRow) → o ≡ host_at v id → t ≡ total_of v id
+    → row ≡ option_map (host_in t.held t.credit id) o → IsChange (row_in w (Host id)) (row_in v (Host id)) row
+host_changed w v id t o row stands counted is =
+    after_is_change (row_in w (Host id)) (row_in v (Host id)) row
+    (is ∙ ap (λ (u : Total). option_map (host_in u.held u.credit id) o) counted ∙ ap (option_map (host_in (length (held_by v id)) (host_credit v id) id)) stands)
+
+host_same : (w v : World) (id : ℕ) (share other : Total) → host_at v id ≡ host_at w id → GoesFrom w v id share other → share.held ≡ other.held → share.credit ≡ other.credit
+    → row_in w (Host id) ≡ row_in v (Host id)
+host_same w v id share other stands goes held credit =
+    let holds : length (held_by w id) ≡ length (held_by v id) = let both = goes.held in omega (arith, both, held) in
+    let earns : host_credit w id ≡ host_credit v id = let both = goes.credit in omega (arith, both, credit) in
+    ap (λ n. option_map (host_in n (host_credit w id) id) (host_at w id)) holds
+    ∙ ap (λ n. option_map (host_in (length (held_by v id)) n id) (host_at w id)) earns
+    ∙ ap (option_map (host_in (length (held_by v id)) (host_credit v id) id)) (sym stands)
+
+pub host_stays : (w v : World) (id : ℕ) (share other : Total) → IsHostAt w v id None → GoesFrom w v id share other → share.held ≡ other.held → share.credit ≡ other.credit
+    → IsChange (row_in w (Host id)) (row_in v (Host id)) None
+host_stays w v id share other here goes held credit = same_is_change _ _ (host_same w v id share other here goes held credit)
+
+-- ---- what is held, and credit
+
+module _ (w v : World) (kept : ℕ → Option Leaf) (units : List ℕ) (host : ℕ) (apps : v.apps ≡ w.apps) (all : AreAllOf kept units)
+    (leaves : (unit : ℕ) → IsLeafAt w v unit (kept unit)) where
+  abbrev held_in : UnitBook → ℕ
+  held_in b = count_by (is_held_by host) b.instances
+
+  untouched : (unit : ℕ) → is_among units unit ≡ false → unit_at w unit ≡ unit_at v unit
+  untouched unit among = cases (kept unit) (leaves unit) (all.all unit ∙ among)
+    where
+      cases : (o : Option Leaf) → IsLeafAt w v unit o → is_some o ≡ false → unit_at w unit ≡ unit_at v unit
+      cases None leaf none = sym leaf
+      cases (Some k) leaf none = absurd (true≢false none)
+
+  held_then : (unit : ℕ) → is_among units unit ≡ true → at_place held_in w.units unit ≡ held_on book_before host (kept unit)
+  held_then unit among = cases (kept unit) (leaves unit) (all.all unit ∙ among)
+    where
+      cases : (o : Option Leaf) → IsLeafAt w v unit o → is_some o ≡ true → at_place held_in w.units unit ≡ held_on book_before host o
+      cases None leaf some = absurd (true≢false (sym some))
+      cases (Some k) leaf some = ap (λ o. unwrap_or (option_map held_in o) 0) leaf.before
+
+  held_now : (unit : ℕ) → is_among units unit ≡ true → at_place held_in v.units unit ≡ held_on book_now host (kept unit)
+  held_now unit among = cases (kept unit) (leaves unit) (all.all unit ∙ among)
+    where
+      cases : (o : Option Leaf) → IsLeafAt w v unit o → is_some o ≡ true → at_place held_in v.units unit ≡ held_on book_now host o
+      cases None leaf some = absurd (true≢false (sym some))
+      cases (Some k) leaf some = ap (λ o. unwrap_or (option_map held_in o) 0) leaf.here
+
+  abbrev credit_with : Leaf → List Job → Agreement → ℕ
+  credit_with k xs a = k.unit.credit * count_by (λ x. is_owned_by host x && is_valid (verdict a k.unit xs x)) xs
+
+  credit_then : (unit : ℕ) → is_among units unit ≡ true → at_place (credit_in w.apps host) w.units unit ≡ credit_on book_before host (kept unit)
+  credit_then unit among = cases (kept unit) (leaves unit) (all.all unit ∙ among)
+    where
+      cases : (o : Option Leaf) → IsLeafAt w v unit o → is_some o ≡ true → at_place (credit_in w.apps host) w.units unit ≡ credit_on book_before host o
+      cases None leaf some = absurd (true≢false (sym some))
+      cases (Some k) leaf some = ap (λ o. unwrap_or (option_map (credit_in w.apps host) o) 0) leaf.before ∙ ap (credit_with k k.before) leaf.agreement
+
+  credit_now : (unit : ℕ) → is_among units unit ≡ true → at_place (credit_in w.apps host) v.units unit ≡ credit_on book_now host (kept unit)
+  credit_now unit among = cases (kept unit) (leaves unit) (all.all unit ∙ among)
+    where
+      cases : (o : Option Leaf) → IsLeafAt w v unit o → is_some o ≡ true → at_place (credit_in w.apps host) v.units unit ≡ credit_on book_now host o
+      cases None leaf some = absurd (true≢false (sym some))
+      cases (Some k) leaf some = ap (λ o. unwrap_or (option_map (credit_in w.apps host) o) 0) leaf.here ∙ ap (credit_with k k.present) leaf.agreement
+
+  goes_on : GoesFrom w v host (total_on book_before kept units host) (total_on book_now kept units host)
+  goes_on = record {
+    held =
+        let before = held-among (is_held_by host) 1 w.units in
+        let after = held-among (is_held_by host) 1 v.units in
+        let sums = sums_differ held_in w.units v.units units all.rising untouched in
+        let old = same_among (at_place held_in w.units) (λ unit. held_on book_before host (kept unit)) units held_then in
+        let new = same_among (at_place held_in v.units) (λ unit. held_on book_now host (kept unit)) units held_now in
+        ap (λ n. n + sum_by (λ unit. held_on book_now host (kept unit)) units) before
+        ∙ ap (λ n. sum_by held_in w.units + n) (sym new)
+        ∙ sums
+        ∙ ap (λ n. sum_by held_in v.units + n) old
+        ∙ ap (λ n. n + sum_by (λ unit. held_on book_before host (kept unit)) units) (sym after);
+    credit =
+        let sums = sums_differ (credit_in w.apps host) w.units v.units units all.rising untouched in
+        let old = same_among (at_place (credit_in w.apps host) w.units) (λ unit. credit_on book_before host (kept unit)) units credit_then in
+        let new = same_among (at_place (credit_in w.apps host) v.units) (λ unit. credit_on book_now host (kept unit)) units credit_now in
+        ap (λ n. host_credit w host + n) (sym new)
+        ∙ sums
+        ∙ ap (λ n. sum_by (credit_in w.apps host) v.units + n) old
+        ∙ ap (λ (apps : List App). sum_by (credit_in apps host) v.units + sum_by (λ unit. credit_on book_before host (kept unit)) units) (sym apps);
+  }
+
+-- ---- a page
+
+pub apps_stay : (w : World) (p : Page) → IsPageOf w p → (applied w p.delta).apps ≡ w.apps
+apps_stay w p page = ap (λ u. u.apps) page.rest
+
+pub goes_from : (w : World) (p : Page) (t : Touched) (host : ℕ) (share other : Total) → IsPageOf w p → AreTouched p t
+    → share ≡ tally t.tallies.before host → other ≡ tally t.tallies.present host → GoesFrom w (applied w p.delta) host share other
+goes_from w p t host share other page touched before after =
+    let goes = goes_on w (applied w p.delta) (get nat_cmp p.leaves) t.units host (apps_stay w p page) touched.units page.leaves in
+    let first = before ∙ touched.tallies.before host in
+    let second = after ∙ touched.tallies.present host in
+    subst (λ (s : Total). GoesFrom w (applied w p.delta) host s other) (sym first)
+    (subst (λ (o : Total). GoesFrom w (applied w p.delta) host (total_on book_before (get nat_cmp p.leaves) t.units host) o) (sym second) goes)
+
+-- the keys of what the page touches
+abbrev pub is_touched : Touched → WorldKey → Bool
+is_touched t key = (is_unit_among t.units key || is_host_among t.hosts key) || is_instance_among t.units key
+
+pub settled_elsewhere : (w : World) (p : Page) (t : Touched) → IsPageOf w p → AreTouched p t → (k : WorldKey) → is_touched t k ≡ false → IsSettled w (applied w p.delta) k
+settled_elsewhere w p t page touched (Account id) none = inr (sym (ap (λ u. row_in u (Account id)) page.rest))
+settled_elsewhere w p t page touched (AppKey id) none = inr (sym (ap (λ u. row_in u (AppKey id)) page.rest))
+settled_elsewhere w p t page touched (Version id) none = inr (sym (ap (λ u. row_in u (Version id)) page.rest))
+settled_elsewhere w p t page touched (UnitKey id) none =
+    let among : is_among t.units id ≡ false = first_of (is_among t.units id) none in
+    inr (unit_same w (applied w p.delta) id (apps_stay w p page)
+    (sym (untouched w (applied w p.delta) (get nat_cmp p.leaves) t.units 0 (apps_stay w p page) touched.units page.leaves id among)))
+  where
+    first_of : (a : Bool) → ((a || false) || false) ≡ false → a ≡ false
+    first_of true none = absurd (true≢false none)
+    first_of false none = refl
+settled_elsewhere w p t page touched (Host id) none =
+    let among : is_among t.hosts id ≡ false = first_of (is_among t.hosts id) none in
+    let unread = touched.hosts id among in
+    let goes = goes_from w p t id no_total no_total page touched (sym (ap (λ o. unwrap_or o no_total) unread.1)) (sym (ap (λ o. unwrap_or o no_total) unread.2)) in
+    inr (host_same w (applied w p.delta) id no_total no_total (subst (IsHostAt w (applied w p.delta) id) unread.0 (page.hosts id)) goes refl refl)
+  where
+    first_of : (a : Bool) → (a || false) ≡ false → a ≡ false
+    first_of true none = absurd (true≢false none)
+    first_of false none = refl
+settled_elsewhere w p t page touched (Instance q) none =
+    inr (instance_same w (applied w p.delta) q.unit q.number (apps_stay w p page)
+    (sym (untouched w (applied w p.delta) (get nat_cmp p.leaves) t.units 0 (apps_stay w p page) touched.units page.leaves q.unit none)))
+
+-- ---- what was told of a desk that still stands for the world
+
+pub unit_told : (w u : World) (p : Page) (unit : ℕ) (o : Option Leaf) (row : Option StoredRow) → u ≡ w → o ≡ get nat_cmp p.leaves unit → IsPageOf w p
+    → ((after : World) → after.apps ≡ u.apps → IsLeafAt u after unit o → IsChange (row_in u (UnitKey unit)) (row_in after (UnitKey unit)) row)
+    → IsChange (row_in w (UnitKey unit)) (row_in (applied w p.delta) (UnitKey unit)) row
+unit_told w u p unit o row same found page told =
+    subst (λ (x : World). (after : World) → after.apps ≡ x.apps → IsLeafAt x after unit o → IsChange (row_in x (UnitKey unit)) (row_in after (UnitKey unit)) row) same told
+    (applied w p.delta) (apps_stay w p page) (subst (IsLeafAt w (applied w p.delta) unit) (sym found) (page.leaves unit))
+
+pub host_told : (w u : World) (p : Page) (t : Touched) (host : ℕ) (share other : Total) (row : Option StoredRow) → u ≡ w → IsPageOf w p → AreTouched p t
+    → share ≡ tally t.tallies.before host → other ≡ tally t.tallies.present host
+    → (IsPageOf u p → GoesFrom u (applied u p.delta) host share other → IsChange (row_in u (Host host)) (row_in (applied u p.delta) (Host host)) row)
+    → IsChange (row_in w (Host host)) (row_in (applied w p.delta) (Host host)) row
+host_told w u p t host share other row same page touched before after told =
+    subst (λ (x : World). IsPageOf x p → GoesFrom x (applied x p.delta) host share other → IsChange (row_in x (Host host)) (row_in (applied x p.delta) (Host host)) row) same told
+    page (goes_from w p t host share other page touched before after)
+
+-- the leaf at a place of a page
+pub leaf_at : (w : World) (p : Page) (unit : ℕ) (o : Option Leaf) → IsPageOf w p → o ≡ get nat_cmp p.leaves unit → IsLeafAt w (applied w p.delta) unit o
+leaf_at w p unit o page found = subst (IsLeafAt w (applied w p.delta) unit) (sym found) (page.leaves unit)
+
+-- the instances of a workunit that was not read are as before
+pub unread_settled : (w v : World) (unit : ℕ) → v.apps ≡ w.apps → IsLeafAt w v unit None → (k : WorldKey) → is_instance_among (unit ∷ []) k ≡ true → IsSettled w v k
+unread_settled w v unit apps stays (Account id) is = absurd (true≢false (sym is))
+unread_settled w v unit apps stays (AppKey id) is = absurd (true≢false (sym is))
+unread_settled w v unit apps stays (Version id) is = absurd (true≢false (sym is))
+unread_settled w v unit apps stays (UnitKey id) is = absurd (true≢false (sym is))
+unread_settled w v unit apps stays (Host id) is = absurd (true≢false (sym is))
+unread_settled w v unit apps stays (Instance q) is =
+    let here : unit ≡ q.unit = eqb-true unit q.unit (first_of (eqb unit q.unit) is) in
+    inr (instance_same w v q.unit q.number apps (subst (λ u. unit_at v u ≡ unit_at w u) here stays))
+  where
+    first_of : (a : Bool) → (a || false) ≡ true → a ≡ true
+    first_of true some = refl
+    first_of false some = absurd (true≢false (sym some))
+
+-- all that a page touches is told in three parts
+pub parts_touched : (t : Touched) (k : WorldKey) → is_touched t k ≡ true
+    → ((is_unit_among t.units k || is_host_among t.hosts k) ≡ true) ⊎ (is_instance_among t.units k ≡ true)
+parts_touched t k is = one_of (is_unit_among t.units k || is_host_among t.hosts k) (is_instance_among t.units k) is
+
+pub first_parts : (t : Touched) (k : WorldKey) → (is_unit_among t.units k || is_host_among t.hosts k) ≡ true → (is_unit_among t.units k ≡ true) ⊎ (is_host_among t.hosts k ≡ true)
+first_parts t k is = one_of (is_unit_among t.units k) (is_host_among t.hosts k) is
+
+-- workunits, hosts and instances, one behind the other, are all
+pub all_parts : (w u : World) (p : Page) (t : Touched) (old one two new : List StoredRow) → u ≡ w → IsPageOf w p → AreTouched p t → old ≡ []
+    → AreAdded (is_unit_among t.units) w (applied w p.delta) old one
+    → (IsPageOf u p → AreTouched p t → AreAdded (is_host_among t.hosts) u (applied u p.delta) one two)
+    → AreAdded (is_instance_among t.units) w (applied w p.delta) two new
+    → AreChanges w (applied w p.delta) new
+all_parts w u p t old one two new same page touched none units hosts instances =
+    all_added (is_touched t) w (applied w p.delta) old new (settled_elsewhere w p t page touched) none
+    (added_then (λ k. is_unit_among t.units k || is_host_among t.hosts k) (is_instance_among t.units) (is_touched t) w (applied w p.delta) old two new (parts_touched t)
+    (added_then (is_unit_among t.units) (is_host_among t.hosts) (λ k. is_unit_among t.units k || is_host_among t.hosts k) w (applied w p.delta) old one two (first_parts t) units
+    (subst (λ (x : World). IsPageOf x p → AreTouched p t → AreAdded (is_host_among t.hosts) x (applied x p.delta) one two) same hosts page touched))
+    instances)
+
+-- no instance stands from their count on
+pub instances_gone : (w v : World) (unit n : ℕ) (k : Leaf) → v.apps ≡ w.apps → IsLeafOf w v unit k → length k.present ≤ n
+    → (number : ℕ) → n ≤ number → row_in v (Instance (record { unit = unit; number = number })) ≡ None
+instances_gone w v unit n k apps leaf all number beyond = instance_gone w v unit number k apps leaf (slice_get_past k.present number (omega (arith, all, beyond)))

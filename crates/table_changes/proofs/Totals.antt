@@ -1,0 +1,43 @@
+-- Totals of hosts by their numbers: one instance more, one workunit more.
+use Rattle.std.proofs.Common.{◌≡◌, ℕ, ◌+◌, ◌<◌, List, [], ◌∷◌, ◌++◌, length, take, get_or, Option, Some, sym, ap, ◌∙◌, arith}
+use Rattle.std.specs.Prelude.{sum_by}
+use Rattle.std.proofs.lemmas.List.{take_more}
+use Rattle.std.proofs.lemmas.List.Sums.{sum_by-cons, sum_by-append}
+use Rattle.sched_book.specs.Count.{verdict, is_valid}
+use Rattle.sched_book.specs.declared.instance.Instance.{Instance}
+use Rattle.sched_book.specs.declared.instance.UnitBook.{UnitBook}
+use Rattle.call_sheet.specs.declared.leaf.Leaf.{Leaf}
+use Rattle.table_worlds.specs.declared.totals.Total.{Total}
+use Rattle.table_worlds.specs.Totals.{more, with_instances}
+use Rattle.table_changes.specs.Tallies.{held_on, credit_on, total_on}
+
+-- one workunit more
+abbrev total : ℕ → ℕ → Total
+total held credit = record { held = held; credit = credit }
+
+both : (h k c d : ℕ) → h ≡ k → c ≡ d → total h c ≡ total k d
+both h k c d held credit = ap (λ m. total m c) held ∙ ap (total k) credit
+
+one_next : (f : ℕ → ℕ) (units : List ℕ) (i unit : ℕ) → i < length units → get_or units i 0 ≡ unit → sum_by f (take i units) + f unit ≡ sum_by f (take (i + 1) units)
+one_next f units i unit within at =
+    let split : take (i + 1) units ≡ take i units ++ unit ∷ [] = take_more units i 0 within ∙ ap (λ m. take i units ++ m ∷ []) at in
+    let all : sum_by f (take i units ++ unit ∷ []) ≡ sum_by f (take i units) + sum_by f (unit ∷ []) = sum_by-append f (take i units) (unit ∷ []) in
+    let last : sum_by f (unit ∷ []) ≡ f unit + 0 = sum_by-cons f unit [] in
+    let whole : sum_by f (take (i + 1) units) ≡ sum_by f (take i units ++ unit ∷ []) = ap (sum_by f) split in
+    omega (arith, all, last, whole)
+
+pub total_next : (book : Leaf → UnitBook) (kept : ℕ → Option Leaf) (units : List ℕ) (i unit host : ℕ) (t : Total) → i < length units → get_or units i 0 ≡ unit
+    → t ≡ total_on book kept (take i units) host
+    → more t (held_on book host (kept unit)) (credit_on book host (kept unit)) ≡ total_on book kept (take (i + 1) units) host
+total_next book kept units i unit host t within at is =
+    ap (λ (s : Total). more s (held_on book host (kept unit)) (credit_on book host (kept unit))) is
+    ∙ both _ _ _ _ (one_next (λ u. held_on book host (kept u)) units i unit within at) (one_next (λ u. credit_on book host (kept u)) units i unit within at)
+
+-- what a leaf gives, as its instances were counted
+pub leaf_counted : (book : Leaf → UnitBook) (k : Leaf) (o : Option Leaf) (xs : List Instance) (host : ℕ) (t after : Total) → o ≡ Some k → xs ≡ (book k).instances
+    → after ≡ with_instances (λ x. is_valid (verdict k.agreement k.unit xs x)) k.unit.credit xs host t
+    → after ≡ more t (held_on book host o) (credit_on book host o)
+leaf_counted book k o xs host t after is all counted =
+    counted
+    ∙ ap (λ ys. with_instances (λ x. is_valid (verdict k.agreement k.unit ys x)) k.unit.credit ys host t) all
+    ∙ ap (λ l. more t (held_on book host l) (credit_on book host l)) (sym is)

@@ -1,0 +1,39 @@
+use Rattle.std.proofs.Common.{◌≡◌, ℕ, Bor, List, length, Option, Some, None, refl, sym, ap, ◌∙◌}
+use Rattle.std.specs.Option.{option_copied}
+use Rattle.std.specs.Prelude.{slice_get}
+use Rattle.std.specs.Slice.{IsItemAt}
+use Rattle.std.proofs.lemmas.Option.{slice_get_past, slice_get_read}
+use Rattle.sched_book.specs.declared.instance.Instance.{Instance as Job}
+use Rattle.table_changes.proofs.PageRows.{instance_gone, instance_stays, instance_changed, none_is_change}
+use Rattle.table_changes.proofs.instances.changed_instance.Goals as goal
+
+-- what was got of a slice
+got : (xs ys : List Job) (i : ℕ) (r : Option (Bor Job)) → IsItemAt xs i r → xs ≡ ys → slice_get ys i ≡ option_copied r
+got xs ys i r at same = ap (λ zs. slice_get zs i) (sym same) ∙ cases r at
+  where
+    cases : (o : Option (Bor Job)) → IsItemAt xs i o → slice_get xs i ≡ option_copied o
+    cases None at = slice_get_past xs i at.3
+    cases (Some x) at = slice_get_read xs (length xs) i x.now refl at.3.0 at.1
+
+pub returns-in_default : goal.returns-in_default
+returns-in_default c = λ w v apps leaf old new.
+    let k = c.args.leaf.now in
+    none_is_change _ _ (instance_gone w v c.args.place.unit c.args.place.number k apps leaf
+    (got c.as_slice.result.now k.present c.args.place.number c.get.result c.get.ensures.lookup c.as_slice.ensures.value ∙ ap option_copied c.in_default.is))
+
+pub returns-then-same_row : goal.returns-then-same_row
+returns-then-same_row c = λ w v apps leaf old new.
+    let k = c.args.leaf.now in
+    let number = c.args.place.number in
+    instance_stays w v c.args.place.unit number k c.in-Some-get.before.now c.in-Some.instance.now c.args.statuses.before c.args.statuses.present apps leaf
+    (got c.as_slice-2.result.now k.before number c.get-2.result c.get-2.ensures.lookup c.as_slice-2.ensures.value ∙ ap option_copied c.in-Some-get.is)
+    (got c.as_slice.result.now k.present number c.get.result c.get.ensures.lookup c.as_slice.ensures.value ∙ ap option_copied c.in-Some.is)
+    (c.same_row.ensures.instance c.if-same_row.true) old new (c.same_row.ensures.queued c.if-same_row.true)
+
+pub returns : goal.returns
+returns c = λ w v apps leaf old new.
+    let k = c.args.leaf.now in
+    let number = c.args.place.number in
+    instance_changed w v c.args.place.unit number k c.in-Some.instance.now c.args.statuses.present c.in_ok-instance_row.field-0 apps leaf
+    (got c.as_slice.result.now k.present number c.get.result c.get.ensures.lookup c.as_slice.ensures.value ∙ ap option_copied c.in-Some.is)
+    new c.in_ok-instance_row.ensures

@@ -1,0 +1,9 @@
+use Rattle.std.proofs.Common.{take}
+use Rattle.std.specs.BTreeMap.{get}
+use Rattle.std.specs.Ordering.{nat_cmp}
+use Rattle.table_changes.specs.Tallies.{AreTallies}
+use Rattle.table_changes.proofs.tallies.tallies_of.Given as goal
+
+-- what the workunits so far give
+abbrev pub invariant-loop-unit : goal.invariant-loop-unit
+invariant-loop-unit l = AreTallies (get nat_cmp l.page.leaves) (take l.unit-index l.units) l.tallies

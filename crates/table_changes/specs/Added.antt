@@ -1,0 +1,56 @@
+-- Rows put behind others, which lead from one world to another at some keys.
+use Rattle.std.specs.Prelude.{◌≡◌, ◌⊎◌, ℕ, Bool, true, false, ◌==◌, List, ◌++◌, Some, None}
+use Rattle.std.specs.List.{AllByRecursion, list_any}
+use Rattle.sched_book.specs.declared.world.World.{World}
+use Rattle.table_meaning.specs.declared.rows.StoredRow.{StoredRow}
+use Rattle.table_meaning.specs.Rows.{key_of, same_key}
+use Rattle.table_worlds.specs.declared.keys.WorldKey.{WorldKey}
+use Rattle.table_worlds.specs.declared.keys.WorldKey.TheVariants.{Account, App, Version, Unit, Host, Instance}
+use Rattle.table_worlds.specs.Keys.{row_key, row_in}
+
+-- the number is one of these
+abbrev pub is_among : List ℕ → ℕ → Bool
+is_among numbers number = list_any (λ n. n == number) numbers
+
+-- the key is that of one of these workunits
+abbrev pub is_unit_among : List ℕ → WorldKey → Bool
+is_unit_among units (Account id) = false
+is_unit_among units (App id) = false
+is_unit_among units (Version id) = false
+is_unit_among units (Unit id) = is_among units id
+is_unit_among units (Host id) = false
+is_unit_among units (Instance p) = false
+
+-- it is that of one of these hosts
+abbrev pub is_host_among : List ℕ → WorldKey → Bool
+is_host_among hosts (Account id) = false
+is_host_among hosts (App id) = false
+is_host_among hosts (Version id) = false
+is_host_among hosts (Unit id) = false
+is_host_among hosts (Host id) = is_among hosts id
+is_host_among hosts (Instance p) = false
+
+-- it is that of an instance of one of these workunits
+abbrev pub is_instance_among : List ℕ → WorldKey → Bool
+is_instance_among units (Account id) = false
+is_instance_among units (App id) = false
+is_instance_among units (Version id) = false
+is_instance_among units (Unit id) = false
+is_instance_among units (Host id) = false
+is_instance_among units (Instance p) = is_among units p.unit
+
+-- a row of this key is among the rows
+abbrev pub is_put : List StoredRow → WorldKey → Bool
+is_put rows key = list_any (λ r. same_key (row_key key) (key_of r)) rows
+
+-- Each is a row of the world after, and at those of the keys where none is put the worlds have the same row, or the one
+-- after has none.
+pub record AreChangesAt (at : WorldKey → Bool) (before after : World) (rows : List StoredRow) : Type 0 where
+  pub each : AllByRecursion (λ r. (key : WorldKey) × (row_in after key ≡ Some r)) rows
+  pub others : (key : WorldKey) → at key ≡ true → is_put rows key ≡ false → (row_in after key ≡ None) ⊎ (row_in before key ≡ row_in after key)
+
+-- the rows are others with such changes behind them
+pub record AreAdded (at : WorldKey → Bool) (before after : World) (old new : List StoredRow) : Type 0 where
+  pub more : List StoredRow
+  pub behind : new ≡ old ++ more
+  pub changes : AreChangesAt at before after more

@@ -1,0 +1,17 @@
+-- What is known while an import's rows are told one after another.
+use Rattle.std.specs.Prelude.{◌≡◌, List, ◌++◌}
+use Rattle.sched_book.specs.Desk.{counts}
+use Rattle.sched_book.specs.declared.desk.Counts.{Counts}
+use Rattle.sched_book.specs.declared.rows.App.{App}
+use Rattle.sched_book.specs.declared.world.World.{World}
+use Rattle.table_meaning.specs.declared.rows.StoredRow.{StoredRow}
+use Rattle.table_worlds.specs.Changes.{AreChanges}
+use Rattle.table_worlds.specs.Readable.{IsReadable}
+
+-- The rows lead from the world before the import to the present one, which has so many rows of each kind, is told by its
+-- rows, and has the applications of the one before first.
+pub record AreImported (before present : World) (count : Counts) (rows : List StoredRow) : Type 0 where
+  pub counted : count ≡ counts present
+  pub apps : (more : List App) × (present.apps ≡ before.apps ++ more)
+  pub readable : IsReadable present
+  pub changes : AreChanges before present rows

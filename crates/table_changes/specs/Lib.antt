@@ -1,0 +1,5 @@
+pub mod Added
+pub mod Imported
+pub mod Tallies
+pub mod Touching
+pub mod Words

@@ -1,0 +1,14 @@
+//! The rows that changes of a world put into the stored tables, told from what the changes touch. It knows no SQL.
+#![tactic(auto)]
+
+mod applications;
+mod calls;
+mod changes;
+mod hosts;
+mod imports;
+mod instances;
+mod tallies;
+mod touched;
+mod units;
+
+pub use changes::rows_of_changes;

@@ -1,0 +1,136 @@
+//! What each host holds and its credit, counted over the workunits that a call touched.
+
+ghost use Rattle.std.specs.Prelude.{◌≡◌, ◌==◌, ◌≤◌, ℕ, if◌then◌else◌, length, IfOk, OnOk};
+ghost use Rattle.std.specs.BTreeMap.{get};
+ghost use Rattle.std.specs.Option.{option_copied};
+ghost use Rattle.std.specs.Ordering.{nat_cmp};
+ghost use Rattle.sched_book.specs.Count.{verdict, is_valid};
+ghost use Rattle.call_sheet.specs.Sheets.{book_before, book_now};
+ghost use Rattle.table_worlds.specs.Totals.{more, with_instance, with_instances};
+ghost use Rattle.table_changes.specs.Tallies.{tally, held_on, credit_on, AreTallies};
+
+use call_sheet::{Leaf, Page};
+use sched_book::count::{canonical, is_valid, verdict_by};
+use sched_book::limits::MOST_INSTANCES;
+use sched_book::{Agreement, Instance, Unavailable, Workunit};
+use std::alloc::Global;
+use std::collections::BTreeMap;
+use table_worlds::Total;
+use texts::Memory;
+
+/// What the touched workunits give each host, by its number: before the call, and now.
+#[derive(Drop)]
+pub(crate) struct Tallies {
+    pub before: BTreeMap<u32, Total>,
+    pub present: BTreeMap<u32, Total>,
+}
+
+/// What was counted of a host.
+pub(crate) fn tally(totals: &BTreeMap<u32, Total>, host: u32) -> Total
+    ensures { result ≡ tally totals.now host }
+{
+    match totals.get(&host) {
+        None => Total { held: 0, credit: 0 },
+        Some(total) => *total,
+    }
+}
+
+/// Puts a total in the place of what was counted of the host.
+fn put_total(totals: &mut BTreeMap<u32, Total>, host: u32, total: Total) -> Result<(), Memory>
+    ensures { OnOk result ((n : ℕ) → tally totals.new n ≡ (if host == n then total else tally totals.old n)) }
+{
+    totals.insert(host, total)?;
+    Ok(())
+}
+
+/// Counts so many more instances held and so much more credit of a host.
+fn count_more(
+    totals: &mut BTreeMap<u32, Total>,
+    host: u32,
+    held: u32,
+    credit: u64,
+) -> Result<(), Unavailable>
+    ensures { OnOk result ((n : ℕ) → tally totals.new n ≡ (if host == n then more (tally totals.old n) held credit else tally totals.old n)) }
+{
+    let total = tally(totals, host).plus(held, credit)?;
+    put_total(totals, host, total)?;
+    Ok(())
+}
+
+/// Counts an instance that earned so much, where it was given to a host.
+fn count_instance(
+    totals: &mut BTreeMap<u32, Total>,
+    instance: &Instance,
+    credit: u64,
+) -> Result<(), Unavailable>
+    ensures { OnOk result ((host : ℕ) → tally totals.new host ≡ with_instance instance.now credit host (tally totals.old host)) }
+{
+    match &instance.owner {
+        None => Ok(()),
+        Some(owner) => count_more(totals, owner.host, u32::from(instance.is_held()), credit),
+    }
+}
+
+/// What an instance of the workunit earned, in millicredits.
+fn earned(unit: &Workunit, valid: bool) -> u64
+    ensures { result ≡ (if valid then unit.now.credit else 0) }
+{
+    if valid { u64::from(unit.credit) } else { 0 }
+}
+
+/// Counts the instances of a workunit.
+fn count_instances(
+    totals: &mut BTreeMap<u32, Total>,
+    agreement: &Agreement,
+    unit: &Workunit,
+    instances: &[Instance],
+) -> Result<(), Unavailable>
+    requires { length instances.now ≤ MOST_INSTANCES }
+    ensures { OnOk result ((host : ℕ) → tally totals.new host
+        ≡ with_instances (λ x. is_valid (verdict agreement.now unit.now instances.now x)) unit.now.credit instances.now host (tally totals.old host)) }
+{
+    let canonical = canonical(agreement, unit, instances);
+    for instance in instances {
+        let valid = is_valid(verdict_by(agreement, instances, canonical, instance));
+        count_instance(totals, instance, earned(unit, valid))?;
+    }
+    Ok(())
+}
+
+/// Counts the workunit of a leaf, as it was before the call and as it is now.
+fn count_leaf(tallies: &mut Tallies, leaf: Option<&Leaf>) -> Result<(), Unavailable>
+    ensures before { OnOk result ((host : ℕ) → tally tallies.new.before host
+        ≡ more (tally tallies.old.before host) (held_on book_before host (option_copied leaf.entry)) (credit_on book_before host (option_copied leaf.entry))) }
+    ensures present { OnOk result ((host : ℕ) → tally tallies.new.present host
+        ≡ more (tally tallies.old.present host) (held_on book_now host (option_copied leaf.entry)) (credit_on book_now host (option_copied leaf.entry))) }
+{
+    let Some(leaf) = leaf else {
+        return Ok(());
+    };
+    count_instances(
+        &mut tallies.before,
+        &leaf.agreement,
+        &leaf.unit,
+        leaf.before.as_slice(),
+    )?;
+    count_instances(
+        &mut tallies.present,
+        &leaf.agreement,
+        &leaf.unit,
+        leaf.present.as_slice(),
+    )
+}
+
+/// What the workunits at these places of the page give each host.
+pub(crate) fn tallies_of(alloc: Global, page: &Page, units: &[u32]) -> Result<Tallies, Unavailable>
+    ensures { IfOk result (AreTallies (get nat_cmp page.now.leaves) units.now) }
+{
+    let mut tallies = Tallies {
+        before: BTreeMap::new(alloc),
+        present: BTreeMap::new(alloc),
+    };
+    for unit in units {
+        count_leaf(&mut tallies, page.leaf(*unit))?;
+    }
+    Ok(tallies)
+}

@@ -1,0 +1,66 @@
+//! What the changes of a page touch.
+
+ghost use Rattle.std.specs.Prelude.{◌≡◌, ◌||◌, ℕ, false, None, is_some, IfOk, OnOk};
+ghost use Rattle.std.specs.BTreeMap.{get};
+ghost use Rattle.std.specs.BTreeSet.{contains};
+ghost use Rattle.std.specs.Ordering.{nat_cmp};
+ghost use Rattle.table_changes.specs.Added.{is_among};
+ghost use Rattle.table_changes.specs.Touching.{AreTouched, HaveAll};
+
+use crate::tallies::{Tallies, tallies_of};
+use call_sheet::Page;
+use sched_book::Unavailable;
+use std::alloc::Global;
+use std::collections::{BTreeMap, BTreeSet};
+use texts::{Listed, Memory};
+
+/// The places of the workunits and the numbers of the hosts whose rows may be others than before, and what the
+/// workunits give the hosts.
+#[derive(Drop)]
+pub(crate) struct Touched {
+    pub units: Listed<u32>,
+    pub hosts: Listed<u32>,
+    pub tallies: Tallies,
+}
+
+/// The numbers at which a map has something.
+fn numbers_of<V>(alloc: Global, map: &BTreeMap<u32, V>) -> Result<Vec<u32>, Memory>
+    ensures { IfOk result (λ numbers. (n : ℕ) → is_some (get nat_cmp map.now n) ≡ is_among numbers.items n) }
+{
+    map.keys().copied().collect(alloc)
+}
+
+/// Puts the numbers into the set.
+fn put_numbers(set: &mut BTreeSet<u32>, numbers: &[u32]) -> Result<(), Memory>
+    ensures { OnOk result ((n : ℕ) → contains nat_cmp set.new n ≡ (is_among numbers.now n || contains nat_cmp set.old n)) }
+{
+    for number in numbers {
+        set.insert(*number)?;
+    }
+    Ok(())
+}
+
+/// The numbers of the hosts that are on the page, or have a tally.
+fn hosts_of(alloc: Global, page: &Page, tallies: &Tallies) -> Result<Listed<u32>, Memory>
+    ensures { IfOk result (HaveAll page.now tallies.now) }
+{
+    let mut hosts = BTreeSet::new(alloc);
+    put_numbers(&mut hosts, numbers_of(alloc, &page.hosts)?.as_slice())?;
+    put_numbers(&mut hosts, numbers_of(alloc, &tallies.before)?.as_slice())?;
+    put_numbers(&mut hosts, numbers_of(alloc, &tallies.present)?.as_slice())?;
+    Ok(Listed::of(hosts.iter().copied().collect(alloc)?))
+}
+
+/// What the changes of the page touch.
+pub(crate) fn touched_by(alloc: Global, page: &Page) -> Result<Touched, Unavailable>
+    ensures { IfOk result (AreTouched page.now) }
+{
+    let units = Listed::of(page.units(alloc)?);
+    let tallies = tallies_of(alloc, page, units.as_slice())?;
+    let hosts = hosts_of(alloc, page, &tallies)?;
+    Ok(Touched {
+        units,
+        hosts,
+        tallies,
+    })
+}

@@ -1,0 +1,70 @@
+//! The rows of workunits that a call gave another status.
+
+ghost use Rattle.std.specs.Prelude.{◌≡◌, IfOk, OnOk};
+ghost use Rattle.std.specs.Option.{option_copied};
+ghost use Rattle.sched_book.specs.Count as spec;
+ghost use Rattle.sched_book.specs.Delta.{applied};
+ghost use Rattle.sched_book.specs.Trusted.{Trusted};
+ghost use Rattle.sched_book.specs.declared.world.World.{World};
+ghost use Rattle.call_sheet.specs.Sheets.{IsLeafAt, IsPageOf};
+ghost use Rattle.table_worlds.specs.Changes.{IsChange};
+ghost use Rattle.table_worlds.specs.Keys.{row_in};
+ghost use Rattle.table_worlds.specs.declared.keys.WorldKey.TheVariants as key;
+ghost use Rattle.table_changes.specs.Added.{is_unit_among, AreAdded};
+
+use crate::applications::known_app;
+use call_sheet::{Leaf, Page};
+use sched_book::count::status;
+use sched_book::{Desk, Status, Unavailable};
+use std::alloc::Global;
+use table_meaning::rows::StoredRow;
+use table_worlds::unit_row;
+use texts::Listed;
+
+/// The workunit's status now.
+pub(crate) fn present_status(leaf: &Leaf) -> Status
+    ensures { result ≡ spec.status leaf.now.agreement leaf.now.unit leaf.now.present }
+{
+    status(&leaf.agreement, &leaf.unit, leaf.present.as_slice())
+}
+
+/// The row of the workunit at a place, where its status is another than before.
+fn changed_unit<D: Desk>(
+    alloc: Global,
+    desk: &mut D,
+    unit: u32,
+    leaf: Option<&Leaf>,
+) -> Result<Option<StoredRow>, Unavailable>
+    ensures reads { D.reads desk.old desk.new }
+    ensures row { Trusted D.Units desk.old desk.new ((after : World) → after.apps ≡ (D.world desk.old).apps
+        → IsLeafAt (D.world desk.old) after unit (option_copied leaf.entry)
+        → IfOk result (IsChange (row_in (D.world desk.old) (key.Unit unit)) (row_in after (key.Unit unit)))) }
+{
+    let Some(leaf) = leaf else {
+        return Ok(None);
+    };
+    let status = present_status(leaf);
+    if status == leaf.status_before() {
+        return Ok(None);
+    }
+    let app = known_app(alloc, desk, leaf.unit.app.as_str())?;
+    Ok(Some(unit_row(unit, app.place, &leaf.unit, status)?))
+}
+
+/// Puts behind the others the rows of those of the workunits whose status is another than before.
+pub(crate) fn push_units<D: Desk>(
+    alloc: Global,
+    desk: &mut D,
+    page: &Page,
+    units: &[u32],
+    rows: &mut Listed<StoredRow>,
+) -> Result<(), Unavailable>
+    ensures reads { D.reads desk.old desk.new }
+    ensures rows { Trusted D.Units desk.old desk.new (IsPageOf (D.world desk.old) page.now →
+        OnOk result (AreAdded (is_unit_among units.now) (D.world desk.old) (applied (D.world desk.old) page.now.delta) rows.old rows.new)) }
+{
+    for unit in units {
+        rows.push_some(changed_unit(alloc, desk, *unit, page.leaf(*unit))?)?;
+    }
+    Ok(())
+}
