@@ -1,0 +1,14 @@
+pub mod AskedOn
+pub mod ColumnsCounted
+pub mod CreditsListed
+pub mod Found
+pub mod InstancesListed
+pub mod LastNumbers
+pub mod PagesOffered
+pub mod PlacesAsked
+pub mod PlacesStand
+pub mod ReadLater
+pub mod Standing
+pub mod UnitsOfUser
+pub mod VersionsListed
+pub mod Waiting

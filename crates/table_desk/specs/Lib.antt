@@ -1,0 +1,5 @@
+pub mod Asked
+pub mod Columns
+pub mod Pages
+pub mod Users
+pub mod Versions

@@ -1,0 +1,27 @@
+-- Candidates that are looked up a page of places at a time.
+use Rattle.std.specs.Prelude.{◌+◌, List, [], filter_map, slice_get, Option, Some, None, option_map}
+use Rattle.sched_book.specs.Desk.{workunit_at}
+use Rattle.sched_book.specs.Offers.{unsent}
+use Rattle.sched_book.specs.declared.desk.Candidate.{Candidate}
+use Rattle.sched_book.specs.declared.instance.Place.{Place}
+use Rattle.sched_book.specs.declared.world.World.{World}
+
+-- a place with its workunit, where one stands
+abbrev pub candidate_at : World → Place → Option Candidate
+candidate_at w place = option_map (λ u. record { place = place; unit = u }) (workunit_at w place.unit)
+
+abbrev pub candidates_at : World → List Place → List Candidate
+candidates_at w = filter_map (candidate_at w)
+
+-- the place of the next number
+abbrev pub behind : Place → Place
+behind place = record { unit = place.unit; number = place.number + 1 }
+
+-- the next page begins behind the last of 64 places; behind fewer there is none
+abbrev pub next_page : List Place → Option Place
+next_page places = option_map behind (slice_get places 63)
+
+-- what is unsent from there on, and nothing where there is no further page
+abbrev pub unsent_on : World → Option Place → List Candidate
+unsent_on w None = []
+unsent_on w (Some from) = unsent w from

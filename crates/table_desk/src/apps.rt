@@ -1,0 +1,143 @@
+//! Applications and their versions.
+
+ghost use Rattle.std.specs.Prelude.{◌≡◌, position, Some, IfOk};
+ghost use Rattle.std.specs.Str.{bytes_eq};
+ghost use Rattle.sqlite.specs.Held.{state};
+ghost use Rattle.sched_book.specs.Desk.{app_by_name as app_of_name, version_by_key as version_of_key};
+ghost use Rattle.sched_book.specs.Fits.{version_among as among, version_at};
+ghost use Rattle.sched_book.specs.Places.{place_where};
+ghost use Rattle.sched_book.specs.declared.world.World.{World};
+ghost use Rattle.table_meaning.specs.Reads.{Reads};
+ghost use Rattle.table_desk.specs.Asked.{Asked};
+ghost use Rattle.table_desk.specs.Versions.{greatest};
+
+use sched_book::{App, HostRow, Placed, Unavailable, Version, copy_of, nth};
+use sqlite::{Alter, Connection};
+use std::alloc::Global;
+use table_rows::version_numbers;
+use texts::Text;
+
+fn index_of(apps: &[App], name: &str) -> Option<usize>
+    ensures { result ≡ position (λ a. bytes_eq a.name name.now) apps.now }
+{
+    apps.iter().position(|app| app.name.is(name))
+}
+
+/// The place of the application of this name.
+fn place_of(apps: &[App], name: &str) -> Result<Option<u32>, Unavailable>
+    ensures { IfOk result (λ place. place ≡ place_where (λ a. bytes_eq a.name name.now) apps.now) }
+{
+    let Some(index) = index_of(apps, name) else {
+        return Ok(None);
+    };
+    match u32::try_from(index) {
+        Err(_) => Err(Unavailable),
+        Ok(index) => match index.checked_add(1) {
+            None => Err(Unavailable),
+            Some(place) => Ok(Some(place)),
+        },
+    }
+}
+
+/// The application of this name, of all applications.
+pub fn app_by_name(apps: &[App], name: &str) -> Result<Option<Placed<App>>, Unavailable>
+    ensures { (w : World) → apps.now ≡ w.apps → IfOk result (λ r. r ≡ app_of_name w name.now) }
+{
+    match place_of(apps, name)? {
+        None => Ok(None),
+        Some(place) => match nth(apps, place) {
+            None => Ok(None),
+            Some(row) => Ok(Some(Placed {
+                place,
+                row: copy_of(row)?,
+            })),
+        },
+    }
+}
+
+/// The greatest of these numbers.
+fn greatest(numbers: &[u32]) -> Option<u32>
+    ensures { result ≡ greatest numbers.now }
+{
+    let mut best: Option<u32> = None;
+    for number in numbers {
+        best = match best {
+            Some(other) if *number <= other => Some(other),
+            _ => Some(*number),
+        };
+    }
+    best
+}
+
+/// The newest version of the application of this name, which is the first of its name at this place, for the first of
+/// the platforms that has any. The connection shows what it showed.
+fn version_among<S: Alter>(
+    alloc: Global,
+    conn: &mut Connection<S>,
+    app: &Text,
+    place: u32,
+    platforms: &[Text],
+) -> Result<Option<Version>, Unavailable>
+    ensures reads { Reads (state S.Store conn.old) (state S.Store conn.new) }
+    ensures answer { Asked S.Store conn.old conn.new (λ w. Some place ≡ place_where (λ a. bytes_eq a.name app.now) w.apps
+        → IfOk result (λ r. r ≡ among w.versions app.now platforms.now)) }
+{
+    for platform in platforms {
+        let numbers = version_numbers(alloc, conn, place, platform.as_str())?;
+        if let Some(version_num) = greatest(numbers.as_slice()) {
+            return Ok(Some(Version {
+                app: app.clone()?,
+                platform: platform.clone()?,
+                version_num,
+            }));
+        }
+    }
+    Ok(None)
+}
+
+/// The version that a host runs of the application at this place, of all applications: the newest for the first of the
+/// host's platforms that has any. The connection shows what it showed.
+pub fn version_for<S: Alter>(
+    alloc: Global,
+    conn: &mut Connection<S>,
+    apps: &[App],
+    host: &HostRow,
+    app: u32,
+) -> Result<Option<Version>, Unavailable>
+    ensures reads { Reads (state S.Store conn.old) (state S.Store conn.new) }
+    ensures answer { Asked S.Store conn.old conn.new (λ w. apps.now ≡ w.apps → IfOk result (λ r. r ≡ version_at w host.now app)) }
+{
+    let Some(named) = nth(apps, app) else {
+        return Ok(None);
+    };
+    let Some(place) = place_of(apps, named.name.as_str())? else {
+        return Ok(None);
+    };
+    version_among(alloc, conn, &named.name, place, host.platforms.as_slice())
+}
+
+/// The version of this application, for this platform, with this number. The connection shows what it showed.
+pub fn version_by_key<S: Alter>(
+    alloc: Global,
+    conn: &mut Connection<S>,
+    apps: &[App],
+    app: &str,
+    platform: &str,
+    version_num: u32,
+) -> Result<Option<Version>, Unavailable>
+    ensures reads { Reads (state S.Store conn.old) (state S.Store conn.new) }
+    ensures answer { Asked S.Store conn.old conn.new (λ w. apps.now ≡ w.apps → IfOk result (λ r. r ≡ version_of_key w app.now platform.now version_num)) }
+{
+    let Some(place) = place_of(apps, app)? else {
+        return Ok(None);
+    };
+    let numbers = version_numbers(alloc, conn, place, platform)?;
+    if !numbers.as_slice().contains(&version_num) {
+        return Ok(None);
+    }
+    Ok(Some(Version {
+        app: Text::copied(alloc, app)?,
+        platform: Text::copied(alloc, platform)?,
+        version_num,
+    }))
+}

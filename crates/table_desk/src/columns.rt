@@ -1,0 +1,121 @@
+//! What is counted of a host or a workunit, read in its row, and of a user, read in the rows of the user's hosts.
+
+ghost use Rattle.std.specs.Prelude.{◌≡◌, pos, length, sum_by, unsigned_abs, IfOk};
+ghost use Rattle.sqlite.specs.Held.{state};
+ghost use Rattle.sched_book.specs.Desk.{unit_status};
+ghost use Rattle.sched_book.specs.Places.{held_by as held_in, host_credit, user_credit};
+ghost use Rattle.table_meaning.specs.Reads.{Reads};
+ghost use Rattle.table_desk.specs.Asked.{Asked};
+ghost use Rattle.table_desk.specs.Columns.{status_told};
+
+use sched_book::{Status, Unavailable};
+use sqlite::{Alter, Connection};
+use std::alloc::Global;
+use table_rows::{
+    counts_of, credits_of_user, places_held, places_owned, status_of as status_column,
+};
+
+/// The status that a number stands for.
+fn status_told(number: u32) -> Option<Status>
+    ensures { result ≡ status_told number }
+{
+    match number {
+        0 => Some(Status::Open),
+        1 => Some(Status::Done),
+        2 => Some(Status::FailedErrors),
+        3 => Some(Status::FailedSuccess),
+        4 => Some(Status::FailedTotal),
+        _ => None,
+    }
+}
+
+/// The status of the workunit at this place. The connection shows what it showed.
+pub fn status_of<S: Alter>(
+    alloc: Global,
+    conn: &mut Connection<S>,
+    unit: u32,
+) -> Result<Option<Status>, Unavailable>
+    ensures reads { Reads (state S.Store conn.old) (state S.Store conn.new) }
+    ensures answer { Asked S.Store conn.old conn.new (λ w. IfOk result (λ r. r ≡ unit_status w unit)) }
+{
+    match status_column(alloc, conn, unit)? {
+        None => Ok(None),
+        Some(number) => match status_told(number) {
+            None => Err(Unavailable),
+            Some(status) => Ok(Some(status)),
+        },
+    }
+}
+
+/// How many instances the host holds. One that has no row, as a host that a call only makes, holds what its instances
+/// say. The connection shows what it showed.
+pub fn held_count<S: Alter>(
+    alloc: Global,
+    conn: &mut Connection<S>,
+    host: u32,
+) -> Result<u32, Unavailable>
+    ensures reads { Reads (state S.Store conn.old) (state S.Store conn.new) }
+    ensures answer { Asked S.Store conn.old conn.new (λ w. IfOk result (λ r. r ≡ length (held_in w host))) }
+{
+    if let Some(counts) = counts_of(alloc, conn, host)? {
+        return Ok(counts.held);
+    }
+    let held = places_held(alloc, conn, host)?;
+    match u32::try_from(held.len()) {
+        Err(_) => Err(Unavailable),
+        Ok(count) => Ok(count),
+    }
+}
+
+/// The millicredits of the host. One that has no row was given nothing, or the tables are not those of a scheduler. The
+/// connection shows what it showed.
+pub fn credit_of_host<S: Alter>(
+    alloc: Global,
+    conn: &mut Connection<S>,
+    host: u32,
+) -> Result<u64, Unavailable>
+    ensures reads { Reads (state S.Store conn.old) (state S.Store conn.new) }
+    ensures answer { Asked S.Store conn.old conn.new (λ w. IfOk result (λ r. r ≡ host_credit w host)) }
+{
+    if let Some(counts) = counts_of(alloc, conn, host)? {
+        return match u64::try_from(counts.credit) {
+            Err(_) => Err(Unavailable),
+            Ok(credit) => Ok(credit),
+        };
+    }
+    let owned = places_owned(alloc, conn, host)?;
+    if owned.len() > 0 {
+        return Err(Unavailable);
+    }
+    Ok(0)
+}
+
+/// The sum of credits. Unavailable where one is below 0, or where the sum has more than 64 bits.
+fn sum_of(credits: &[i64]) -> Result<u64, Unavailable>
+    ensures { IfOk result (λ sum. sum ≡ sum_by unsigned_abs credits.now) }
+{
+    let mut sum: u64 = 0;
+    for credit in credits {
+        let Ok(credit) = u64::try_from(*credit) else {
+            return Err(Unavailable);
+        };
+        let Some(more) = sum.checked_add(credit) else {
+            return Err(Unavailable);
+        };
+        sum = more;
+    }
+    Ok(sum)
+}
+
+/// The millicredits of the user: those of the user's hosts together. The connection shows what it showed.
+pub fn credit_of_user<S: Alter>(
+    alloc: Global,
+    conn: &mut Connection<S>,
+    account: u32,
+) -> Result<u64, Unavailable>
+    ensures reads { Reads (state S.Store conn.old) (state S.Store conn.new) }
+    ensures answer { Asked S.Store conn.old conn.new (λ w. IfOk result (λ r. r ≡ user_credit w account)) }
+{
+    let credits = credits_of_user(alloc, conn, account)?;
+    sum_of(credits.as_slice())
+}

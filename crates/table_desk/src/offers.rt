@@ -1,0 +1,123 @@
+//! Offers of the instances that wait, to a taker, a page of places at a time.
+
+ghost use Rattle.std.specs.Prelude.{◌≡◌, ℕ, Some, IfOk, OnOk, OnErr};
+ghost use Rattle.sqlite.specs.Held.{state};
+ghost use Rattle.sched_book.specs.Offers.{unsent, OffersAll, OffersSome, Offered, OfferedSome, Leads};
+ghost use Rattle.sched_book.specs.declared.desk.Candidate.{Candidate as BookCandidate};
+ghost use Rattle.table_meaning.specs.Reads.{Reads};
+ghost use Rattle.table_desk.specs.Asked.{Asked};
+ghost use Rattle.table_desk.specs.Pages.{candidate_at, candidates_at, next_page, unsent_on};
+
+use crate::workunits::unit_at;
+use sched_book::limits::{MOST_INSTANCES, MOST_WORKUNITS};
+use sched_book::{App, Candidate, Flow, Place, Taker, Unavailable};
+use sqlite::{Alter, Connection};
+use std::alloc::Global;
+use table_rows::queued_from;
+
+/// How many places a page has.
+const PAGE: usize = 64;
+
+/// More pages than the instances of all workunits fill.
+const MOST_PAGES: usize = MOST_WORKUNITS * MOST_INSTANCES / PAGE + 1;
+
+/// Where the next page begins, if this one is full. Refused where the number of the last place is the greatest one.
+fn next_page(places: &[Place]) -> Result<Option<Place>, Unavailable>
+    ensures { IfOk result (λ next. next ≡ next_page places.now) }
+{
+    match places.get(PAGE - 1) {
+        None => Ok(None),
+        Some(last) => match last.number.checked_add(1) {
+            None => Err(Unavailable),
+            Some(number) => Ok(Some(Place {
+                unit: last.unit,
+                number,
+            })),
+        },
+    }
+}
+
+/// Offers the candidate at this place, and says whether the taker wants more. Refused where no workunit stands there.
+/// The connection shows what it showed.
+fn offer_at<S: Alter, T: Taker>(
+    alloc: Global,
+    conn: &mut Connection<S>,
+    apps: &[App],
+    place: Place,
+    taker: &mut T,
+) -> Result<Flow, Unavailable>
+    ensures reads { Reads (state S.Store conn.old) (state S.Store conn.new) }
+    ensures offered { Asked S.Store conn.old conn.new (λ w. apps.now ≡ w.apps
+        → IfOk result (λ flow. (c : BookCandidate) × (candidate_at w place ≡ Some c) × T.takes taker.old c flow taker.new)) }
+    ensures none { OnErr result (taker.new ≡ taker.old) }
+{
+    match unit_at(alloc, conn, apps, place.unit)? {
+        None => Err(Unavailable),
+        Some(unit) => Ok(taker.offer(&Candidate { place, unit })),
+    }
+}
+
+/// Offers the candidates at these places, and says whether the taker wants more. The connection shows what it showed.
+fn offer_each<S: Alter, T: Taker>(
+    alloc: Global,
+    conn: &mut Connection<S>,
+    apps: &[App],
+    places: &[Place],
+    taker: &mut T,
+) -> Result<Flow, Unavailable>
+    ensures reads { Reads (state S.Store conn.old) (state S.Store conn.new) }
+    ensures all { Asked S.Store conn.old conn.new (λ w. apps.now ≡ w.apps → IfOk result (Offered T.takes taker.old (candidates_at w places.now) taker.new)) }
+    ensures some { Asked S.Store conn.old conn.new (λ w. apps.now ≡ w.apps → OnErr result (OfferedSome T.takes taker.old (candidates_at w places.now) taker.new)) }
+{
+    for place in places {
+        match offer_at(alloc, conn, apps, *place, taker)? {
+            Flow::GoOn => {}
+            Flow::Stop => return Ok(Flow::Stop),
+        }
+    }
+    Ok(Flow::GoOn)
+}
+
+/// Offers what waits from this place on, a page of it, and says from where there may be more. The connection shows
+/// what it showed.
+fn offer_page<S: Alter, T: Taker>(
+    alloc: Global,
+    conn: &mut Connection<S>,
+    apps: &[App],
+    from: Place,
+    taker: &mut T,
+) -> Result<Option<Place>, Unavailable>
+    ensures reads { Reads (state S.Store conn.old) (state S.Store conn.new) }
+    ensures all { Asked S.Store conn.old conn.new (λ w. apps.now ≡ w.apps → IfOk result (λ next. Leads T.takes taker.old (unsent w from) taker.new (unsent_on w next))) }
+    ensures some { Asked S.Store conn.old conn.new (λ w. apps.now ≡ w.apps → OnErr result (OffersSome T.takes taker.old (unsent w from) taker.new)) }
+{
+    let queued = queued_from(alloc, conn, from)?;
+    match offer_each(alloc, conn, apps, queued.as_slice(), taker)? {
+        Flow::Stop => Ok(None),
+        Flow::GoOn => next_page(queued.as_slice()),
+    }
+}
+
+/// Offers the instances of open workunits that nobody was given, beside all applications, in the order of their places
+/// and from this place on, until the taker says stop. Where the tables are unavailable the offers end early. The
+/// connection shows what it showed.
+pub fn unsent_from<S: Alter, T: Taker>(
+    alloc: Global,
+    conn: &mut Connection<S>,
+    apps: &[App],
+    from: Place,
+    taker: &mut T,
+) -> Result<(), Unavailable>
+    ensures reads { Reads (state S.Store conn.old) (state S.Store conn.new) }
+    ensures all { Asked S.Store conn.old conn.new (λ w. apps.now ≡ w.apps → OnOk result (OffersAll T.takes taker.old (unsent w from) taker.new)) }
+    ensures some { Asked S.Store conn.old conn.new (λ w. apps.now ≡ w.apps → OnErr result (OffersSome T.takes taker.old (unsent w from) taker.new)) }
+{
+    let mut next = from;
+    for _page in 0..MOST_PAGES {
+        match offer_page(alloc, conn, apps, next, taker)? {
+            None => return Ok(()),
+            Some(behind) => next = behind,
+        }
+    }
+    Err(Unavailable)
+}

@@ -1,0 +1,80 @@
+//! Places of instances, by what became of them.
+
+ghost use Rattle.std.specs.Prelude.{◌≡◌, ◌+◌, ◌*◌, pos, IfOk, IfSome};
+ghost use Rattle.sqlite.specs.Held.{state};
+ghost use Rattle.sched_book.specs.Places.{held_by as held_in, owned_by as owned_in, overdue as overdue_in, sent_on_day as sent_in};
+ghost use Rattle.table_meaning.specs.Reads.{Reads};
+ghost use Rattle.table_desk.specs.Asked.{Asked};
+
+use sched_book::{Moment, Place, Unavailable};
+use sqlite::{Alter, Connection};
+use std::alloc::Global;
+use table_rows::{places_due, places_held, places_owned, sent_between};
+use texts::Listed;
+
+/// The seconds of a day.
+const DAY: i64 = 86_400;
+
+/// The first moment of a day, and that of the next.
+fn bounds_of(day: u64) -> Option<(i64, i64)>
+    ensures { IfSome result (λ r. (r.0 ≡ pos (day * 86400)) × (r.1 ≡ pos (day * 86400 + 86400))) }
+{
+    let from = i64::try_from(day).ok()?.checked_mul(DAY)?;
+    Some((from, from.checked_add(DAY)?))
+}
+
+/// The places of the instances that the host holds, in order. The connection shows what it showed.
+pub fn held_by<S: Alter>(
+    alloc: Global,
+    conn: &mut Connection<S>,
+    host: u32,
+) -> Result<Listed<Place>, Unavailable>
+    ensures reads { Reads (state S.Store conn.old) (state S.Store conn.new) }
+    ensures answer { Asked S.Store conn.old conn.new (λ w. IfOk result (λ r. r ≡ held_in w host)) }
+{
+    Ok(places_held(alloc, conn, host)?)
+}
+
+/// The places of the instances that were given to the host, in order. The connection shows what it showed.
+pub fn owned_by<S: Alter>(
+    alloc: Global,
+    conn: &mut Connection<S>,
+    host: u32,
+) -> Result<Listed<Place>, Unavailable>
+    ensures reads { Reads (state S.Store conn.old) (state S.Store conn.new) }
+    ensures answer { Asked S.Store conn.old conn.new (λ w. IfOk result (λ r. r ≡ owned_in w host)) }
+{
+    Ok(places_owned(alloc, conn, host)?)
+}
+
+/// How many of the host's instances were sent on this day. The connection shows what it showed.
+pub fn sent_on_day<S: Alter>(
+    alloc: Global,
+    conn: &mut Connection<S>,
+    host: u32,
+    day: u64,
+) -> Result<u32, Unavailable>
+    ensures reads { Reads (state S.Store conn.old) (state S.Store conn.new) }
+    ensures answer { Asked S.Store conn.old conn.new (λ w. IfOk result (λ r. r ≡ sent_in w host day)) }
+{
+    let Some((from, until)) = bounds_of(day) else {
+        return Err(Unavailable);
+    };
+    Ok(sent_between(alloc, conn, host, from, until)?)
+}
+
+/// The places of the held instances whose deadline is before this moment, in order. The connection shows what it
+/// showed.
+pub fn due_before<S: Alter>(
+    alloc: Global,
+    conn: &mut Connection<S>,
+    now: Moment,
+) -> Result<Listed<Place>, Unavailable>
+    ensures reads { Reads (state S.Store conn.old) (state S.Store conn.new) }
+    ensures answer { Asked S.Store conn.old conn.new (λ w. IfOk result (λ r. r ≡ overdue_in w now)) }
+{
+    match i64::try_from(now.seconds()) {
+        Err(_) => Err(Unavailable),
+        Ok(before) => Ok(places_due(alloc, conn, before)?),
+    }
+}

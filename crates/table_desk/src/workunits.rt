@@ -1,0 +1,112 @@
+//! Workunits and their instances, by their keys.
+
+ghost use Rattle.std.specs.Prelude.{◌≡◌, ◌≤◌, length, map, IfOk};
+ghost use Rattle.sqlite.specs.Held.{state};
+ghost use Rattle.sched_book.specs.Desk.{agreement_at as agreement_in, instances_at as instances_within, workunit_at};
+ghost use Rattle.sched_book.specs.Limits.{most_instances};
+ghost use Rattle.sched_book.specs.Places.{unit_named, instance_at as job_at};
+ghost use Rattle.table_meaning.specs.Reads.{Reads};
+ghost use Rattle.table_meaning.specs.Rows.{columns_of};
+ghost use Rattle.table_meaning.specs.declared.rows.StoredRow.TheVariants as stored;
+ghost use Rattle.table_worlds.specs.ReadBack.{job_in};
+ghost use Rattle.table_desk.specs.Asked.{Asked};
+
+use sched_book::count::agreement_by;
+use sched_book::limits::MOST_INSTANCES;
+use sched_book::{Agreement, App, Instance, Unavailable, Workunit};
+use sqlite::{Alter, Connection};
+use std::alloc::Global;
+use table_decoding::{instance, workunit};
+use table_meaning::rows::StoredInstance;
+use table_rows::{instance_of, instances_in, unit_named, unit_of};
+use texts::Listed;
+
+/// The place of the workunit of this name. The connection shows what it showed.
+pub fn unit_by_name<S: Alter>(
+    alloc: Global,
+    conn: &mut Connection<S>,
+    name: &str,
+) -> Result<Option<u32>, Unavailable>
+    ensures reads { Reads (state S.Store conn.old) (state S.Store conn.new) }
+    ensures answer { Asked S.Store conn.old conn.new (λ w. IfOk result (λ r. r ≡ unit_named w name.now)) }
+{
+    Ok(unit_named(alloc, conn, name)?)
+}
+
+/// The workunit at this place, beside all applications. The connection shows what it showed.
+pub fn unit_at<S: Alter>(
+    alloc: Global,
+    conn: &mut Connection<S>,
+    apps: &[App],
+    unit: u32,
+) -> Result<Option<Workunit>, Unavailable>
+    ensures reads { Reads (state S.Store conn.old) (state S.Store conn.new) }
+    ensures answer { Asked S.Store conn.old conn.new (λ w. apps.now ≡ w.apps → IfOk result (λ r. r ≡ workunit_at w unit)) }
+{
+    match unit_of(alloc, conn, unit)? {
+        None => Ok(None),
+        Some(row) => Ok(Some(workunit(apps, &row)?)),
+    }
+}
+
+/// How the outputs of the workunit at this place are compared, beside all applications. The connection shows what it
+/// showed.
+pub fn agreement_at<S: Alter>(
+    alloc: Global,
+    conn: &mut Connection<S>,
+    apps: &[App],
+    unit: u32,
+) -> Result<Option<Agreement>, Unavailable>
+    ensures reads { Reads (state S.Store conn.old) (state S.Store conn.new) }
+    ensures answer { Asked S.Store conn.old conn.new (λ w. apps.now ≡ w.apps → IfOk result (λ r. r ≡ agreement_in w unit)) }
+{
+    match unit_at(alloc, conn, apps, unit)? {
+        None => Ok(None),
+        Some(unit) => Ok(Some(agreement_by(apps, unit.app.as_str()))),
+    }
+}
+
+/// The instance of this number of the workunit at this place. The connection shows what it showed.
+pub fn instance_at<S: Alter>(
+    alloc: Global,
+    conn: &mut Connection<S>,
+    unit: u32,
+    number: u32,
+) -> Result<Option<Instance>, Unavailable>
+    ensures reads { Reads (state S.Store conn.old) (state S.Store conn.new) }
+    ensures answer { Asked S.Store conn.old conn.new (λ w. IfOk result (λ r. r ≡ job_at w (record { unit = unit; number = number }))) }
+{
+    match instance_of(alloc, conn, unit, number)? {
+        None => Ok(None),
+        Some(row) => Ok(Some(instance(&row)?)),
+    }
+}
+
+/// The instances of these rows.
+fn instances(alloc: Global, rows: &[StoredInstance]) -> Result<Listed<Instance>, Unavailable>
+    ensures { IfOk result (λ all. all ≡ map (λ row. job_in (columns_of (stored.Instance row))) rows.now) }
+{
+    let mut all = Listed::new(alloc);
+    for row in rows {
+        all.push(instance(row)?)?;
+    }
+    Ok(all)
+}
+
+/// The instances of the workunit at this place, by number. Refused where it has more than it may have. The connection
+/// shows what it showed.
+pub fn instances_at<S: Alter>(
+    alloc: Global,
+    conn: &mut Connection<S>,
+    unit: u32,
+) -> Result<Listed<Instance>, Unavailable>
+    ensures reads { Reads (state S.Store conn.old) (state S.Store conn.new) }
+    ensures few { IfOk result (λ r. length r ≤ most_instances) }
+    ensures answer { Asked S.Store conn.old conn.new (λ w. IfOk result (λ r. r ≡ instances_within w unit)) }
+{
+    let rows = instances_in(alloc, conn, unit)?;
+    if rows.len() > MOST_INSTANCES {
+        return Err(Unavailable);
+    }
+    instances(alloc, rows.as_slice())
+}
