@@ -12,7 +12,10 @@ use Rattle.message_engine.specs.declared.entry.Entry.TheVariants as entry
 use Rattle.pasts.specs.Kinds.{kind_name}
 use Rattle.pasts.specs.declared.kind.Kind.{Kind}
 use Rattle.reply_register.specs.declared.kept.Kept.{Kept}
-use Rattle.sched_book.specs.Delta.{applied}
+use Rattle.sched_book.specs.Delta.{applied_one, applied}
+use Rattle.sched_book.specs.declared.delta.Change.TheVariants as change
+use Rattle.sched_book.specs.declared.rows.App.{App}
+use Rattle.sched_book.specs.declared.settings.Settings.{Settings}
 use Rattle.sched_book.specs.declared.delta.Change.{Change}
 use Rattle.sched_book.specs.declared.world.World.{World}
 use Rattle.table_meaning.specs.declared.rows.StoredRow.{StoredRow}
@@ -20,9 +23,12 @@ use Rattle.table_meaning.specs.declared.rows.StoredRow.TheVariants as stored
 use Rattle.table_meaning.specs.Rows.{RowKey, kept_key, batch_key, columns_of, same_key}
 use Rattle.table_meaning.specs.Worlds.{BatchText, HoldWorld}
 use Rattle.table_meaning.proofs.Keys.{key_itself}
-use Rattle.sched_tables.specs.Commits.{LastCalls, Imports, Keeps, LeadsTo}
+use Rattle.sched_tables.specs.Commits.{LastCalls, Imports, Keeps, LeadsTo, Makes, apps_with}
 use Rattle.sched_tables.specs.Entries.{row_of, last_calls_with, imports_with, kept_batch, calls_of, batches_of}
-use Rattle.sched_tables.specs.Held.{AreWellKept}
+use Rattle.sched_tables.specs.Held.{AreWellKept, AreBeside}
+use Rattle.table_worlds.specs.Readable.{IsReadable}
+use Rattle.table_worlds.specs.StoredWorld.{world_in}
+use Rattle.table_worlds.proofs.WorldReadBack.{held_is_read_back}
 use Rattle.table_meaning.specs.Kept.{call_of, batch_of, calls_in, batches_in}
 
 -- ---- the row of an entry
@@ -88,6 +94,27 @@ module _ (db : Database) (w : World) (calls : LastCalls) (batches : Imports) (ho
   pub held_with_kept : HoldWorld db w (calls_in db.trees) (batches_in db.trees)
   held_with_kept = subst (λ (c : LastCalls). HoldWorld db w c (batches_in db.trees)) (λ i host. sym (calls_back host) i) (subst (λ (b : Imports). HoldWorld db w calls b) (λ i kind name. sym (batches_back kind name) i) holds)
 
+-- ---- what is kept beside the tables
+
+-- changes leave the settings, and bring applications
+settings_stay : (w : World) (cs : List Change) → (applied w cs).settings ≡ w.settings
+settings_stay w [] = refl
+settings_stay w (change.Account a ∷ cs) = settings_stay (applied_one w (change.Account a)) cs
+settings_stay w (change.App a ∷ cs) = settings_stay (applied_one w (change.App a)) cs
+settings_stay w (change.Version v ∷ cs) = settings_stay (applied_one w (change.Version v)) cs
+settings_stay w (change.Workunit u ∷ cs) = settings_stay (applied_one w (change.Workunit u)) cs
+settings_stay w (change.Host n h ∷ cs) = settings_stay (applied_one w (change.Host n h)) cs
+settings_stay w (change.Instance p x ∷ cs) = settings_stay (applied_one w (change.Instance p x)) cs
+
+apps_brought : (w : World) (cs : List Change) → (applied w cs).apps ≡ apps_with w.apps cs
+apps_brought w [] = refl
+apps_brought w (change.Account a ∷ cs) = apps_brought (applied_one w (change.Account a)) cs
+apps_brought w (change.App a ∷ cs) = apps_brought (applied_one w (change.App a)) cs
+apps_brought w (change.Version v ∷ cs) = apps_brought (applied_one w (change.Version v)) cs
+apps_brought w (change.Workunit u ∷ cs) = apps_brought (applied_one w (change.Workunit u)) cs
+apps_brought w (change.Host n h ∷ cs) = apps_brought (applied_one w (change.Host n h)) cs
+apps_brought w (change.Instance p x ∷ cs) = apps_brought (applied_one w (change.Instance p x)) cs
+
 -- ---- a commit
 
 -- tables that held a world with what they keep, and tables that the changes and the row of an entry lead to
@@ -129,19 +156,30 @@ module _ (old new : Database) (w : World) (cs : List Change) (e : Entry) (row : 
       said (entry.Kept number k) = refl
       said entry.Nothing = refl
 
-module _ (old new : State) (w v : World) (cs : List Change) (e : Entry) (row : Option StoredRow) (row_is : row ≡ row_of e) (after : v ≡ applied w cs) (kept : AreWellKept old w)
-    (rests : new.now ≡ new.committed) (leads : LeadsTo w cs row old.now new.now) where
-  pub kept_then : new.in_transaction ≡ false → AreWellKept new v
-  kept_then idle = record {
+module _ (old new : State) (w : World) (cs : List Change) (e : Entry) (row : Option StoredRow) (row_is : row ≡ row_of e) (kept : AreWellKept old w) (made : Makes w cs row old.now new.now) where
+  -- the rows tell the world with the changes made
+  pub world_then : world_in new.now.trees ≡ applied w cs
+  world_then = held_is_read_back new.now (applied w cs) _ _ (now_held old.now new.now w cs e row row_is kept.holds made.leads) made.readable
+
+  pub kept_then : new.now ≡ new.committed → new.in_transaction ≡ false → AreWellKept new (world_in new.now.trees)
+  kept_then rests idle = record {
     idle = idle;
     rests = rests;
-    holds = subst (λ u. HoldWorld new.now u (calls_in new.now.trees) (batches_in new.now.trees)) (sym after)
-        (held_with_kept new.now (applied w cs) _ _ (now_held old.now new.now w cs e row row_is kept.holds leads));
+    holds = subst (λ u. HoldWorld new.now u (calls_in new.now.trees) (batches_in new.now.trees)) (sym world_then)
+        (held_with_kept new.now (applied w cs) _ _ (now_held old.now new.now w cs e row row_is kept.holds made.leads));
+    readable = subst IsReadable (sym world_then) made.readable;
   }
 
-  pub committed : IsCommitted cs e w (calls_of old.now.trees) (batches_of old.now.trees) v (calls_of new.now.trees) (batches_of new.now.trees)
+  pub committed : IsCommitted cs e w (calls_of old.now.trees) (batches_of old.now.trees) (world_in new.now.trees) (calls_of new.now.trees) (batches_of new.now.trees)
   committed = record {
-    world_is = after;
-    calls_are = calls_then old.now new.now w cs e row row_is kept.holds leads;
-    batches_are = batches_then old.now new.now w cs e row row_is kept.holds leads;
+    world_is = world_then;
+    calls_are = calls_then old.now new.now w cs e row row_is kept.holds made.leads;
+    batches_are = batches_then old.now new.now w cs e row row_is kept.holds made.leads;
+  }
+
+  -- what is kept beside the tables is the world's, with the applications that the changes bring
+  pub beside_then : (settings : Settings) (apps apps' : List App) → AreBeside w settings apps → apps' ≡ apps_with apps cs → AreBeside (world_in new.now.trees) settings apps'
+  beside_then settings apps apps' beside brought = record {
+    settings_are = beside.settings_are ∙ sym (settings_stay w cs) ∙ sym (ap (λ u. u.settings) world_then);
+    apps_are = brought ∙ ap (λ l. apps_with l cs) beside.apps_are ∙ sym (apps_brought w cs) ∙ sym (ap (λ u. u.apps) world_then);
   }

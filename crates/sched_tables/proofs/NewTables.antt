@@ -1,15 +1,19 @@
 -- New tables hold the world in which nothing stands, and keep nothing.
-use Rattle.std.proofs.Common.{◌≡◌, None, false, subst, sym}
+use Rattle.std.proofs.Common.{◌≡◌, List, [], None, false, subst, sym, ap, ◌∙◌}
+use Rattle.std.proofs.lemmas.List.Elements.{All-nil}
 use Rattle.sqlite.specs.Effect.{Database}
 use Rattle.sqlite.specs.State.{State}
 use Rattle.sched_book.specs.Step.{empty_world}
+use Rattle.sched_book.specs.declared.rows.App.{App}
 use Rattle.sched_book.specs.declared.settings.Settings.{Settings}
-use Rattle.sched_book.specs.declared.world.World.{World}
+use Rattle.table_worlds.specs.Readable.{IsReadable}
+use Rattle.table_worlds.specs.StoredWorld.{world_in}
+use Rattle.table_worlds.proofs.WorldReadBack.{held_is_read_back}
 use Rattle.table_meaning.specs.Steps.{HoldJust}
 use Rattle.table_meaning.specs.Worlds.{HoldWorld}
 use Rattle.table_worlds.specs.RowsOf.{setting_rows}
 use Rattle.table_worlds.proofs.NewWorld.{new_world}
-use Rattle.sched_tables.specs.Held.{AreWellKept, KeepNothing}
+use Rattle.sched_tables.specs.Held.{AreWellKept, AreBeside, KeepNothing}
 use Rattle.table_meaning.specs.Kept.{calls_in, batches_in}
 use Rattle.sched_tables.proofs.EntriesKept.{calls_back, batches_back, held_with_kept}
 use Rattle.sched_tables.proofs.Leads.{held_same}
@@ -17,13 +21,28 @@ use Rattle.sched_tables.proofs.Leads.{held_same}
 nothing_held : (s : Settings) (db : Database) → HoldJust db (setting_rows s) → HoldWorld db (empty_world s) (λ _. None) (λ _ _. None)
 nothing_held s db just = held_same db _ _ (new_world s) just
 
-pub new_kept : (s : Settings) (st : State) (w : World) → w ≡ empty_world s → st.in_transaction ≡ false → st.now ≡ st.committed → HoldJust st.committed (setting_rows s) → AreWellKept st w
-new_kept s st w is idle rests just =
-    let now = subst (λ db. HoldJust db (setting_rows s)) (sym rests) just in
-    record { idle = idle; rests = rests; holds = subst (λ v. HoldWorld st.now v (calls_in st.now.trees) (batches_in st.now.trees)) (sym is) (held_with_kept st.now (empty_world s) (λ _. None) (λ _ _. None) (nothing_held s st.now now)) }
+-- the world in which nothing stands is told by its rows
+empty_readable : (s : Settings) → IsReadable (empty_world s)
+empty_readable s = record { versions = All-nil _; units = All-nil _; hosts = All-nil _ }
 
-pub new_nothing : (s : Settings) (st : State) → st.now ≡ st.committed → HoldJust st.committed (setting_rows s) → KeepNothing st
-new_nothing s st rests just =
-    let now = subst (λ db. HoldJust db (setting_rows s)) (sym rests) just in
-    let held = nothing_held s st.now now in
-    record { calls = calls_back st.now (empty_world s) (λ _. None) (λ _ _. None) held; batches = batches_back st.now (empty_world s) (λ _. None) (λ _ _. None) held }
+module _ (s : Settings) (st : State) (rests : st.now ≡ st.committed) (just : HoldJust st.committed (setting_rows s)) where
+  held : HoldWorld st.now (empty_world s) (λ _. None) (λ _ _. None)
+  held = nothing_held s st.now (subst (λ db. HoldJust db (setting_rows s)) (sym rests) just)
+
+  -- the rows tell that world
+  pub new_world_is : world_in st.now.trees ≡ empty_world s
+  new_world_is = held_is_read_back st.now (empty_world s) (λ _. None) (λ _ _. None) held (empty_readable s)
+
+  pub new_kept : st.in_transaction ≡ false → AreWellKept st (world_in st.now.trees)
+  new_kept idle = record {
+    idle = idle;
+    rests = rests;
+    holds = subst (λ v. HoldWorld st.now v (calls_in st.now.trees) (batches_in st.now.trees)) (sym new_world_is) (held_with_kept st.now (empty_world s) (λ _. None) (λ _ _. None) held);
+    readable = subst IsReadable (sym new_world_is) (empty_readable s);
+  }
+
+  pub new_beside : (settings : Settings) (apps : List App) → settings ≡ s → apps ≡ [] → AreBeside (world_in st.now.trees) settings apps
+  new_beside settings apps same none = record { settings_are = same ∙ sym (ap (λ w. w.settings) new_world_is); apps_are = none ∙ sym (ap (λ w. w.apps) new_world_is) }
+
+  pub new_nothing : KeepNothing st
+  new_nothing = record { calls = calls_back st.now (empty_world s) (λ _. None) (λ _ _. None) held; batches = batches_back st.now (empty_world s) (λ _. None) (λ _ _. None) held }

@@ -1,14 +1,18 @@
 -- What a commit makes of tables.
-use Rattle.std.specs.Prelude.{◌≡◌, ℕ, Bool, false, List, [], Option, Some}
+use Rattle.std.specs.Prelude.{◌≡◌, ℕ, Bool, false, List, [], ◌∷◌, ◌++◌, fold, Option, Some}
 use Rattle.std.specs.List.{AllByRecursion, list_any, cons_option}
 use Rattle.sqlite.specs.Effect.{Database}
 use Rattle.reply_register.specs.declared.kept.Kept.{Kept}
 use Rattle.sched_book.specs.Delta.{applied}
 use Rattle.sched_book.specs.declared.delta.Change.{Change}
+use Rattle.sched_book.specs.declared.delta.Change.TheVariants as change
+use Rattle.sched_book.specs.declared.rows.App.{App}
 use Rattle.sched_book.specs.declared.world.World.{World}
 use Rattle.table_meaning.specs.declared.rows.StoredRow.{StoredRow}
 use Rattle.table_meaning.specs.Rows.{RowKey, kept_key, batch_key, key_of, same_key}
 use Rattle.table_meaning.specs.Worlds.{BatchText, contents_of, HoldWorld}
+use Rattle.table_worlds.specs.Changes.{AreChanges}
+use Rattle.table_worlds.specs.Readable.{IsReadable}
 
 abbrev pub LastCalls : Type 0
 LastCalls = ℕ → Option Kept
@@ -25,11 +29,27 @@ pub record Keeps (w : World) (rows : List StoredRow) (calls : LastCalls) (batche
   pub other_calls : (host : ℕ) → is_among rows (kept_key host) ≡ false → calls host ≡ calls' host
   pub other_batches : (kind name : List ℕ) → is_among rows (batch_key kind name) ≡ false → batches kind name ≡ batches' kind name
 
+-- These rows lead from a world to that with changes made, with one row more behind them, and that world is told by its rows.
+pub record ArePut (w : World) (cs : List Change) (more : Option StoredRow) (rows : List StoredRow) : Type 0 where
+  pub changed : List StoredRow
+  pub are : AreChanges w (applied w cs) changed
+  pub all : rows ≡ changed ++ cons_option more []
+  pub readable : IsReadable (applied w cs)
+
 -- Tables that held a world hold it with changes made and one row more, whatever is kept.
 abbrev pub LeadsTo : World → List Change → Option StoredRow → Database → Database → Type 0
 LeadsTo w cs more old new = (calls calls' : LastCalls) (batches batches' : Imports)
     → Keeps (applied w cs) (cons_option more []) calls batches calls' batches' → HoldWorld old w calls batches → HoldWorld new (applied w cs) calls' batches'
 
--- The same of whatever changes make one world the other.
-abbrev pub LeadsAfter : World → World → Option StoredRow → Database → Database → Type 0
-LeadsAfter w v more old new = (cs : List Change) → v ≡ applied w cs → LeadsTo w cs more old new
+-- They do, and the world after is told by its rows.
+pub record Makes (w : World) (cs : List Change) (more : Option StoredRow) (old new : Database) : Type 0 where
+  pub leads : LeadsTo w cs more old new
+  pub readable : IsReadable (applied w cs)
+
+-- the applications with one that a change brings, and with those of each change
+abbrev pub app_with : List App → Change → List App
+app_with apps (change.App a) = apps ++ a ∷ []
+app_with apps other = apps
+
+abbrev pub apps_with : List App → List Change → List App
+apps_with apps cs = fold app_with apps cs

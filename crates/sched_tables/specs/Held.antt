@@ -1,19 +1,28 @@
 -- When tables stand for a world.
 use Rattle.std.specs.Prelude.{◌≡◌, ℕ, false, List, None, IsTrue}
 use Rattle.sqlite.specs.State.{State, HasCleanDisk}
+use Rattle.sched_book.specs.declared.rows.App.{App}
+use Rattle.sched_book.specs.declared.settings.Settings.{Settings}
 use Rattle.sched_book.specs.declared.world.World.{World}
 use Rattle.table_meaning.specs.Worlds.{HoldWorld}
 use Rattle.table_meaning.specs.Kept.{calls_in, batches_in}
+use Rattle.table_worlds.specs.Readable.{IsReadable}
 
 -- the disk returned what was written, and the connection is open
 abbrev pub IsHonest : State → Type 0
 IsHonest s = HasCleanDisk s × IsTrue s.is_open
 
--- nothing waits for a commit, and the tables hold the world with what they keep
+-- nothing waits for a commit, and the tables hold the world with what they keep, which is told by its rows
 pub record AreWellKept (s : State) (w : World) : Type 0 where
   pub idle : s.in_transaction ≡ false
   pub rests : s.now ≡ s.committed
   pub holds : HoldWorld s.now w (calls_in s.now.trees) (batches_in s.now.trees)
+  pub readable : IsReadable w
+
+-- the settings and the applications that are kept beside the tables are the world's
+pub record AreBeside (w : World) (settings : Settings) (apps : List App) : Type 0 where
+  pub settings_are : settings ≡ w.settings
+  pub apps_are : apps ≡ w.apps
 
 -- no call and no import is kept
 pub record KeepNothing (s : State) : Type 0 where

@@ -1,7 +1,7 @@
 pub mod Commits
-pub mod Counted
 pub mod Entries
 pub mod Held
+pub mod ReadLaws
 pub mod Stops
 pub mod StopLaws
 pub mod Views

@@ -2,8 +2,6 @@
 #![tactic(auto)]
 
 mod committing;
-mod counted;
-mod counting;
 mod desk;
 mod keeping;
 mod opening;

@@ -11,17 +11,18 @@ ghost use Rattle.message_engine.specs.Stores.{Calls, Batches, IsLeft, StandsForN
 ghost use Rattle.table_meaning.specs.Schema.{no_schema};
 ghost use Rattle.table_reading.specs.Reading.{ReadFrom};
 ghost use Rattle.sched_tables.specs.Entries.{calls_of, batches_of};
-ghost use Rattle.sched_tables.specs.Held.{IsHonest, AreWellKept, KeepNothing};
+ghost use Rattle.sched_tables.specs.Held.{IsHonest, KeepNothing};
 ghost use Rattle.sched_tables.specs.Stops.{MayBeFound};
-ghost use Rattle.sched_tables.specs.Views.{state_of, world_of};
+ghost use Rattle.sched_tables.specs.Views.{state_of, world_of, AreKept};
 
 use crate::tables::Tables;
-use sched_book::{ListDesk, Settings};
+use sched_book::{Settings, copy_of};
 use sqlite::{Alter, Connection, MemStore};
 use std::alloc::Global;
 use table_reading::stored_world;
 use table_rows::{OpenFault, create, known};
 use table_worlds::setting_rows;
+use texts::Listed;
 
 impl<S: Alter + Drop> Tables<S> {
     /// Makes the tables in a database that has none, with these settings and in one transaction: the world in which nothing
@@ -31,17 +32,22 @@ impl<S: Alter + Drop> Tables<S> {
         mut conn: Connection<S>,
         settings: &Settings,
     ) -> Result<Tables<S>, OpenFault>
-        ensures world { IfOk result (λ t. world_of t ≡ empty_world settings.now) }
-        ensures held { IfOk result (λ t. IsHonest (state_of S.Store t) → AreWellKept (state_of S.Store t) (world_of t)) }
+        ensures world { IfOk result (λ t. IsHonest (state_of S.Store t) → world_of S.Store t ≡ empty_world settings.now) }
+        ensures held { IfOk result (λ t. IsHonest (state_of S.Store t) → AreKept S.Store t) }
         ensures nothing { IfOk result (λ t. IsHonest (state_of S.Store t) → KeepNothing (state_of S.Store t)) }
         ensures stands { IfOk result (λ t. IsHonest (state_of S.Store t) → AreSettingsInLimits settings.now
-            → StandsForNothing (world_of t) (calls_of (state_of S.Store t).now.trees) (batches_of (state_of S.Store t).now.trees)) }
+            → StandsForNothing (world_of S.Store t) (calls_of (state_of S.Store t).now.trees) (batches_of (state_of S.Store t).now.trees)) }
         ensures taken { IfErr result (λ e. e ≡ OpenFault.NotTables → (state S.Store conn).now.schema ≢ no_schema) }
     {
-        let desk = ListDesk::new(alloc, settings)?;
+        let kept = copy_of(settings)?;
         let rows = setting_rows(alloc, settings)?;
         create(alloc, &mut conn, rows.as_slice())?;
-        Ok(Tables { alloc, conn, desk })
+        Ok(Tables {
+            alloc,
+            conn,
+            settings: kept,
+            apps: Listed::new(alloc),
+        })
     }
     /// Opens the tables of a database that were made before.
     ///
@@ -49,28 +55,32 @@ impl<S: Alter + Drop> Tables<S> {
     /// not those of a sound world with what may be kept beside it, as [`table_reading::stored_world`] says. A connection
     /// that is refused is dropped, with its file as it was. A stop that finds the tables opened leaves what they hold.
     pub fn open(alloc: Global, conn: Connection<S>) -> Result<Tables<S>, OpenFault>
-        ensures sound { IfOk result (λ t. Sound (world_of t)) }
-        ensures held { IfOk result (λ t. IsHonest (state_of S.Store t) → AreWellKept (state_of S.Store t) (world_of t)) }
+        ensures sound { IfOk result (λ t. IsHonest (state_of S.Store t) → Sound (world_of S.Store t)) }
+        ensures held { IfOk result (λ t. IsHonest (state_of S.Store t) → AreKept S.Store t) }
         ensures same { IfOk result (λ t. IsHonest (state_of S.Store t) → (state_of S.Store t).now ≡ (state S.Store conn).committed) }
-        ensures rows { IfOk result (λ t. IsHonest (state_of S.Store t) → ReadFrom (state_of S.Store t).now.trees (world_of t)) }
+        ensures rows { IfOk result (λ t. IsHonest (state_of S.Store t) → ReadFrom (state_of S.Store t).now.trees (world_of S.Store t)) }
         ensures stop { IfOk result (λ t. IsHonest (state_of S.Store t) → (w : Known) (calls : Calls) (batches : Batches) → MayBeFound (state_of S.Store t) w calls batches
-            → IsLeft (world_of t) (calls_of (state_of S.Store t).now.trees) (batches_of (state_of S.Store t).now.trees) w calls batches) }
+            → IsLeft (world_of S.Store t) (calls_of (state_of S.Store t).now.trees) (batches_of (state_of S.Store t).now.trees) w calls batches) }
     {
         let mut conn = known(alloc, conn)?;
         let world = stored_world(alloc, &mut conn)?;
-        let desk = ListDesk::of(alloc, world)?;
-        Ok(Tables { alloc, conn, desk })
+        Ok(Tables {
+            alloc,
+            conn,
+            settings: world.settings,
+            apps: world.apps,
+        })
     }
 }
 
 impl Tables<MemStore> {
     /// New tables in memory, with these settings: they stand for the empty past.
     pub fn in_memory(alloc: Global, settings: &Settings) -> Result<Tables<MemStore>, OpenFault>
-        ensures world { IfOk result (λ t. world_of t ≡ empty_world settings.now) }
-        ensures held { IfOk result (λ t. IsHonest (state_of over_memory t) → AreWellKept (state_of over_memory t) (world_of t)) }
+        ensures world { IfOk result (λ t. IsHonest (state_of over_memory t) → world_of over_memory t ≡ empty_world settings.now) }
+        ensures held { IfOk result (λ t. IsHonest (state_of over_memory t) → AreKept over_memory t) }
         ensures nothing { IfOk result (λ t. IsHonest (state_of over_memory t) → KeepNothing (state_of over_memory t)) }
         ensures stands { IfOk result (λ t. IsHonest (state_of over_memory t) → AreSettingsInLimits settings.now
-            → StandsForNothing (world_of t) (calls_of (state_of over_memory t).now.trees) (batches_of (state_of over_memory t).now.trees)) }
+            → StandsForNothing (world_of over_memory t) (calls_of (state_of over_memory t).now.trees) (batches_of (state_of over_memory t).now.trees)) }
     {
         let conn = Connection::open_in_memory(alloc)?;
         Tables::create(alloc, conn, settings)

@@ -10,11 +10,13 @@ use std::alloc::Global;
 use texts::Listed;
 
 impl<S: Alter> Store for Tables<S> {
-    ghost use Rattle.std.proofs.Common.{rules};
+    ghost use Rattle.std.proofs.Common.{ap};
+    ghost use Rattle.sqlite.specs.Effect.{Database};
     ghost use Rattle.sched_tables.specs.Entries.{calls_of, batches_of};
+    ghost use Rattle.sched_tables.specs.ReadLaws.{stays_shown};
     ghost use Rattle.sched_tables.specs.Stops.{MayBeFound};
     ghost use Rattle.sched_tables.specs.StopLaws.{stays_found, found_is_committed};
-    ghost use Rattle.sched_tables.specs.Views.{state_of, world_of};
+    ghost use Rattle.sched_tables.specs.Views.{state_of};
 
     ghost calls = { λ t. calls_of (state_of S.Store t).now.trees };
 
@@ -42,11 +44,11 @@ impl<S: Alter> Store for Tables<S> {
         Tables::commit(self, delta, entry)
     }
 
-    ghost stays_calls = { λ a b h k l host. Prim.search rules };
+    ghost stays_calls = { λ a b h k l host. ap (λ (db : Database). calls_of db.trees host) (stays_shown _ _ h.0 k l.0) };
 
-    ghost stays_batches = { λ a b h k l kind batch. Prim.search rules };
+    ghost stays_batches = { λ a b h k l kind batch. ap (λ (db : Database). batches_of db.trees kind batch) (stays_shown _ _ h.0 k l.0) };
 
     ghost stays_left = { λ a b h w kept imports found. stays_found _ _ w kept imports h.0.survives found };
 
-    ghost settled = { λ a h k l w kept imports found. found_is_committed _ _ w kept imports k l (λ trees left. S.settled _ trees h.1 left) found };
+    ghost settled = { λ a h k l w kept imports found. found_is_committed _ _ w kept imports k.0 l (λ trees left. S.settled _ trees h.1 left) found };
 }

@@ -3,17 +3,19 @@ ghost use Rattle.sqlite.specs.Held.{state};
 ghost use Rattle.sched_tables.specs.Held.{IsHonest};
 ghost use Rattle.sched_tables.specs.Views.{state_of};
 
-use sched_book::ListDesk;
+use sched_book::{App, Settings};
 use sqlite::{Alter, Connection};
 use std::alloc::Global;
+use texts::Listed;
 
-/// The stored tables as a desk. The world that they hold is read once, when they are opened or made, and kept beside
-/// them; what is kept of calls and imports is read at each call.
+/// The stored tables as a desk. What seldom changes is kept beside them: the settings, which never do, and the
+/// applications, of which there are at most a hundred. All else is read at each call, by its key or by an index.
 #[derive(Drop)]
 pub struct Tables<S: Alter> {
     pub(crate) alloc: Global,
     pub(crate) conn: Connection<S>,
-    pub(crate) desk: ListDesk,
+    pub(crate) settings: Settings,
+    pub(crate) apps: Listed<App>,
 }
 
 impl<S: Alter> Tables<S> {

@@ -1,17 +1,41 @@
+use Rattle.std.proofs.Common.{◌≡◌, sym, subst, rules, arith}
 use Rattle.sqlite.specs.Held.{state}
+use Rattle.sqlite.specs.State.{HasCleanDisk}
+use Rattle.table_meaning.specs.Steps.{PutsRows}
+use Rattle.sched_tables.specs.Commits.{ArePut}
 use Rattle.sched_tables.specs.Entries.{row_of}
-use Rattle.sched_tables.proofs.Leads.{leaves_these}
+use Rattle.sched_tables.specs.Views.{world_of, AreKept}
+use Rattle.sched_tables.proofs.Leads.{puts_all, leaves_made, was_ok}
 use Rattle.sched_tables.proofs.tables.Tables.commit.Goals as goal
 
-pub returns-clause-leads : goal.returns-clause-leads
-returns-clause-leads g c = λ honest. c.in_ok-put_after.ensures.leads honest c.args.delta.now c.in_ok-after.ensures
+pub returns-clause-made : goal.returns-clause-made
+returns-clause-made g c = λ honest kept.
+    let before = c.args.self.now in
+    let mid = state g.S.Store c.rows_with.new.self.conn in
+    let new = state g.S.Store c.put_rows.new.conn in
+    let clean : HasCleanDisk mid = omega (arith, c.put_rows.ensures.crash.clean, honest.0) in
+    let was_open = c.put_rows.ensures.was_open honest.0 honest.1 in
+    let puts = was_ok c.put_rows.result (PutsRows mid.now new.committed c.as_slice.result.now) (search rules) (c.put_rows.ensures.both honest.0 honest.1) in
+    let rest = was_ok c.put_rows.result (new.now ≡ new.committed) (search rules) (c.put_rows.ensures.rest honest.0 honest.1) in
+    puts_all (state g.S.Store before.conn) mid new (world_of g.S.Store before) c.args.delta.now (row_of c.args.entry.now) c.as_slice.result.now
+    (c.rows_with.ensures.reads.same clean was_open kept.0.rests).0 rest
+    (subst (ArePut (world_of g.S.Store before) c.args.delta.now (row_of c.args.entry.now)) (sym c.as_slice.ensures) (c.in_ok-rows.ensures.rows (clean, was_open) kept))
+    puts
 
 pub returns-clause-crash : goal.returns-clause-crash
 returns-clause-crash g c =
-    leaves_these c.args.self.now.desk c.in_ok-after.after c.args.delta.now (row_of c.args.entry.now) (state g.S.Store c.args.self.now.conn) (state g.S.Store c.put_after.new.self.conn)
-    c.in_ok-after.ensures c.put_after.ensures.crash
+    let before = c.args.self.now in
+    let cs = c.args.delta.now in
+    let row = row_of c.args.entry.now in
+    leaves_made (state g.S.Store before.conn) (state g.S.Store c.rows_with.new.self.conn) (state g.S.Store c.put_rows.new.conn) (world_of g.S.Store before) cs row c.as_slice.result.now
+    (AreKept g.S.Store before) c.rows_with.ensures.reads c.put_rows.ensures.crash
+    (λ honest kept. subst (ArePut (world_of g.S.Store before) cs row) (sym c.as_slice.ensures) (c.in_ok-rows.ensures.rows honest kept)) (λ kept. kept.0.rests)
 
-pub returns-in_err-put_after-clause-crash : goal.returns-in_err-put_after-clause-crash
-returns-in_err-put_after-clause-crash g c =
-    leaves_these c.args.self.now.desk c.in_ok-after.after c.args.delta.now (row_of c.args.entry.now) (state g.S.Store c.args.self.now.conn) (state g.S.Store c.put_after.new.self.conn)
-    c.in_ok-after.ensures c.put_after.ensures.crash
+pub returns-then-is_err-clause-crash : goal.returns-then-is_err-clause-crash
+returns-then-is_err-clause-crash g c =
+    let before = c.args.self.now in
+    let cs = c.args.delta.now in
+    let row = row_of c.args.entry.now in
+    leaves_made (state g.S.Store before.conn) (state g.S.Store c.rows_with.new.self.conn) (state g.S.Store c.put_rows.new.conn) (world_of g.S.Store before) cs row c.as_slice.result.now
+    (AreKept g.S.Store before) c.rows_with.ensures.reads c.put_rows.ensures.crash
+    (λ honest kept. subst (ArePut (world_of g.S.Store before) cs row) (sym c.as_slice.ensures) (c.in_ok-rows.ensures.rows honest kept)) (λ kept. kept.0.rests)

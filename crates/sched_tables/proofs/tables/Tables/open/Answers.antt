@@ -1,11 +1,17 @@
-use Rattle.std.proofs.Common.{sym, subst, ◌∙◌}
+use Rattle.std.proofs.Common.{◌∙◌}
 use Rattle.sqlite.specs.Held.{state}
-use Rattle.table_reading.specs.Reading.{ReadFrom}
-use Rattle.sched_book.specs.Sound.{Sound}
-use Rattle.sched_tables.specs.Held.{AreWellKept}
 use Rattle.sched_tables.specs.StopLaws.{found_is_committed}
-use Rattle.sched_tables.proofs.Opened.{early, was_known, shows_the_same, opened_kept, opened_rows}
+use Rattle.sched_tables.proofs.Opened.{early, was_known, shows_the_same, opened_kept, opened_beside, opened_sound, opened_rows}
 use Rattle.sched_tables.proofs.tables.Tables.open.Goals as goal
+
+pub returns-clause-sound : goal.returns-clause-sound
+returns-clause-sound g c = λ honest.
+    let taken = state g.S.Store c.in_ok-conn.conn in
+    let read = state g.S.Store c.stored_world.new.conn in
+    let opens = c.in_ok-conn.ensures.opens in
+    let known = c.in_ok-conn.ensures.known in
+    let reads = c.stored_world.ensures.reads in
+    opened_sound taken read opens known reads honest c.in_ok-world.world c.in_ok-world.ensures.sound (c.in_ok-world.ensures.held (was_known taken read opens known reads honest))
 
 pub returns-clause-held : goal.returns-clause-held
 returns-clause-held g c = λ honest.
@@ -14,8 +20,10 @@ returns-clause-held g c = λ honest.
     let opens = c.in_ok-conn.ensures.opens in
     let known = c.in_ok-conn.ensures.known in
     let reads = c.stored_world.ensures.reads in
-    subst (AreWellKept read) (sym c.in_ok-desk.ensures)
-    (opened_kept taken read opens known reads honest c.in_ok-world.world (c.in_ok-world.ensures.held (was_known taken read opens known reads honest)))
+    let held = c.in_ok-world.ensures.held (was_known taken read opens known reads honest) in (
+      opened_kept taken read opens known reads honest c.in_ok-world.world c.in_ok-world.ensures.sound held,
+      opened_beside taken read opens known reads honest c.in_ok-world.world c.in_ok-world.ensures.sound held,
+    )
 
 pub returns-clause-same : goal.returns-clause-same
 returns-clause-same g c = λ honest.
@@ -33,10 +41,10 @@ returns-clause-rows g c = λ honest.
     let opens = c.in_ok-conn.ensures.opens in
     let known = c.in_ok-conn.ensures.known in
     let reads = c.stored_world.ensures.reads in
-    subst (ReadFrom read.now.trees) (sym c.in_ok-desk.ensures)
-    (opened_rows taken read opens known reads honest c.in_ok-world.world (c.in_ok-world.ensures.stands (was_known taken read opens known reads honest)))
+    let were = was_known taken read opens known reads honest in
+    opened_rows taken read opens known reads honest c.in_ok-world.world c.in_ok-world.ensures.sound (c.in_ok-world.ensures.held were) (c.in_ok-world.ensures.stands were)
 
 pub returns-clause-stop : goal.returns-clause-stop
 returns-clause-stop g c = λ honest w calls batches found.
-    found_is_committed (state g.S.Store c.stored_world.new.conn) c.in_ok-desk.desk w calls batches (returns-clause-held g c honest)
-    (subst Sound (sym c.in_ok-desk.ensures) c.in_ok-world.ensures.sound) (λ trees left. g.met.S.Store.settled c.stored_world.new.conn.store trees honest.1 left) found
+    found_is_committed (state g.S.Store c.stored_world.new.conn) _ w calls batches (returns-clause-held g c honest).0
+    (returns-clause-sound g c honest) (λ trees left. g.met.S.Store.settled c.stored_world.new.conn.store trees honest.1 left) found

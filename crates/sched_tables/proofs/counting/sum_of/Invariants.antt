@@ -1,5 +1,0 @@
-use Rattle.std.proofs.Common.{◌≡◌, take, sum_by, unsigned_abs}
-use Rattle.sched_tables.proofs.counting.sum_of.Given as goal
-
-abbrev pub invariant-loop-credit : goal.invariant-loop-credit
-invariant-loop-credit l = l.sum ≡ sum_by unsigned_abs (take l.credit-index l.credits)

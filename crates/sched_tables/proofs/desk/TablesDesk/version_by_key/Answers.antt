@@ -1,0 +1,6 @@
+use Rattle.std.proofs.Common.{◌∙◌}
+use Rattle.sched_tables.proofs.Told.{told}
+use Rattle.sched_tables.proofs.desk.TablesDesk.version_by_key.Goals as goal
+
+pub returns-clause-answer : goal.returns-clause-answer
+returns-clause-answer g c = λ honest kept. told g.S.Store c.args.self.now c.version_by_key.new.conn _ c.version_by_key.ensures.answer honest kept (c.as_slice-apps.ensures ∙ kept.1.apps_are)

@@ -1,0 +1,54 @@
+-- What a read leaves of tables: proved from their definitions alone.
+use Rattle.std.proofs.Common.{◌≡◌, false, List, sym, ap, subst, ◌∙◌}
+use Rattle.sqlite.specs.Effect.{Database}
+use Rattle.sqlite.specs.State.{State}
+use Rattle.sched_book.specs.declared.rows.App.{App}
+use Rattle.sched_book.specs.declared.settings.Settings.{Settings}
+use Rattle.table_meaning.specs.Kept.{calls_in, batches_in}
+use Rattle.table_meaning.specs.Reads.{Reads}
+use Rattle.table_meaning.specs.Worlds.{HoldWorld}
+use Rattle.table_worlds.specs.Readable.{IsReadable}
+use Rattle.table_worlds.specs.StoredWorld.{world_in}
+use Rattle.sched_tables.specs.Held.{IsHonest, AreWellKept, AreBeside}
+
+-- ---- tables whose rows stay as they are
+
+module _ (old new : State) (shown : new.now ≡ old.now) (committed : new.committed ≡ old.committed) (kept : AreWellKept old (world_in old.now.trees)) where
+  -- the world that they tell stays
+  pub left_world : world_in new.now.trees ≡ world_in old.now.trees
+  left_world = ap (λ (db : Database). world_in db.trees) shown
+
+  -- they stay well kept
+  pub left_kept : new.in_transaction ≡ false → AreWellKept new (world_in new.now.trees)
+  left_kept idle = record {
+    idle = idle;
+    rests = shown ∙ kept.rests ∙ sym committed;
+    holds = subst (λ (db : Database). HoldWorld db (world_in db.trees) (calls_in db.trees) (batches_in db.trees)) (sym shown) kept.holds;
+    readable = subst (λ (db : Database). IsReadable (world_in db.trees)) (sym shown) kept.readable;
+  }
+
+  -- and what is kept beside them stays the world's
+  pub left_beside : (settings settings' : Settings) (apps apps' : List App) → settings' ≡ settings → apps' ≡ apps → AreBeside (world_in old.now.trees) settings apps → AreBeside (world_in new.now.trees) settings' apps'
+  left_beside settings settings' apps apps' same also beside = record {
+    settings_are = same ∙ beside.settings_are ∙ sym (ap (λ w. w.settings) left_world);
+    apps_are = also ∙ beside.apps_are ∙ sym (ap (λ w. w.apps) left_world);
+  }
+
+-- ---- a read
+
+module _ (old new : State) (reads : Reads old new) (honest : IsHonest new) (kept : AreWellKept old (world_in old.now.trees)) where
+  -- leaves the rows as they are
+  pub stays_shown : new.now ≡ old.now
+  stays_shown = (reads.same honest.0 honest.1 kept.rests).0
+
+  stays_committed : new.committed ≡ old.committed
+  stays_committed = (reads.same honest.0 honest.1 kept.rests).1
+
+  pub stays_same : world_in new.now.trees ≡ world_in old.now.trees
+  stays_same = left_world old new stays_shown stays_committed kept
+
+  pub stays_kept : AreWellKept new (world_in new.now.trees)
+  stays_kept = left_kept old new stays_shown stays_committed kept (reads.idle kept.idle)
+
+  pub stays_beside : (settings settings' : Settings) (apps apps' : List App) → settings' ≡ settings → apps' ≡ apps → AreBeside (world_in old.now.trees) settings apps → AreBeside (world_in new.now.trees) settings' apps'
+  stays_beside = left_beside old new stays_shown stays_committed kept
