@@ -11,7 +11,7 @@ use Rattle.table_meaning.specs.declared.rows.StoredRow.{StoredRow}
 use Rattle.table_meaning.specs.Rows.{RowKey, columns_of}
 use Rattle.table_meaning.specs.Holding.{Contents, Hold}
 use Rattle.table_meaning.specs.Steps.{PutsRows}
-use Rattle.table_meaning.specs.Worlds.{contents_of, HoldWorld}
+use Rattle.table_meaning.specs.Worlds.{contents_of}
 use Rattle.table_worlds.specs.Changes.{AreChanges}
 use Rattle.table_worlds.proofs.WorldSettled.{world_settled}
 use Rattle.table_meaning.specs.Reads.{Reads}
