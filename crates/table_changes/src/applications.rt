@@ -1,4 +1,4 @@
-//! AppsFound by their names.
+//! Applications by their names.
 
 ghost use Rattle.std.specs.Prelude.{◌≡◌, IsTrue, IfOk};
 ghost use Rattle.sched_book.specs.Imports.{has_app};
