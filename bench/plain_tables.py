@@ -1,0 +1,727 @@
+#!/usr/bin/env python3
+"""The scheduler in plain Python over a SQLite file: the twin that `bench/serve life` measures the program against.
+
+usage: plain_tables.py [--once] TABLES PORT
+Serves the tables of a file, which stand, on 127.0.0.1, one connection after the other, over a blocking socket. It prints the
+port once it listens. docs/PROFILE.md states the formats, the rules and the stored tables; the rules of one workunit are
+those of plain.py. A message with a field `x-moment` is acted on as of that second.
+
+It keeps settings and applications beside the tables and looks all else up by the statements of the proved program, as
+often as the program does: a workunit costs three, and a commit reads what it changes once more. With --once no
+statement is run twice for one message. Each message that changes anything is one transaction, on the disk when it is
+answered (journal_mode WAL, synchronous FULL).
+"""
+import socket
+import sqlite3
+import sys
+import time
+from collections import Counter, namedtuple
+
+sys.dont_write_bytecode = True
+import plain
+from plain_formats import KINDS, Refused, is_word, record_of, rows_of, text
+
+SCHEMA = """
+CREATE TABLE setting (name TEXT NOT NULL PRIMARY KEY, value ANY NOT NULL) STRICT;
+CREATE TABLE account (id INTEGER PRIMARY KEY, auth TEXT NOT NULL UNIQUE, name TEXT NOT NULL) STRICT;
+CREATE TABLE app (id INTEGER PRIMARY KEY, name TEXT NOT NULL UNIQUE, agreement INTEGER) STRICT;
+CREATE TABLE version (id INTEGER PRIMARY KEY, app_id INTEGER NOT NULL REFERENCES app, platform TEXT NOT NULL,
+  num INTEGER NOT NULL, UNIQUE (app_id, platform, num)) STRICT;
+CREATE TABLE unit (id INTEGER PRIMARY KEY, name TEXT NOT NULL UNIQUE, app_id INTEGER NOT NULL REFERENCES app,
+  min_quorum INTEGER NOT NULL, target_nresults INTEGER NOT NULL, max_error_results INTEGER NOT NULL,
+  max_total_results INTEGER NOT NULL, max_success_results INTEGER NOT NULL, delay_bound INTEGER NOT NULL,
+  rsc_fpops_est INTEGER NOT NULL, rsc_memory_bound INTEGER NOT NULL, rsc_disk_bound INTEGER NOT NULL,
+  credit INTEGER NOT NULL, status INTEGER NOT NULL) STRICT;
+CREATE TABLE host (id INTEGER PRIMARY KEY, account_id INTEGER NOT NULL REFERENCES account, cpid TEXT NOT NULL,
+  platforms TEXT NOT NULL, fpops INTEGER NOT NULL, memory INTEGER NOT NULL, disk INTEGER NOT NULL,
+  quota INTEGER NOT NULL, held INTEGER NOT NULL, credit INTEGER NOT NULL, UNIQUE (account_id, cpid)) STRICT;
+CREATE TABLE instance (unit_id INTEGER NOT NULL REFERENCES unit, num INTEGER NOT NULL,
+  host_id INTEGER REFERENCES host, sent INTEGER, deadline INTEGER, lapse INTEGER NOT NULL, outcome INTEGER,
+  output TEXT, place INTEGER, queued INTEGER NOT NULL, PRIMARY KEY (unit_id, num)) STRICT;
+CREATE TABLE kept (host_id INTEGER PRIMARY KEY REFERENCES host, seqno INTEGER NOT NULL, text TEXT NOT NULL,
+  reply TEXT NOT NULL) STRICT;
+CREATE TABLE batch (kind TEXT NOT NULL, name TEXT NOT NULL, text BLOB NOT NULL, answer TEXT NOT NULL,
+  PRIMARY KEY (kind, name)) STRICT;
+CREATE INDEX instance_queue ON instance (queued, unit_id, num);
+CREATE INDEX instance_owner ON instance (host_id, unit_id, num);
+CREATE INDEX instance_sent ON instance (host_id, sent);
+CREATE INDEX instance_deadline ON instance (deadline);
+"""
+# of each table its columns, and how many of them, from the first on, are the key of a row
+COLUMNS = {
+    "setting": ("name, value", 1),
+    "account": ("id, auth, name", 1),
+    "app": ("id, name, agreement", 1),
+    "version": ("id, app_id, platform, num", 1),
+    "unit": (
+        "id, name, app_id, min_quorum, target_nresults, max_error_results, max_total_results, max_success_results, "
+        "delay_bound, rsc_fpops_est, rsc_memory_bound, rsc_disk_bound, credit, status", 1,
+    ),
+    "host": ("id, account_id, cpid, platforms, fpops, memory, disk, quota, held, credit", 1),
+    "instance": ("unit_id, num, host_id, sent, deadline, lapse, outcome, output, place, queued", 2),
+    "kept": ("host_id, seqno, text, reply", 1),
+    "batch": ("kind, name, text, answer", 2),
+}
+PLACES = "SELECT unit_id, num FROM instance WHERE unit_id > 0 AND num >= 0 AND "
+# what is looked up, by its kind
+LOOK_UPS = {
+    "account by authenticator": "SELECT id, auth, name FROM account WHERE id > 0 AND auth = ?1 ORDER BY id",
+    "host by account and client": "SELECT id FROM host WHERE id > 0 AND account_id = ?1 AND cpid = ?2 ORDER BY id",
+    "kept call": f"SELECT {COLUMNS['kept'][0]} FROM kept WHERE host_id = ?1 ORDER BY host_id",
+    "host by number": f"SELECT {COLUMNS['host'][0]} FROM host WHERE id = ?1 ORDER BY id",
+    "what is counted of a host": "SELECT held, credit FROM host WHERE id = ?1 ORDER BY id",
+    "what a host holds": f"{PLACES}host_id = ?1 AND lapse = 0 AND outcome IS NULL ORDER BY unit_id, num",
+    "what a host was given": f"{PLACES}host_id = ?1 ORDER BY unit_id, num",
+    "sent on a day": f"{PLACES}host_id = ?1 AND sent >= ?2 AND sent < ?3 ORDER BY sent",
+    "hosts of a user": "SELECT id FROM host WHERE id > 0 AND account_id = ?1 ORDER BY id",
+    "credit of a user": "SELECT credit FROM host WHERE id > 0 AND account_id = ?1 ORDER BY id",
+    "workunit by name": "SELECT id FROM unit WHERE id > 0 AND name = ?1 ORDER BY id",
+    "workunit": f"SELECT {COLUMNS['unit'][0]} FROM unit WHERE id = ?1 ORDER BY id",
+    "instances of a workunit": f"SELECT {COLUMNS['instance'][0]} FROM instance "
+    "WHERE unit_id > 0 AND num >= 0 AND unit_id = ?1 ORDER BY unit_id, num",
+    "version for a platform": "SELECT num FROM version WHERE id > 0 AND app_id = ?1 AND platform = ?2 ORDER BY id",
+    "what waits, 64 places": f"{PLACES}queued = 1 AND unit_id >= ?1 AND (unit_id > ?1 OR num >= ?2) "
+    "ORDER BY unit_id, num LIMIT 64",
+    "what is late": f"{PLACES}deadline >= 0 AND deadline < ?1 AND lapse = 0 AND outcome IS NULL ORDER BY deadline",
+    "kept import": f"SELECT {COLUMNS['batch'][0]} FROM batch WHERE kind = ?1 AND name = ?2 ORDER BY rowid",
+    **{
+        f"count of {table}s": f"SELECT id FROM {table} WHERE id > 0 ORDER BY id DESC LIMIT 1"
+        for table in ("account", "app", "version", "unit", "host")
+    },
+}
+
+
+def put_text(table):
+    """The statement that puts a row of a table at its key, over the one that stands there."""
+    columns, keys = COLUMNS[table]
+    names = columns.split(", ")
+    values = ", ".join(f"?{number}" for number in range(1, len(names) + 1))
+    # where the key is one number, or one name, it stays; of a key of two columns both are written once more
+    changed = names[1:] if keys == 1 and table != "setting" else names
+    moved = ", ".join(f"{name} = excluded.{name}" for name in changed)
+    return f"INSERT INTO {table} ({columns}) VALUES ({values}) ON CONFLICT ({', '.join(names[:keys])}) DO UPDATE SET {moved}"
+
+
+PUTS = {table: put_text(table) for table in COLUMNS}
+STATUSES = ["open", "done", "errors", "success", "total"]
+LAPSES = [None, "late", "dropped"]
+OUTCOMES = {None: None, 1: 0, 3: 1}  # of a stored outcome, an exit status that means the same
+UnitRow = namedtuple("UnitRow", COLUMNS["unit"][0])
+PHRASES = {
+    200: "OK", 400: "Bad Request", 403: "Forbidden", 404: "Not Found", 405: "Method Not Allowed", 409: "Conflict",
+    411: "Length Required", 413: "Payload Too Large",
+}
+
+
+# ---- Rows
+
+
+class Unit(plain.Unit):
+    """A workunit with its instances, as a message finds it. Its hosts are known by their numbers."""
+
+    def __init__(self, row, agreement, rows):
+        for column, value in zip(UnitRow._fields, row):
+            setattr(self, column, value)
+        self.agreement, self.stored, self.was = agreement, rows, STATUSES[row.status]
+        self.status, self.instances, judged = self.was, [], []
+        for _, number, host, sent, deadline, lapse, outcome, output, place, _ in rows:
+            instance = plain.Instance(self, number, host, sent, deadline, LAPSES[lapse], OUTCOMES[outcome], output)
+            self.instances.append(instance)
+            if place is not None:
+                judged.append((place, instance))
+        self.judged = [instance for _, instance in sorted(judged, key=lambda pair: pair[0])]
+        if self.status == "done":
+            good = [instance for instance in self.judged if instance.exit_status == 0]
+            best = plain.canonical(agreement, self, good)
+            for instance in good:
+                instance.verdict = plain.agree(agreement, best.output, instance.output)
+
+    def at(self, number):
+        """The instance of a number, where it stands."""
+        return self.instances[number] if number < len(self.instances) else None
+
+    def row(self):
+        """Its row by now."""
+        return *(getattr(self, column) for column in UnitRow._fields[:-1]), STATUSES.index(self.status)
+
+    def instance_rows(self):
+        """The rows of its instances by now."""
+        places = {instance: place for place, instance in enumerate(self.judged, 1)}
+        is_open = self.status == "open"
+        return [
+            (
+                self.id, one.number, one.host, one.sent, one.deadline, LAPSES.index(one.lapse),
+                None if one.exit_status is None else 3 if one.exit_status else 1, one.output, places.get(one),
+                int(is_open and one.host is None),
+            )
+            for one in self.instances
+        ]
+
+    def add_shares(self, shares, sign):
+        """Adds what it gives its hosts to their shares, or takes it away: how many jobs they hold, and their credit."""
+        for one in self.instances:
+            if one.host is not None:
+                share = shares.setdefault(one.host, [0, 0])
+                share[0] += sign * one.held()
+                share[1] += sign * (self.credit if one.verdict else 0)
+
+
+class Host:
+    """A host's row."""
+
+    def __init__(self, number, account, cpid, platforms, fpops, memory, disk, quota, *_counted):
+        self.number, self.account, self.cpid, self.quota = number, account, cpid, quota
+        self.platforms = platforms.split(",")
+        self.facts = {"p_fpops": fpops, "m_nbytes": memory, "d_free": disk}
+
+    def hears(self, record):
+        """The host tells its facts and platforms."""
+        self.facts = record["host_info"]
+        self.platforms = [record["platform_name"], *record["alt_platforms"]]
+
+    def row(self, held, credit):
+        """Its row, with what is counted."""
+        facts = self.facts["p_fpops"], self.facts["m_nbytes"], self.facts["d_free"]
+        return self.number, self.account, self.cpid, ",".join(self.platforms), *facts, self.quota, held, credit
+
+
+def split_name(name):
+    """The workunit's name and the number that the name of a result tells, where it tells both."""
+    unit, underscore, number = name.rpartition("_")
+    if underscore and len(number) < 3 and number.isascii() and number.isdigit() and (number == "0" or number[0] != "0"):
+        return unit, int(number)
+    return None
+
+
+# ---- The tables
+
+
+def create(path, settings):
+    """New tables in a file, as `bsched create` makes them."""
+    connection = sqlite3.connect(path)
+    connection.executescript(f"PRAGMA journal_mode = WAL; BEGIN; {SCHEMA} COMMIT;")
+    connection.executemany(PUTS["setting"], [("schema", 1), *settings.items()])
+    connection.commit()
+    connection.close()
+
+
+class Tables:
+    """A file of tables, what is looked up in it, and what is put."""
+
+    def __init__(self, path, once=False, synchronous="FULL"):
+        self.connection = sqlite3.connect(path, isolation_level=None)
+        pragmas = ("locking_mode = EXCLUSIVE", "journal_mode = WAL", f"synchronous = {synchronous}", "foreign_keys = ON")
+        for pragma in pragmas:
+            self.connection.execute(f"PRAGMA {pragma}").fetchall()
+        self.once, self.seen = once, {}
+        self.settings = dict(self.connection.execute("SELECT name, value FROM setting ORDER BY rowid"))
+        self.read_apps()
+
+    def read_apps(self):
+        """Reads the applications, which are kept beside the tables."""
+        rows = self.connection.execute("SELECT id, name, agreement FROM app ORDER BY id").fetchall()
+        self.apps = {number: (name, "exact" if near is None else f"within:{near}") for number, name, near in rows}
+
+    def begin(self):
+        """A message begins: nothing was looked up yet."""
+        self.seen.clear()
+
+    def shown(self, kind, *values):
+        """The rows of a look-up."""
+        if not self.once:
+            return self.connection.execute(LOOK_UPS[kind], values).fetchall()
+        if (kind, values) not in self.seen:
+            self.seen[kind, values] = self.connection.execute(LOOK_UPS[kind], values).fetchall()
+        return self.seen[kind, values]
+
+    def first(self, kind, *values):
+        """The first row of a look-up, where there is one."""
+        rows = self.shown(kind, *values)
+        return rows[0] if rows else None
+
+    def put(self, rows):
+        """Puts rows, each a table and its values, in one transaction."""
+        if rows:
+            self.connection.execute("BEGIN IMMEDIATE")
+            for table, row in rows:
+                self.connection.execute(PUTS[table], row)
+            self.connection.execute("COMMIT")
+
+    def number_of(self, kind, *values):
+        """The number that the first row of a look-up begins with, where there is one."""
+        row = self.first(kind, *values)
+        return None if row is None else row[0]
+
+    def counts(self):
+        """How many rows each table has."""
+        return {table: self.number_of(f"count of {table}s") or 0 for table in ("account", "app", "version", "unit", "host")}
+
+    def unit_row(self, number):
+        """The row of a workunit."""
+        return UnitRow._make(self.first("workunit", number))
+
+    def unit(self, number):
+        """A workunit, how its outputs are compared, and its instances: three look-ups."""
+        row = self.unit_row(number)
+        _, agreement = self.apps[self.unit_row(number).app_id]
+        return Unit(row, agreement, self.shown("instances of a workunit", number))
+
+    def host(self, number):
+        """A host, where it stands."""
+        row = self.first("host by number", number)
+        return None if row is None else Host(*row)
+
+    def held_count(self, host):
+        """How many jobs a host holds."""
+        row = self.first("what is counted of a host", host)
+        return len(self.shown("what a host holds", host)) if row is None else row[0]
+
+    def credit_of_host(self, host):
+        """The credit of a host. Of one that has no row it is looked up that nothing was given to it."""
+        row = self.first("what is counted of a host", host)
+        if row is None:
+            assert not self.shown("what a host was given", host)
+            return 0
+        return row[1]
+
+    def version(self, host, app):
+        """The newest version at the first of the host's platforms that has any, and that platform."""
+        for platform in host.platforms:
+            if numbers := self.shown("version for a platform", app, platform):
+                return max(numbers)[0], platform
+        return None
+
+    def waiting(self, unit, number):
+        """What waits to be given out, from a place on: each place with its workunit's row."""
+        while True:
+            places = self.shown("what waits, 64 places", unit, number)
+            for unit, number in places:
+                yield unit, number, self.unit_row(unit)
+            if len(places) < 64:
+                return
+            number += 1
+
+
+class Page:
+    """What a message read, each row once, as it is by now, and which of it the message put."""
+
+    def __init__(self, tables):
+        self.tables, self.units, self.hosts, self.put_units, self.put_hosts = tables, {}, {}, set(), {}
+
+    def unit(self, number):
+        """A workunit."""
+        if number not in self.units:
+            self.units[number] = self.tables.unit(number)
+        return self.units[number]
+
+    def host(self, number):
+        """A host that stands."""
+        if number not in self.hosts:
+            self.hosts[number] = self.tables.host(number)
+        return self.hosts[number]
+
+    def put_unit(self, number):
+        """Instances of a workunit are put."""
+        self.put_units.add(number)
+
+    def put_host(self, host):
+        """A host is put."""
+        self.hosts[host.number] = self.put_hosts[host.number] = host
+
+    def rows(self):
+        """The rows that are others than before. What was put is read once more: hosts move by the difference."""
+        tables, units, instances, shares = self.tables, [], [], {}
+        for number in self.put_hosts:
+            if tables.host(number) is None:
+                tables.counts()
+        for number in sorted(self.put_units):
+            unit, before = self.units[number], tables.unit(number)
+            before.add_shares(shares, -1)
+            unit.add_shares(shares, 1)
+            if unit.status != unit.was:
+                units.append(("unit", unit.row()))
+            stored = unit.stored + [None] * (len(unit.instances) - len(unit.stored))
+            instances += [("instance", row) for row, old in zip(unit.instance_rows(), stored) if row != old]
+        hosts = [self.host_row(number, *shares.get(number, (0, 0))) for number in sorted({*self.put_hosts, *shares})]
+        return [*units, *filter(None, hosts), *instances]
+
+    def host_row(self, number, held, credit):
+        """The row of a host that was put, or whose share is another than before."""
+        if number not in self.put_hosts and (held, credit) == (0, 0):
+            return None
+        held += self.tables.held_count(number)
+        credit += self.tables.credit_of_host(number)
+        host = self.put_hosts.get(number) or self.tables.host(number)
+        return "host", host.row(held, credit)
+
+
+# ---- The job machine
+
+
+class Machine:
+    """How a call and a tick change the tables."""
+
+    def __init__(self, tables):
+        self.tables, self.settings = tables, tables.settings
+
+    def instance(self, page, host, name):
+        """The instance of that name, where the host owns it."""
+        parts = split_name(name)
+        unit = None if parts is None else self.tables.number_of("workunit by name", parts[0])
+        instance = None if unit is None else page.unit(unit).at(parts[1])
+        return instance if instance is not None and instance.host == host.number else None
+
+    def fits(self, host, unit, version):
+        """Whether the host, which runs this version, can run the workunit in time."""
+        return (
+            unit.rsc_memory_bound <= host.facts["m_nbytes"]
+            and unit.rsc_disk_bound <= host.facts["d_free"]
+            and plain.estimate(unit, host) <= unit.delay_bound
+            and version is not None
+        )
+
+    def take_reports(self, page, host, results, charges):
+        """Records what the host reports of its own; the workunits that this touches."""
+        touched, firsts = [], {}
+        for report in results:
+            firsts.setdefault(report["name"], report)
+        for name, report in firsts.items():
+            instance = self.instance(page, host, name)
+            if instance is None or instance.exit_status is not None:
+                continue
+            unit = instance.unit
+            instance.exit_status, instance.output = report["exit_status"], report["output"]
+            if not unit.failed():
+                unit.judged.append(instance)
+                charges[host.number] += instance.exit_status != 0
+            page.put_unit(unit.id)
+            touched.append(unit)
+        return touched
+
+    def take_lost(self, page, host, held, listed, now):
+        """Sends again or drops what the host held and does not list; the jobs, and the workunits that this touches."""
+        resent, touched, lost = [], [], []
+        for unit, number in held:
+            instance = page.unit(unit).at(number)
+            if instance.held() and instance.name() not in listed:
+                lost.append(instance)
+        for instance in lost:
+            unit = instance.unit
+            page.put_unit(unit.id)
+            if unit.status == "open" and self.fits(host, unit, self.tables.version(host, unit.app_id)):
+                if now + plain.estimate(unit, host) > instance.deadline:
+                    instance.deadline = now + unit.delay_bound
+                resent.append(instance)
+            else:
+                instance.lapse = "dropped"
+                touched.append(unit)
+        return resent, touched
+
+    def settle_all(self, page, touched, charges):
+        """Settles workunits and moves quotas; the new credit of each host. Charges are those before verdicts."""
+        merits, gains = Counter(), Counter()
+        for unit in dict.fromkeys(touched):
+            for instance in plain.settle(unit.agreement, unit):
+                (merits if instance.verdict else charges)[instance.host] += 1
+                gains[instance.host] += unit.credit if instance.verdict else 0
+            page.put_unit(unit.id)
+        for number in sorted({*+charges, *merits}):
+            host = page.host(number)
+            quota = max(1, host.quota - charges[number]) * 2 ** merits[number]
+            host.quota = min(self.settings["daily_result_quota"], quota)
+            page.put_host(host)
+        return gains
+
+    def aborts(self, page, host, names):
+        """The names that the host may forget, each once."""
+        told = []
+        for name in dict.fromkeys(names):
+            instance = self.instance(page, host, name)
+            if instance is None or instance.exit_status is not None or instance.unit.failed():
+                told.append(name)
+        return told
+
+    def choose(self, host, held, seconds, asked, now):
+        """The places of jobs for the host, each with its version, and the word that tells why there are no more."""
+        tables, settings, day, jobs, known = self.tables, self.settings, now // 86400 * 86400, {}, {}
+        sent = len(tables.shown("sent on a day", host.number, day, day + 86400))
+        had = set()
+        for (number,) in tables.shown("hosts of a user", host.account):
+            had.update(unit for unit, _ in tables.shown("what a host was given", number))
+
+        def end_word():
+            if seconds >= asked:
+                return "enough"
+            if len(jobs) >= settings["max_wus_to_send"]:
+                return "reply_limit"
+            if held + len(jobs) >= settings["max_wus_in_progress"]:
+                return "in_progress_limit"
+            return "daily_quota" if sent + len(jobs) >= host.quota else None
+
+        word, offers = end_word(), tables.waiting(1, 0)
+        while word is None:
+            unit, number, row = next(offers, (None, None, None))
+            if unit is None:
+                return jobs, "no_eligible_work"
+            if unit in had or unit in jobs:
+                continue
+            if row.app_id not in known:  # the offers go on from here once the application's version is known
+                known[row.app_id] = tables.version(host, row.app_id)
+                offers = tables.waiting(unit, number)
+            elif self.fits(host, row, known[row.app_id]):
+                jobs[unit] = number, known[row.app_id]
+                seconds += plain.estimate(row, host)
+                word = end_word()
+        return jobs, word
+
+    def job(self, host, instance, version, resent):
+        """What a reply says of a job."""
+        number, platform = version
+        return {
+            "app_name": self.tables.apps[instance.unit.app_id][0],
+            "estimate": plain.estimate(instance.unit, host),
+            "name": instance.name(),
+            "platform": platform,
+            "report_deadline": instance.deadline,
+            "resent": resent,
+            "version_num": number,
+            "wu_name": instance.unit.name,
+        }
+
+    def new_host(self, account, record):
+        """A host behind the others."""
+        number = self.tables.counts()["host"] + 1
+        if number > self.settings["max_hosts"]:
+            raise Refused(409, 12, "hosts_full")
+        return Host(number, account, record["host_info"]["host_cpid"], "", 1, 0, 0, self.settings["daily_result_quota"])
+
+    def call(self, account, number, record, now):
+        """A fresh call of a host, which is a new one where it has no number: the rows that it puts, and its reply."""
+        tables, page, charges, resent, dropped = self.tables, Page(self.tables), Counter(), [], []
+        host = self.new_host(account, record) if number is None else page.host(number)
+        host.hears(record)
+        page.put_host(host)
+        held, listed = tables.shown("what a host holds", host.number), record.get("other_results")
+        touched = self.take_reports(page, host, record["results"], charges)
+        if listed is not None and self.settings["resend_lost_results"]:
+            resent, dropped = self.take_lost(page, host, held, set(listed), now)
+        gains = self.settle_all(page, touched + dropped, charges)
+        aborts = self.aborts(page, host, listed or [])
+        still = sum(unit not in page.units or page.unit(unit).at(place).held() for unit, place in held)
+        seconds = sum(plain.estimate(instance.unit, host) for instance in resent)
+        chosen, end_word = self.choose(host, still, seconds, record["work_req_seconds"], now)
+        granted = []
+        for unit, (place, version) in chosen.items():
+            instance = page.unit(unit).at(place)
+            instance.host, instance.sent, instance.deadline = host.number, now, now + instance.unit.delay_bound
+            page.put_unit(unit)
+            granted.append((instance, version))
+        credit = tables.credit_of_host(host.number) + gains[host.number]
+        user_credit = sum(row[0] for row in tables.shown("credit of a user", account))
+        user_credit += sum(gain for number, gain in gains.items() if page.host(number).account == account)
+        _, _, user_name = tables.first("account by authenticator", record["authenticator"])
+        again = [(instance, tables.version(host, instance.unit.app_id)) for instance in resent]
+        reply = {
+            "end_word": end_word,
+            "host_total_credit": credit,
+            "hostid": host.number,
+            "request_delay": self.settings["request_delay"],
+            "result_abort": aborts,
+            "result_ack": list(dict.fromkeys(report["name"] for report in record["results"])),
+            "results": [self.job(host, *job, True) for job in again] + [self.job(host, *job, False) for job in granted],
+            "rpc_seqno": record["rpc_seqno"],
+            "user_name": user_name,
+            "user_total_credit": user_credit,
+        }
+        return host.number, page.rows(), reply
+
+    def tick(self, now):
+        """Every held instance that is past its deadline lapses; how many."""
+        self.tables.begin()
+        page, charges, touched = Page(self.tables), Counter(), []
+        for unit, number in sorted(self.tables.shown("what is late", now)):
+            instance = page.unit(unit).at(number)
+            instance.lapse = "late"
+            charges[instance.host] += 1
+            touched.append(instance.unit)
+        self.settle_all(page, touched, charges)
+        if not touched:
+            self.tables.counts()  # as the program does, where nothing changes
+        self.tables.put(page.rows())
+        return len(touched)
+
+
+# ---- The service: what is kept of calls and imports, and the refusals
+
+
+class Service(plain.Service):
+    """What answers messages and the lines of a replay."""
+
+    def __init__(self, tables):
+        self.tables, self.machine = tables, Machine(tables)
+
+    def app_place(self, name):
+        """The number of the application of this name, where it stands."""
+        return next((number for number, (other, _) in self.tables.apps.items() if other == name), None)
+
+    def stands(self, kind, row):
+        """Whether a row's name stands."""
+        if kind == "accounts":
+            return self.tables.first("account by authenticator", row[0]) is not None
+        if kind == "workunits":
+            return self.tables.first("workunit by name", row[0]) is not None
+        place = self.app_place(row[0])
+        if kind == "apps" or place is None:
+            return place is not None
+        return (int(row[2]),) in self.tables.shown("version for a platform", place, row[1])
+
+    def checked_rows(self, kind, said):
+        """The rows of an import, whose names are new."""
+        _, names, app, most = KINDS[kind]
+        rows, new = rows_of(kind, said), set()
+        for number, row in enumerate(rows, 1):
+            name = tuple(row[:names])
+            if self.stands(kind, row) or name in new:
+                raise Refused(409, 15, "duplicate_name", row=number)
+            new.add(name)
+        for number, row in enumerate(rows, 1):
+            if app is not None and self.app_place(row[app]) is None:
+                raise Refused(409, 16, "unknown_reference", row=number)
+        if self.tables.counts()[kind.removesuffix("s").removeprefix("work")] + len(rows) > most:
+            raise Refused(409, 18, "table_full")
+        return rows
+
+    def added(self, kind, row, number):
+        """The rows that one row of an import puts, by the number that it gets."""
+        if kind == "accounts":
+            return [("account", (number, *row))]
+        if kind == "apps":
+            near = row[1].removeprefix("within:")
+            return [("app", (number, row[0], None if near == "exact" else int(near)))]
+        place = self.app_place(row[kind == "workunits"])
+        if kind == "versions":
+            return [("version", (number, place, row[1], int(row[2])))]
+        unit = Unit(UnitRow(number, row[0], place, *map(int, row[2:]), 0), self.tables.apps[place][1], [])
+        unit.add(unit.target_nresults)
+        return [("unit", unit.row()), *(("instance", instance) for instance in unit.instance_rows())]
+
+    def imported(self, kind, batch, said):
+        """The answer to an import."""
+        self.tables.begin()
+        if kind not in KINDS:
+            raise Refused(404, 2, "no_route")
+        if len(said.encode()) > 1048576:
+            raise Refused(413, 5, "too_large")
+        kept = self.tables.first("kept import", kind, batch)
+        if kept is not None:
+            if kept[2] != said.encode():
+                raise Refused(409, 17, "batch_reused")
+            return kept[3]
+        rows = self.checked_rows(kind, said)
+        last = self.tables.counts()[kind.removesuffix("s").removeprefix("work")]
+        answer = text({"batch": batch, "kind": kind, "rows": len(rows)})
+        put = [made for number, row in enumerate(rows, last + 1) for made in self.added(kind, row, number)]
+        self.tables.put([*put, ("batch", (kind, batch, said.encode(), answer))])
+        if kind == "apps":
+            self.tables.read_apps()
+        return answer
+
+    def scheduler(self, body, now):
+        """The answer to a call."""
+        self.tables.begin()
+        record = record_of(body)
+        tables, account = self.tables, self.tables.first("account by authenticator", record["authenticator"])
+        if account is None:
+            raise Refused(403, 8, "bad_account")
+        number = tables.number_of("host by account and client", account[0], record["host_info"]["host_cpid"])
+        if record["hostid"] not in (0, number):
+            raise Refused(409, 9, "bad_host")
+        seqno, said = record["rpc_seqno"], text(record)
+        kept = None if number is None else tables.first("kept call", number)
+        if kept is not None:
+            _, last, before, reply = kept
+            if (seqno, said) == (last, before):
+                return reply
+            if seqno <= last:
+                raise Refused(409, *((11, "reused") if seqno == last else (10, "stale")), last=last)
+        number, rows, reply = self.machine.call(account[0], number, record, now)
+        reply = text(reply)
+        tables.put([*rows, ("kept", (number, seqno, said, reply))])
+        return reply
+
+    # ---- HTTP
+
+    def routed(self, method, path, fields, body, now):
+        """The status and the body for a message."""
+        parts = path.split("?")[0].split("/")[1:]
+        is_import = len(parts) == 3 and parts[0] == "import" and parts[1] in KINDS and is_word(parts[2])
+        if not (parts in (["scheduler"], ["tick"]) or is_import):
+            raise Refused(404, 2, "no_route")
+        if method != "POST":
+            raise Refused(405, 3, "wrong_method")
+        if parts != ["scheduler"] and fields.get("x-operator-key") != self.tables.settings["operator_key"]:
+            raise Refused(403, 13, "not_operator")
+        if body is None:
+            raise Refused(411, 4, "length_required")
+        if parts == ["scheduler"]:
+            return self.scheduler(body, now)
+        if is_import:
+            return self.imported(parts[1], parts[2], body.decode())
+        return text({"lapsed": self.machine.tick(now)})
+
+    def respond(self, message):
+        """The bytes of the response to a message: its first line, its fields and its body."""
+        first, fields, body = message
+        method, path, _ = first.split(" ")
+        now = int(fields["x-moment"]) if "x-moment" in fields else int(time.time())
+        try:
+            status, told = 200, self.routed(method, path, fields, body, now)
+        except Refused as refusal:
+            status, told = refusal.status, refusal.body
+        told = told.encode()
+        allow = "allow: POST\r\n" if status == 405 else ""
+        head = f"HTTP/1.1 {status} {PHRASES[status]}\r\n{allow}content-type: application/json\r\n"
+        return f"{head}content-length: {len(told)}\r\nconnection: close\r\n\r\n".encode() + told
+
+
+def heard(connection):
+    """The first line of a message, its fields by their names, and its body; nothing where the client goes away."""
+    data = b""
+    while (end := data.find(b"\r\n\r\n")) < 0:
+        some = connection.recv(65536)
+        if not some:
+            return None
+        data += some
+    first, *lines = data[:end].decode().split("\r\n")
+    fields = {}
+    for line in lines:
+        name, _, value = line.partition(":")
+        fields[name.lower()] = value.strip()
+    body = data[end + 4 :]
+    if "content-length" not in fields:
+        return first, fields, b"" if "/tick" in first else None
+    while len(body) < int(fields["content-length"]):
+        some = connection.recv(65536)
+        if not some:
+            return None
+        body += some
+    return first, fields, body
+
+
+def main():
+    """Serves until it is killed."""
+    *options, path, port = sys.argv[1:]
+    service = Service(Tables(path, once="--once" in options))
+    listener = socket.create_server(("127.0.0.1", int(port)))
+    print(listener.getsockname()[1], flush=True)
+    while True:
+        connection, _ = listener.accept()
+        with connection:
+            connection.setsockopt(socket.IPPROTO_TCP, socket.TCP_NODELAY, 1)
+            message = heard(connection)
+            if message is not None:
+                connection.sendall(service.respond(message))
+
+
+if __name__ == "__main__":
+    main()

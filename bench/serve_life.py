@@ -1,0 +1,655 @@
+"""The cases of `bench/serve` over the tables of a growing project: life, ticks, past, statements, twins and profile.
+
+Each sets the program beside plain_tables.py, a scheduler in Python that does the same statements by the module `sqlite3`
+over the same tables, in one run and with the same messages. The messages are made first, by plain_tables.py in this
+process, so the client only sends bytes and keeps the answers. The program acts on the second of its own clock; the twin is
+told that second with each message, and then each answer has to be equal byte for byte, and all rows in the end too.
+"""
+import atexit
+import json
+import os
+import random
+import re
+import shutil
+import socket
+import sqlite3
+import statistics
+import subprocess
+import sys
+import tempfile
+import time
+from collections import Counter
+
+import plain
+import plain_tables
+import project
+from plain_formats import Refused, record_of, text
+from served import free_port, memory_told, ordered, peak, processor_seconds, started, wants
+
+TWIN = os.path.join(os.path.dirname(os.path.abspath(__file__)), "plain_tables.py")
+KEY = "change-this-key"
+SETTINGS = {
+    "daily_result_quota": 1000, "max_hosts": 100_000, "max_wus_in_progress": 8, "max_wus_to_send": 4, "operator_key": KEY,
+    "request_delay": 60, "resend_lost_results": True,
+}
+SIZES = {100: 180, 10_000: 200, 200_000: 200}  # of so many workunits, how many calls a round has
+LEAST, MOST, ROUNDS = min(SIZES), max(SIZES), 10
+PAST = 20_000  # how many results a host has behind it
+LINES = 4000  # how many calls the project has over which the twins are compared
+FPOPS, HOUR, DELAY, CREDIT = 10**9, 3600, 604_800, 5000
+HEAD = b"POST /scheduler HTTP/1.1\r\nhost: 127.0.0.1\r\nx-moment: %010d\r\ncontent-length: %d\r\n\r\n%b"
+TICK = f"POST /tick HTTP/1.1\r\nx-operator-key: {KEY}\r\n\r\n".encode()
+MADE = tempfile.TemporaryDirectory()  # the large tables, which several cases use
+
+
+# ---- Tables of a project
+
+
+def hosts_of(units):
+    """How many hosts stand beside so many workunits: half as many, but for one of a hundred that is yet to come."""
+    return units // 2 - units // 200
+
+
+def user_of(host):
+    """The user of a host: ten hosts are of one."""
+    return (host - 1) // 10 + 1
+
+
+def request(user, cpid, seqno, **more):
+    """The body of a call."""
+    said = {
+        "authenticator": f"user{user}",
+        "rpc_seqno": seqno,
+        "host_info": {"host_cpid": cpid, "p_fpops": FPOPS, "m_nbytes": 8 * 10**9, "d_free": 9 * 10**10},
+        "platform_name": "x86_64-pc-linux-gnu",
+        **more,
+    }
+    return json.dumps(said, separators=(",", ":")).encode()
+
+
+def import_rows(service, kind, rows):
+    """Imports rows, ten thousand in a batch."""
+    header = ",".join(plain_tables.KINDS[kind][0])
+    for first in range(0, len(rows), 10_000):
+        service.imported(kind, f"b{first}", "\n".join([header, *rows[first : first + 10_000], ""]))
+
+
+def host_rows(host):
+    """The rows that the first call of a host leaves, which asked for nothing."""
+    user, cpid = user_of(host), f"host{host}"
+    said = text(record_of(request(user, cpid, 1)))
+    reply = {
+        "end_word": "enough", "host_total_credit": 0, "hostid": host, "request_delay": SETTINGS["request_delay"],
+        "result_abort": [], "result_ack": [], "results": [], "rpc_seqno": 1, "user_name": f"User {user}",
+        "user_total_credit": 0,
+    }
+    row = host, user, cpid, "x86_64-pc-linux-gnu", FPOPS, 8 * 10**9, 9 * 10**10, SETTINGS["daily_result_quota"], 0, 0
+    return [("host", row), ("kept", (host, 1, said, text(reply)))]
+
+
+def made(program, units):
+    """Tables in a file with so many workunits, none of which was given out, and with hosts that called once."""
+    path = os.path.join(MADE.name, f"{units}.db")
+    if os.path.exists(path):
+        return path
+    settings = os.path.join(MADE.name, "settings.toml")
+    with open(settings, "w") as file:
+        file.writelines(f"{name} = {json.dumps(value)}\n" for name, value in SETTINGS.items())
+    wants(ordered(program, "create", "--settings", settings, "--tables", path), "created\n", "new tables")
+    tables = plain_tables.Tables(path, synchronous="OFF")
+    service, hosts = plain_tables.Service(tables), hosts_of(units)
+    import_rows(service, "accounts", [f"user{user},User {user}" for user in range(1, user_of(hosts) + 1)])
+    import_rows(service, "apps", ["dock,exact", "fold,within:2"])
+    import_rows(service, "versions", [f"{app},x86_64-pc-linux-gnu,{number}" for app in ("dock", "fold") for number in (1, 2)])
+    limits = f"2,2,3,8,6,{DELAY},{HOUR * FPOPS},1000000000,1000000000,{CREDIT}"
+    apps = ["fold", "dock", "dock", "dock"]
+    import_rows(service, "workunits", [f"unit-{unit},{apps[unit % 4]},{limits}" for unit in range(1, units + 1)])
+    tables.put([row for host in range(1, hosts + 1) for row in host_rows(host)])
+    tables.connection.close()
+    return path
+
+
+def made_past(program):
+    """The largest tables with a past: host 1 has PAST results behind it, of workunits that are done by it and by others;
+    as many more are done by others; and of PAST more, which are open, host 11 had one instance and the other one waits.
+    All were reported, and their deadlines are long past."""
+    path = os.path.join(MADE.name, "past.db")
+    if os.path.exists(path):
+        return path
+    shutil.copyfile(made(program, MOST), path)
+    half, last = hosts_of(MOST) // 2, hosts_of(MOST) * 99 // 100
+    connection = sqlite3.connect(path, isolation_level=None)
+    connection.execute("BEGIN")
+    given = (
+        "UPDATE instance SET host_id = ?, sent = ?, deadline = ?, outcome = 1, output = '42', place = ?, queued = 0 "
+        "WHERE unit_id = ? AND num = ?"
+    )
+    for unit in range(1, 3 * PAST + 1):
+        sent = 1_600_000_000 + unit
+        first = 1 if unit <= PAST else 21 + unit % (half - 21) if unit <= 2 * PAST else 11
+        connection.execute(given, (first, sent, sent + DELAY, 1, unit, 0))
+        if unit <= 2 * PAST:
+            connection.execute(given, (half + unit % (last - half), sent, sent + DELAY, 2, unit, 1))
+    connection.execute("UPDATE unit SET status = 1 WHERE id <= ?", (2 * PAST,))
+    counted = "SELECT host_id, count(*) * ? FROM instance WHERE unit_id <= ? GROUP BY host_id"
+    for host, credit in connection.execute(counted, (CREDIT, 2 * PAST)).fetchall():
+        connection.execute("UPDATE host SET credit = ? WHERE id = ?", (credit, host))
+    connection.execute("COMMIT")
+    connection.close()
+    return path
+
+
+def copied(path, folder, name="copy.db"):
+    """A fresh copy of tables, which is on the disk."""
+    copy = os.path.join(folder, name)
+    for name in (copy, f"{copy}-wal"):
+        if os.path.exists(name):
+            os.remove(name)
+    shutil.copyfile(path, copy)
+    with open(copy, "rb+") as file:
+        os.fsync(file.fileno())
+    return copy
+
+
+# ---- Messages
+
+
+class Client:
+    """A host, as its own software sees it."""
+
+    def __init__(self, user, cpid, seqno=0):
+        self.user, self.cpid, self.seqno = user, cpid, seqno
+        self.jobs = []  # the names of what it has
+        self.unheard = None  # the call whose reply was lost
+
+
+def standing(host):
+    """The client of a host that called once."""
+    return Client(user_of(host), f"host{host}", 1)
+
+
+class Life:
+    """Calls of clients, and what came about by them. They are answered as they are made, over a copy of the tables."""
+
+    def __init__(self, path, folder):
+        self.pick = random.Random(1)
+        self.tables = plain_tables.Tables(copied(path, folder), once=True, synchronous="OFF")
+        self.service, self.now = plain_tables.Service(self.tables), int(time.time())
+        self.bodies, self.seen = [], Counter()
+
+    def send(self, body):
+        """One call more: its reply, or nothing where it is refused."""
+        self.bodies.append(body)
+        try:
+            return json.loads(self.service.scheduler(body, self.now))
+        except Refused:
+            return None
+
+    def report(self, name):
+        """What a client tells of a job that it finished: mostly what others tell of its workunit."""
+        chance, unit = self.pick.random(), int(name.split("_")[0].removeprefix("unit-"))
+        if chance < 0.03:
+            return {"name": name, "exit_status": 195}
+        return {"name": name, "exit_status": 0, "output": str(unit * 37 % 1000 + (50 if chance < 0.06 else 0))}
+
+    def call(self, client, asked, kept=0.0, lost=0.0, silent=0.0):
+        """A fresh call, that asks for so many seconds. Chances: to keep a job, to lose the reply, to list no results."""
+        client.seqno += 1
+        done = [name for name in client.jobs if self.pick.random() >= kept]
+        more = {} if self.pick.random() < silent else {"other_results": [name for name in client.jobs if name not in done]}
+        results = [self.report(name) for name in done]
+        body = request(client.user, client.cpid, client.seqno, work_req_seconds=asked, results=results, **more)
+        reply = self.send(body)
+        self.seen["fresh calls"] += 1
+        self.seen["reports"] += len(done)
+        self.seen["jobs sent again"] += sum(job["resent"] for job in reply["results"])
+        self.seen["jobs given"] += sum(not job["resent"] for job in reply["results"])
+        self.take(client, body, reply, lost)
+
+    def take(self, client, body, reply, lost):
+        """The client forgets what it is told to, and has new jobs; or it never hears."""
+        client.unheard = body if self.pick.random() < lost else None
+        self.seen["replies lost"] += client.unheard is not None
+        if client.unheard is None:
+            gone = reply["result_ack"] + reply["result_abort"]
+            had = [name for name in client.jobs if name not in gone]
+            client.jobs = had + [job["name"] for job in reply["results"] if job["name"] not in had]
+
+    def mixed(self, units, count):
+        """So many calls of a project's life. Those who call are all hosts of some users, 36 calls for each user."""
+        users, active = user_of(hosts_of(units)), max(5, count // 36)
+        clients = [standing(10 * (number * users // active) + one) for number in range(active) for one in range(1, 11)]
+        for number in range(count):
+            client = self.pick.choice(clients)
+            if self.pick.random() < 0.02:
+                client = Client(client.user, f"new{number}")
+                clients.append(client)
+                self.seen["new hosts"] += 1
+            if client.unheard is not None and self.pick.random() < 0.5:
+                self.seen["repeats"] += 1
+                self.take(client, client.unheard, self.send(client.unheard), 0.1)
+            elif client.seqno > 1 and self.pick.random() < 0.01:
+                self.seen["stale calls"] += 1
+                self.send(request(client.user, client.cpid, client.seqno - 1, work_req_seconds=7))
+            else:
+                asked = self.pick.choice([0, *[1] * 8, HOUR + 1])
+                self.call(client, asked, kept=0.15, lost=0.1, silent=0.05)
+        return self
+
+    def ended(self):
+        """Closes the copy; counts the workunits that are done."""
+        self.seen["workunits done"] = self.tables.connection.execute("SELECT count(*) FROM unit WHERE status = 1").fetchone()[0]
+        self.tables.connection.close()
+        return self
+
+
+# ---- Servers, and one client
+
+
+class Run:
+    """What one server did with messages: its answers with the seconds before and after each, and what that took."""
+
+    def __init__(self, server, port, begin):
+        self.server, self.port, self.open_seconds = server, port, time.perf_counter() - begin
+        self.open_stays, self.open_peak, self.end_peak = memory_told(server, "VmRSS"), peak(server), None
+        self.told, self.seconds, self.server_seconds, self.client_seconds = [], 0, 0, 0
+        atexit.register(self.end)  # also where the run ends early
+
+    def send(self, messages):
+        """Sends messages, each over a connection of its own, one after the other."""
+        address, told = ("127.0.0.1", self.port), self.told
+        before, own, begin = processor_seconds(self.server), time.process_time(), time.perf_counter()
+        for message in messages:
+            start = time.time()
+            with socket.socket() as connection:
+                connection.connect(address)
+                connection.sendall(message)
+                answer = connection.recv(65536)
+                while some := connection.recv(65536):
+                    answer += some
+            told.append((answer, start, time.time()))
+        self.seconds += time.perf_counter() - begin
+        self.client_seconds += time.process_time() - own
+        self.server_seconds += processor_seconds(self.server) - before
+        self.end_peak = peak(self.server)
+        return self
+
+    def end(self):
+        """Kills the server. What it answered is in the file."""
+        self.server.kill()
+        self.server.wait()
+        return self
+
+    def end_by_itself(self):
+        """Lets a server that has one connection left to serve have it, and waits for its end."""
+        with socket.socket() as connection:
+            connection.connect(("127.0.0.1", self.port))
+        self.server.wait()
+
+
+def run_ours(program, tables, count=1_000_000, before=()):
+    """The program over tables, which takes so many connections; it runs under the command `before`, where one is told."""
+    begin, port = time.perf_counter(), free_port()
+    return Run(started(program, tables, port, count, before, seconds=3600), port, begin)
+
+
+def run_twin(tables, *options):
+    """plain_tables.py over tables."""
+    begin = time.perf_counter()
+    server = subprocess.Popen([sys.executable, TWIN, *options, tables, "0"], stdout=subprocess.PIPE, text=True)
+    return Run(server, int(server.stdout.readline()), begin)
+
+
+def messages_of(bodies, moments):
+    """The messages of calls, each with the second at which the twin acts on it."""
+    return [HEAD % (moment, len(body), body) for body, moment in zip(bodies, moments)]
+
+
+def moments_in(bodies, told, seen):
+    """The second at which the program acted on each call: that of a new job's sending, else the one when it was made. What
+    was seen before is a repeat, which gets an earlier reply."""
+    moments = []
+    for body, (answer, start, end) in zip(bodies, told):
+        jobs = json.loads(answer.partition(b"\r\n\r\n")[2]).get("results", [])
+        sent = {job["report_deadline"] - DELAY for job in jobs if not job["resent"]}
+        if body in seen or not sent:
+            moments.append(int(start))
+        else:
+            wants(len(sent) == 1 and int(start) <= min(sent) <= end, True, "a deadline that is of the call's second")
+            moments.append(min(sent))
+        seen.add(body)
+    return moments
+
+
+def same_rows(ours, theirs):
+    """Ends the run where two files of tables have other rows."""
+    files = [sqlite3.connect(path) for path in (ours, theirs)]
+    for table, (columns, keys) in plain_tables.COLUMNS.items():
+        order = ", ".join(columns.split(", ")[:keys])
+        one, other = (file.execute(f"SELECT {columns} FROM {table} ORDER BY {order}").fetchall() for file in files)
+        if one != other:
+            raise SystemExit(f"{table}: rows of the program {set(one) - set(other)!r}, of the twin {set(other) - set(one)!r}")
+    for file in files:
+        file.close()
+
+
+class Recorder:
+    """The connection of tables, and the statements that are run over it, with their values."""
+
+    def __init__(self, path, folder):
+        self.tables = plain_tables.Tables(copied(path, folder), synchronous="OFF")
+        self.connection, self.ran, self.tables.connection = self.tables.connection, [], self
+
+    def execute(self, statement, values=()):
+        """Runs a statement."""
+        self.ran.append((statement, values))
+        return self.connection.execute(statement, values)
+
+    def ran_by(self, bodies):
+        """The statements of each of these calls."""
+        service, now, each = plain_tables.Service(self.tables), int(time.time()), []
+        for body in bodies:
+            self.ran = []
+            try:
+                service.scheduler(body, now)
+            except Refused:
+                pass
+            each.append(self.ran)
+        self.connection.close()
+        return each
+
+
+class Race:
+    """The program, the twin with each of some options, and the statements alone by the module `sqlite3`: all with the same
+    calls, over fresh copies of the same tables. The servers have to answer the same, and to leave the same rows."""
+
+    def __init__(self, program, path, folder, bodies, twins=((),)):
+        self.program, self.path, self.folder, self.bodies, self.twins = program, path, folder, bodies, twins
+        self.ran, self.bare_seconds = Recorder(path, folder).ran_by(bodies), 0
+
+    def begin(self):
+        """Copies the tables, and starts the servers."""
+        name = os.path.basename(self.path)
+        ours, bare, *theirs = (copied(self.path, self.folder, f"{number}.{name}") for number in range(len(self.twins) + 2))
+        self.copies, self.connection, self.at, self.seen = [ours, *theirs], plain_tables.Tables(bare).connection, 0, set()
+        twins = (run_twin(copy, *options) for copy, options in zip(theirs, self.twins))
+        self.runs = [run_ours(self.program, ours), *twins]
+        return self
+
+    def go(self, count):
+        """So many calls more, one server after the other."""
+        bodies, ran, (ours, *others) = self.bodies[self.at :][:count], self.ran[self.at :][:count], self.runs
+        ours.send(messages_of(bodies, [0] * count))
+        messages = messages_of(bodies, moments_in(bodies, ours.told[self.at :], self.seen))
+        for run in others:
+            run.send(messages)
+            for body, (one, _, _), (other, _, _) in zip(bodies, ours.told[self.at :], run.told[self.at :]):
+                if one != other:
+                    raise SystemExit(f"an answer differs\nthe call: {body!r}\nthe program: {one!r}\nthe twin: {other!r}")
+        begin = time.process_time()
+        for call in ran:
+            for statement, values in call:
+                self.connection.execute(statement, values).fetchall()
+        self.bare_seconds += time.process_time() - begin
+        self.at += count
+        return self
+
+    def end(self):
+        """Stops the servers: what they did."""
+        self.connection.close()
+        for run in self.runs:
+            run.end()
+        for copy in self.copies[1:]:
+            same_rows(self.copies[0], copy)
+        return self.runs
+
+
+# ---- The cases
+
+
+def rates_of(runs):
+    """Calls per second of some runs: by the clock, and of the server's processor time."""
+    count = sum(len(run.told) for run in runs)
+    return count / sum(run.seconds for run in runs), count / sum(run.server_seconds for run in runs)
+
+
+def ratio_told(ours, theirs):
+    """How many calls per second the first rates have beside the others."""
+    return (
+        f"{ours[0] / theirs[0]:.2f} times as many calls a second ({ours[0]:.0f} and {theirs[0]:.0f}), "
+        f"{ours[1] / theirs[1]:.2f} times as many per second of the server's processor time ({ours[1]:.0f} and {theirs[1]:.0f})"
+    )
+
+
+def memory_told_of(run):
+    """The memory of a run, as it is told."""
+    return (
+        f"peak memory {run.open_peak / 1024:.0f} MB then, of which {run.open_stays / 1024:.0f} MB stay, and "
+        f"{run.end_peak / 1024:.0f} MB after the calls"
+    )
+
+
+def rows_read(path):
+    """The seconds in which the module `sqlite3` reads all rows of a file."""
+    connection, begin = sqlite3.connect(path), time.perf_counter()
+    for table, (columns, _) in plain_tables.COLUMNS.items():
+        connection.execute(f"SELECT {columns} FROM {table}").fetchall()
+    connection.close()
+    return time.perf_counter() - begin
+
+
+def told_life(units, lived, race, runs, rates):
+    """Prints what the calls took over tables of one size."""
+    ours, theirs, once = zip(*runs)
+    calls = sum(len(run.told) for run in ours)
+    rates[units], client, bare = rates_of(ours), sum(run.client_seconds for run in ours) / calls, race.bare_seconds / calls
+    print(f"life: {units} workunits, {hosts_of(units)} hosts, {ROUNDS} rounds, {calls} calls in all; ", end="")
+    print(", ".join(f"{many} {what}" for what, many in lived.seen.items()) + (" in each" if units == LEAST else ""))
+    print(f"life: all answers and rows are the twin's; the program answers {ratio_told(rates[units], rates_of(theirs))}")
+    print(f"life: beside the twin that runs no statement twice in a call {ratio_told(rates[units], rates_of(once))}")
+    print(
+        f"life: a call takes {1 / rates[units][1] / bare:.2f} times the processor time that its statements alone take by the "
+        f"module sqlite3 ({1e6 / rates[units][1]:.0f} and {bare * 1e6:.0f} microseconds); the client takes {client * 1e6:.0f}"
+    )
+    opened, read = min(run.open_seconds for run in ours), rows_read(race.path)
+    print(
+        f"life: the tables are opened in {opened / read:.1f} times the time in which the module sqlite3 reads all rows "
+        f"({opened:.2f} and {read:.2f} seconds), {memory_told_of(ours[-1])}; of the twin {theirs[-1].end_peak / 1024:.0f} MB; "
+        f"the file has {os.path.getsize(race.path) / 1e6:.1f} MB",
+        flush=True,
+    )
+
+
+def life(program, folder):
+    """Calls that ask, report and now and then lose a reply, over small and large tables. The sizes and the servers take
+    turns, round by round. The least project is used up after a round, and begins anew with each."""
+    lives, races, runs, rates = {}, {}, {}, {}
+    for units, count in SIZES.items():
+        path = made(program, units)
+        lives[units] = Life(path, folder).mixed(units, count * (1 if units == LEAST else ROUNDS)).ended()
+        races[units], runs[units] = Race(program, path, folder, lives[units].bodies, [(), ("--once",)]), []
+    for units in [*SIZES][1:]:
+        races[units].begin()
+    for _ in range(ROUNDS):
+        runs[LEAST].append(races[LEAST].begin().go(SIZES[LEAST]).end())
+        for units in [*SIZES][1:]:
+            races[units].go(SIZES[units])
+    for units in [*SIZES][1:]:
+        runs[units].append(races[units].end())
+    for units in SIZES:
+        told_life(units, lives[units], races[units], runs[units], rates)
+    print(f"life: at {MOST} workunits beside {LEAST} the program answers {ratio_told(rates[MOST], rates[LEAST])}")
+
+
+def tick_seconds(program, path, folder):
+    """The seconds of a tick where nothing is late, of the program and of the twin: the middle ones of some."""
+    runs = run_ours(program, copied(path, folder, "ours.db")), run_twin(copied(path, folder, "twin.db"))
+    for _ in range(25):
+        for run in runs:
+            run.send([TICK])
+    for run in runs:
+        for answer, _, _ in run.end().told:
+            wants(answer.rpartition(b"\r\n\r\n")[2], b'{"lapsed":0}', "a tick")
+    return [statistics.median(end - start for _, start, end in run.told) for run in runs]
+
+
+def ticks(program, folder):
+    """Ticks where nothing is late."""
+    few, many, past = (
+        tick_seconds(program, path, folder) for path in (made(program, LEAST), made(program, MOST), made_past(program))
+    )
+    print(
+        f"ticks: where nothing was ever given out, a tick at {MOST} workunits takes {many[0] / few[0]:.1f} times as long as at "
+        f"{LEAST} ({many[0] * 1e3:.2f} and {few[0] * 1e3:.2f} milliseconds; of the twin {many[1] * 1e3:.2f})"
+    )
+    print(
+        f"ticks: with {5 * PAST} results that were reported in time and whose deadlines are past, {past[0] / many[0]:.0f} "
+        f"times that ({past[0] * 1e3:.0f} milliseconds), {past[0] / past[1]:.1f} times as long as of the twin "
+        f"({past[1] * 1e3:.0f})"
+    )
+
+
+def past(program, folder):
+    """Calls of hosts and users with much behind them."""
+    path, rounds = made_past(program), 7
+    whose = {
+        "a host with nothing behind it": standing(hosts_of(MOST)),
+        f"a host with {PAST} results behind it": standing(1),
+        "another host of that user": standing(2),
+        f"a host whose user had one instance of each of the first {PAST} workunits that wait": standing(11),
+    }
+    lived = Life(path, folder)
+    for _ in range(rounds):
+        for client in whose.values():
+            lived.call(client, 1)
+    lived.ended()
+    ours, theirs = Race(program, path, folder, lived.bodies).begin().go(len(lived.bodies)).end()
+    fresh = None
+    for number, what in enumerate(whose):
+        # the first round gives each its first job; from then on each call reports a job and gets one
+        one, other = (
+            statistics.median(end - start for _, start, end in run.told[len(whose) + number :: len(whose)])
+            for run in (ours, theirs)
+        )
+        fresh = fresh or one
+        print(
+            f"past: a call of {what}, that reports a job and gets one, takes {one * 1e3:.1f} milliseconds: "
+            f"{one / fresh:.1f} times as long as of the first, {one / other:.2f} times as long as of the twin "
+            f"({other * 1e3:.1f})"
+        )
+    print(f"past: these tables are opened in {ours.open_seconds:.1f} seconds, {memory_told_of(ours)}")
+
+
+def kind_of(said):
+    """The kind of a statement that was run."""
+    kinds = {**plain_tables.LOOK_UPS, **{f"put: {table}": put for table, put in plain_tables.PUTS.items()}}
+    for kind, statement in kinds.items():
+        if re.fullmatch(re.sub(r"\\\?\d+", ".*", re.escape(statement)), said, re.DOTALL):
+            return kind
+    return said.split(" ")[0]
+
+
+def statements(program, folder):
+    """The statements of one call, by their kinds."""
+    def call(service, host, seqno, asked, **more):
+        client = standing(host)
+        service.scheduler(request(client.user, client.cpid, seqno, work_req_seconds=asked, **more), 1_000_000_000)
+
+    counts = []
+    for once in (False, True):
+        tables = plain_tables.Tables(copied(made(program, LEAST), folder), once=once)
+        service = plain_tables.Service(tables)
+        call(service, 1, 2, HOUR + 1)
+        call(service, 11, 2, 1)
+        call(service, 11, 3, 0, results=[{"name": "unit-1_1", "exit_status": 0, "output": "42"}])
+        ran = []
+        tables.connection.set_trace_callback(ran.append)
+        report = {"name": "unit-1_0", "exit_status": 0, "output": "42"}
+        call(service, 1, 3, HOUR + 1, results=[report], other_results=[])
+        tables.connection.close()
+        counts.append(Counter(map(kind_of, ran)))
+    print("statements: of a call that reports a job, by which its quorum comes about, has lost one and gets one; counted in")
+    print("the twin, which does those of the program; and in the twin where none is run twice in a call")
+    for kind, many in [*counts[0].items(), ("in all", counts[0].total())]:
+        print(f"  {kind:30} {many:4} {counts[1].get(kind, counts[1].total()):4}")
+
+
+def twins(_program, folder):
+    """The answers of plain_tables.py beside those of plain.py: over the lines of a project, and over the stored run."""
+    with open(os.path.join(os.path.dirname(TWIN), "..", "crates", "bsched", "stdin"), "rb") as file:
+        stored = file.read().splitlines()
+    for what, settings, lines in (
+        ("a project's life", project.SETTINGS, project.lines(LINES)[0].splitlines()), ("the stored run", {}, stored),
+    ):
+        for once in (False, True):
+            path = os.path.join(folder, f"{len(lines)}{once}.db")
+            plain_tables.create(path, {**plain.SETTINGS, **settings, "operator_key": KEY})
+            one = plain.Service({**plain.SETTINGS, **settings})
+            other = plain_tables.Service(plain_tables.Tables(path, once, "OFF"))
+            for number, line in enumerate(lines, 1):
+                wants(other.answer(line), one.answer(line), f"the answer to line {number} of {what}")
+        print(f"twins: good, {len(lines)} answers of {what}")
+
+
+def under(words, program, path, folder, bodies):
+    """Runs the program over a copy of tables and with these calls, under a command, until it ends by itself."""
+    # the probe that finds its listener counts as one connection, and so does the last one
+    run = run_ours(program, copied(path, folder), len(bodies) + 2, words)
+    run.send(messages_of(bodies, [0] * len(bodies))).end_by_itself()
+
+
+def counted(found):
+    """What callgrind wrote: the instructions of each function, those with what it calls, and how often it was called."""
+    names, own, whole, calls, function, called = {}, Counter(), Counter(), Counter(), None, None
+    with open(found) as file:
+        for line in file:
+            if named := re.match(r"(c?fn)=\((\d+)\)(?: (.*))?", line):
+                if named[3]:
+                    names[named[2]] = re.sub(r"('\d+)?$", "", re.sub(r"::<#\w+>", "", named[3]))
+                if named[1] == "fn":
+                    function = names[named[2]]
+                else:
+                    called = names[named[2]]
+            elif line.startswith("calls="):
+                calls[called] += int(line[6:].split()[0])
+                whole[called] += int(next(file).split()[1])
+            elif function and re.match(r"[\d+*-]", line):
+                own[function] += int(line.split()[1])
+    return own, whole, calls
+
+
+def profile(program, folder):
+    """What a short life takes of the system and of the processor, and how many look-ups it runs."""
+    path, found = made(program, LEAST), os.path.join(folder, "found")
+    bodies = Life(path, folder).mixed(LEAST, SIZES[LEAST]).ended().bodies
+    if shutil.which("strace") is None:
+        print("profile: strace: not installed, not run")
+    else:
+        under(["strace", "-c", "-S", "calls", "-o", found], program, path, folder, bodies)
+        with open(found) as file:
+            told = "".join(file.readlines()[:10])
+        print(f"profile: the system calls of {len(bodies)} calls and of the opening\n{told}", end="")
+    if shutil.which("valgrind") is None:
+        print("profile: valgrind: not installed, not run")
+        return
+    told = []
+    for some in ([], bodies):
+        under(["valgrind", "-q", "--tool=callgrind", f"--callgrind-out-file={found}"], program, path, folder, some)
+        told.append(counted(found))
+    own, whole, calls = (after - before for before, after in zip(*told))
+    twin = sum(statement.startswith("SELECT") for ran in Recorder(path, folder).ran_by(bodies) for statement, _ in ran)
+    print(f"profile: the program runs {calls['table_rows::read::shown_by']} look-ups in these calls, the twin {twin}")
+    print(f"profile: {own.total() // len(bodies)} instructions a call, of which percent in")
+    crates = Counter()
+    for function, many in own.items():
+        crates[function.split("::")[0] if "::" in function else "libc"] += many
+    stages = {"table_rows::read::shown_by": "look-ups", "table_rows::put::put_each": "puts"}
+    stages["sqlite::connection::Connection::commit"] = "the commit"
+    for what, many in [
+        *((f"all {stage}", whole[function]) for function, stage in stages.items()),
+        *((f"the crate {crate}", many) for crate, many in crates.most_common(10)), *own.most_common(16),
+    ]:
+        print(f"  {100 * many / own.total():5.1f} {what}")
+
+
+CASES = {"life": life, "ticks": ticks, "past": past, "statements": statements, "twins": twins, "profile": profile}
