@@ -1,5 +1,7 @@
 //! The worked rows, and lines that are none, too long or broken.
 
+mod cuts;
+mod desk;
 mod jobs;
 mod judging;
 mod lapses;
@@ -12,6 +14,7 @@ mod repeats;
 mod rows;
 mod settings;
 mod spellings;
+mod stops;
 mod stored;
 
 use commands::default_settings;
@@ -260,16 +263,11 @@ fn a_request_may_list_1024_names(rt: HostRuntime) -> Result<(), Fail> {
 #[test]
 fn a_request_may_be_127_levels_deep(rt: HostRuntime) -> Result<(), Fail> {
     let alloc = rt.alloc();
-    let deepest = nested(alloc, 126)?;
-    assert!(rt; is_told(alloc, deepest.as_str(), REPLY)?);
-    let deeper = nested(alloc, 127)?;
-    assert!(rt;
-        is_told(
-            alloc,
-            deeper.as_str(),
-            "400 {\"error\":\"bad_json\",\"number\":6}\n"
-        )?
-    );
+    let refused = "400 {\"error\":\"bad_json\",\"number\":6}\n";
+    for (depth, told) in [(126, REPLY), (127, refused), (200, refused)] {
+        let member = nested(alloc, depth)?;
+        assert!(rt; is_told(alloc, member.as_str(), told)?, "{depth}");
+    }
     Ok(())
 }
 
@@ -365,13 +363,15 @@ fn a_line_may_be_1_100_000_bytes_long(rt: HostRuntime) -> Result<(), Fail> {
     Ok(())
 }
 
-/// A reader that fails.
+/// A reader that fails at each read.
 #[derive(Drop)]
-struct Broken;
+struct Broken {
+    kind: ErrorKind,
+}
 
 impl Read for Broken {
     fn read(&mut self, _buf: &mut [u8]) -> io::Result<usize> {
-        Err(io::Error::from(ErrorKind::ConnectionReset))
+        Err(io::Error::from(self.kind))
     }
 }
 
@@ -427,7 +427,12 @@ fn replayed_before_a_fault<S: Store + Drop>(
     store: S,
     front: &[u8],
 ) -> Result<(Vec<u8>, Ended), Fail> {
-    let reader = BufReader::new(alloc, front.chain(Broken))?;
+    let reader = BufReader::new(
+        alloc,
+        front.chain(Broken {
+            kind: ErrorKind::ConnectionReset,
+        }),
+    )?;
     let mut service = service_over(alloc, store)?;
     Ok(replayed_from(alloc, &mut service, reader))
 }

@@ -9,7 +9,7 @@ use replay_lines::line_of;
 use sched_server::Service;
 use std::alloc::Global;
 use std::io;
-use std::io::{Read, Write};
+use std::io::{ErrorKind, Read, Write};
 use std::net::{TcpListener, TcpStream};
 use std::test::Fail;
 use texts::Memory;
@@ -357,8 +357,9 @@ fn served_before_a_fault<S: Store>(
     alloc: Global,
     service: &mut Service<S>,
     front: &[u8],
+    kind: ErrorKind,
 ) -> (Result<(), IoFault>, Vec<u8>) {
-    let mut reader = front.chain(Broken);
+    let mut reader = front.chain(Broken { kind });
     let mut written = Vec::new(alloc);
     let served = serve_one(
         alloc,
@@ -398,7 +399,12 @@ fn fronts_are_no_message<S: Store>(
 ) -> Result<bool, Fail> {
     for length in 0..message.len() {
         let front = message.get(..length).unwrap_or(&[]);
-        let (served, written) = served_before_a_fault(alloc, service, front);
+        let (served, written) = served_before_a_fault(
+            alloc,
+            service,
+            front,
+            ErrorKind::ConnectionReset,
+        );
         let cut = answered(alloc, service, front)?;
         if !matches!(served, Err(IoFault::Read)) || !written.is_empty() {
             return Ok(false);
@@ -413,6 +419,26 @@ fn fronts_are_no_message<S: Store>(
 fn no_front_is_a_message<S: Store + Drop>(alloc: Global, store: S) -> Result<bool, Fail> {
     let mut service = project(alloc, store)?;
     fronts_are_no_message(alloc, &mut service, &first_call(alloc)?)
+}
+
+/// Whether a message whose reader is interrupted for ever behind its first half is told as a fault of the reader.
+fn is_given_up<S: Store + Drop>(alloc: Global, store: S) -> Result<bool, Fail> {
+    let mut service = project(alloc, store)?;
+    let front = first_call(alloc)?;
+    let half = front.get(..front.len() / 2).unwrap_or(&[]);
+    let (served, written) = served_before_a_fault(
+        alloc,
+        &mut service,
+        half,
+        ErrorKind::Interrupted,
+    );
+    Ok(matches!(served, Err(IoFault::Read)) && written.is_empty())
+}
+
+#[test]
+fn a_reader_that_is_interrupted_for_ever_is_given_up(rt: HostRuntime) -> Result<(), Fail> {
+    assert!(rt; is_given_up(rt.alloc(), new_store(rt.alloc())?)?);
+    Ok(())
 }
 
 #[test]

@@ -24,7 +24,7 @@ fn arrivals_of(alloc: Global, key: &str, lines: &str) -> Result<Vec<Arrival>, Fa
 }
 
 /// Puts what arrives by a line behind the others.
-fn push_arrival(
+pub fn push_arrival(
     alloc: Global,
     arrivals: &mut Vec<Arrival>,
     key: &str,
@@ -80,7 +80,7 @@ fn is_answered_again<S: Store + Drop>(alloc: Global, store: S, row: &str) -> Res
 }
 
 /// The default settings, but that five hosts may stand.
-fn settings(alloc: Global) -> Result<Settings, Fail> {
+pub fn settings(alloc: Global) -> Result<Settings, Fail> {
     let mut settings = default_settings(alloc)?;
     settings.max_hosts = 5;
     Ok(settings)

@@ -1,6 +1,6 @@
 //! Tables that are spoiled, and tables in a file.
 
-use super::repeats::is_answered_again_in;
+use super::repeats::{is_answered_again_in, settings};
 use super::{CALL_START, PROJECT, replayed, replayed_by, replayed_over, service_over};
 use commands::{Failure, Visit, default_settings, visit_file};
 use message_engine::Store;
@@ -33,35 +33,48 @@ fn run<S: Alter>(conn: &mut Connection<S>, sql: &str) -> Result<usize, Error> {
     conn.execute(sql, &[])
 }
 
-/// Has a service answer the lines.
-fn answer_lines<S: Store>(alloc: Global, service: &mut Service<S>) -> Result<(), Fail> {
-    let (_, ended) = replayed_by(alloc, service, lines(alloc)?.as_bytes())?;
+/// Has a service answer these lines.
+fn answer_lines<S: Store>(
+    alloc: Global,
+    service: &mut Service<S>,
+    lines: &[u8],
+) -> Result<(), Fail> {
+    let (_, ended) = replayed_by(alloc, service, lines)?;
     if ended != Ended::Good {
         return Err(Fail::new("the lines end otherwise"));
     }
     Ok(())
 }
 
-/// A store after the lines.
-fn after_lines<S: Store + Drop>(alloc: Global, store: S) -> Result<S, Fail> {
+/// A store after these lines.
+fn after_lines<S: Store + Drop>(alloc: Global, store: S, lines: &[u8]) -> Result<S, Fail> {
     let mut service = service_over(alloc, store)?;
-    answer_lines(alloc, &mut service)?;
+    answer_lines(alloc, &mut service, lines)?;
     Ok(service.into_tables())
 }
 
-/// A database with tables after the lines.
-fn with_lines<S: Alter + Drop>(alloc: Global, conn: Connection<S>) -> Result<Connection<S>, Fail> {
-    let tables = Tables::create(alloc, conn, &default_settings(alloc)?)?;
-    Ok(after_lines(alloc, tables)?.into_connection())
+/// A database with tables after these lines.
+pub fn with_lines<S: Alter + Drop>(
+    alloc: Global,
+    conn: Connection<S>,
+    lines: &[u8],
+) -> Result<Connection<S>, Fail> {
+    let tables = Tables::create(alloc, conn, &settings(alloc)?)?;
+    Ok(after_lines(alloc, tables, lines)?.into_connection())
 }
 
-/// A database in memory with tables after the lines.
+/// A database in memory with tables after these lines, in which five hosts may stand.
+pub fn filled_with(alloc: Global, lines: &[u8]) -> Result<Connection<MemStore>, Fail> {
+    with_lines(alloc, Connection::open_in_memory(alloc)?, lines)
+}
+
+/// The same after the lines of the short life.
 fn filled(alloc: Global) -> Result<Connection<MemStore>, Fail> {
-    with_lines(alloc, Connection::open_in_memory(alloc)?)
+    filled_with(alloc, lines(alloc)?.as_bytes())
 }
 
 /// How the tables of a database are refused after a statement, or none where they are opened.
-fn refused_after<S: Alter + Drop>(
+pub fn refused_after<S: Alter + Drop>(
     alloc: Global,
     mut conn: Connection<S>,
     sql: &str,
@@ -79,41 +92,71 @@ const OTHERS: &[&str] = &[
     "DROP INDEX instance_queue",
 ];
 
-/// Statements that spoil a row: past its range, with a gap, or beside what is counted.
+/// Statements that spoil a row: one for each column, with a value just past its range, and those that leave a gap or count
+/// otherwise. (A reference to a row that does not stand is refused by the database itself.)
 const SPOILED: &[&str] = &[
     "DELETE FROM setting WHERE name = 'max_hosts'",
     "UPDATE setting SET value = 0 WHERE name = 'daily_result_quota'",
     "UPDATE setting SET value = 1000001 WHERE name = 'daily_result_quota'",
+    "UPDATE setting SET value = 100001 WHERE name = 'max_hosts'",
+    "UPDATE setting SET value = 1001 WHERE name = 'max_wus_in_progress'",
+    "UPDATE setting SET value = 101 WHERE name = 'max_wus_to_send'",
+    "UPDATE setting SET value = 2592001 WHERE name = 'request_delay'",
     "UPDATE setting SET value = 'short' WHERE name = 'operator_key'",
     "UPDATE setting SET value = 2 WHERE name = 'resend_lost_results'",
     "INSERT INTO setting (name, value) VALUES ('further', 1)",
+    "INSERT INTO account (id, auth, name) VALUES (5, 'k5', 'Eve')",
     "UPDATE account SET auth = 'k 1' WHERE id = 1",
     "UPDATE account SET name = '' WHERE id = 1",
-    "INSERT INTO account (id, auth, name) VALUES (5, 'k5', 'Eve')",
+    "UPDATE account SET name = replace('nnnnn', 'n', 'nnnnnnnnnnnnn') WHERE id = 1",
+    "INSERT INTO app (id, name) VALUES (4, 'wave')",
+    "UPDATE app SET name = 'do ck' WHERE id = 1",
     "UPDATE app SET agreement = 1000000001 WHERE id = 2",
+    "INSERT INTO version (id, app_id, platform, num) VALUES (5, 1, 'mac', 1)",
+    "UPDATE version SET platform = 'li nux' WHERE id = 1",
     "UPDATE version SET num = 0 WHERE id = 1",
+    "UPDATE version SET num = 1000001 WHERE id = 1",
+    "UPDATE unit SET name = 'w 1' WHERE id = 1",
     "UPDATE unit SET min_quorum = 0 WHERE id = 1",
+    "UPDATE unit SET min_quorum = 101 WHERE id = 1",
+    "UPDATE unit SET target_nresults = 101 WHERE id = 1",
+    "UPDATE unit SET max_error_results = 101 WHERE id = 1",
+    "UPDATE unit SET max_total_results = 101 WHERE id = 1",
+    "UPDATE unit SET max_success_results = 101 WHERE id = 1",
+    "UPDATE unit SET delay_bound = 100000001 WHERE id = 1",
     "UPDATE unit SET rsc_fpops_est = 1000000000000000001 WHERE id = 1",
+    "UPDATE unit SET rsc_memory_bound = 1000000000000000001 WHERE id = 1",
+    "UPDATE unit SET rsc_disk_bound = 1000000000000000001 WHERE id = 1",
     "UPDATE unit SET credit = 100000001 WHERE id = 1",
     "UPDATE unit SET status = 7 WHERE id = 1",
     "UPDATE unit SET status = 0 WHERE id = 1",
-    "UPDATE host SET quota = 0",
-    "UPDATE host SET quota = 5",
-    "UPDATE host SET fpops = 0",
+    "UPDATE host SET cpid = 'c 1'",
     "UPDATE host SET platforms = ''",
     "UPDATE host SET platforms = 'linux,'",
+    "UPDATE host SET fpops = 0",
+    "UPDATE host SET fpops = 1000000000000000001",
+    "UPDATE host SET memory = 1000000000000000001",
+    "UPDATE host SET disk = 1000000000000000001",
+    "UPDATE host SET quota = 0",
+    "UPDATE host SET quota = 5",
     "UPDATE host SET held = held + 1",
     "UPDATE host SET credit = credit + 1",
+    "UPDATE instance SET num = 2 WHERE queued = 1",
+    "DELETE FROM instance WHERE queued = 1",
+    "UPDATE instance SET host_id = NULL WHERE host_id IS NOT NULL",
     "UPDATE instance SET sent = NULL WHERE host_id IS NOT NULL",
+    "UPDATE instance SET sent = 250000000001 WHERE host_id IS NOT NULL",
+    "UPDATE instance SET deadline = NULL WHERE host_id IS NOT NULL",
     "UPDATE instance SET deadline = 250100000001 WHERE host_id IS NOT NULL",
     "UPDATE instance SET lapse = 3 WHERE host_id IS NOT NULL",
     "UPDATE instance SET lapse = 1 WHERE host_id IS NULL",
     "UPDATE instance SET outcome = 2 WHERE outcome = 1",
     "UPDATE instance SET output = NULL WHERE outcome = 1",
+    "UPDATE instance SET output = replace('ooooooooooooooooooooooooo', 'o', 'ooooooooooooooooooooooooooooooooooooooooo') WHERE outcome = 1",
     "UPDATE instance SET place = 2 WHERE place = 1",
+    "UPDATE instance SET place = 101 WHERE place = 1",
     "UPDATE instance SET queued = 0 WHERE queued = 1",
-    "UPDATE instance SET num = 2 WHERE queued = 1",
-    "DELETE FROM instance WHERE queued = 1",
+    "UPDATE instance SET queued = 2 WHERE queued = 1",
     "UPDATE kept SET seqno = 2147483648",
     "UPDATE batch SET kind = 'files' WHERE kind = 'apps'",
     "UPDATE batch SET name = 'a 0' WHERE kind = 'apps'",

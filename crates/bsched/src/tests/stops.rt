@@ -1,0 +1,329 @@
+//! A stop at each call of the disk: the files are opened again as the stop left them, and the messages go on from the one in
+//! flight.
+
+ghost use Rattle.std.specs.Prelude.{IsTrue, IfOk};
+ghost use Rattle.sqlite_disk.specs.Memory.{memory_is_usable};
+
+use super::repeats::push_arrival;
+use super::rows::{NEXT, lines_of};
+use super::stored::with_lines;
+use super::{PROJECT, lapses, service_over};
+use http_responses::Answer;
+use message_engine::Store;
+use sched_server::{Arrival, Service};
+use sched_tables::Tables;
+use sqlite::{Alter, Connection, FileStore, Options};
+use sqlite_disk::{Crash, Disk, Files, Fuse, Memory};
+use std::alloc::Global;
+use std::test::Fail;
+
+/// What the two files of a database hold.
+#[derive(Drop)]
+struct Image {
+    log: Vec<u8>,
+    db: Vec<u8>,
+}
+
+/// How many calls each of the two files passes on before it fails all.
+#[derive(Clone, Copy)]
+struct Fuses {
+    log: u64,
+    db: u64,
+}
+
+/// Files that never fail.
+const LASTING: Fuses = Fuses {
+    log: u64::MAX,
+    db: u64::MAX,
+};
+
+type Fused = Connection<FileStore<Fuse<Memory>>>;
+
+/// A disk on which these bytes stand.
+fn disk(alloc: Global, bytes: &[u8]) -> Result<Memory, Fail>
+    ensures { IfOk result (λ d. IsTrue (memory_is_usable d)) }
+{
+    let mut disk = Memory::new(alloc);
+    if !bytes.is_empty() {
+        disk.write_at(0, bytes)?;
+        disk.sync()?;
+    }
+    Ok(disk)
+}
+
+/// A connection to the database in these files, or the files, where one of them fails while they are opened.
+fn connected(
+    alloc: Global,
+    image: &Image,
+    fuses: Fuses,
+) -> Result<Result<Fused, Files<Fuse<Memory>>>, Fail> {
+    let log = Fuse::new(disk(alloc, &image.log)?, fuses.log);
+    let db = Fuse::new(disk(alloc, &image.db)?, fuses.db);
+    let mut options = Options::new(1);
+    options.checkpoint_frames = 20;
+    match Connection::open_files(alloc, Files { log, db }, options) {
+        Ok(conn) => Ok(Ok(conn)),
+        Err((_, left)) => Ok(Err(left.into_files())),
+    }
+}
+
+/// What the files hold behind a stop: what was synced.
+fn image_of(alloc: Global, mut files: Files<Fuse<Memory>>) -> Result<Image, Fail> {
+    files.log.crash();
+    files.db.crash();
+    Ok(Image {
+        log: files.log.inner().bytes().to_vec(alloc)?,
+        db: files.db.inner().bytes().to_vec(alloc)?,
+    })
+}
+
+/// What a closed database leaves in its files.
+fn closed(alloc: Global, conn: Fused) -> Result<Image, Fail> {
+    let files = conn.close_files().ok().ok_or("the files are not closed")?;
+    image_of(alloc, files)
+}
+
+/// New tables in files, which are closed.
+fn created(alloc: Global) -> Result<Image, Fail> {
+    let empty = Image {
+        log: Vec::new(alloc),
+        db: Vec::new(alloc),
+    };
+    match connected(alloc, &empty, LASTING)? {
+        Ok(conn) => closed(alloc, with_lines(alloc, conn, &[])?),
+        Err(_) => Err(Fail::new("new files are not opened")),
+    }
+}
+
+/// What a query tells of each table, row by row.
+const ROWS_TOLD: &[&str] = &[
+    "SELECT name || ' ' || value FROM setting ORDER BY name",
+    "SELECT id || ' ' || auth || ' ' || name FROM account ORDER BY id",
+    "SELECT id || ' ' || name || ' ' || coalesce(agreement, '-') FROM app ORDER BY id",
+    "SELECT id || ' ' || app_id || ' ' || platform || ' ' || num FROM version ORDER BY id",
+    "SELECT id || ' ' || name || ' ' || app_id || ' ' || status FROM unit ORDER BY id",
+    "SELECT id || ' ' || account_id || ' ' || cpid || ' ' || platforms || ' ' || fpops || ' ' || quota || ' ' || held || ' ' || credit FROM host ORDER BY id",
+    "SELECT unit_id || ' ' || num || ' ' || coalesce(host_id, '-') || ' ' || coalesce(sent, '-') || ' ' || coalesce(deadline, '-') || ' ' || lapse || ' ' || coalesce(outcome, '-') || ' ' || coalesce(output, '-') || ' ' || coalesce(place, '-') || ' ' || queued FROM instance ORDER BY unit_id, num",
+    "SELECT host_id || ' ' || seqno || ' ' || text || ' ' || reply FROM kept ORDER BY host_id",
+    "SELECT kind || ' ' || name || ' ' || answer FROM batch ORDER BY kind, name",
+];
+
+/// All rows of the tables, a line each.
+fn rows_told<S: Alter>(alloc: Global, conn: &mut Connection<S>) -> Result<String, Fail> {
+    let mut told = String::new(alloc);
+    for sql in ROWS_TOLD {
+        for row in &conn.query_all(sql, &[])? {
+            let line: String = row.get(0)?;
+            told.push_str(line.as_str())?;
+            told.push_str("\n")?;
+        }
+    }
+    Ok(told)
+}
+
+/// All rows of the tables in files.
+fn rows_in(alloc: Global, image: &Image) -> Result<String, Fail> {
+    match connected(alloc, image, LASTING)? {
+        Ok(mut conn) => rows_told(alloc, &mut conn),
+        Err(_) => Err(Fail::new("the files are not opened")),
+    }
+}
+
+/// What arrives: the imports of the project, and the messages of a row in which a job is late.
+fn arrivals(alloc: Global) -> Result<Vec<Arrival>, Fail> {
+    let row = lapses::ROWS.split(NEXT).nth(1).unwrap_or("");
+    let lines = format!(in alloc; "{PROJECT}{}", lines_of(alloc, row)?)?;
+    let mut arrivals = Vec::new(alloc);
+    for line in lines.as_str().lines() {
+        push_arrival(alloc, &mut arrivals, "opkey-01", line)?;
+    }
+    Ok(arrivals)
+}
+
+/// The answers to the arrivals up to the first that is unavailable. (It has no clause, so that the proof of a test does not
+/// carry what many messages do.)
+fn answered<S: Store>(
+    alloc: Global,
+    service: &mut Service<S>,
+    arrivals: &[Arrival],
+) -> Result<Vec<Answer>, Fail> {
+    let mut answers = Vec::new(alloc);
+    for arrival in arrivals {
+        let answer = service.handle(alloc, arrival.now, arrival.bytes.as_slice());
+        if matches!(answer, Answer::Unavailable) {
+            break;
+        }
+        answers.push(answer)?;
+    }
+    Ok(answers)
+}
+
+/// The answers to the arrivals over a store up to the first that is unavailable, and the store behind them.
+fn served<S: Store + Drop>(
+    alloc: Global,
+    store: S,
+    arrivals: &[Arrival],
+) -> Result<(Vec<Answer>, S), Fail> {
+    let mut service = service_over(alloc, store)?;
+    let answers = answered(alloc, &mut service, arrivals)?;
+    Ok((answers, service.into_tables()))
+}
+
+/// The answers over the tables of a database, and its store behind them; no store where the tables are not opened.
+fn served_over<S: Alter + Drop>(
+    alloc: Global,
+    conn: Connection<S>,
+    arrivals: &[Arrival],
+) -> Result<(Vec<Answer>, Option<S>), Fail> {
+    let Ok(tables) = Tables::open(alloc, conn) else {
+        return Ok((Vec::new(alloc), None));
+    };
+    let (answers, tables) = served(alloc, tables, arrivals)?;
+    Ok((answers, Some(tables.into_connection().into_store())))
+}
+
+/// What a store leaves in its files.
+fn left_by(alloc: Global, store: Option<FileStore<Fuse<Memory>>>) -> Result<Option<Image>, Fail> {
+    match store {
+        Some(store) => Ok(Some(image_of(alloc, store.close())?)),
+        None => Ok(None),
+    }
+}
+
+/// The answers over files with fuses up to a stop, and what the files hold then, where that may be another thing.
+fn stopped(
+    alloc: Global,
+    image: &Image,
+    fuses: Fuses,
+    arrivals: &[Arrival],
+) -> Result<(Vec<Answer>, Option<Image>), Fail> {
+    match connected(alloc, image, fuses)? {
+        Ok(conn) => {
+            let (answers, store) = served_over(alloc, conn, arrivals)?;
+            Ok((answers, left_by(alloc, store)?))
+        }
+        Err(files) => Ok((Vec::new(alloc), Some(image_of(alloc, files)?))),
+    }
+}
+
+/// What a run with no stop shows: the answer to each arrival, and the rows before each and at the end.
+#[derive(Drop)]
+struct Unstopped {
+    answers: Vec<Answer>,
+    rows: Vec<String>,
+}
+
+fn whole(alloc: Global, mut image: Image, arrivals: &[Arrival]) -> Result<Unstopped, Fail> {
+    let mut answers = Vec::new(alloc);
+    let mut rows = vec![in alloc; rows_in(alloc, &image)?]?;
+    for arrival in arrivals.chunks(1) {
+        let (answer, left) = stopped(alloc, &image, LASTING, arrival)?;
+        image = left.unwrap_or(image);
+        answers.extend(answer)?;
+        rows.push(rows_in(alloc, &image)?)?;
+    }
+    Ok(Unstopped { answers, rows })
+}
+
+/// How a run over files of which one may stop ended.
+#[derive(Clone, Copy, Debug, PartialEq, Eq)]
+enum Ran {
+    /// Neither file stopped.
+    Through,
+    /// One stopped, and all went on behind it as with no stop.
+    On,
+    /// Something was lost, doubled or told otherwise.
+    Wrong,
+}
+
+/// Whether the answers are those of a run with no stop. The one to the arrival in flight may tell that nothing lapsed, where
+/// its tick was in.
+fn are_answers(answers: &[Answer], whole: &[Answer], in_flight: Option<usize>) -> bool {
+    answers.len() == whole.len()
+        && answers.iter().zip(whole).enumerate().all(|(at, (answer, wanted))| {
+            answer.body() == wanted.body()
+                || (in_flight == Some(at)
+                    && answer.body() == "{\"lapsed\":0}"
+                    && wanted.body().starts_with("{\"lapsed\":"))
+        })
+}
+
+/// Sends the arrivals from the one in flight on, behind a stop that left this: whether all is then as with no stop.
+fn goes_on(
+    alloc: Global,
+    mut answers: Vec<Answer>,
+    left: &Image,
+    arrivals: &[Arrival],
+    whole: &Unstopped,
+) -> Result<bool, Fail> {
+    let done = answers.len();
+    let rows = rows_in(alloc, left)?;
+    let was_in = whole.rows.get(done + 1) == Some(&rows);
+    if !was_in && whole.rows.get(done) != Some(&rows) {
+        return Ok(false);
+    }
+    let (more, end) = stopped(alloc, left, LASTING, arrivals.get(done..).unwrap_or(&[]))?;
+    answers.extend(more)?;
+    let rows = rows_in(alloc, end.as_ref().unwrap_or(left))?;
+    Ok(
+        whole.rows.last() == Some(&rows)
+            && are_answers(&answers, &whole.answers, was_in.then_some(done)),
+    )
+}
+
+/// Serves the arrivals over files with fuses; behind a stop the files are opened again, and the rest is sent.
+fn ran_over(
+    alloc: Global,
+    image: &Image,
+    fuses: Fuses,
+    arrivals: &[Arrival],
+    whole: &Unstopped,
+) -> Result<Ran, Fail> {
+    let (answers, left) = stopped(alloc, image, fuses, arrivals)?;
+    if answers.len() == arrivals.len() {
+        return Ok(Ran::Through);
+    }
+    let left = left.as_ref().unwrap_or(image);
+    if goes_on(alloc, answers, left, arrivals, whole)? {
+        return Ok(Ran::On);
+    }
+    Ok(Ran::Wrong)
+}
+
+/// The most calls behind which a file is made to stop.
+const MOST_CALLS: u64 = 100_000;
+
+/// How many stops of the log, or of the database file, all went on as with no stop; none where one did not.
+fn stops_survived(alloc: Global, in_log: bool) -> Result<Option<u64>, Fail> {
+    let image = created(alloc)?;
+    let arrivals = arrivals(alloc)?;
+    let whole = whole(alloc, created(alloc)?, &arrivals)?;
+    for calls in 0..MOST_CALLS {
+        let mut fuses = LASTING;
+        if in_log {
+            fuses.log = calls;
+        } else {
+            fuses.db = calls;
+        }
+        match ran_over(alloc, &image, fuses, &arrivals, &whole)? {
+            Ran::Through => return Ok(Some(calls)),
+            Ran::On => {}
+            Ran::Wrong => return Ok(None),
+        }
+    }
+    Ok(None)
+}
+
+#[test]
+fn a_stop_of_the_log_at_each_call_loses_nothing(rt: HostRuntime) -> Result<(), Fail> {
+    let stops = stops_survived(rt.alloc(), true)?;
+    assert!(rt; stops.is_some_and(|stops| stops > 50), "{stops:?}");
+    Ok(())
+}
+
+#[test]
+fn a_stop_of_the_database_file_at_each_call_loses_nothing(rt: HostRuntime) -> Result<(), Fail> {
+    let stops = stops_survived(rt.alloc(), false)?;
+    assert!(rt; stops.is_some_and(|stops| stops > 10), "{stops:?}");
+    Ok(())
+}
