@@ -19,7 +19,7 @@ fn are_columns_counted(alloc: Global, lines: &str) -> Result<bool, Fail> {
         end = end.saturating_add(line.len());
         let front = lines.get(..end).unwrap_or(lines);
         let conn = filled_with(alloc, front.as_bytes())?;
-        if refused_after(alloc, conn, NOTHING)?.is_some() {
+        if refused_after(alloc, conn, NOTHING, &[])?.is_some() {
             return Ok(false);
         }
     }

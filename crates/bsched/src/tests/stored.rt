@@ -7,6 +7,7 @@ use message_engine::Store;
 use replay_lines::Ended;
 use sched_server::Service;
 use sched_tables::{OpenFault, Tables};
+use sqlite::types::ValueRef;
 use sqlite::{Alter, Connection, Error, MemStore};
 use std::alloc::Global;
 use std::str;
@@ -29,8 +30,12 @@ fn lines(alloc: Global) -> Result<String, Fail> {
 }
 
 /// Runs a statement. (It has no clause, so that the proof of a test does not carry what each statement does.)
-fn run<S: Alter>(conn: &mut Connection<S>, sql: &str) -> Result<usize, Error> {
-    conn.execute(sql, &[])
+fn run<S: Alter>(
+    conn: &mut Connection<S>,
+    sql: &str,
+    params: &[ValueRef<'_>],
+) -> Result<usize, Error> {
+    conn.execute(sql, params)
 }
 
 /// Has a service answer these lines.
@@ -78,8 +83,9 @@ pub fn refused_after<S: Alter + Drop>(
     alloc: Global,
     mut conn: Connection<S>,
     sql: &str,
+    params: &[ValueRef<'_>],
 ) -> Result<Option<OpenFault>, Fail> {
-    run(&mut conn, sql)?;
+    run(&mut conn, sql, params)?;
     Ok(Tables::open(alloc, conn).err())
 }
 
@@ -116,6 +122,7 @@ const SPOILED: &[&str] = &[
     "UPDATE version SET platform = 'li nux' WHERE id = 1",
     "UPDATE version SET num = 0 WHERE id = 1",
     "UPDATE version SET num = 1000001 WHERE id = 1",
+    "INSERT INTO unit VALUES (4, 'w4', 1, 1, 1, 3, 6, 4, 7200, 3600000, 1000, 1000, 5000, 0)",
     "UPDATE unit SET name = 'w 1' WHERE id = 1",
     "UPDATE unit SET min_quorum = 0 WHERE id = 1",
     "UPDATE unit SET min_quorum = 101 WHERE id = 1",
@@ -130,6 +137,7 @@ const SPOILED: &[&str] = &[
     "UPDATE unit SET credit = 100000001 WHERE id = 1",
     "UPDATE unit SET status = 7 WHERE id = 1",
     "UPDATE unit SET status = 0 WHERE id = 1",
+    "INSERT INTO host VALUES (3, 1, 'c3', 'linux', 1000, 8000, 9000, 4, 0, 0)",
     "UPDATE host SET cpid = 'c 1'",
     "UPDATE host SET platforms = ''",
     "UPDATE host SET platforms = 'linux,'",
@@ -169,7 +177,7 @@ fn first_taken(
     fault: OpenFault,
 ) -> Result<Option<&'static str>, Fail> {
     for sql in statements {
-        if refused_after(alloc, filled(alloc)?, sql)? != Some(fault) {
+        if refused_after(alloc, filled(alloc)?, sql, &[])? != Some(fault) {
             return Ok(Some(sql));
         }
     }
@@ -188,6 +196,24 @@ fn tables_of_another_schema_are_refused(rt: HostRuntime) -> Result<(), Fail> {
 #[test]
 fn spoiled_rows_are_refused(rt: HostRuntime) -> Result<(), Fail> {
     assert_eq!(rt; first_taken(rt.alloc(), SPOILED, OpenFault::BadRow)?, None);
+    Ok(())
+}
+
+/// How tables are refused in which an import has so many bytes, or none where they are opened.
+fn refused_with_an_import_of(alloc: Global, length: usize) -> Result<Option<OpenFault>, Fail> {
+    let text = vec![in alloc; b'x'; length]?;
+    let longer = "UPDATE batch SET text = ?1 WHERE kind = 'apps'";
+    refused_after(alloc, filled(alloc)?, longer, &[ValueRef::Blob(&text)])
+}
+
+#[test]
+fn an_import_past_its_length_is_refused(rt: HostRuntime) -> Result<(), Fail> {
+    let alloc = rt.alloc();
+    assert_eq!(rt; refused_with_an_import_of(alloc, 1_048_576)?, None);
+    assert_eq!(rt;
+        refused_with_an_import_of(alloc, 1_048_577)?,
+        Some(OpenFault::BadRow)
+    );
     Ok(())
 }
 
