@@ -2,4 +2,6 @@ pub mod Alikes
 pub mod FirstRows
 pub mod LastNumbers
 pub mod PlainSchema
+pub mod Quiet
 pub mod Reopening
+pub mod Visited

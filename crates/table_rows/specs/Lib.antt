@@ -1,3 +1,4 @@
 pub mod Numbered
 pub mod Plain
 pub mod Refusing
+pub mod Visits

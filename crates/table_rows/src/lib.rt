@@ -13,6 +13,7 @@ pub mod put;
 pub mod read;
 pub mod typed;
 pub mod values;
+pub mod visiting;
 
 pub use definitions::create;
 pub use keyed::{
@@ -25,3 +26,4 @@ pub use places::{instances_in, places_due, places_held, places_owned, queued_fro
 pub use put::put_rows;
 pub use read::{all_rows, rows_of};
 pub use typed::stored_rows;
+pub use visiting::{RowVisitor, visit_rows};

@@ -19,7 +19,7 @@ use std::alloc::Global;
 use table_meaning::tables::TableName;
 
 /// The statement that reads the table whole.
-fn read_text(table: TableName) -> &'static str
+pub(crate) fn read_text(table: TableName) -> &'static str
     ensures { result.now ≡ sql_read table }
 {
     match table {

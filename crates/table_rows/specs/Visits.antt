@@ -1,0 +1,30 @@
+-- What a visitor of a table is given.
+use Rattle.std.specs.Prelude.{◌≡◌, List, [], ◌∷◌, ◌++◌, map}
+use Rattle.sqlite_value.specs.Order.{Row}
+use Rattle.table_meaning.specs.declared.rows.StoredRow.{StoredRow}
+use Rattle.table_meaning.specs.declared.tables.TableName.{TableName}
+use Rattle.table_meaning.specs.Rows.{table_of, columns_of}
+
+-- `takes` says what a row does that is taken: the visitor before, the row, and the visitor after.
+module _ {V : Type 0} (takes : V → StoredRow → V → Type 0) where
+  -- each of the rows is taken, in order
+  abbrev pub VisitsAll : V → List StoredRow → V → Type 0
+  VisitsAll old [] new = new ≡ old
+  VisitsAll old (r ∷ rs) new = (mid : V) × takes old r mid × VisitsAll mid rs new
+
+  -- these rows have types, and are taken so
+  abbrev pub VisitsRows : V → List Row → V → Type 0
+  VisitsRows old rows new = (all : List StoredRow) × (map columns_of all ≡ rows) × VisitsAll old all new
+
+-- `refuses` says which rows a visitor refuses.
+module _ {V : Type 0} (takes : V → StoredRow → V → Type 0) (refuses : V → StoredRow → Type 0) where
+  -- One of these rows of the table is refused, once those before it are taken.
+  pub record RefusesRow (table : TableName) (rows : List Row) (old : V) : Type 0 where
+    pub before : List StoredRow
+    pub row : StoredRow
+    pub later : List Row
+    pub mid : V
+    pub are : map columns_of before ++ columns_of row ∷ later ≡ rows
+    pub of_table : table_of row ≡ table
+    pub taken : VisitsAll takes old before mid
+    pub refused : refuses mid row
