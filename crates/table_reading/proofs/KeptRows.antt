@@ -16,8 +16,7 @@ use Rattle.table_meaning.specs.Rows.{RowKey, kept_key, batch_key, table_at, colu
 use Rattle.table_meaning.specs.Worlds.{contents_of, HoldWorld}
 use Rattle.table_meaning.proofs.RowsHeld.{held_row}
 use Rattle.table_worlds.proofs.RowsHold.{world_held}
-use Rattle.table_reading.specs.Reading.{AreAllRead, StandFor, is_call_of, is_import}
-use Rattle.table_reading.specs.declared.rows.AllRows.{AllRows}
+use Rattle.table_reading.specs.Reading.{AllRows, AreAllRead, StandFor, is_call_of, is_import}
 
 -- ---- what passes is of its table
 

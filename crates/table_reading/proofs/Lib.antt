@@ -1,1 +1,3 @@
+pub mod CallsTested
 pub mod KeptRows
+pub mod RowsTaken

@@ -1,5 +1,5 @@
 -- What the rows of tables have to be for a world to be read from them.
-use Rattle.std.specs.Prelude.{◌≡◌, ℕ, Bool, false, ◌&&◌, nat_le, IsTrue, List, [], ◌∷◌, map, length, is_some}
+use Rattle.std.specs.Prelude.{◌≡◌, ℕ, Bool, false, not, ◌&&◌, ◌==◌, nat_le, max, IsTrue, List, [], ◌∷◌, ◌++◌, map, fold, length, is_some}
 use Rattle.std.specs.List.{list_all}
 use Rattle.sqlite.specs.State.{State, HasCleanDisk}
 use Rattle.sqlite_rules.specs.Lists.{Has}
@@ -18,11 +18,18 @@ use Rattle.table_meaning.specs.Holding.{AreKnown}
 use Rattle.table_meaning.specs.Rows.{columns_of, rows_in}
 use Rattle.table_decoding.specs.Decoding.{schema_row}
 use Rattle.table_worlds.specs.RowsOf.{AreRowsOf, AreRead}
-use Rattle.table_reading.specs.declared.rows.AllRows.{AllRows}
+use Rattle.table_worlds.specs.declared.matching.TableRows.{TableRows}
+use Rattle.table_reading.specs.declared.rows.Reading.{Reading}
 
 -- the tables, in the order in which they are read
 abbrev pub all_tables : List TableName
 all_tables = name.Setting ∷ name.Account ∷ name.App ∷ name.Version ∷ name.Unit ∷ name.Host ∷ name.Instance ∷ name.Kept ∷ name.Batch ∷ []
+
+-- the rows of all tables
+pub record AllRows : Type 0 where
+  pub world : TableRows
+  pub calls : List StoredRow
+  pub batches : List StoredRow
 
 -- these are the rows of all tables
 pub record AreAllRead (trees : Trees) (all : AllRows) : Type 0 where
@@ -47,6 +54,38 @@ is_call_of w other = false
 abbrev pub is_import : StoredRow → Bool
 is_import (stored.Batch b) = is_some (kind_of b.kind) && (is_word b.name && nat_le (length b.text) most_import_bytes)
 is_import other = false
+
+-- ---- what a reading holds of the rows
+
+-- what is kept of a call of some host: its number is in its range
+abbrev pub is_call : StoredRow → Bool
+is_call (stored.Kept k) = not (k.host_id == 0) && nat_le k.seqno last_seqno
+is_call other = false
+
+-- the greater one of a number and that of the call's host
+abbrev pub later_host : ℕ → StoredRow → ℕ
+later_host n (stored.Kept k) = max n k.host_id
+later_host n other = n
+
+abbrev pub reading_of : AllRows → Reading
+reading_of all = record { world = all.world; are_calls = list_all is_call all.calls; last_host = fold later_host 0 all.calls; are_imports = list_all is_import all.batches }
+
+abbrev pub no_rows : AllRows
+no_rows = record { world = record { settings = []; accounts = []; apps = []; versions = []; units = []; hosts = []; instances = [] }; calls = []; batches = [] }
+
+-- a reading with one row more
+abbrev pub with_row : Reading → StoredRow → Reading
+with_row r (stored.Setting s) = record r { world = record r.world { settings = r.world.settings ++ stored.Setting s ∷ [] } }
+with_row r (stored.Account a) = record r { world = record r.world { accounts = r.world.accounts ++ stored.Account a ∷ [] } }
+with_row r (stored.App a) = record r { world = record r.world { apps = r.world.apps ++ stored.App a ∷ [] } }
+with_row r (stored.Version v) = record r { world = record r.world { versions = r.world.versions ++ stored.Version v ∷ [] } }
+with_row r (stored.Unit u) = record r { world = record r.world { units = r.world.units ++ stored.Unit u ∷ [] } }
+with_row r (stored.Host h) = record r { world = record r.world { hosts = r.world.hosts ++ stored.Host h ∷ [] } }
+with_row r (stored.Instance i) = record r { world = record r.world { instances = r.world.instances ++ stored.Instance i ∷ [] } }
+with_row r (stored.Kept k) = record r { are_calls = r.are_calls && is_call (stored.Kept k); last_host = later_host r.last_host (stored.Kept k) }
+with_row r (stored.Batch b) = record r { are_imports = r.are_imports && is_import (stored.Batch b) }
+
+-- ---- worlds that rows stand for
 
 -- These rows are those of a sound world, and of what may be kept beside it.
 pub record StandFor (w : World) (all : AllRows) : Type 0 where

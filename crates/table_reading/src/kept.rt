@@ -2,11 +2,13 @@
 
 ghost use Rattle.std.specs.Prelude.{◌≡◌};
 ghost use Rattle.std.specs.List.{list_all};
-ghost use Rattle.table_reading.specs.Reading.{is_call_of, is_import};
+ghost use Rattle.table_meaning.specs.declared.rows.StoredRow.TheVariants as stored;
+ghost use Rattle.table_reading.specs.Reading.{AllRows, is_call, is_call_of, is_import, reading_of};
 
+use crate::rows::Reading;
 use pasts::Kind;
-use sched_book::{World, nth};
-use table_meaning::rows::StoredRow;
+use sched_book::World;
+use table_meaning::rows::{StoredBatch, StoredCall};
 use texts::is_word;
 
 /// The last number of a call.
@@ -15,42 +17,25 @@ const LAST_SEQNO: u32 = 2_147_483_647;
 /// The longest text of an import, in bytes.
 const MOST_IMPORT_BYTES: usize = 1_048_576;
 
-/// Whether the row may be what is kept of a call, beside this world.
-fn is_call_of(world: &World, row: &StoredRow) -> bool
-    ensures { result ≡ is_call_of world.now row.now }
+/// Whether this may be what is kept of a call, of whatever host.
+pub(crate) fn is_call(call: &StoredCall) -> bool
+    ensures { result ≡ is_call (stored.Kept call.now) }
 {
-    match row {
-        StoredRow::Kept(call) => {
-            nth(world.hosts.as_slice(), call.host_id).is_some() && call.seqno <= LAST_SEQNO
-        }
-        _ => false,
-    }
+    call.host_id != 0 && call.seqno <= LAST_SEQNO
 }
 
-/// Whether each of the rows may be what is kept of a call, beside this world.
-pub(crate) fn are_calls_of(world: &World, rows: &[StoredRow]) -> bool
-    ensures { result ≡ list_all (is_call_of world.now) rows.now }
+/// Whether all that is kept of calls may stand beside this world.
+pub(crate) fn are_calls_of(world: &World, reading: &Reading) -> bool
+    ensures { (all : AllRows) → reading.now ≡ reading_of all → result ≡ list_all (is_call_of world.now) all.calls }
 {
-    rows.iter().all(|row| is_call_of(world, row))
+    reading.are_calls && reading.last_host as usize <= world.hosts.len()
 }
 
-/// Whether the row may be what is kept of an import.
-fn is_import(row: &StoredRow) -> bool
-    ensures { result ≡ is_import row.now }
+/// Whether this may be what is kept of an import.
+pub(crate) fn is_import(batch: &StoredBatch) -> bool
+    ensures { result ≡ is_import (stored.Batch batch.now) }
 {
-    match row {
-        StoredRow::Batch(batch) => {
-            Kind::of(batch.kind.as_str()).is_some()
-                && is_word(batch.name.as_str().as_bytes())
-                && batch.text.len() <= MOST_IMPORT_BYTES
-        }
-        _ => false,
-    }
-}
-
-/// Whether each of the rows may be what is kept of an import.
-pub(crate) fn are_imports(rows: &[StoredRow]) -> bool
-    ensures { result ≡ list_all is_import rows.now }
-{
-    rows.iter().all(is_import)
+    Kind::of(batch.kind.as_str()).is_some()
+        && is_word(batch.name.as_str().as_bytes())
+        && batch.text.len() <= MOST_IMPORT_BYTES
 }

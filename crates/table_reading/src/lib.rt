@@ -5,5 +5,5 @@ mod kept;
 mod rows;
 mod world;
 
-pub use rows::AllRows;
+pub use rows::Reading;
 pub use world::stored_world;

@@ -1,17 +1,17 @@
-//! All rows of the tables, with their types.
+//! The tables, read row by row.
 
-ghost use Rattle.std.specs.Prelude.{◌≡◌, [], ◌∷◌, map, IfOk, IfErr, OnOk};
+ghost use Rattle.std.specs.Prelude.{◌≡◌, IfOk, IfErr, OnOk};
 ghost use Rattle.sqlite.specs.Held.{state};
-ghost use Rattle.sqlite_trees.specs.Tree.{Trees};
 ghost use Rattle.table_meaning.specs.Reads.{Reads};
-ghost use Rattle.table_meaning.specs.Rows.{rows_in};
-ghost use Rattle.table_reading.specs.Reading.{all_tables, AreAllRead, HasBadTable, WereKnown};
+ghost use Rattle.table_rows.specs.Visits.{VisitsTables};
+ghost use Rattle.table_reading.specs.Reading.{AllRows, no_rows, with_row, AreAllRead, reading_of, HasBadTable, WereKnown};
 
-use sqlite::{Alter, Connection, Row};
+use crate::kept::{is_call, is_import};
+use sqlite::{Alter, Connection};
 use std::alloc::Global;
 use table_meaning::rows::StoredRow;
 use table_meaning::tables::TableName;
-use table_rows::{OpenFault, all_rows, stored_rows};
+use table_rows::{OpenFault, RowVisitor, visit_rows};
 use table_worlds::TableRows;
 use texts::Listed;
 
@@ -28,21 +28,25 @@ const ALL_TABLES: [TableName; 9] = [
     TableName::Batch,
 ];
 
-/// All rows of the tables, as they were read.
+/// What was read of the tables. What is kept of calls and of imports is tested row by row, and not held.
 #[derive(Drop)]
-pub struct AllRows {
-    /// Those that hold a world.
+pub struct Reading {
+    /// The rows that hold a world.
     pub world: TableRows,
-    /// What is kept of calls.
-    pub calls: Listed<StoredRow>,
-    /// What is kept of imports.
-    pub batches: Listed<StoredRow>,
+    /// Whether each row that is kept of a call may be one, of whatever host.
+    pub are_calls: bool,
+    /// The greatest number of a host of these.
+    pub last_host: u32,
+    /// Whether each row that is kept of an import may be one.
+    pub are_imports: bool,
 }
 
-impl AllRows {
-    /// No rows.
-    fn new(alloc: Global) -> AllRows {
-        AllRows {
+impl Reading {
+    /// Nothing was read yet.
+    fn new(alloc: Global) -> Reading
+        ensures { result ≡ reading_of no_rows }
+    {
+        Reading {
             world: TableRows {
                 settings: Listed::new(alloc),
                 accounts: Listed::new(alloc),
@@ -52,54 +56,69 @@ impl AllRows {
                 hosts: Listed::new(alloc),
                 instances: Listed::new(alloc),
             },
-            calls: Listed::new(alloc),
-            batches: Listed::new(alloc),
+            are_calls: true,
+            last_host: 0,
+            are_imports: true,
         }
     }
+}
 
-    /// Takes the rows of all tables with their types, in place of those that stand.
-    fn take(&mut self, alloc: Global, tables: &[Vec<Row>]) -> Result<(), OpenFault>
-        ensures rows { (trees : Trees) → map (λ rows. rows.items) tables.now ≡ map (rows_in trees) all_tables → OnOk result (AreAllRead trees self.new) }
-        ensures bad { (trees : Trees) → map (λ rows. rows.items) tables.now ≡ map (rows_in trees) all_tables → IfErr result (λ e. e ≡ OpenFault.BadRow → HasBadTable trees) }
-    {
-        let [
-            settings,
-            accounts,
-            apps,
-            versions,
-            units,
-            hosts,
-            instances,
-            calls,
-            batches,
-        ] = tables
-        else {
-            return Err(OpenFault::Unavailable);
-        };
-        self.world.settings = stored_rows(alloc, TableName::Setting, settings)?;
-        self.world.accounts = stored_rows(alloc, TableName::Account, accounts)?;
-        self.world.apps = stored_rows(alloc, TableName::App, apps)?;
-        self.world.versions = stored_rows(alloc, TableName::Version, versions)?;
-        self.world.units = stored_rows(alloc, TableName::Unit, units)?;
-        self.world.hosts = stored_rows(alloc, TableName::Host, hosts)?;
-        self.world.instances = stored_rows(alloc, TableName::Instance, instances)?;
-        self.calls = stored_rows(alloc, TableName::Kept, calls)?;
-        self.batches = stored_rows(alloc, TableName::Batch, batches)?;
+impl RowVisitor for Reading {
+    ghost use Rattle.std.specs.Prelude.{◌≡◌};
+    ghost use Rattle.table_reading.specs.Reading.{with_row};
+
+    ghost takes = { λ old row new. new ≡ with_row old row };
+
+    ghost refuses = { λ _ _. ⊥ };
+
+    fn visit(&mut self, row: StoredRow) -> Result<(), OpenFault> {
+        match row {
+            StoredRow::Setting(_) => self.world.settings.push(row)?,
+            StoredRow::Account(_) => self.world.accounts.push(row)?,
+            StoredRow::App(_) => self.world.apps.push(row)?,
+            StoredRow::Version(_) => self.world.versions.push(row)?,
+            StoredRow::Unit(_) => self.world.units.push(row)?,
+            StoredRow::Host(_) => self.world.hosts.push(row)?,
+            StoredRow::Instance(_) => self.world.instances.push(row)?,
+            StoredRow::Kept(call) => {
+                self.are_calls = self.are_calls && is_call(&call);
+                self.last_host = self.last_host.max(call.host_id);
+            }
+            StoredRow::Batch(batch) => self.are_imports = self.are_imports && is_import(&batch),
+        }
         Ok(())
     }
 }
 
-/// All rows of the tables. The connection shows what it showed.
+/// Reads the tables in turn. The connection shows what it showed.
+fn read_tables<S: Alter>(
+    alloc: Global,
+    conn: &mut Connection<S>,
+    tables: &[TableName],
+    reading: &mut Reading,
+) -> Result<(), OpenFault>
+    ensures reads { Reads (state S.Store conn.old) (state S.Store conn.new) }
+    ensures rows { WereKnown (state S.Store conn.old) (state S.Store conn.new)
+        → OnOk result (VisitsTables (λ old row new. new ≡ with_row old row) (state S.Store conn.old).now.trees reading.old tables.now reading.new) }
+    ensures bad { WereKnown (state S.Store conn.old) (state S.Store conn.new) → IfErr result (λ e. e ≡ OpenFault.BadRow → HasBadTable (state S.Store conn.old).now.trees) }
+{
+    for table in tables {
+        visit_rows(alloc, conn, *table, reading)?;
+    }
+    Ok(())
+}
+
+/// What is read of all tables. The connection shows what it showed.
 pub(crate) fn read_all<S: Alter>(
     alloc: Global,
     conn: &mut Connection<S>,
-) -> Result<AllRows, OpenFault>
+) -> Result<Reading, OpenFault>
     ensures reads { Reads (state S.Store conn.old) (state S.Store conn.new) }
-    ensures rows { WereKnown (state S.Store conn.old) (state S.Store conn.new) → IfOk result (AreAllRead (state S.Store conn.old).now.trees) }
+    ensures rows { WereKnown (state S.Store conn.old) (state S.Store conn.new)
+        → IfOk result (λ reading. (all : AllRows) × AreAllRead (state S.Store conn.old).now.trees all × (reading ≡ reading_of all)) }
     ensures bad { WereKnown (state S.Store conn.old) (state S.Store conn.new) → IfErr result (λ e. e ≡ OpenFault.BadRow → HasBadTable (state S.Store conn.old).now.trees) }
 {
-    let tables = all_rows(alloc, conn, &ALL_TABLES)?;
-    let mut rows = AllRows::new(alloc);
-    rows.take(alloc, &tables)?;
-    Ok(rows)
+    let mut reading = Reading::new(alloc);
+    read_tables(alloc, conn, &ALL_TABLES, &mut reading)?;
+    Ok(reading)
 }

@@ -9,10 +9,10 @@ ghost use Rattle.table_meaning.specs.Kept.{calls_in, batches_in};
 ghost use Rattle.table_meaning.specs.Reads.{Reads};
 ghost use Rattle.table_meaning.specs.Worlds.{HoldWorld};
 ghost use Rattle.table_decoding.specs.Decoding.{schema_row};
-ghost use Rattle.table_reading.specs.Reading.{WereKnown, ReadFrom, StandFor, StandForNone, HasBadTable, HasOtherSchema};
+ghost use Rattle.table_reading.specs.Reading.{AllRows, reading_of, WereKnown, ReadFrom, StandFor, StandForNone, HasBadTable, HasOtherSchema};
 
-use crate::kept::{are_calls_of, are_imports};
-use crate::rows::{AllRows, read_all};
+use crate::kept::are_calls_of;
+use crate::rows::{Reading, read_all};
 use sched_book::World;
 use sqlite::{Alter, Connection};
 use std::alloc::Global;
@@ -21,40 +21,42 @@ use table_rows::OpenFault;
 use table_worlds::are_rows_of;
 use world_soundness::is_sound;
 
-/// Tests whether a world is sound, these are its rows, and what is kept may stand beside it: `BadRow` where not.
-fn test_world(alloc: Global, world: &World, rows: &AllRows) -> Result<(), OpenFault>
-    ensures stands { OnOk result (StandFor world.now rows.now) }
-    ensures bad { IfErr result (λ e. e ≡ OpenFault.BadRow → ¬ StandFor world.now rows.now) }
+/// Tests whether a world is sound, it is its rows that were read, and what is kept may stand beside it: `BadRow` where not.
+fn test_world(alloc: Global, world: &World, reading: &Reading) -> Result<(), OpenFault>
+    ensures stands { (all : AllRows) → reading.now ≡ reading_of all → OnOk result (StandFor world.now all) }
+    ensures sound { OnOk result (Sound world.now) }
+    ensures bad { (all : AllRows) → reading.now ≡ reading_of all → IfErr result (λ e. e ≡ OpenFault.BadRow → ¬ StandFor world.now all) }
     ensures known { IfErr result (λ e. e ≢ OpenFault.NotTables) }
 {
-    if !are_rows_of(alloc, world, &rows.world)? {
+    if !are_rows_of(alloc, world, &reading.world)? {
         return Err(OpenFault::BadRow);
     }
     if !is_sound(alloc, world)? {
         return Err(OpenFault::BadRow);
     }
-    if !are_calls_of(world, rows.calls.as_slice()) {
+    if !are_calls_of(world, reading) {
         return Err(OpenFault::BadRow);
     }
-    if !are_imports(rows.batches.as_slice()) {
+    if !reading.are_imports {
         return Err(OpenFault::BadRow);
     }
     Ok(())
 }
 
-/// The sound world that these rows stand for; there is one at most.
-fn world_of(alloc: Global, rows: &AllRows) -> Result<World, OpenFault>
-    ensures stands { IfOk result (λ w. StandFor w rows.now) }
-    ensures other_schema { IfErr result (λ e. e ≡ OpenFault.NotTables → ¬ Has rows.now.world.settings schema_row) }
-    ensures bad { IfErr result (λ e. e ≡ OpenFault.BadRow → (w : Known) → ¬ StandFor w rows.now) }
+/// The sound world that all rows stand for; there is one at most.
+fn world_of(alloc: Global, reading: &Reading) -> Result<World, OpenFault>
+    ensures stands { (all : AllRows) → reading.now ≡ reading_of all → IfOk result (λ w. StandFor w all) }
+    ensures sound { IfOk result Sound }
+    ensures other_schema { IfErr result (λ e. e ≡ OpenFault.NotTables → ¬ Has reading.now.world.settings schema_row) }
+    ensures bad { (all : AllRows) → reading.now ≡ reading_of all → IfErr result (λ e. e ≡ OpenFault.BadRow → (w : Known) → ¬ StandFor w all) }
 {
-    let world = match decoded_world(alloc, &rows.world) {
+    let world = match decoded_world(alloc, &reading.world) {
         Ok(world) => world,
         Err(DecodeFault::NotTables) => return Err(OpenFault::NotTables),
         Err(DecodeFault::BadRow) => return Err(OpenFault::BadRow),
         Err(DecodeFault::Unavailable) => return Err(OpenFault::Unavailable),
     };
-    test_world(alloc, &world, rows)?;
+    test_world(alloc, &world, reading)?;
     Ok(world)
 }
 
@@ -73,10 +75,10 @@ pub fn stored_world<S: Alter>(alloc: Global, conn: &mut Connection<S>) -> Result
     ensures bad { WereKnown (state S.Store conn.old) (state S.Store conn.new)
         → IfErr result (λ e. e ≡ OpenFault.BadRow → HasBadTable (state S.Store conn.old).now.trees ⊎ StandForNone (state S.Store conn.old).now.trees) }
 {
-    let rows = match read_all(alloc, conn) {
-        Ok(rows) => rows,
+    let reading = match read_all(alloc, conn) {
+        Ok(reading) => reading,
         Err(OpenFault::BadRow) => return Err(OpenFault::BadRow),
         Err(_) => return Err(OpenFault::Unavailable),
     };
-    world_of(alloc, &rows)
+    world_of(alloc, &reading)
 }

@@ -1,9 +1,11 @@
 -- What a visitor of a table is given.
 use Rattle.std.specs.Prelude.{◌≡◌, List, [], ◌∷◌, ◌++◌, map}
+use Rattle.std.specs.List.{AllByRecursion}
+use Rattle.sqlite_trees.specs.Tree.{Trees}
 use Rattle.sqlite_value.specs.Order.{Row}
 use Rattle.table_meaning.specs.declared.rows.StoredRow.{StoredRow}
 use Rattle.table_meaning.specs.declared.tables.TableName.{TableName}
-use Rattle.table_meaning.specs.Rows.{table_of, columns_of}
+use Rattle.table_meaning.specs.Rows.{table_of, columns_of, rows_in}
 
 -- `takes` says what a row does that is taken: the visitor before, the row, and the visitor after.
 module _ {V : Type 0} (takes : V → StoredRow → V → Type 0) where
@@ -12,9 +14,14 @@ module _ {V : Type 0} (takes : V → StoredRow → V → Type 0) where
   VisitsAll old [] new = new ≡ old
   VisitsAll old (r ∷ rs) new = (mid : V) × takes old r mid × VisitsAll mid rs new
 
-  -- these rows have types, and are taken so
-  abbrev pub VisitsRows : V → List Row → V → Type 0
-  VisitsRows old rows new = (all : List StoredRow) × (map columns_of all ≡ rows) × VisitsAll old all new
+  -- these rows of the table have types, and are taken so
+  abbrev pub VisitsRows : TableName → V → List Row → V → Type 0
+  VisitsRows table old rows new = (all : List StoredRow) × (map columns_of all ≡ rows) × AllByRecursion (λ r. table_of r ≡ table) all × VisitsAll old all new
+
+  -- the rows of each of the tables are taken, in order
+  abbrev pub VisitsTables : Trees → V → List TableName → V → Type 0
+  VisitsTables trees old [] new = new ≡ old
+  VisitsTables trees old (t ∷ ts) new = (mid : V) × VisitsRows t old (rows_in trees t) mid × VisitsTables trees mid ts new
 
 -- `refuses` says which rows a visitor refuses.
 module _ {V : Type 0} (takes : V → StoredRow → V → Type 0) (refuses : V → StoredRow → Type 0) where

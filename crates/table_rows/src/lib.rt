@@ -24,6 +24,4 @@ pub use names::{NumberedTable, account_with, host_known, last_number, unit_named
 pub use opening::{OpenFault, Refused, in_memory, known};
 pub use places::{instances_in, places_due, places_held, places_owned, queued_from, sent_between};
 pub use put::put_rows;
-pub use read::{all_rows, rows_of};
-pub use typed::stored_rows;
 pub use visiting::{RowVisitor, visit_rows};

@@ -1,42 +1,19 @@
-//! Rows that statements show: of whole tables, or the first one.
+//! Rows that statements show: all of them, or the first one.
 
-ghost use Rattle.std.specs.Prelude.{◌≡◌, ℕ, IfOk, IsTrue, List, Ok, map, slice_get, option_map};
+ghost use Rattle.std.specs.Prelude.{◌≡◌, ℕ, IfOk, List, Ok, slice_get, option_map};
 ghost use Rattle.sqlite.specs.Held.{state};
 ghost use Rattle.sqlite.specs.State.{HasCleanDisk};
 ghost use Rattle.sqlite.specs.Values.{bound};
 ghost use Rattle.sqlite_value.specs.Order.{Row as SqlRow, column};
 ghost use Rattle.table_meaning.specs.Formats.{columns_in};
-ghost use Rattle.table_meaning.specs.Texts.{read_text as sql_read};
-ghost use Rattle.table_meaning.specs.Rows.{rows_in, whole as sql_whole};
+ghost use Rattle.table_meaning.specs.Rows.{whole as sql_whole};
 ghost use Rattle.table_meaning.specs.Reads.{Reads, Shows};
-ghost use Rattle.table_meaning.specs.Holding.{AreKnown};
 
 use crate::fields;
 use crate::opening::OpenFault;
 use sqlite::types::ValueRef;
 use sqlite::{Alter, Connection, Error, ErrorCode, Row};
 use std::alloc::Global;
-use table_meaning::tables::TableName;
-
-/// The statement that reads the table whole.
-pub(crate) fn read_text(table: TableName) -> &'static str
-    ensures { result.now ≡ sql_read table }
-{
-    match table {
-        TableName::Setting => "SELECT name, value FROM setting ORDER BY rowid",
-        TableName::Account => "SELECT id, auth, name FROM account ORDER BY id",
-        TableName::App => "SELECT id, name, agreement FROM app ORDER BY id",
-        TableName::Version => "SELECT id, app_id, platform, num FROM version ORDER BY id",
-        TableName::Unit =>
-            "SELECT id, name, app_id, min_quorum, target_nresults, max_error_results, max_total_results, max_success_results, delay_bound, rsc_fpops_est, rsc_memory_bound, rsc_disk_bound, credit, status FROM unit ORDER BY id",
-        TableName::Host =>
-            "SELECT id, account_id, cpid, platforms, fpops, memory, disk, quota, held, credit FROM host ORDER BY id",
-        TableName::Instance =>
-            "SELECT unit_id, num, host_id, sent, deadline, lapse, outcome, output, place, queued FROM instance ORDER BY rowid",
-        TableName::Kept => "SELECT host_id, seqno, text, reply FROM kept ORDER BY host_id",
-        TableName::Batch => "SELECT kind, name, text, answer FROM batch ORDER BY rowid",
-    }
-}
 
 /// The rows that a statement shows. The connection shows what it showed.
 pub(crate) fn shown_by<S: Alter>(
@@ -93,30 +70,4 @@ pub(crate) fn first_number<S: Alter>(
         Some(row) => Ok(Some(fields::whole(alloc, row, 0)?)),
         None => Ok(None),
     }
-}
-
-/// The rows of a table, each with its columns in order. The connection shows what it showed.
-pub fn rows_of<S: Alter>(conn: &mut Connection<S>, table: TableName) -> Result<Vec<Row>, Error>
-    ensures reads { Reads (state S.Store conn.old) (state S.Store conn.new) }
-    ensures rows { HasCleanDisk (state S.Store conn.new) → AreKnown (state S.Store conn.old).now → IfOk result (λ rows. rows.items ≡ rows_in (state S.Store conn.old).now.trees table) }
-{
-    shown_by(conn, read_text(table), &[])
-}
-
-/// The rows of each of the tables, in turn.
-pub fn all_rows<S: Alter>(
-    alloc: Global,
-    conn: &mut Connection<S>,
-    tables: &[TableName],
-) -> Result<Vec<Vec<Row>>, Error>
-    ensures reads { Reads (state S.Store conn.old) (state S.Store conn.new) }
-    ensures rows { HasCleanDisk (state S.Store conn.new) → IsTrue (state S.Store conn.new).is_open → (state S.Store conn.old).now ≡ (state S.Store conn.old).committed
-        → AreKnown (state S.Store conn.old).now → IfOk result (λ all. map (λ rows. rows.items) all.items ≡ map (rows_in (state S.Store conn.old).now.trees) tables.now) }
-{
-    let mut all = Vec::new(alloc);
-    for table in tables {
-        let rows = rows_of(conn, *table)?;
-        all.push(rows)?;
-    }
-    Ok(all)
 }

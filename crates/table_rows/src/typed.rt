@@ -1,10 +1,10 @@
-//! Whole tables as typed rows.
+//! Rows with their types.
 
-ghost use Rattle.std.specs.Prelude.{◌≡◌, length, map, IfOk, IfErr};
+ghost use Rattle.std.specs.Prelude.{◌≡◌, length, IfOk, IfErr};
 ghost use Rattle.table_meaning.specs.declared.rows.StoredRow.TheVariants as stored;
 ghost use Rattle.table_meaning.specs.declared.tables.TableName.TheVariants as named;
 ghost use Rattle.table_meaning.specs.Rows.{table_of, columns_of};
-ghost use Rattle.table_meaning.specs.Formats.{kinds_of, AreOf, columns_in, IsStored, HasBadRow};
+ghost use Rattle.table_meaning.specs.Formats.{kinds_of, AreOf, columns_in, IsStored};
 
 use crate::fields::{
     flag, int, octets, optional_int, optional_text, optional_whole, setting_value, text, whole,
@@ -17,7 +17,6 @@ use table_meaning::rows::{
     StoredSetting, StoredUnit, StoredVersion,
 };
 use table_meaning::tables::TableName;
-use texts::Listed;
 
 /// How many columns a row of the table has.
 fn width(table: TableName) -> usize
@@ -178,20 +177,4 @@ pub(crate) fn stored_row(alloc: Global, table: TableName, row: &Row) -> Result<S
         TableName::Kept => StoredRow::Kept(call(alloc, row)?),
         TableName::Batch => StoredRow::Batch(batch(alloc, row)?),
     })
-}
-
-/// The rows of a table with their types. BadRow where one has not the format of the table.
-pub fn stored_rows(
-    alloc: Global,
-    table: TableName,
-    rows: &[Row],
-) -> Result<Listed<StoredRow>, OpenFault>
-    ensures exact { IfOk result (λ all. map columns_of all ≡ rows.now) }
-    ensures bad { IfErr result (λ e. e ≡ OpenFault.BadRow → HasBadRow table rows.now) }
-{
-    let mut all = Listed::new(alloc);
-    for row in rows {
-        all.push(stored_row(alloc, table, row)?)?;
-    }
-    Ok(all)
 }

@@ -5,6 +5,6 @@ use Rattle.table_reading.proofs.KeptRows.{held_by_rows}
 use Rattle.table_reading.proofs.world.stored_world.Goals as goal
 
 pub returns-clause-held : goal.returns-clause-held
-returns-clause-held g c = λ known. IfOk-weaker _ _ _
-    (λ (w : World) stand. held_by_rows (state g.S.Store c.args.conn.now).now w c.in-Ok.rows known.known (c.in-Ok.ensures.rows known) stand)
-    c.world_of.ensures.stands
+returns-clause-held g c = λ known.
+    let read = c.in-Ok.ensures.rows known in
+    IfOk-weaker _ _ _ (λ (w : World) stand. held_by_rows (state g.S.Store c.args.conn.now).now w read.0 known.known read.1 stand) (c.world_of.ensures.stands read.0 read.2)

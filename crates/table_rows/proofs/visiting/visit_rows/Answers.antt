@@ -1,10 +1,11 @@
 use Rattle.std.proofs.Common.{◌≡◌, [], ◌∷◌, ◌++◌, map, IfErr, inl, inr, refl, sym, subst, ◌∙◌, rules, arith}
 use Rattle.std.proofs.lemmas.Result.{IfErr-weaker}
+use Rattle.sqlite_keyed.proofs.ListLemmas.{all-append}
 use Rattle.sqlite.specs.Held.{state}
 use Rattle.sqlite.specs.State.{HasCleanDisk}
 use Rattle.sqlite.specs.Given.{HasGiven}
 use Rattle.sqlite.proofs.Callers.{unchanged_then}
-use Rattle.table_meaning.specs.Rows.{columns_of}
+use Rattle.table_meaning.specs.Rows.{table_of, columns_of}
 use Rattle.table_meaning.specs.Formats.{IsStored}
 use Rattle.table_meaning.specs.Texts.{read_text}
 use Rattle.table_meaning.proofs.StepLemmas.{survives_on}
@@ -30,7 +31,7 @@ rows-init g c =
       made.mode,
       λ clean.
           let begun = begun_given g.S.Store c.args.table [] old new (made.begun clean) in
-          (begun.1, [], begun.0, refl),
+          (begun.1, [], tt, begun.0, refl),
     )
 
 pub returns-in_default-clause-rows : goal.returns-in_default-clause-rows
@@ -39,8 +40,8 @@ returns-in_default-clause-rows g c clean known =
     let now = c.next.follows.lender-at-none.conn.now in
     let late : HasCleanDisk (state g.S.Store now) = search rules in
     let was = c.rows.invariant.3 (omega (arith, moved.survives.clean)) in
-    let shown = (rw (c.in_ok-row.was, c.in_default.is) at (moved.ok late)) (read_text c.args.table) [] (map columns_of was.1) was.2 in
-    (was.1, given_all g.S.Store c.args.table c.args.conn.now c.rows.rows.conn.now was.0 known (state g.S.Store now) (map columns_of was.1) shown, was.3)
+    let shown = (rw (c.in_ok-row.was, c.in_default.is) at (moved.ok late)) (read_text c.args.table) [] (map columns_of was.1) was.3 in
+    (was.1, given_all g.S.Store c.args.table c.args.conn.now c.rows.rows.conn.now was.0 known (state g.S.Store now) (map columns_of was.1) shown, was.2, was.4)
 
 pub returns-in_err-stored-clause-bad : goal.returns-in_err-stored-clause-bad
 returns-in_err-stored-clause-bad g c clean known =
@@ -50,7 +51,7 @@ returns-in_err-stored-clause-bad g c clean known =
     let was = c.rows.invariant.3 (omega (arith, moved.survives.clean)) in
     let same = unchanged_then _ _ _ was.0 ((rw c.in_ok-row.was at moved.same) late) in
     let row = c.in-Some.row.now in
-    let given = (rw (c.in_ok-row.was, c.in-Some.is) at (moved.ok late)) (read_text c.args.table) [] (map columns_of was.1) was.2 in
+    let given = (rw (c.in_ok-row.was, c.in-Some.is) at (moved.ok late)) (read_text c.args.table) [] (map columns_of was.1) was.3 in
     let has = given_has g.S.Store c.args.table c.args.conn.now now same known (map columns_of was.1) row given in
     let P = λ (e : OpenFault). e ≡ BadRow → ¬ IsStored c.args.table row in
     let told : IfErr c.from_residual-in_err-stored.result P = search rules in
@@ -64,12 +65,12 @@ returns-in_err-visit-clause-bad g c clean known =
     let was = c.rows.invariant.3 (omega (arith, moved.survives.clean)) in
     let same = unchanged_then _ _ _ was.0 ((rw c.in_ok-row.was at moved.same) late) in
     let row = c.in_ok-stored.stored in
-    let given = (rw (c.in_ok-row.was, c.in-Some.is) at (moved.ok late)) (read_text c.args.table) [] (map columns_of was.1) was.2 in
+    let given = (rw (c.in_ok-row.was, c.in-Some.is) at (moved.ok late)) (read_text c.args.table) [] (map columns_of was.1) was.3 in
     let typed = subst (λ r. HasGiven g.S.Store (read_text c.args.table) [] now (map columns_of was.1 ++ r ∷ [])) (sym c.in_ok-stored.ensures.exact) given in
     let P = λ (e : OpenFault). e ≡ BadRow → g.V.RowVisitor.refuses c.rows.visitor row in
     let told : IfErr c.from_residual-in_err-visit.result P = search rules in
     IfErr-weaker c.from_residual-in_err-visit.result P _
-    (λ e bad is. inr (given_refused g.S.Store c.args.table c.args.conn.now now same known g.V.RowVisitor.takes g.V.RowVisitor.refuses c.args.visitor.now c.rows.visitor was.1 row typed c.in_ok-stored.ensures.of_table was.3 (bad is))) told
+    (λ e bad is. inr (given_refused g.S.Store c.args.table c.args.conn.now now same known g.V.RowVisitor.takes g.V.RowVisitor.refuses c.args.visitor.now c.rows.visitor was.1 row typed c.in_ok-stored.ensures.of_table was.4 (bad is))) told
 
 pub rows-preserved : goal.rows-preserved
 rows-preserved g c =
@@ -82,11 +83,12 @@ rows-preserved g c =
       λ h. moved.mode (kept.2 h),
       λ clean.
           let was = kept.3 (omega (arith, moved.survives.clean)) in
-          let given = (rw (c.in_ok-row.was, c.in-Some.is) at (moved.ok clean)) (read_text c.args.table) [] (map columns_of was.1) was.2 in
+          let given = (rw (c.in_ok-row.was, c.in-Some.is) at (moved.ok clean)) (read_text c.args.table) [] (map columns_of was.1) was.3 in
           let typed = subst (λ r. HasGiven g.S.Store (read_text c.args.table) [] now (map columns_of was.1 ++ r ∷ [])) (sym c.in_ok-stored.ensures.exact) given in (
             unchanged_then _ _ _ was.0 ((rw c.in_ok-row.was at moved.same) clean),
             was.1 ++ row ∷ [],
+            all-append (λ r. table_of r ≡ c.args.table) was.1 (row ∷ []) was.2 (c.in_ok-stored.ensures.of_table, tt),
             given_on g.S.Store c.args.table now was.1 row typed,
-            visits_more g.V.RowVisitor.takes c.args.visitor.now c.rows.visitor c.visit.new.self was.1 row was.3 c.in_ok-visit.ensures.takes,
+            visits_more g.V.RowVisitor.takes c.args.visitor.now c.rows.visitor c.visit.new.self was.1 row was.4 c.in_ok-visit.ensures.takes,
           ),
     )

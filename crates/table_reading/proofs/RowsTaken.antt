@@ -1,0 +1,89 @@
+-- What a reading of all tables holds of their rows.
+use Rattle.std.proofs.Common.{◌≡◌, Bool, true, false, ◌&&◌, List, [], ◌∷◌, ◌++◌, map, fold, refl, sym, ap, subst, ◌∙◌}
+use Rattle.std.specs.List.{AllByRecursion, list_all}
+use Rattle.std.proofs.lemmas.List.{append-nil, append_assoc}
+use Rattle.sqlite_trees.specs.Tree.{Trees}
+use Rattle.table_meaning.specs.declared.rows.StoredRow.{StoredRow}
+use Rattle.table_meaning.specs.declared.rows.StoredRow.TheVariants as stored
+use Rattle.table_meaning.specs.declared.tables.TableName.{TableName}
+use Rattle.table_meaning.specs.declared.tables.TableName.TheVariants as name
+use Rattle.table_meaning.specs.Rows.{table_of, columns_of, rows_in}
+use Rattle.table_rows.specs.Visits.{VisitsAll, VisitsRows, VisitsTables}
+use Rattle.table_reading.specs.declared.rows.Reading.{Reading}
+use Rattle.table_reading.specs.Reading.{AllRows, AreAllRead, all_tables, is_call, is_import, later_host, no_rows, reading_of, with_row}
+
+abbrev pub Takes : Reading → StoredRow → Reading → Type 0
+Takes old row new = new ≡ with_row old row
+
+-- a reading with more rows of one table
+abbrev with_more : TableName → Reading → List StoredRow → Reading
+with_more name.Setting r rows = record r { world = record r.world { settings = r.world.settings ++ rows } }
+with_more name.Account r rows = record r { world = record r.world { accounts = r.world.accounts ++ rows } }
+with_more name.App r rows = record r { world = record r.world { apps = r.world.apps ++ rows } }
+with_more name.Version r rows = record r { world = record r.world { versions = r.world.versions ++ rows } }
+with_more name.Unit r rows = record r { world = record r.world { units = r.world.units ++ rows } }
+with_more name.Host r rows = record r { world = record r.world { hosts = r.world.hosts ++ rows } }
+with_more name.Instance r rows = record r { world = record r.world { instances = r.world.instances ++ rows } }
+with_more name.Kept r rows = record r { are_calls = r.are_calls && list_all is_call rows; last_host = fold later_host r.last_host rows }
+with_more name.Batch r rows = record r { are_imports = r.are_imports && list_all is_import rows }
+
+and_true : (b : Bool) → (b && true) ≡ b
+and_true true = refl
+and_true false = refl
+
+and_assoc : (a b c : Bool) → ((a && b) && c) ≡ (a && (b && c))
+and_assoc true b c = refl
+and_assoc false b c = refl
+
+none_more : (t : TableName) (r : Reading) → with_more t r [] ≡ r
+none_more name.Setting r = ap (λ xs. record r { world = record r.world { settings = xs } }) (append-nil r.world.settings)
+none_more name.Account r = ap (λ xs. record r { world = record r.world { accounts = xs } }) (append-nil r.world.accounts)
+none_more name.App r = ap (λ xs. record r { world = record r.world { apps = xs } }) (append-nil r.world.apps)
+none_more name.Version r = ap (λ xs. record r { world = record r.world { versions = xs } }) (append-nil r.world.versions)
+none_more name.Unit r = ap (λ xs. record r { world = record r.world { units = xs } }) (append-nil r.world.units)
+none_more name.Host r = ap (λ xs. record r { world = record r.world { hosts = xs } }) (append-nil r.world.hosts)
+none_more name.Instance r = ap (λ xs. record r { world = record r.world { instances = xs } }) (append-nil r.world.instances)
+none_more name.Kept r = ap (λ b. record r { are_calls = b }) (and_true r.are_calls)
+none_more name.Batch r = ap (λ b. record r { are_imports = b }) (and_true r.are_imports)
+
+one_more : (r : Reading) (row : StoredRow) (rows : List StoredRow) → with_more (table_of row) (with_row r row) rows ≡ with_more (table_of row) r (row ∷ rows)
+one_more r (stored.Setting x) rows = ap (λ xs. record r { world = record r.world { settings = xs } }) (append_assoc r.world.settings (stored.Setting x ∷ []) rows)
+one_more r (stored.Account x) rows = ap (λ xs. record r { world = record r.world { accounts = xs } }) (append_assoc r.world.accounts (stored.Account x ∷ []) rows)
+one_more r (stored.App x) rows = ap (λ xs. record r { world = record r.world { apps = xs } }) (append_assoc r.world.apps (stored.App x ∷ []) rows)
+one_more r (stored.Version x) rows = ap (λ xs. record r { world = record r.world { versions = xs } }) (append_assoc r.world.versions (stored.Version x ∷ []) rows)
+one_more r (stored.Unit x) rows = ap (λ xs. record r { world = record r.world { units = xs } }) (append_assoc r.world.units (stored.Unit x ∷ []) rows)
+one_more r (stored.Host x) rows = ap (λ xs. record r { world = record r.world { hosts = xs } }) (append_assoc r.world.hosts (stored.Host x ∷ []) rows)
+one_more r (stored.Instance x) rows = ap (λ xs. record r { world = record r.world { instances = xs } }) (append_assoc r.world.instances (stored.Instance x ∷ []) rows)
+one_more r (stored.Kept x) rows = ap (λ b. record r { are_calls = b; last_host = fold later_host r.last_host (stored.Kept x ∷ rows) }) (and_assoc r.are_calls (is_call (stored.Kept x)) (list_all is_call rows))
+one_more r (stored.Batch x) rows = ap (λ b. record r { are_imports = b }) (and_assoc r.are_imports (is_import (stored.Batch x)) (list_all is_import rows))
+
+rows_taken : (t : TableName) (old new : Reading) (rows : List StoredRow) → AllByRecursion (λ r. table_of r ≡ t) rows → VisitsAll Takes old rows new → new ≡ with_more t old rows
+rows_taken t old new [] all same = same ∙ sym (none_more t old)
+rows_taken t old new (row ∷ rows) all (mid, took, rest) =
+    rows_taken t mid new rows all.1 rest ∙ ap (λ r. with_more t r rows) took ∙ subst (λ (t' : TableName). with_more t' (with_row old row) rows ≡ with_more t' old (row ∷ rows)) all.0 (one_more old row rows)
+
+-- the tables are read, one behind the other
+abbrev Fills : Trees → Reading → List TableName → Reading → Type 0
+Fills trees old [] new = new ≡ old
+Fills trees old (t ∷ ts) new = (rows : List StoredRow) × (map columns_of rows ≡ rows_in trees t) × Fills trees (with_more t old rows) ts new
+
+tables_taken : (trees : Trees) (tables : List TableName) (old new : Reading) → VisitsTables Takes trees old tables new → Fills trees old tables new
+tables_taken trees [] old new same = same
+tables_taken trees (t ∷ ts) old new (mid, (rows, are, of_table, took), rest) =
+    (rows, are, subst (λ r. Fills trees r ts new) (rows_taken t old mid rows of_table took) (tables_taken trees ts mid new rest))
+
+pub tables_more : (trees : Trees) (tables : List TableName) (t : TableName) (old mid new : Reading) → VisitsTables Takes trees old tables mid → VisitsRows Takes t mid (rows_in trees t) new → VisitsTables Takes trees old (tables ++ t ∷ []) new
+tables_more trees [] t old mid new same visits = (new, subst (λ r. VisitsRows Takes t r (rows_in trees t) new) same visits, refl)
+tables_more trees (first ∷ tables) t old mid new (next, one, rest) visits = (next, one, tables_more trees tables t next mid new rest visits)
+
+pub all_taken : (trees : Trees) (new : Reading) → VisitsTables Takes trees (reading_of no_rows) all_tables new → (all : AllRows) × AreAllRead trees all × (new ≡ reading_of all)
+all_taken trees new took =
+    let (settings, settings_are, (accounts, accounts_are, (apps, apps_are, (versions, versions_are, (units, units_are, (hosts, hosts_are, (instances, instances_are, (calls, calls_are, (batches, batches_are, same))))))))) = tables_taken trees all_tables (reading_of no_rows) new took in (
+      record { world = record { settings = settings; accounts = accounts; apps = apps; versions = versions; units = units; hosts = hosts; instances = instances }; calls = calls; batches = batches },
+      record {
+        world = record { settings = settings_are; accounts = accounts_are; apps = apps_are; versions = versions_are; units = units_are; hosts = hosts_are; instances = instances_are };
+        calls = calls_are;
+        batches = batches_are;
+      },
+      same,
+    )
