@@ -7,8 +7,8 @@ port once it listens. docs/PROFILE.md states the formats, the rules and the stor
 those of plain.py. A message with a field `x-moment` is acted on as of that second.
 
 It keeps settings and applications beside the tables and looks all else up by the statements of the proved program, as
-often as the program does: a workunit costs three, and a commit reads what it changes once more. With --once no
-statement is run twice for one message. Each message that changes anything is one transaction, on the disk when it is
+often as the program does: rows of workunits, instances and hosts, and the account and the version read last, are kept
+until rows are put. With --once no statement at all is run twice for one message. Each message that changes anything is one transaction, on the disk when it is
 answered (journal_mode WAL, synchronous FULL).
 """
 import socket
@@ -69,7 +69,6 @@ LOOK_UPS = {
     "host by account and client": "SELECT id FROM host WHERE id > 0 AND account_id = ?1 AND cpid = ?2 ORDER BY id",
     "kept call": f"SELECT {COLUMNS['kept'][0]} FROM kept WHERE host_id = ?1 ORDER BY host_id",
     "host by number": f"SELECT {COLUMNS['host'][0]} FROM host WHERE id = ?1 ORDER BY id",
-    "what is counted of a host": "SELECT held, credit FROM host WHERE id = ?1 ORDER BY id",
     "what a host holds": f"{PLACES}host_id = ?1 AND lapse = 0 AND outcome IS NULL ORDER BY unit_id, num",
     "what a host was given": f"{PLACES}host_id = ?1 ORDER BY unit_id, num",
     "sent on a day": f"{PLACES}host_id = ?1 AND sent >= ?2 AND sent < ?3 ORDER BY sent",
@@ -89,6 +88,8 @@ LOOK_UPS = {
         for table in ("account", "app", "version", "unit", "host")
     },
 }
+# whose rows are kept until rows are put
+KEPT = {"account by authenticator", "host by number", "workunit", "instances of a workunit"}
 
 
 def put_text(table):
@@ -213,7 +214,7 @@ class Tables:
         pragmas = ("locking_mode = EXCLUSIVE", "journal_mode = WAL", f"synchronous = {synchronous}", "foreign_keys = ON")
         for pragma in pragmas:
             self.connection.execute(f"PRAGMA {pragma}").fetchall()
-        self.once, self.seen = once, {}
+        self.once, self.seen, self.last_version = once, {}, None
         self.settings = dict(self.connection.execute("SELECT name, value FROM setting ORDER BY rowid"))
         self.read_apps()
 
@@ -223,16 +224,23 @@ class Tables:
         self.apps = {number: (name, "exact" if near is None else f"within:{near}") for number, name, near in rows}
 
     def begin(self):
-        """A message begins: nothing was looked up yet."""
+        """A message begins: with --once, nothing was looked up yet."""
+        if self.once:
+            self.forget()
+
+    def forget(self):
+        """What was looked up is looked up anew."""
         self.seen.clear()
+        self.last_version = None
 
     def shown(self, kind, *values):
         """The rows of a look-up."""
-        if not self.once:
-            return self.connection.execute(LOOK_UPS[kind], values).fetchall()
-        if (kind, values) not in self.seen:
-            self.seen[kind, values] = self.connection.execute(LOOK_UPS[kind], values).fetchall()
-        return self.seen[kind, values]
+        if (kind, values) in self.seen:
+            return self.seen[kind, values]
+        rows = self.connection.execute(LOOK_UPS[kind], values).fetchall()
+        if self.once or kind in KEPT and rows:
+            self.seen[kind, values] = rows
+        return rows
 
     def first(self, kind, *values):
         """The first row of a look-up, where there is one."""
@@ -241,6 +249,7 @@ class Tables:
 
     def put(self, rows):
         """Puts rows, each a table and its values, in one transaction."""
+        self.forget()
         if rows:
             self.connection.execute("BEGIN IMMEDIATE")
             for table, row in rows:
@@ -261,9 +270,9 @@ class Tables:
         return UnitRow._make(self.first("workunit", number))
 
     def unit(self, number):
-        """A workunit, how its outputs are compared, and its instances: three look-ups."""
+        """A workunit, how its outputs are compared, and its instances."""
         row = self.unit_row(number)
-        _, agreement = self.apps[self.unit_row(number).app_id]
+        _, agreement = self.apps[row.app_id]
         return Unit(row, agreement, self.shown("instances of a workunit", number))
 
     def host(self, number):
@@ -273,30 +282,39 @@ class Tables:
 
     def held_count(self, host):
         """How many jobs a host holds."""
-        row = self.first("what is counted of a host", host)
-        return len(self.shown("what a host holds", host)) if row is None else row[0]
+        row = self.first("host by number", host)
+        return len(self.shown("what a host holds", host)) if row is None else row[8]
 
     def credit_of_host(self, host):
         """The credit of a host. Of one that has no row it is looked up that nothing was given to it."""
-        row = self.first("what is counted of a host", host)
+        row = self.first("host by number", host)
         if row is None:
             assert not self.shown("what a host was given", host)
             return 0
-        return row[1]
+        return row[9]
 
     def version(self, host, app):
         """The newest version at the first of the host's platforms that has any, and that platform."""
+        if self.last_version is not None and self.last_version[0] == (host.platforms, app):
+            return self.last_version[1]
         for platform in host.platforms:
             if numbers := self.shown("version for a platform", app, platform):
-                return max(numbers)[0], platform
+                self.last_version = (host.platforms, app), (max(numbers)[0], platform)
+                return self.last_version[1]
         return None
+
+    def offered(self, unit):
+        """The row of a workunit that is offered: it is not kept."""
+        if self.once:
+            return self.first("workunit", unit)
+        return self.connection.execute(LOOK_UPS["workunit"], (unit,)).fetchone()
 
     def waiting(self, unit, number):
         """What waits to be given out, from a place on: each place with its workunit's row."""
         while True:
             places = self.shown("what waits, 64 places", unit, number)
             for unit, number in places:
-                yield unit, number, self.unit_row(unit)
+                yield unit, number, UnitRow._make(self.offered(unit))
             if len(places) < 64:
                 return
             number += 1

@@ -7,6 +7,8 @@ use Rattle.sched_book.specs.declared.world.World.{World}
 use Rattle.table_meaning.specs.Worlds.{HoldWorld}
 use Rattle.table_meaning.specs.Kept.{calls_in, batches_in}
 use Rattle.table_worlds.specs.Readable.{IsReadable}
+use Rattle.sched_tables.specs.Remembering.{AreRead}
+use Rattle.sched_tables.specs.declared.remembered.Remembered.{Remembered}
 
 -- the disk returned what was written, and the connection is open
 abbrev pub IsHonest : State → Type 0
@@ -19,10 +21,11 @@ pub record AreWellKept (s : State) (w : World) : Type 0 where
   pub holds : HoldWorld s.now w (calls_in s.now.trees) (batches_in s.now.trees)
   pub readable : IsReadable w
 
--- the settings and the applications that are kept beside the tables are the world's
-pub record AreBeside (w : World) (settings : Settings) (apps : List App) : Type 0 where
+-- the settings and the applications that are kept beside the tables are the world's, and so is what was read
+pub record AreBeside (w : World) (settings : Settings) (apps : List App) (read : Remembered) : Type 0 where
   pub settings_are : settings ≡ w.settings
   pub apps_are : apps ≡ w.apps
+  pub rows_are : AreRead w read
 
 -- no call and no import is kept
 pub record KeepNothing (s : State) : Type 0 where

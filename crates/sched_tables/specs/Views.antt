@@ -1,10 +1,13 @@
 -- What tables are seen as: the state of their connection, and the world that their rows tell.
+use Rattle.std.specs.Prelude.{◌≡◌}
 use Rattle.sqlite_trees.specs.declared.store.Store.{Ghosts}
 use Rattle.sqlite.specs.Held.{state}
 use Rattle.sqlite.specs.State.{State}
 use Rattle.sched_book.specs.declared.world.World.{World}
 use Rattle.table_worlds.specs.StoredWorld.{world_in}
-use Rattle.sched_tables.specs.Held.{AreWellKept, AreBeside}
+use Rattle.table_meaning.specs.Reads.{Reads}
+use Rattle.sched_tables.specs.Held.{IsHonest, AreWellKept, AreBeside}
+use Rattle.sched_tables.specs.Remembering.{AreRead}
 use Rattle.sched_tables.specs.declared.tables.Tables.{Tables}
 
 abbrev pub state_of : {S : Type 0} → Ghosts S → Tables S → State
@@ -15,4 +18,9 @@ world_of store t = world_in (state_of store t).now.trees
 
 -- they are well kept, and what is kept beside them is their world's
 abbrev pub AreKept : {S : Type 0} → Ghosts S → Tables S → Type 0
-AreKept store t = AreWellKept (state_of store t) (world_of store t) × AreBeside (world_of store t) t.settings t.apps
+AreKept store t = AreWellKept (state_of store t) (world_of store t) × AreBeside (world_of store t) t.settings t.apps t.remembered
+
+-- Tables after a read: the connection shows what it showed, and what is kept beside the tables is what it was, or was read
+-- just now.
+abbrev pub AreReadOn : {S : Type 0} → Ghosts S → Tables S → Tables S → Type 0
+AreReadOn store old new = Reads (state_of store old) (state_of store new) × (new.settings ≡ old.settings) × (new.apps ≡ old.apps) × (IsHonest (state_of store new) → AreKept store old → AreRead (world_of store old) new.remembered)

@@ -4,7 +4,9 @@ ghost use Rattle.std.specs.Prelude.{◌≡◌, false, IsTrue, IfOk, OnOk, OnErr}
 ghost use Rattle.sqlite.specs.State.{Survives};
 ghost use Rattle.sched_tables.specs.Commits.{ArePut, Makes, apps_with as apps_then};
 ghost use Rattle.sched_tables.specs.Entries.{row_of as row_put};
+ghost use Rattle.sched_book.specs.declared.world.World.{World};
 ghost use Rattle.sched_tables.specs.Held.{IsHonest};
+ghost use Rattle.sched_tables.specs.Remembering.{AreRead};
 ghost use Rattle.sched_tables.specs.Views.{state_of, world_of, AreKept};
 ghost use Rattle.table_meaning.specs.Reads.{Reads};
 
@@ -67,12 +69,14 @@ impl<S: Alter> Tables<S> {
     }
 
     /// Makes these changes and keeps what the entry tells, in one transaction: where it is unavailable, neither is done. It
-    /// puts the rows that the changes touch, and looks at no others. A stop at any moment leaves what a stop could leave
-    /// before, or the whole, and this only where the connection was open.
+    /// puts the rows that the changes touch, and looks at no others. What was read before is forgotten, so that each later
+    /// look-up sees the rows that were put. A stop at any moment leaves what a stop could leave before, or the whole, and
+    /// this only where the connection was open.
     pub fn commit(&mut self, delta: &Delta, entry: &Entry) -> Result<(), Unavailable>
         ensures honest { IsHonest (state_of S.Store self.new) → IsHonest (state_of S.Store self.old) }
         ensures idle { (state_of S.Store self.old).in_transaction ≡ false → (state_of S.Store self.new).in_transaction ≡ false }
         ensures settings { self.new.settings ≡ self.old.settings }
+        ensures forgets { (w : World) → AreRead w self.new.remembered }
         ensures apps { OnOk result (self.new.apps ≡ apps_then self.old.apps delta.now) }
         ensures rests { IsHonest (state_of S.Store self.new) → OnOk result ((state_of S.Store self.new).now ≡ (state_of S.Store self.new).committed) }
         ensures made { IsHonest (state_of S.Store self.new) → AreKept S.Store self.old
@@ -84,8 +88,10 @@ impl<S: Alter> Tables<S> {
             (λ trees. IsTrue (state_of S.Store self.old).is_open × (AreKept S.Store self.old
             → (db : _) × Makes (world_of S.Store self.old) delta.now (row_put entry.now) (state_of S.Store self.old).now db × (trees ≡ db.trees))) }
     {
+        let rows = self.rows_with(delta, entry);
+        self.remembered.forget();
+        let rows = rows?;
         let apps = apps_with(&self.apps, delta)?;
-        let rows = self.rows_with(delta, entry)?;
         if put_rows(self.alloc, &mut self.conn, rows.as_slice()).is_err() {
             return Err(Unavailable);
         }

@@ -1,6 +1,9 @@
-//! The tables answer as the desk of the world that they hold, each look-up by a statement over a key or an index.
+//! The tables answer as the desk of the world that they hold, each look-up by a statement over a key or an index, where
+//! its answer was not read since the last commit.
 
 use crate::tables::Tables;
+use sched_book::count::agreement_by;
+use sched_book::limits::MOST_INSTANCES;
 use sched_book::{
     Account, Agreement, App, Counts, Desk, HostRow, Instance, Moment, Place, Placed, Settings,
     Status, Taker, Unavailable, Units, Version, Workunit, copy_of,
@@ -12,10 +15,9 @@ use texts::Listed;
 impl<S: Alter> Units for Tables<S> {
     ghost use Rattle.std.proofs.Common.{rules};
     ghost use Rattle.std.specs.Prelude.{◌≡◌};
-    ghost use Rattle.table_meaning.specs.Reads.{Reads};
     ghost use Rattle.sched_tables.specs.Held.{IsHonest};
-    ghost use Rattle.sched_tables.specs.ReadLaws.{stays_kept, stays_same, stays_beside};
-    ghost use Rattle.sched_tables.specs.Views.{state_of, world_of, AreKept};
+    ghost use Rattle.sched_tables.specs.ReadLaws.{stays_same, was_honest, stays_both, rows_before};
+    ghost use Rattle.sched_tables.specs.Views.{state_of, world_of, AreKept, AreReadOn};
 
     ghost world = { world_of S.Store };
 
@@ -23,18 +25,24 @@ impl<S: Alter> Units for Tables<S> {
 
     ghost well_kept = { AreKept S.Store };
 
-    ghost reads = { λ a b. Reads (state_of S.Store a) (state_of S.Store b) × (b.settings ≡ a.settings) × (b.apps ≡ a.apps) };
+    ghost reads = { AreReadOn S.Store };
 
     fn unit_by_name(&mut self, name: &str) -> Result<Option<u32>, Unavailable> {
         table_desk::unit_by_name(self.alloc, &mut self.conn, name)
     }
 
     fn unit(&mut self, alloc: Global, unit: u32) -> Result<Option<Workunit>, Unavailable> {
-        table_desk::unit_at(alloc, &mut self.conn, self.apps.as_slice(), unit)
+        match self.remembered.unit(unit)? {
+            Some(row) => Ok(Some(row)),
+            None => self.read_unit(alloc, unit),
+        }
     }
 
     fn agreement_of(&mut self, alloc: Global, unit: u32) -> Result<Option<Agreement>, Unavailable> {
-        table_desk::agreement_at(alloc, &mut self.conn, self.apps.as_slice(), unit)
+        match self.unit(alloc, unit)? {
+            None => Ok(None),
+            Some(row) => Ok(Some(agreement_by(self.apps.as_slice(), row.app.as_str()))),
+        }
     }
 
     fn instance(
@@ -47,16 +55,25 @@ impl<S: Alter> Units for Tables<S> {
     }
 
     fn instances_of(&mut self, alloc: Global, unit: u32) -> Result<Listed<Instance>, Unavailable> {
-        table_desk::instances_at(alloc, &mut self.conn, unit)
+        match self.remembered.instances(unit)? {
+            Some(rows) if rows.len() <= MOST_INSTANCES => Ok(rows),
+            _ => self.read_instances(alloc, unit),
+        }
     }
 
-    ghost reads_none = { λ d. Prim.search rules };
+    ghost reads_none = { λ d. (Prim.search rules, Prim.search rules, Prim.search rules, λ honest kept. kept.1.rows_are) };
 
-    ghost reads_on = { λ a b c h k. Prim.search rules };
+    ghost reads_on = { λ a b c h k. (
+      Prim.search rules,
+      Prim.search rules,
+      Prim.search rules,
+      λ honest kept.
+          rows_before _ _ h.0 (was_honest _ _ k.0 honest) kept.0 _ (k.3 honest (stays_both _ _ h.0 (was_honest _ _ k.0 honest) _ _ _ _ _ _ h.1 h.2 (h.3 (was_honest _ _ k.0 honest) kept) kept)),
+    ) };
 
     ghost stays_honest = { λ a b h k. Prim.search rules };
 
-    ghost stays_kept = { λ a b h k l. (stays_kept _ _ h.0 k l.0, stays_beside _ _ h.0 k l.0 _ _ _ _ h.1 h.2 l.1) };
+    ghost stays_kept = { λ a b h k l. stays_both _ _ h.0 k _ _ _ _ _ _ h.1 h.2 (h.3 k l) l };
 
     ghost stays_same = { λ a b h k l. stays_same _ _ h.0 k l.0 };
 }
@@ -75,7 +92,10 @@ impl<S: Alter> Desk for Tables<S> {
         alloc: Global,
         authenticator: &str,
     ) -> Result<Option<Placed<Account>>, Unavailable> {
-        table_desk::account_by_key(alloc, &mut self.conn, authenticator)
+        match self.remembered.account(authenticator)? {
+            Some(found) => Ok(Some(found)),
+            None => self.read_account(alloc, authenticator),
+        }
     }
 
     fn app_by_name(
@@ -91,7 +111,10 @@ impl<S: Alter> Desk for Tables<S> {
     }
 
     fn host_by_id(&mut self, alloc: Global, host: u32) -> Result<Option<HostRow>, Unavailable> {
-        table_desk::host_by_id(alloc, &mut self.conn, host)
+        match self.counted_host(alloc, host)? {
+            None => Ok(None),
+            Some(found) => Ok(Some(found.row)),
+        }
     }
 
     fn status_of(&mut self, unit: u32) -> Result<Option<Status>, Unavailable> {
@@ -103,7 +126,10 @@ impl<S: Alter> Desk for Tables<S> {
     }
 
     fn held_count(&mut self, host: u32) -> Result<u32, Unavailable> {
-        table_desk::held_count(self.alloc, &mut self.conn, host)
+        match self.counted_host(self.alloc, host)? {
+            None => table_desk::held_listed(self.alloc, &mut self.conn, host),
+            Some(found) => Ok(found.held),
+        }
     }
 
     fn owned_by(&mut self, alloc: Global, host: u32) -> Result<Listed<Place>, Unavailable> {
@@ -119,7 +145,10 @@ impl<S: Alter> Desk for Tables<S> {
     }
 
     fn credit_of_host(&mut self, host: u32) -> Result<u64, Unavailable> {
-        table_desk::credit_of_host(self.alloc, &mut self.conn, host)
+        match self.counted_host(self.alloc, host)? {
+            None => table_desk::credit_of_none_given(self.alloc, &mut self.conn, host),
+            Some(found) => Ok(found.credit),
+        }
     }
 
     fn credit_of_user(&mut self, account: u32) -> Result<u64, Unavailable> {
@@ -132,7 +161,10 @@ impl<S: Alter> Desk for Tables<S> {
         host: &HostRow,
         app: u32,
     ) -> Result<Option<Version>, Unavailable> {
-        table_desk::version_for(alloc, &mut self.conn, self.apps.as_slice(), host, app)
+        match self.remembered.version(host.platforms.as_slice(), app)? {
+            Some(found) => Ok(Some(found)),
+            None => self.read_version(alloc, host, app),
+        }
     }
 
     fn version_by_key(

@@ -5,6 +5,8 @@ mod committing;
 mod desk;
 mod keeping;
 mod opening;
+mod reading;
+mod remembered;
 mod store;
 mod tables;
 

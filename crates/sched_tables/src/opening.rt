@@ -15,6 +15,7 @@ ghost use Rattle.sched_tables.specs.Held.{IsHonest, KeepNothing};
 ghost use Rattle.sched_tables.specs.Stops.{MayBeFound};
 ghost use Rattle.sched_tables.specs.Views.{state_of, world_of, AreKept};
 
+use crate::remembered::Remembered;
 use crate::tables::Tables;
 use sched_book::{Settings, copy_of};
 use sqlite::{Alter, Connection, MemStore};
@@ -47,6 +48,7 @@ impl<S: Alter + Drop> Tables<S> {
             conn,
             settings: kept,
             apps: Listed::new(alloc),
+            remembered: Remembered::new(alloc),
         })
     }
     /// Opens the tables of a database that were made before.
@@ -69,6 +71,7 @@ impl<S: Alter + Drop> Tables<S> {
             conn,
             settings: world.settings,
             apps: world.apps,
+            remembered: Remembered::new(alloc),
         })
     }
 }

@@ -3,19 +3,22 @@ ghost use Rattle.sqlite.specs.Held.{state};
 ghost use Rattle.sched_tables.specs.Held.{IsHonest};
 ghost use Rattle.sched_tables.specs.Views.{state_of};
 
+use crate::remembered::Remembered;
 use sched_book::{App, Settings};
 use sqlite::{Alter, Connection};
 use std::alloc::Global;
 use texts::Listed;
 
 /// The stored tables as a desk. What seldom changes is kept beside them: the settings, which never do, and the
-/// applications, of which there are at most a hundred. All else is read at each call, by its key or by an index.
+/// applications, of which there are at most a hundred. All else is read by its key or by an index, where it was not
+/// read since the last commit.
 #[derive(Drop)]
 pub struct Tables<S: Alter> {
     pub(crate) alloc: Global,
     pub(crate) conn: Connection<S>,
     pub(crate) settings: Settings,
     pub(crate) apps: Listed<App>,
+    pub(crate) remembered: Remembered,
 }
 
 impl<S: Alter> Tables<S> {

@@ -1,28 +1,24 @@
 -- The columns that are counted say what the world counts that the tables tell.
-use Rattle.std.proofs.Common.{◌≡◌, ◌<◌, ℕ, ℤ, ◌+◌, ◌*◌, pos, Bool, true, false, ◌&&◌, cond, List, [], ◌∷◌, ◌++◌, filter, length, Option, Some, None, option_map, refl, sym, ap, ap₂, ◌∙◌, arith}
+use Rattle.std.proofs.Common.{◌≡◌, ◌<◌, ℕ, ◌+◌, ◌*◌, Bool, true, false, ◌&&◌, cond, List, [], ◌∷◌, ◌++◌, filter, length, Option, Some, None, option_map, refl, sym, ap, ap₂, ◌∙◌, arith}
 use Rattle.std.specs.Prelude.{count_by, sum_by}
 use Rattle.std.proofs.lemmas.List.Sums.{sum_by-cons, length-filter}
 use Rattle.std.proofs.lemmas.Option.{none-some, same_Some}
 use Rattle.sqlite_value.specs.declared.value.Value.{Value}
-use Rattle.sqlite_value.specs.declared.value.Value.TheVariants.{Int}
-use Rattle.sqlite_value.specs.Order.{Row, column}
 use Rattle.sqlite.specs.Effect.{Database}
 use Rattle.sched_book.specs.Desk.{unit_status}
 use Rattle.sched_book.specs.Count.{is_valid}
-use Rattle.sched_book.specs.Places.{unit_at, host_at, is_owned_by, owned_by, held_by, places_in, places_among, book_verdict, credit_in, host_credit, status_of}
+use Rattle.sched_book.specs.Places.{unit_at, is_owned_by, owned_by, places_in, places_among, book_verdict, credit_in, host_credit, status_of}
 use Rattle.sched_book.specs.declared.instance.Instance.{Instance as Job}
 use Rattle.sched_book.specs.declared.rows.App.{App}
 use Rattle.sched_book.specs.declared.instance.Status.{Status}
 use Rattle.sched_book.specs.declared.instance.Status.TheVariants.{Open, Done, FailedErrors, FailedSuccess, FailedTotal}
 use Rattle.sched_book.specs.declared.instance.UnitBook.{UnitBook}
-use Rattle.sched_book.specs.declared.rows.HostRow.{HostRow}
 use Rattle.sched_book.specs.declared.world.World.{World}
-use Rattle.table_meaning.specs.ByKey.{counts_in, status_in}
+use Rattle.table_meaning.specs.ByKey.{status_in}
 use Rattle.table_meaning.specs.Kept.{number_of}
 use Rattle.table_meaning.specs.declared.rows.StoredRow.TheVariants as stored
-use Rattle.table_meaning.specs.Rows.{whole, unit_key, host_key, columns_of, look_up}
-use Rattle.table_meaning.specs.Worlds.{status_code, host_row, unit_row}
-use Rattle.table_rows.specs.declared.keyed.HostCounts.{HostCounts}
+use Rattle.table_meaning.specs.Rows.{whole, unit_key, columns_of, look_up}
+use Rattle.table_meaning.specs.Worlds.{status_code, unit_row}
 use Rattle.table_desk.specs.Asked.{Tell}
 use Rattle.table_desk.specs.Columns.{status_told}
 
@@ -73,30 +69,6 @@ no_credit w host none = sym (nothing_among w.apps host 1 w.units none)
 -- ---- columns
 
 module _ (db : Database) (w : World) (tell : Tell db w) where
-  -- a host's row
-  abbrev CountsOf : HostCounts → ℕ → Type 0
-  CountsOf c host = Some (whole c.held ∷ Int c.credit ∷ []) ≡ option_map counts_in (look_up db.trees (host_key host))
-
-  counts_are : (host : ℕ) (c : HostCounts) → CountsOf c host → (c.held ≡ length (held_by w host)) × (c.credit ≡ pos (host_credit w host))
-  counts_are host c read = cases (host_at w host) (read ∙ ap (option_map counts_in) (tell.holds.rows (host_key host)))
-    where
-      n : ℕ
-      n = length (held_by w host)
-
-      integer : Value → ℤ
-      integer (Int z) = z
-      integer other = pos 0
-
-      cases : (o : Option HostRow) → Some (whole c.held ∷ Int c.credit ∷ []) ≡ option_map counts_in (option_map columns_of (option_map (λ h. stored.Host (host_row n (host_credit w host) host h)) o)) → (c.held ≡ n) × (c.credit ≡ pos (host_credit w host))
-      cases None same = absurd (none-some _ (sym same))
-      cases (Some h) same = let columns = same_Some _ _ same in (ap (λ (row : Row). number_of (column row 0)) columns, ap (λ (row : Row). integer (column row 1)) columns)
-
-  pub held_is_counted : (host : ℕ) (c : HostCounts) → CountsOf c host → c.held ≡ length (held_by w host)
-  held_is_counted host c read = (counts_are host c read).0
-
-  pub credit_is_counted : (host : ℕ) (c : HostCounts) (credit : ℕ) → CountsOf c host → pos credit ≡ c.credit → credit ≡ host_credit w host
-  credit_is_counted host c credit read is = ap (λ (z : ℤ). number_of (Int z)) (is ∙ (counts_are host c read).1)
-
   -- a workunit's row
   pub status_is : (unit n : ℕ) (status : Status) → Some (whole n) ≡ option_map status_in (look_up db.trees (unit_key unit)) → Some status ≡ status_told n → Some status ≡ unit_status w unit
   status_is unit n status read told = cases (unit_at w unit) (read ∙ ap (option_map status_in) (tell.holds.rows (unit_key unit)))

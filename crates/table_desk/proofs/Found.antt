@@ -1,5 +1,5 @@
 -- What is found at the keys of tables is what the world that they tell has there.
-use Rattle.std.proofs.Common.{◌≡◌, ◌⊎◌, ◌≤◌, ℕ, pos, Bool, true, false, ◌&&◌, List, length, slice_get, Option, Some, None, option_map, refl, sym, ap, ap₂, ◌∙◌, inl, inr, arith, int_eq}
+use Rattle.std.proofs.Common.{◌≡◌, ◌⊎◌, ◌≤◌, ℕ, ℤ, pos, Bool, true, false, ◌&&◌, List, length, slice_get, Option, Some, None, option_map, refl, sym, ap, ap₂, ◌∙◌, inl, inr, arith, int_eq}
 use Rattle.std.specs.Prelude.{option_and_then, ◌==◌, All}
 use Rattle.std.specs.Str.{bytes_eq}
 use Rattle.std.specs.Ordering.{is_eq}
@@ -8,7 +8,8 @@ use Rattle.std.proofs.lemmas.Slice.Eq.{bytes_eq-Decides}
 use Rattle.sqlite_typed.specs.Tests.{bytes_cmp}
 use Rattle.std.proofs.lemmas.Int.{ints}
 use Rattle.std.proofs.lemmas.Option.{none-some, same_Some}
-use Rattle.sqlite_value.specs.declared.value.Value.TheVariants.{Text}
+use Rattle.sqlite_value.specs.declared.value.Value.{Value}
+use Rattle.sqlite_value.specs.declared.value.Value.TheVariants.{Int, Text}
 use Rattle.sqlite_value.specs.declared.keys.Collation.TheVariants.{Binary}
 use Rattle.sqlite_value.specs.Order.{Row, column}
 use Rattle.sqlite_schema.specs.Rules.{equal}
@@ -42,6 +43,8 @@ use Rattle.table_worlds.specs.ReadBack.{account_in, unit_in, host_in, job_in}
 use Rattle.table_worlds.proofs.ByPlace.{all_nth}
 use Rattle.table_worlds.proofs.ReadBack.{account_back, unit_back, host_back, job_back}
 use Rattle.table_desk.specs.Asked.{Tell}
+use Rattle.table_desk.specs.Columns.{counted_host_at}
+use Rattle.table_desk.specs.declared.hosts.CountedHost.{CountedHost}
 use Rattle.table_desk.proofs.Standing.{item_stands, none_stands, rows_of_list, first_placed}
 
 -- ---- texts and numbers that are shown
@@ -109,14 +112,29 @@ module _ (db : Database) (w : World) (tell : Tell db w) where
   abbrev of_host : ℕ → HostRow → StoredRow
   of_host number h = stored.Host (host_row (length (held_by w number)) (host_credit w number) number h)
 
-  pub no_host : (number : ℕ) → None ≡ look_up db.trees (host_key number) → None ≡ host_at w number
-  no_host number read = sym (none_stands (of_host number) (host_at w number) (read ∙ tell.holds.rows (host_key number)))
+  counted_as : ℕ → HostRow → CountedHost
+  counted_as number h = record { row = h; held = length (held_by w number); credit = host_credit w number }
 
-  pub host_found : (number : ℕ) (row : StoredHost) (h : HostRow) → Some (columns_of (stored.Host row)) ≡ look_up db.trees (host_key number) → h ≡ host_in (columns_of (stored.Host row)) → Some h ≡ host_at w number
-  host_found number row h read told =
+  pub no_host : (number : ℕ) → None ≡ look_up db.trees (host_key number) → None ≡ counted_host_at w number
+  unfolding counted_as
+  no_host number read = sym (ap (option_map (counted_as number)) (none_stands (of_host number) (host_at w number) (read ∙ tell.holds.rows (host_key number))))
+
+  -- the number in a column that may have any
+  integer : Value → ℤ
+  integer (Int z) = z
+  integer other = pos 0
+
+  pub host_counted : (number : ℕ) (row : StoredHost) (h : CountedHost) → Some (columns_of (stored.Host row)) ≡ look_up db.trees (host_key number)
+      → (h.row ≡ host_in (columns_of (stored.Host row))) × (h.held ≡ row.held) × (pos h.credit ≡ row.credit) → Some h ≡ counted_host_at w number
+  unfolding counted_as integer
+  host_counted number row h read told =
       let item = item_stands (of_host number) (host_at w number) (columns_of (stored.Host row)) (read ∙ tell.holds.rows (host_key number)) in
       let words = all_nth (λ (g : HostRow). (1 ≤ length g.platforms) × All IsWord g.platforms) w.hosts number item.0 item.1 tell.readable.hosts in
-      ap Some (told ∙ ap host_in item.2 ∙ host_back (length (held_by w number)) (host_credit w number) number item.0 words) ∙ sym item.1
+      let same = told.0 ∙ ap host_in item.2 ∙ host_back (length (held_by w number)) (host_credit w number) number item.0 words in
+      let held : h.held ≡ length (held_by w number) = told.1 ∙ ap (λ (r : Row). number_of (column r 8)) item.2 in
+      let credit : h.credit ≡ host_credit w number = ap (λ (z : ℤ). number_of (Int z)) (told.2 ∙ ap (λ (r : Row). integer (column r 9)) item.2) in
+      let counted : h ≡ counted_as number item.0 = λ i. record { row = same i; held = held i; credit = credit i } in
+      ap Some counted ∙ sym (ap (option_map (counted_as number)) item.1)
 
   -- ---- rows by their names
 

@@ -1,17 +1,17 @@
-//! Accounts and hosts, by their keys and numbers.
+//! Accounts and hosts, by their keys.
 
 ghost use Rattle.std.specs.Prelude.{◌≡◌, IfOk};
 ghost use Rattle.sqlite.specs.Held.{state};
 ghost use Rattle.sched_book.specs.Desk.{account_by_key as account_of_key};
-ghost use Rattle.sched_book.specs.Places.{host_at, known_host};
+ghost use Rattle.sched_book.specs.Places.{known_host};
 ghost use Rattle.table_meaning.specs.Reads.{Reads};
 ghost use Rattle.table_desk.specs.Asked.{Asked};
 
-use sched_book::{Account, HostRow, Placed, Unavailable};
+use sched_book::{Account, Placed, Unavailable};
 use sqlite::{Alter, Connection};
 use std::alloc::Global;
-use table_decoding::{account, host};
-use table_rows::{account_with, host_known, host_of};
+use table_decoding::account;
+use table_rows::{account_with, host_known};
 
 /// The account with this authenticator. The connection shows what it showed.
 pub fn account_by_key<S: Alter>(
@@ -43,19 +43,4 @@ pub fn host_by_key<S: Alter>(
     ensures answer { Asked S.Store conn.old conn.new (λ w. IfOk result (λ r. r ≡ known_host w account cpid.now)) }
 {
     Ok(host_known(alloc, conn, account, cpid)?)
-}
-
-/// The host of this number. The connection shows what it showed.
-pub fn host_by_id<S: Alter>(
-    alloc: Global,
-    conn: &mut Connection<S>,
-    number: u32,
-) -> Result<Option<HostRow>, Unavailable>
-    ensures reads { Reads (state S.Store conn.old) (state S.Store conn.new) }
-    ensures answer { Asked S.Store conn.old conn.new (λ w. IfOk result (λ r. r ≡ host_at w number)) }
-{
-    match host_of(alloc, conn, number)? {
-        None => Ok(None),
-        Some(row) => Ok(Some(host(alloc, &row)?)),
-    }
 }

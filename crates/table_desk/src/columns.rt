@@ -1,6 +1,7 @@
-//! What is counted of a host or a workunit, read in its row, and of a user, read in the rows of the user's hosts.
+//! What is counted of a workunit, read in its row, of a user, read in the rows of the user's hosts, and of a host that
+//! has no row.
 
-ghost use Rattle.std.specs.Prelude.{◌≡◌, pos, length, sum_by, unsigned_abs, IfOk};
+ghost use Rattle.std.specs.Prelude.{◌≡◌, length, sum_by, unsigned_abs, IfOk};
 ghost use Rattle.sqlite.specs.Held.{state};
 ghost use Rattle.sched_book.specs.Desk.{unit_status};
 ghost use Rattle.sched_book.specs.Places.{held_by as held_in, host_credit, user_credit};
@@ -11,9 +12,7 @@ ghost use Rattle.table_desk.specs.Columns.{status_told};
 use sched_book::{Status, Unavailable};
 use sqlite::{Alter, Connection};
 use std::alloc::Global;
-use table_rows::{
-    counts_of, credits_of_user, places_held, places_owned, status_of as status_column,
-};
+use table_rows::{credits_of_user, places_held, places_owned, status_of as status_column};
 
 /// The status that a number stands for.
 fn status_told(number: u32) -> Option<Status>
@@ -47,9 +46,9 @@ pub fn status_of<S: Alter>(
     }
 }
 
-/// How many instances the host holds. One that has no row, as a host that a call only makes, holds what its instances
-/// say. The connection shows what it showed.
-pub fn held_count<S: Alter>(
+/// How many instances the host holds, by a list of them. A host that has no row, as one that a call only makes, has no
+/// other count. The connection shows what it showed.
+pub fn held_listed<S: Alter>(
     alloc: Global,
     conn: &mut Connection<S>,
     host: u32,
@@ -57,9 +56,6 @@ pub fn held_count<S: Alter>(
     ensures reads { Reads (state S.Store conn.old) (state S.Store conn.new) }
     ensures answer { Asked S.Store conn.old conn.new (λ w. IfOk result (λ r. r ≡ length (held_in w host))) }
 {
-    if let Some(counts) = counts_of(alloc, conn, host)? {
-        return Ok(counts.held);
-    }
     let held = places_held(alloc, conn, host)?;
     match u32::try_from(held.len()) {
         Err(_) => Err(Unavailable),
@@ -67,9 +63,9 @@ pub fn held_count<S: Alter>(
     }
 }
 
-/// The millicredits of the host. One that has no row was given nothing, or the tables are not those of a scheduler. The
-/// connection shows what it showed.
-pub fn credit_of_host<S: Alter>(
+/// The millicredits of a host that was given nothing, as one that has no row: none. Unavailable where it was given an
+/// instance. The connection shows what it showed.
+pub fn credit_of_none_given<S: Alter>(
     alloc: Global,
     conn: &mut Connection<S>,
     host: u32,
@@ -77,12 +73,6 @@ pub fn credit_of_host<S: Alter>(
     ensures reads { Reads (state S.Store conn.old) (state S.Store conn.new) }
     ensures answer { Asked S.Store conn.old conn.new (λ w. IfOk result (λ r. r ≡ host_credit w host)) }
 {
-    if let Some(counts) = counts_of(alloc, conn, host)? {
-        return match u64::try_from(counts.credit) {
-            Err(_) => Err(Unavailable),
-            Ok(credit) => Ok(credit),
-        };
-    }
     let owned = places_owned(alloc, conn, host)?;
     if owned.len() > 0 {
         return Err(Unavailable);

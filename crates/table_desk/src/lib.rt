@@ -7,17 +7,19 @@
 mod accounts;
 mod apps;
 mod columns;
+mod hosts;
 mod lengths;
 mod offers;
 mod places;
 mod users;
 mod workunits;
 
-pub use accounts::{account_by_key, host_by_id, host_by_key};
+pub use accounts::{account_by_key, host_by_key};
 pub use apps::{app_by_name, version_by_key, version_for};
-pub use columns::{credit_of_host, credit_of_user, held_count, status_of};
+pub use columns::{credit_of_none_given, credit_of_user, held_listed, status_of};
+pub use hosts::{CountedHost, counted_host};
 pub use lengths::counts;
 pub use offers::unsent_from;
 pub use places::{due_before, held_by, owned_by, sent_on_day};
 pub use users::units_of_user;
-pub use workunits::{agreement_at, instance_at, instances_at, unit_at, unit_by_name};
+pub use workunits::{instance_at, instances_at, unit_at, unit_by_name};

@@ -2,7 +2,7 @@
 
 ghost use Rattle.std.specs.Prelude.{◌≡◌, ◌≤◌, length, map, IfOk};
 ghost use Rattle.sqlite.specs.Held.{state};
-ghost use Rattle.sched_book.specs.Desk.{agreement_at as agreement_in, instances_at as instances_within, workunit_at};
+ghost use Rattle.sched_book.specs.Desk.{instances_at as instances_within, workunit_at};
 ghost use Rattle.sched_book.specs.Limits.{most_instances};
 ghost use Rattle.sched_book.specs.Places.{unit_named, instance_at as job_at};
 ghost use Rattle.table_meaning.specs.Reads.{Reads};
@@ -11,9 +11,8 @@ ghost use Rattle.table_meaning.specs.declared.rows.StoredRow.TheVariants as stor
 ghost use Rattle.table_worlds.specs.ReadBack.{job_in};
 ghost use Rattle.table_desk.specs.Asked.{Asked};
 
-use sched_book::count::agreement_by;
 use sched_book::limits::MOST_INSTANCES;
-use sched_book::{Agreement, App, Instance, Unavailable, Workunit};
+use sched_book::{App, Instance, Unavailable, Workunit};
 use sqlite::{Alter, Connection};
 use std::alloc::Global;
 use table_decoding::{instance, workunit};
@@ -46,23 +45,6 @@ pub fn unit_at<S: Alter>(
     match unit_of(alloc, conn, unit)? {
         None => Ok(None),
         Some(row) => Ok(Some(workunit(apps, &row)?)),
-    }
-}
-
-/// How the outputs of the workunit at this place are compared, beside all applications. The connection shows what it
-/// showed.
-pub fn agreement_at<S: Alter>(
-    alloc: Global,
-    conn: &mut Connection<S>,
-    apps: &[App],
-    unit: u32,
-) -> Result<Option<Agreement>, Unavailable>
-    ensures reads { Reads (state S.Store conn.old) (state S.Store conn.new) }
-    ensures answer { Asked S.Store conn.old conn.new (λ w. apps.now ≡ w.apps → IfOk result (λ r. r ≡ agreement_in w unit)) }
-{
-    match unit_at(alloc, conn, apps, unit)? {
-        None => Ok(None),
-        Some(unit) => Ok(Some(agreement_by(apps, unit.app.as_str()))),
     }
 }
 

@@ -1,6 +1,13 @@
-use Rattle.std.proofs.Common.{◌∙◌}
-use Rattle.sched_tables.proofs.Told.{told}
+use Rattle.std.proofs.Common.{◌≡◌, Some, sym, subst, rules}
+use Rattle.std.specs.Prelude.{IfSome}
+use Rattle.sched_book.specs.Fits.{version_at}
+use Rattle.sched_book.specs.declared.rows.Version.{Version}
+use Rattle.sched_tables.specs.Views.{world_of}
 use Rattle.sched_tables.proofs.desk.TablesDesk.version_for.Goals as goal
 
-pub returns-clause-answer : goal.returns-clause-answer
-returns-clause-answer g c = λ honest kept. told g.S.Store c.args.self.now c.version_for.new.conn _ c.version_for.ensures.answer honest kept (c.as_slice.ensures ∙ kept.1.apps_are)
+pub returns-in-Some-clause-answer : goal.returns-in-Some-clause-answer
+returns-in-Some-clause-answer g c = λ honest kept.
+    let w = world_of g.S.Store c.args.self.now in
+    let found : Some c.in-Some.found ≡ c.in_ok-found.field-0 = search rules in
+    let read = c.in_ok-found.ensures w c.args.host.now kept.1.rows_are c.as_slice.ensures in
+    sym (subst (λ o. IfSome o (λ (v : Version). version_at w c.args.host.now c.args.app ≡ Some v)) (sym found) read)

@@ -24,11 +24,12 @@ returns-clause-kept g c = λ honest kept.
     c.commit.ensures.apps (c.commit.ensures.rests honest) (c.commit.ensures.made honest kept)
     (λ apps rests made. (
       kept_then old new w cs c.args.entry.now row refl kept.0 made rests idle,
-      beside_then old new w cs c.args.entry.now row refl kept.0 made after.settings before.apps after.apps (record { settings_are = c.commit.ensures.settings ∙ kept.1.settings_are; apps_are = kept.1.apps_are }) apps,
+      beside_then old new w cs c.args.entry.now row refl kept.0 made after.settings before.apps after.apps before.remembered after.remembered
+          (record { settings_are = c.commit.ensures.settings ∙ kept.1.settings_are; apps_are = kept.1.apps_are; rows_are = kept.1.rows_are }) apps c.commit.ensures.forgets,
     )))
     (c.commit.ensures.left honest kept)
     (λ all. all)
-    (λ left. (left_kept old new left.0 left.1 kept.0 idle, left_beside old new left.0 left.1 kept.0 before.settings after.settings before.apps after.apps c.commit.ensures.settings left.2 kept.1))
+    (λ left. (left_kept old new left.0 left.1 kept.0 idle, left_beside old new left.0 left.1 kept.0 before.settings after.settings before.apps after.apps before.remembered after.remembered c.commit.ensures.settings left.2 (c.commit.ensures.forgets _) kept.1))
 
 pub returns-clause-ok : goal.returns-clause-ok
 returns-clause-ok g c = λ honest kept.

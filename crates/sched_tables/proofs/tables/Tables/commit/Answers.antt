@@ -11,14 +11,14 @@ use Rattle.sched_tables.proofs.tables.Tables.commit.Goals as goal
 pub returns-clause-made : goal.returns-clause-made
 returns-clause-made g c = λ honest kept.
     let before = c.args.self.now in
-    let mid = state g.S.Store c.rows_with.new.self.conn in
+    let mid = state g.S.Store c.rows_with-rows.new.self.conn in
     let new = state g.S.Store c.put_rows.new.conn in
     let clean : HasCleanDisk mid = omega (arith, c.put_rows.ensures.crash.clean, honest.0) in
     let was_open = c.put_rows.ensures.was_open honest.0 honest.1 in
     let puts = was_ok c.put_rows.result (PutsRows mid.now new.committed c.as_slice.result.now) (search rules) (c.put_rows.ensures.both honest.0 honest.1) in
     let rest = was_ok c.put_rows.result (new.now ≡ new.committed) (search rules) (c.put_rows.ensures.rest honest.0 honest.1) in
     puts_all (state g.S.Store before.conn) mid new (world_of g.S.Store before) c.args.delta.now (row_of c.args.entry.now) c.as_slice.result.now
-    (c.rows_with.ensures.reads.same clean was_open kept.0.rests).0 rest
+    (c.rows_with-rows.ensures.reads.same clean was_open kept.0.rests).0 rest
     (subst (ArePut (world_of g.S.Store before) c.args.delta.now (row_of c.args.entry.now)) (sym c.as_slice.ensures) (c.in_ok-rows.ensures.rows (clean, was_open) kept))
     puts
 
@@ -27,8 +27,8 @@ returns-clause-crash g c =
     let before = c.args.self.now in
     let cs = c.args.delta.now in
     let row = row_of c.args.entry.now in
-    leaves_made (state g.S.Store before.conn) (state g.S.Store c.rows_with.new.self.conn) (state g.S.Store c.put_rows.new.conn) (world_of g.S.Store before) cs row c.as_slice.result.now
-    (AreKept g.S.Store before) c.rows_with.ensures.reads c.put_rows.ensures.crash
+    leaves_made (state g.S.Store before.conn) (state g.S.Store c.rows_with-rows.new.self.conn) (state g.S.Store c.put_rows.new.conn) (world_of g.S.Store before) cs row c.as_slice.result.now
+    (AreKept g.S.Store before) c.rows_with-rows.ensures.reads c.put_rows.ensures.crash
     (λ honest kept. subst (ArePut (world_of g.S.Store before) cs row) (sym c.as_slice.ensures) (c.in_ok-rows.ensures.rows honest kept)) (λ kept. kept.0.rests)
 
 pub returns-then-is_err-clause-crash : goal.returns-then-is_err-clause-crash
@@ -36,6 +36,6 @@ returns-then-is_err-clause-crash g c =
     let before = c.args.self.now in
     let cs = c.args.delta.now in
     let row = row_of c.args.entry.now in
-    leaves_made (state g.S.Store before.conn) (state g.S.Store c.rows_with.new.self.conn) (state g.S.Store c.put_rows.new.conn) (world_of g.S.Store before) cs row c.as_slice.result.now
-    (AreKept g.S.Store before) c.rows_with.ensures.reads c.put_rows.ensures.crash
+    leaves_made (state g.S.Store before.conn) (state g.S.Store c.rows_with-rows.new.self.conn) (state g.S.Store c.put_rows.new.conn) (world_of g.S.Store before) cs row c.as_slice.result.now
+    (AreKept g.S.Store before) c.rows_with-rows.ensures.reads c.put_rows.ensures.crash
     (λ honest kept. subst (ArePut (world_of g.S.Store before) cs row) (sym c.as_slice.ensures) (c.in_ok-rows.ensures.rows honest kept)) (λ kept. kept.0.rests)

@@ -17,7 +17,7 @@ returns-clause-held g c = λ honest.
     let new = state g.S.Store c.create.new.conn in
     let rest = c.in_ok-create.ensures.rest honest.0 in
     let just = subst (HoldJust new.committed) (c.as_slice.ensures ∙ c.in_ok-rows.ensures) (c.in_ok-create.ensures.made honest.0) in
-    (new_kept c.args.settings.now new rest just c.in_ok-create.ensures.idle, new_beside c.args.settings.now new rest just c.in_ok-kept.kept c.new.result c.in_ok-kept.ensures c.new.ensures)
+    (new_kept c.args.settings.now new rest just c.in_ok-create.ensures.idle, new_beside c.args.settings.now new rest just c.in_ok-kept.kept c.new.result c.new-2.result c.in_ok-kept.ensures c.new.ensures c.new-2.ensures)
 
 pub returns-clause-nothing : goal.returns-clause-nothing
 returns-clause-nothing g c = λ honest.

@@ -22,7 +22,7 @@ returns-clause-held g c = λ honest.
     let reads = c.stored_world.ensures.reads in
     let held = c.in_ok-world.ensures.held (was_known taken read opens known reads honest) in (
       opened_kept taken read opens known reads honest c.in_ok-world.world c.in_ok-world.ensures.sound held,
-      opened_beside taken read opens known reads honest c.in_ok-world.world c.in_ok-world.ensures.sound held,
+      opened_beside taken read opens known reads honest c.in_ok-world.world c.in_ok-world.ensures.sound held c.new.result c.new.ensures,
     )
 
 pub returns-clause-same : goal.returns-clause-same
