@@ -8,7 +8,7 @@ use Rattle.table_meaning.specs.declared.tables.TableName.{TableName}
 use Rattle.table_meaning.specs.declared.tables.TableName.TheVariants.{Unit, Host, Instance, Kept, Batch}
 use Rattle.table_meaning.specs.Schema.{stored_schema}
 use Rattle.table_meaning.specs.Rows.{tree_of, places_of, key_places}
-use Rattle.table_meaning.specs.ByKey.{kept_text, batch_text, unit_text, host_text, instance_text, counts_text, status_text, key_query}
+use Rattle.table_meaning.specs.ByKey.{kept_text, batch_text, unit_text, host_text, instance_text, status_text, key_query}
 use Rattle.table_meaning.proofs.ReadTexts.{names_of}
 
 -- the text reads these columns of the rows that have the key
@@ -39,10 +39,6 @@ host_is_read = (refl, (refl, refl), refl)
 pub instance_is_read : IsReadByKey Instance instance_text
 unfolding understood everything
 instance_is_read = (refl, (refl, refl), refl)
-
-pub counts_are_read : ReadsByKey Host (9 ∷ 10 ∷ []) (codes "held" ∷ codes "credit" ∷ []) counts_text
-unfolding understood everything
-counts_are_read = (refl, (refl, refl), refl)
 
 pub status_is_read : ReadsByKey Unit (14 ∷ []) (codes "status" ∷ []) status_text
 unfolding understood everything

@@ -28,11 +28,11 @@ use Rattle.table_meaning.specs.Schema.{stored_schema}
 use Rattle.table_meaning.specs.Texts.{read_text}
 use Rattle.table_meaning.specs.Rows.{tree_of, places_of, key_places, shown, rows_in, whole, RowKey, unit_key, host_key, instance_key, kept_key, batch_key, table_at, has_key, look_up}
 use Rattle.table_meaning.specs.Reads.{read_query}
-use Rattle.table_meaning.specs.ByKey.{kept_text, batch_text, unit_text, host_text, instance_text, counts_text, status_text, counts_in, status_in, key_tests, key_query}
+use Rattle.table_meaning.specs.ByKey.{kept_text, batch_text, unit_text, host_text, instance_text, status_text, status_in, key_tests, key_query}
 use Rattle.table_meaning.specs.Formats.{columns_in}
 use Rattle.table_meaning.specs.Holding.{AreKnown}
 use Rattle.table_meaning.proofs.ReadTexts.{names_of, each_is_read}
-use Rattle.table_meaning.proofs.ByKey.{IsReadByKey, kept_is_read, batch_is_read, unit_is_read, host_is_read, instance_is_read, counts_are_read, status_is_read}
+use Rattle.table_meaning.proofs.ByKey.{IsReadByKey, kept_is_read, batch_is_read, unit_is_read, host_is_read, instance_is_read, status_is_read}
 
 -- a row of a tree as its number and its columns
 abbrev pub Numbered : Type 0
@@ -142,14 +142,6 @@ instance_shown_at unit number = row_shown_at (instance_key unit number) instance
 picked : {X : Type 0} (show all : Row → Row) (pick from : Row → X) → ((r : Row) → pick (show r) ≡ from (all r)) → (found : Option Row) → option_map pick (option_map show found) ≡ option_map from (option_map all found)
 picked show all pick from is None = refl
 picked show all pick from is (Some r) = ap Some (is r)
-
-pub counts_shown_at : (host : ℕ) (old new : State) → AreKnown old.now → (rows : List Row) → Shown counts_text (whole host ∷ []) old new rows
-    → option_map (λ r. columns_in r 2) (slice_get rows 0) ≡ option_map counts_in (look_up old.now.trees (host_key host))
-unfolding first_key
-counts_shown_at host old new known rows h =
-    let read = reads_as counts_text (whole host ∷ []) old new stored_schema known.schema _ counts_are_read.0 counts_are_read.1 counts_are_read.2 rows h in
-    let found = key_rows old.now.trees 10 (0 ∷ []) (9 ∷ 10 ∷ []) (whole host ∷ []) (has_key (host_key host)) refl (known.ordered Host) (λ n. refl) rows (read.answer Null) in
-    ap (option_map (λ r. columns_in r 2)) found ∙ picked _ _ (λ r. columns_in r 2) counts_in (λ r. refl) _
 
 pub status_shown_at : (unit : ℕ) (old new : State) → AreKnown old.now → (rows : List Row) → Shown status_text (whole unit ∷ []) old new rows
     → option_map (λ r. column r 0) (slice_get rows 0) ≡ option_map status_in (look_up old.now.trees (unit_key unit))

@@ -26,17 +26,11 @@ host_text = codes "SELECT id, account_id, cpid, platforms, fpops, memory, disk, 
 abbrev pub instance_text : List ℕ
 instance_text = codes "SELECT unit_id, num, host_id, sent, deadline, lapse, outcome, output, place, queued FROM instance WHERE unit_id = ?1 AND num = ?2 ORDER BY rowid"
 
--- reads how many instances a host holds with its credit, and the status of a workunit
-abbrev pub counts_text : List ℕ
-counts_text = codes "SELECT held, credit FROM host WHERE id = ?1 ORDER BY id"
-
+-- reads the status of a workunit
 abbrev pub status_text : List ℕ
 status_text = codes "SELECT status FROM unit WHERE id = ?1 ORDER BY id"
 
--- the columns of a host's row that are counted, and that of a workunit's row
-abbrev pub counts_in : Row → Row
-counts_in row = column row 8 ∷ column row 9 ∷ []
-
+-- the column of a workunit's row that is counted
 abbrev pub status_in : Row → Value
 status_in row = column row 13
 

@@ -1,22 +1,20 @@
 //! Rows by their keys, or some columns of them, of the tables that are not read whole at each call.
 
-ghost use Rattle.std.specs.Prelude.{◌≡◌, [], ◌∷◌, option_map, IfOk};
+ghost use Rattle.std.specs.Prelude.{◌≡◌, option_map, IfOk};
 ghost use Rattle.sqlite.specs.Held.{state};
 ghost use Rattle.sqlite.specs.State.{HasCleanDisk};
 ghost use Rattle.table_meaning.specs.declared.rows.StoredRow.TheVariants as stored;
-ghost use Rattle.sqlite_value.specs.declared.value.Value.TheVariants.{Int as SqlInt};
-ghost use Rattle.table_meaning.specs.ByKey.{counts_in, status_in};
-ghost use Rattle.table_meaning.specs.Formats.{columns_in};
+ghost use Rattle.table_meaning.specs.ByKey.{status_in};
 ghost use Rattle.table_meaning.specs.Rows.{whole as sql_whole, unit_key, host_key, instance_key, kept_key, batch_key, columns_of, look_up};
 ghost use Rattle.table_meaning.specs.Reads.{Reads};
 ghost use Rattle.table_meaning.specs.Holding.{AreKnown};
 
 use crate::opening::OpenFault;
 use crate::read::{first_number, first_shown};
+use crate::typed;
 use crate::values::whole;
-use crate::{fields, typed};
 use sqlite::types::ValueRef;
-use sqlite::{Alter, Connection, Row};
+use sqlite::{Alter, Connection};
 use std::alloc::Global;
 use table_meaning::rows::{StoredBatch, StoredCall, StoredHost, StoredInstance, StoredUnit};
 
@@ -117,43 +115,6 @@ pub fn instance_of<S: Alter>(
         "SELECT unit_id, num, host_id, sent, deadline, lapse, outcome, output, place, queued FROM instance WHERE unit_id = ?1 AND num = ?2 ORDER BY rowid",
         &[whole(unit), whole(number)],
         typed::instance,
-    )
-}
-
-/// What is counted of a host.
-#[derive(Clone, Copy)]
-pub struct HostCounts {
-    /// How many instances it holds.
-    pub held: u32,
-    /// In millicredits.
-    pub credit: i64,
-}
-
-fn counts(alloc: Global, row: &Row) -> Result<HostCounts, OpenFault>
-    ensures { IfOk result (λ counts. sql_whole counts.held ∷ SqlInt counts.credit ∷ [] ≡ columns_in row.now 2) }
-{
-    Ok(HostCounts {
-        held: fields::whole(alloc, row, 0)?,
-        credit: fields::int(alloc, row, 1)?,
-    })
-}
-
-/// What is counted of the host of this number. The connection shows what it showed.
-pub fn counts_of<S: Alter>(
-    alloc: Global,
-    conn: &mut Connection<S>,
-    host: u32,
-) -> Result<Option<HostCounts>, OpenFault>
-    ensures reads { Reads (state S.Store conn.old) (state S.Store conn.new) }
-    ensures row { HasCleanDisk (state S.Store conn.new) → AreKnown (state S.Store conn.old).now
-        → IfOk result (λ counts. option_map (λ c. sql_whole c.held ∷ SqlInt c.credit ∷ []) counts ≡ option_map counts_in (look_up (state S.Store conn.old).now.trees (host_key host))) }
-{
-    first_shown(
-        alloc,
-        conn,
-        "SELECT held, credit FROM host WHERE id = ?1 ORDER BY id",
-        &[whole(host)],
-        counts,
     )
 }
 

@@ -16,9 +16,7 @@ pub mod values;
 pub mod visiting;
 
 pub use definitions::create;
-pub use keyed::{
-    HostCounts, batch_of, counts_of, host_of, instance_of, kept_of, status_of, unit_of,
-};
+pub use keyed::{batch_of, host_of, instance_of, kept_of, status_of, unit_of};
 pub use listing::{credits_of_user, hosts_of_user, version_numbers};
 pub use names::{NumberedTable, account_with, host_known, last_number, unit_named};
 pub use opening::{OpenFault, Refused, in_memory, known};
