@@ -38,7 +38,7 @@ impl<T> RowsRead<T> {
 
 impl<T: Same + Drop> RowsRead<T> {
     /// A copy of the row of this number, where it was read.
-    pub(crate) fn row(&self, number: u32) -> Result<Option<T>, Memory>
+    fn row(&self, number: u32) -> Result<Option<T>, Memory>
         ensures { IfOk result (λ row. row ≡ get nat_cmp self.now.rows number) }
     {
         match self.rows.get(&number) {
