@@ -481,6 +481,39 @@ def life(program, folder):
     print(f"life: at {MOST} workunits beside {LEAST} the program answers {ratio_told(rates[MOST], rates[LEAST])}")
 
 
+# Runs a command, and prints its status, its seconds and its peak memory in kilobytes. It is a process of its own, since a
+# process that is forked off a large one counts as large.
+PEAK = """
+import resource, subprocess, sys, time
+begin = time.perf_counter()
+done = subprocess.run(sys.argv[1:], stdout=subprocess.DEVNULL, stderr=subprocess.DEVNULL)
+print(done.returncode, time.perf_counter() - begin, resource.getrusage(resource.RUSAGE_CHILDREN).ru_maxrss)
+"""
+
+
+def bare_opening(program, path):
+    """Seconds, and peak memory in kilobytes, of the library's own opening of a file: an order to create, which is refused
+    since tables stand there, opens it and reads no row."""
+    settings = os.path.join(MADE.name, "settings.toml")
+    words = [program, "create", "--settings", settings, "--tables", path]
+    status, seconds, kilobytes = ordered(sys.executable, "-c", PEAK, *words).split()
+    wants(status, "1", "an order to create tables where some stand")
+    return float(seconds), int(kilobytes)
+
+
+def opening(program, folder):
+    """How long an opening of tables takes, and its peak memory, beside the library's own opening of the file."""
+    for units in SIZES:
+        path = copied(made(program, units), folder)
+        bare, ours = bare_opening(program, path), run_ours(program, path, count=1)
+        ours.end()
+        print(
+            f"opening: {units} workunits in {ours.open_seconds:.2f} seconds, with a peak of {ours.open_peak / 1024:.0f} MB; of "
+            f"the library alone {bare[0]:.2f} seconds ({ours.open_seconds / bare[0]:.1f} times) and {bare[1] / 1024:.0f} MB "
+            f"({ours.open_peak / bare[1]:.1f} times)"
+        )
+
+
 def tick_seconds(program, path, folder):
     """The seconds of a tick where nothing is late, of the program and of the twin: the middle ones of some."""
     runs = run_ours(program, copied(path, folder, "ours.db")), run_twin(copied(path, folder, "twin.db"))
@@ -652,4 +685,4 @@ def profile(program, folder):
         print(f"  {100 * many / own.total():5.1f} {what}")
 
 
-CASES = {"life": life, "ticks": ticks, "past": past, "statements": statements, "twins": twins, "profile": profile}
+CASES = {"life": life, "opening": opening, "ticks": ticks, "past": past, "statements": statements, "twins": twins, "profile": profile}
