@@ -26,7 +26,7 @@ use Rattle.table_meaning.proofs.Keys.{key_itself}
 use Rattle.sched_tables.specs.Commits.{LastCalls, Imports, Keeps, LeadsTo, Makes, apps_with}
 use Rattle.sched_tables.specs.Entries.{row_of, last_calls_with, imports_with, kept_batch, calls_of, batches_of}
 use Rattle.sched_tables.specs.Held.{AreWellKept, AreBeside}
-use Rattle.sched_tables.specs.Remembering.{AreRead}
+use Rattle.sched_tables.specs.Remembering.{AreRemembered}
 use Rattle.sched_tables.specs.declared.remembered.Remembered.{Remembered}
 use Rattle.table_worlds.specs.Readable.{IsReadable}
 use Rattle.table_worlds.specs.StoredWorld.{world_in}
@@ -180,7 +180,7 @@ module _ (old new : State) (w : World) (cs : List Change) (e : Entry) (row : Opt
   }
 
   -- what is kept beside the tables is the world's, with the applications that the changes bring
-  pub beside_then : (settings : Settings) (apps apps' : List App) (read read' : Remembered) → AreBeside w settings apps read → apps' ≡ apps_with apps cs → ((v : World) → AreRead v read') → AreBeside (world_in new.now.trees) settings apps' read'
+  pub beside_then : (settings : Settings) (apps apps' : List App) (read read' : Remembered) → AreBeside w settings apps read → apps' ≡ apps_with apps cs → ((v : World) → AreRemembered v read') → AreBeside (world_in new.now.trees) settings apps' read'
   beside_then settings apps apps' read read' beside brought nothing = record {
     settings_are = beside.settings_are ∙ sym (settings_stay w cs) ∙ sym (ap (λ u. u.settings) world_then);
     apps_are = brought ∙ ap (λ l. apps_with l cs) beside.apps_are ∙ sym (apps_brought w cs) ∙ sym (ap (λ u. u.apps) world_then);

@@ -15,7 +15,7 @@ use Rattle.table_worlds.specs.RowsOf.{setting_rows}
 use Rattle.table_worlds.proofs.NewWorld.{new_world}
 use Rattle.sched_book.specs.declared.world.World.{World}
 use Rattle.sched_tables.specs.Held.{AreWellKept, AreBeside, KeepNothing}
-use Rattle.sched_tables.specs.Remembering.{AreRead}
+use Rattle.sched_tables.specs.Remembering.{AreRemembered}
 use Rattle.sched_tables.specs.declared.remembered.Remembered.{Remembered}
 use Rattle.table_meaning.specs.Kept.{calls_in, batches_in}
 use Rattle.sched_tables.proofs.EntriesKept.{calls_back, batches_back, held_with_kept}
@@ -44,7 +44,7 @@ module _ (s : Settings) (st : State) (rests : st.now ≡ st.committed) (just : H
     readable = subst IsReadable (sym new_world_is) (empty_readable s);
   }
 
-  pub new_beside : (settings : Settings) (apps : List App) (read : Remembered) → settings ≡ s → apps ≡ [] → ((w : World) → AreRead w read) → AreBeside (world_in st.now.trees) settings apps read
+  pub new_beside : (settings : Settings) (apps : List App) (read : Remembered) → settings ≡ s → apps ≡ [] → ((w : World) → AreRemembered w read) → AreBeside (world_in st.now.trees) settings apps read
   new_beside settings apps read same none nothing = record { settings_are = same ∙ sym (ap (λ w. w.settings) new_world_is); apps_are = none ∙ sym (ap (λ w. w.apps) new_world_is); rows_are = nothing _ }
 
   pub new_nothing : KeepNothing st

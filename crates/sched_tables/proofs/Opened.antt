@@ -14,7 +14,7 @@ use Rattle.table_worlds.specs.StoredWorld.{world_in}
 use Rattle.table_worlds.proofs.StaysReadable.{sound_is_readable}
 use Rattle.table_worlds.proofs.WorldReadBack.{held_is_read_back}
 use Rattle.sched_tables.specs.Held.{IsHonest, AreWellKept, AreBeside}
-use Rattle.sched_tables.specs.Remembering.{AreRead}
+use Rattle.sched_tables.specs.Remembering.{AreRemembered}
 use Rattle.sched_tables.specs.declared.remembered.Remembered.{Remembered}
 
 -- a connection as it was taken, and as a reading left it
@@ -41,7 +41,7 @@ module _ (taken read : State) (opens : HasCleanDisk taken → Opens taken) (know
       readable = subst IsReadable (sym opened_world) (sound_is_readable w sound);
     }
 
-    pub opened_beside : (rows : Remembered) → ((v : World) → AreRead v rows) → AreBeside (world_in read.now.trees) w.settings w.apps rows
+    pub opened_beside : (rows : Remembered) → ((v : World) → AreRemembered v rows) → AreBeside (world_in read.now.trees) w.settings w.apps rows
     opened_beside rows nothing = record { settings_are = sym (ap (λ v. v.settings) opened_world); apps_are = sym (ap (λ v. v.apps) opened_world); rows_are = nothing _ }
 
     pub opened_sound : Sound (world_in read.now.trees)

@@ -7,7 +7,7 @@ use Rattle.sched_book.specs.declared.world.World.{World}
 use Rattle.table_meaning.specs.Worlds.{HoldWorld}
 use Rattle.table_meaning.specs.Kept.{calls_in, batches_in}
 use Rattle.table_worlds.specs.Readable.{IsReadable}
-use Rattle.sched_tables.specs.Remembering.{AreRead}
+use Rattle.sched_tables.specs.Remembering.{AreRemembered}
 use Rattle.sched_tables.specs.declared.remembered.Remembered.{Remembered}
 
 -- the disk returned what was written, and the connection is open
@@ -25,7 +25,7 @@ pub record AreWellKept (s : State) (w : World) : Type 0 where
 pub record AreBeside (w : World) (settings : Settings) (apps : List App) (read : Remembered) : Type 0 where
   pub settings_are : settings ≡ w.settings
   pub apps_are : apps ≡ w.apps
-  pub rows_are : AreRead w read
+  pub rows_are : AreRemembered w read
 
 -- no call and no import is kept
 pub record KeepNothing (s : State) : Type 0 where

@@ -10,7 +10,7 @@ use Rattle.table_meaning.specs.Worlds.{HoldWorld}
 use Rattle.table_worlds.specs.Readable.{IsReadable}
 use Rattle.table_worlds.specs.StoredWorld.{world_in}
 use Rattle.sched_tables.specs.Held.{IsHonest, AreWellKept, AreBeside}
-use Rattle.sched_tables.specs.Remembering.{AreRead}
+use Rattle.sched_tables.specs.Remembering.{AreRemembered}
 use Rattle.sched_tables.specs.declared.remembered.Remembered.{Remembered}
 
 -- ---- tables whose rows stay as they are
@@ -30,12 +30,12 @@ module _ (old new : State) (shown : new.now ≡ old.now) (committed : new.commit
   }
 
   -- and what is kept beside them stays the world's
-  pub left_beside : (settings settings' : Settings) (apps apps' : List App) (read read' : Remembered) → settings' ≡ settings → apps' ≡ apps → AreRead (world_in old.now.trees) read'
+  pub left_beside : (settings settings' : Settings) (apps apps' : List App) (read read' : Remembered) → settings' ≡ settings → apps' ≡ apps → AreRemembered (world_in old.now.trees) read'
       → AreBeside (world_in old.now.trees) settings apps read → AreBeside (world_in new.now.trees) settings' apps' read'
   left_beside settings settings' apps apps' read read' same also rows beside = record {
     settings_are = same ∙ beside.settings_are ∙ sym (ap (λ w. w.settings) left_world);
     apps_are = also ∙ beside.apps_are ∙ sym (ap (λ w. w.apps) left_world);
-    rows_are = subst (λ w. AreRead w read') (sym left_world) rows;
+    rows_are = subst (λ w. AreRemembered w read') (sym left_world) rows;
   }
 
 -- ---- a read
@@ -54,7 +54,7 @@ module _ (old new : State) (reads : Reads old new) (honest : IsHonest new) (kept
   pub stays_kept : AreWellKept new (world_in new.now.trees)
   stays_kept = left_kept old new stays_shown stays_committed kept (reads.idle kept.idle)
 
-  pub stays_beside : (settings settings' : Settings) (apps apps' : List App) (read read' : Remembered) → settings' ≡ settings → apps' ≡ apps → AreRead (world_in old.now.trees) read'
+  pub stays_beside : (settings settings' : Settings) (apps apps' : List App) (read read' : Remembered) → settings' ≡ settings → apps' ≡ apps → AreRemembered (world_in old.now.trees) read'
       → AreBeside (world_in old.now.trees) settings apps read → AreBeside (world_in new.now.trees) settings' apps' read'
   stays_beside = left_beside old new stays_shown stays_committed kept
 
@@ -65,11 +65,11 @@ pub was_honest : (old new : State) → Reads old new → IsHonest new → IsHone
 was_honest old new reads honest = (omega (arith, reads.survives.clean, honest.0), reads.was_open honest.0 honest.1)
 
 -- well kept tables stay so, where what was read is the world's
-pub stays_both : (old new : State) → Reads old new → IsHonest new → (settings settings' : Settings) (apps apps' : List App) (read read' : Remembered) → settings' ≡ settings → apps' ≡ apps → AreRead (world_in old.now.trees) read'
+pub stays_both : (old new : State) → Reads old new → IsHonest new → (settings settings' : Settings) (apps apps' : List App) (read read' : Remembered) → settings' ≡ settings → apps' ≡ apps → AreRemembered (world_in old.now.trees) read'
     → AreWellKept old (world_in old.now.trees) × AreBeside (world_in old.now.trees) settings apps read → AreWellKept new (world_in new.now.trees) × AreBeside (world_in new.now.trees) settings' apps' read'
 stays_both old new reads honest settings settings' apps apps' read read' same also rows kept =
     (stays_kept old new reads honest kept.0, stays_beside old new reads honest kept.0 settings settings' apps apps' read read' same also rows kept.1)
 
 -- what was read later is the world's before
-pub rows_before : (old new : State) → Reads old new → IsHonest new → AreWellKept old (world_in old.now.trees) → (read : Remembered) → AreRead (world_in new.now.trees) read → AreRead (world_in old.now.trees) read
-rows_before old new reads honest kept read rows = subst (λ w. AreRead w read) (stays_same old new reads honest kept) rows
+pub rows_before : (old new : State) → Reads old new → IsHonest new → AreWellKept old (world_in old.now.trees) → (read : Remembered) → AreRemembered (world_in new.now.trees) read → AreRemembered (world_in old.now.trees) read
+rows_before old new reads honest kept read rows = subst (λ w. AreRemembered w read) (stays_same old new reads honest kept) rows

@@ -19,7 +19,7 @@ abbrev pub HasKept : {T : Type 0} → RowsRead T → RowsRead T → ℕ → T �
 HasKept {T} old new number row = (n : ℕ) (kept : T) → get nat_cmp new.rows n ≡ Some kept → ((n ≡ number) × (kept ≡ row)) ⊎ (get nat_cmp old.rows n ≡ Some kept)
 
 -- What was read is what the world has.
-pub record AreRead (w : World) (r : Remembered) : Type 0 where
+pub record AreRemembered (w : World) (r : Remembered) : Type 0 where
   pub units : HoldOfEach (λ n u. workunit_at w n ≡ Some u) r.units
   pub instances : HoldOfEach (λ n xs. xs ≡ instances_at w n) r.instances
   pub hosts : HoldOfEach (λ n h. counted_host_at w n ≡ Some h) r.hosts

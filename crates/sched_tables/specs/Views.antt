@@ -7,7 +7,7 @@ use Rattle.sched_book.specs.declared.world.World.{World}
 use Rattle.table_worlds.specs.StoredWorld.{world_in}
 use Rattle.table_meaning.specs.Reads.{Reads}
 use Rattle.sched_tables.specs.Held.{IsHonest, AreWellKept, AreBeside}
-use Rattle.sched_tables.specs.Remembering.{AreRead}
+use Rattle.sched_tables.specs.Remembering.{AreRemembered}
 use Rattle.sched_tables.specs.declared.tables.Tables.{Tables}
 
 abbrev pub state_of : {S : Type 0} → Ghosts S → Tables S → State
@@ -23,4 +23,4 @@ AreKept store t = AreWellKept (state_of store t) (world_of store t) × AreBeside
 -- Tables after a read: the connection shows what it showed, and what is kept beside the tables is what it was, or was read
 -- just now.
 abbrev pub AreReadOn : {S : Type 0} → Ghosts S → Tables S → Tables S → Type 0
-AreReadOn store old new = Reads (state_of store old) (state_of store new) × (new.settings ≡ old.settings) × (new.apps ≡ old.apps) × (IsHonest (state_of store new) → AreKept store old → AreRead (world_of store old) new.remembered)
+AreReadOn store old new = Reads (state_of store old) (state_of store new) × (new.settings ≡ old.settings) × (new.apps ≡ old.apps) × (IsHonest (state_of store new) → AreKept store old → AreRemembered (world_of store old) new.remembered)

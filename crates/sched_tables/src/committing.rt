@@ -6,7 +6,7 @@ ghost use Rattle.sched_tables.specs.Commits.{ArePut, Makes, apps_with as apps_th
 ghost use Rattle.sched_tables.specs.Entries.{row_of as row_put};
 ghost use Rattle.sched_book.specs.declared.world.World.{World};
 ghost use Rattle.sched_tables.specs.Held.{IsHonest};
-ghost use Rattle.sched_tables.specs.Remembering.{AreRead};
+ghost use Rattle.sched_tables.specs.Remembering.{AreRemembered};
 ghost use Rattle.sched_tables.specs.Views.{state_of, world_of, AreKept};
 ghost use Rattle.table_meaning.specs.Reads.{Reads};
 
@@ -76,7 +76,7 @@ impl<S: Alter> Tables<S> {
         ensures honest { IsHonest (state_of S.Store self.new) → IsHonest (state_of S.Store self.old) }
         ensures idle { (state_of S.Store self.old).in_transaction ≡ false → (state_of S.Store self.new).in_transaction ≡ false }
         ensures settings { self.new.settings ≡ self.old.settings }
-        ensures forgets { (w : World) → AreRead w self.new.remembered }
+        ensures forgets { (w : World) → AreRemembered w self.new.remembered }
         ensures apps { OnOk result (self.new.apps ≡ apps_then self.old.apps delta.now) }
         ensures rests { IsHonest (state_of S.Store self.new) → OnOk result ((state_of S.Store self.new).now ≡ (state_of S.Store self.new).committed) }
         ensures made { IsHonest (state_of S.Store self.new) → AreKept S.Store self.old

@@ -8,7 +8,7 @@ ghost use Rattle.sched_book.specs.Fits.{version_at};
 ghost use Rattle.sched_book.specs.declared.rows.HostRow.{HostRow as BookHost};
 ghost use Rattle.sched_book.specs.declared.world.World.{World};
 ghost use Rattle.table_desk.specs.Columns.{counted_host_at};
-ghost use Rattle.sched_tables.specs.Remembering.{HasKept, AreRead};
+ghost use Rattle.sched_tables.specs.Remembering.{HasKept, AreRemembered};
 
 use sched_book::{Account, Instance, Placed, Version, Workunit, copy_of};
 use std::alloc::Global;
@@ -126,7 +126,7 @@ pub(crate) struct Remembered {
 impl Remembered {
     /// Nothing.
     pub(crate) fn new(alloc: Global) -> Remembered
-        ensures { (w : World) → AreRead w result }
+        ensures { (w : World) → AreRemembered w result }
     {
         Remembered {
             units: RowsRead::new(alloc),
@@ -139,7 +139,7 @@ impl Remembered {
 
     /// Forgets it all.
     pub(crate) fn forget(&mut self)
-        ensures { (w : World) → AreRead w self.new }
+        ensures { (w : World) → AreRemembered w self.new }
     {
         self.units.rows.clear();
         self.instances.rows.clear();
@@ -150,14 +150,14 @@ impl Remembered {
 
     /// The workunit at this place.
     pub(crate) fn unit(&self, unit: u32) -> Result<Option<Workunit>, Memory>
-        ensures { (w : World) → AreRead w self.now → IfOk result (λ r. IfSome r (λ u. workunit_at w unit ≡ Some u)) }
+        ensures { (w : World) → AreRemembered w self.now → IfOk result (λ r. IfSome r (λ u. workunit_at w unit ≡ Some u)) }
     {
         self.units.row(unit)
     }
 
     /// Remembers what stands at the place of a workunit.
     pub(crate) fn remember_unit(&mut self, unit: u32, found: &Option<Workunit>)
-        ensures { (w : World) → AreRead w self.old → found.now ≡ workunit_at w unit → AreRead w self.new }
+        ensures { (w : World) → AreRemembered w self.old → found.now ≡ workunit_at w unit → AreRemembered w self.new }
     {
         if let Some(row) = found {
             self.units.remember(unit, row);
@@ -166,28 +166,28 @@ impl Remembered {
 
     /// The instances of the workunit at this place.
     pub(crate) fn instances(&self, unit: u32) -> Result<Option<Listed<Instance>>, Memory>
-        ensures { (w : World) → AreRead w self.now → IfOk result (λ r. IfSome r (λ xs. xs ≡ instances_at w unit)) }
+        ensures { (w : World) → AreRemembered w self.now → IfOk result (λ r. IfSome r (λ xs. xs ≡ instances_at w unit)) }
     {
         self.instances.row(unit)
     }
 
     /// Remembers the instances of a workunit.
     pub(crate) fn remember_instances(&mut self, unit: u32, found: &Listed<Instance>)
-        ensures { (w : World) → AreRead w self.old → found.now ≡ instances_at w unit → AreRead w self.new }
+        ensures { (w : World) → AreRemembered w self.old → found.now ≡ instances_at w unit → AreRemembered w self.new }
     {
         self.instances.remember(unit, found);
     }
 
     /// The host of this number, with what is counted of it.
     pub(crate) fn host(&self, number: u32) -> Result<Option<CountedHost>, Memory>
-        ensures { (w : World) → AreRead w self.now → IfOk result (λ r. IfSome r (λ h. counted_host_at w number ≡ Some h)) }
+        ensures { (w : World) → AreRemembered w self.now → IfOk result (λ r. IfSome r (λ h. counted_host_at w number ≡ Some h)) }
     {
         self.hosts.row(number)
     }
 
     /// Remembers the host of a number.
     pub(crate) fn remember_host(&mut self, number: u32, found: &Option<CountedHost>)
-        ensures { (w : World) → AreRead w self.old → found.now ≡ counted_host_at w number → AreRead w self.new }
+        ensures { (w : World) → AreRemembered w self.old → found.now ≡ counted_host_at w number → AreRemembered w self.new }
     {
         if let Some(row) = found {
             self.hosts.remember(number, row);
@@ -196,7 +196,7 @@ impl Remembered {
 
     /// The account with this authenticator.
     pub(crate) fn account(&self, authenticator: &str) -> Result<Option<Placed<Account>>, Memory>
-        ensures { (w : World) → AreRead w self.now → IfOk result (λ r. IfSome r (λ a. account_by_key w authenticator.now ≡ Some a)) }
+        ensures { (w : World) → AreRemembered w self.now → IfOk result (λ r. IfSome r (λ a. account_by_key w authenticator.now ≡ Some a)) }
     {
         match &self.account {
             Some(read) if read.authenticator.is(authenticator) => Ok(Some(Placed {
@@ -214,14 +214,14 @@ impl Remembered {
         authenticator: &str,
         found: &Option<Placed<Account>>,
     )
-        ensures { (w : World) → AreRead w self.old → found.now ≡ account_by_key w authenticator.now → AreRead w self.new }
+        ensures { (w : World) → AreRemembered w self.old → found.now ≡ account_by_key w authenticator.now → AreRemembered w self.new }
     {
         self.account = account_read(alloc, authenticator, found).unwrap_or(None);
     }
 
     /// The version that a host with these platforms runs of the application at this place.
     pub(crate) fn version(&self, platforms: &[Text], app: u32) -> Result<Option<Version>, Memory>
-        ensures { (w : World) (h : BookHost) → AreRead w self.now → platforms.now ≡ h.platforms → IfOk result (λ r. IfSome r (λ v. version_at w h app ≡ Some v)) }
+        ensures { (w : World) (h : BookHost) → AreRemembered w self.now → platforms.now ≡ h.platforms → IfOk result (λ r. IfSome r (λ v. version_at w h app ≡ Some v)) }
     {
         match &self.version {
             Some(read) if read.app == app && read.platforms.as_slice() == platforms => {
@@ -239,7 +239,7 @@ impl Remembered {
         app: u32,
         found: &Option<Version>,
     )
-        ensures { (w : World) (h : BookHost) → AreRead w self.old → platforms.now ≡ h.platforms → found.now ≡ version_at w h app → AreRead w self.new }
+        ensures { (w : World) (h : BookHost) → AreRemembered w self.old → platforms.now ≡ h.platforms → found.now ≡ version_at w h app → AreRemembered w self.new }
     {
         self.version = version_read(alloc, platforms, app, found).unwrap_or(None);
     }
