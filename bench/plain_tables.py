@@ -304,8 +304,8 @@ class Tables:
         return None
 
     def offered(self, unit):
-        """The row of a workunit that is offered: it is not kept."""
-        if self.once:
+        """The row of a workunit that is offered: it may be one that is kept, but it is not kept itself."""
+        if self.once or ("workunit", (unit,)) in self.seen:
             return self.first("workunit", unit)
         return self.connection.execute(LOOK_UPS["workunit"], (unit,)).fetchone()
 

@@ -10,6 +10,7 @@ use sched_book::{
 };
 use sqlite::Alter;
 use std::alloc::Global;
+use table_desk::KnownUnits;
 use texts::Listed;
 
 impl<S: Alter> Units for Tables<S> {
@@ -32,7 +33,7 @@ impl<S: Alter> Units for Tables<S> {
     }
 
     fn unit(&mut self, alloc: Global, unit: u32) -> Result<Option<Workunit>, Unavailable> {
-        match self.remembered.unit(unit)? {
+        match self.remembered.known_unit(unit)? {
             Some(row) => Ok(Some(row)),
             None => self.read_unit(alloc, unit),
         }
@@ -187,6 +188,7 @@ impl<S: Alter> Desk for Tables<S> {
             self.alloc,
             &mut self.conn,
             self.apps.as_slice(),
+            &self.remembered,
             from,
             taker,
         )

@@ -13,7 +13,7 @@ ghost use Rattle.sched_tables.specs.Remembering.{HasKept, AreRemembered};
 use sched_book::{Account, Instance, Placed, Version, Workunit, copy_of};
 use std::alloc::Global;
 use std::collections::BTreeMap;
-use table_desk::CountedHost;
+use table_desk::{CountedHost, KnownUnits};
 use texts::{Listed, Memory, Same, Text};
 
 /// The most rows of a kind that are remembered. At one more, those before it are forgotten.
@@ -148,13 +148,6 @@ impl Remembered {
         self.version = None;
     }
 
-    /// The workunit at this place.
-    pub(crate) fn unit(&self, unit: u32) -> Result<Option<Workunit>, Memory>
-        ensures { (w : World) → AreRemembered w self.now → IfOk result (λ r. IfSome r (λ u. workunit_at w unit ≡ Some u)) }
-    {
-        self.units.row(unit)
-    }
-
     /// Remembers what stands at the place of a workunit.
     pub(crate) fn remember_unit(&mut self, unit: u32, found: &Option<Workunit>)
         ensures { (w : World) → AreRemembered w self.old → found.now ≡ workunit_at w unit → AreRemembered w self.new }
@@ -242,5 +235,15 @@ impl Remembered {
         ensures { (w : World) (h : BookHost) → AreRemembered w self.old → platforms.now ≡ h.platforms → found.now ≡ version_at w h app → AreRemembered w self.new }
     {
         self.version = version_read(alloc, platforms, app, found).unwrap_or(None);
+    }
+}
+
+impl KnownUnits for Remembered {
+    ghost use Rattle.sched_tables.specs.Remembering.{AreRemembered};
+
+    ghost are_of = { AreRemembered };
+
+    fn known_unit(&self, unit: u32) -> Result<Option<Workunit>, Memory> {
+        self.units.row(unit)
     }
 }

@@ -19,7 +19,7 @@ pub use apps::{app_by_name, version_by_key, version_for};
 pub use columns::{credit_of_none_given, credit_of_user, held_listed, status_of};
 pub use hosts::{CountedHost, counted_host};
 pub use lengths::counts;
-pub use offers::unsent_from;
+pub use offers::{KnownUnits, unsent_from};
 pub use places::{due_before, held_by, owned_by, sent_on_day};
 pub use users::units_of_user;
 pub use workunits::{instance_at, instances_at, unit_at, unit_by_name};

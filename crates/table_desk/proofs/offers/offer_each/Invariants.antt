@@ -11,5 +11,5 @@ use Rattle.table_desk.proofs.offers.offer_each.Given as goal
 abbrev pub invariant-loop-place : goal.invariant-loop-place
 invariant-loop-place g l =
     Reads (state g.S.Store l.fn.conn) (state g.S.Store l.conn)
-    × Asked g.S.Store l.fn.conn l.conn (λ w. l.apps ≡ w.apps → (more : List Candidate)
+    × Asked g.S.Store l.fn.conn l.conn (λ w. l.apps ≡ w.apps → g.K.KnownUnits.are_of w l.known → (more : List Candidate)
     → Leads g.T.Taker.takes l.fn.taker (candidates_at w l.places ++ more) l.taker (candidates_at w (drop l.place-index l.places) ++ more))

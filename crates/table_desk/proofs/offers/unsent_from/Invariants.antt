@@ -9,4 +9,4 @@ use Rattle.table_desk.proofs.offers.unsent_from.Given as goal
 abbrev pub invariant-loop-page : goal.invariant-loop-page
 invariant-loop-page g l =
     Reads (state g.S.Store l.fn.conn) (state g.S.Store l.conn)
-    × Asked g.S.Store l.fn.conn l.conn (λ w. l.apps ≡ w.apps → Leads g.T.Taker.takes l.fn.taker (unsent w l.fn.from) l.taker (unsent w l.next))
+    × Asked g.S.Store l.fn.conn l.conn (λ w. l.apps ≡ w.apps → g.K.KnownUnits.are_of w l.known → Leads g.T.Taker.takes l.fn.taker (unsent w l.fn.from) l.taker (unsent w l.next))
