@@ -65,12 +65,12 @@ impl<S: Alter + Drop> Tables<S> {
             → IsLeft (world_of S.Store t) (calls_of (state_of S.Store t).now.trees) (batches_of (state_of S.Store t).now.trees) w calls batches) }
     {
         let mut conn = known(alloc, conn)?;
-        let world = stored_world(alloc, &mut conn)?;
+        let kept = stored_world(alloc, &mut conn)?;
         Ok(Tables {
             alloc,
             conn,
-            settings: world.settings,
-            apps: world.apps,
+            settings: kept.settings,
+            apps: kept.apps,
             remembered: Remembered::new(alloc),
         })
     }

@@ -1,5 +1,4 @@
 pub mod AppsPlaced
-pub mod InstancesPlaced
 pub mod Refusals
 pub mod RowsInOrder
 pub mod SettingsTold

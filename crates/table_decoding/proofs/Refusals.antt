@@ -4,8 +4,6 @@ use Rattle.std.specs.declared.result.Result.{Result}
 use Rattle.std.specs.Result.{IsErrAnd}
 use Rattle.table_meaning.specs.declared.rows.StoredAccount.{StoredAccount}
 use Rattle.table_meaning.specs.declared.rows.StoredHost.{StoredHost}
-use Rattle.table_meaning.specs.declared.rows.StoredInstance.{StoredInstance}
-use Rattle.table_meaning.specs.declared.rows.StoredUnit.{StoredUnit}
 use Rattle.table_meaning.specs.declared.rows.StoredRow.TheVariants as stored
 use Rattle.table_decoding.specs.declared.fault.RowFault.{RowFault}
 use Rattle.table_decoding.specs.declared.fault.RowFault.TheVariants.{Unavailable}
@@ -22,14 +20,8 @@ not_refused e x is = cc
 pub same_given : {A : Type 0} (x y : A) → ◌≡◌ {A = Result A RowFault} (Ok x) (Ok y) → x ≡ y
 same_given x y is = cc
 
-pub same_unit_row : (x y : StoredUnit) → stored.Unit x ≡ stored.Unit y → x ≡ y
-same_unit_row x y is = cc
-
 pub same_account_row : (x y : StoredAccount) → stored.Account x ≡ stored.Account y → x ≡ y
 same_account_row x y is = cc
 
 pub same_host_row : (x y : StoredHost) → stored.Host x ≡ stored.Host y → x ≡ y
 same_host_row x y is = cc
-
-pub same_instance_row : (x y : StoredInstance) → stored.Instance x ≡ stored.Instance y → x ≡ y
-same_instance_row x y is = cc

@@ -1,4 +1,4 @@
--- What is known of the rows of a sound world, table by table.
+-- What is known of the rows of a sound world beside its workunits, table by table.
 use Rattle.std.proofs.Common.{◌≡◌, List, subst, sym, ◌∙◌}
 use Rattle.std.specs.Prelude.{All}
 use Rattle.std.proofs.lemmas.List.Elements.{All-weaker}
@@ -10,17 +10,16 @@ use Rattle.sched_book.specs.declared.world.World.{World}
 use Rattle.std.specs.Prelude.{length}
 use Rattle.table_meaning.specs.declared.rows.StoredRow.{StoredRow}
 use Rattle.table_worlds.specs.declared.matching.TableRows.{TableRows}
-use Rattle.table_worlds.specs.RowsOf.{AreRowsOf, HaveSame}
-use Rattle.table_decoding.specs.Decoding.{TellAll, ArePlatforms, of_account, of_app, of_version, of_unit, of_host}
-use Rattle.table_decoding.specs.Placed.{instance_rows}
-use Rattle.table_decoding.proofs.RowsInOrder.{account_rows, app_rows, version_rows, unit_rows, host_rows}
+use Rattle.table_worlds.specs.RowsOf.{AreRowsBeside}
+use Rattle.table_decoding.specs.Decoding.{TellAll, ArePlatforms, of_account, of_app, of_version, of_host}
+use Rattle.table_decoding.proofs.RowsInOrder.{account_rows, app_rows, version_rows, host_rows}
 use Rattle.table_decoding.proofs.SettingsTold.{all_told}
 
 pub platforms_told : (w : World) → Sound w → All (λ (h : HostRow). ArePlatforms h.platforms) w.hosts
 platforms_told w sound = All-weaker (IsSoundHost (length w.accounts) w.settings.daily_result_quota) (λ h. ArePlatforms h.platforms) (λ h is. (is.limits.platforms.0, is.limits.words)) w.hosts sound.rows.hosts
 
 -- the rows of each table, however they are passed
-module _ (w : World) (rows : TableRows) (are : AreRowsOf w rows) (these : List StoredRow) where
+module _ (w : World) (rows : TableRows) (are : AreRowsBeside w rows) (these : List StoredRow) where
   pub settings_told : these ≡ rows.settings → TellAll these w.settings
   settings_told is = subst (λ l. TellAll l w.settings) (sym is) (all_told w.settings rows.settings are.settings)
 
@@ -33,11 +32,5 @@ module _ (w : World) (rows : TableRows) (are : AreRowsOf w rows) (these : List S
   pub versions_told : these ≡ rows.versions → these ≡ map_from 1 (of_version w) w.versions
   versions_told is = is ∙ are.versions ∙ version_rows w
 
-  pub units_told : these ≡ rows.units → these ≡ map_from 1 (of_unit w) w.units
-  units_told is = is ∙ are.units ∙ unit_rows w
-
   pub hosts_told : these ≡ rows.hosts → these ≡ map_from 1 (of_host (λ id. length (held_by w id)) (host_credit w)) w.hosts
   hosts_told is = is ∙ are.hosts ∙ host_rows w
-
-  pub instances_told : these ≡ rows.instances → HaveSame these (instance_rows w)
-  instances_told is = subst (λ l. HaveSame l (instance_rows w)) (sym is) are.instances

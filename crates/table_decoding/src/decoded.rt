@@ -1,52 +1,48 @@
 //! The world that rows of the tables stand for.
 
-ghost use Rattle.std.specs.Prelude.{◌≡◌, Err, IfOk, IfErr};
+ghost use Rattle.std.specs.Prelude.{◌≡◌, [], Err, IfOk, IfErr};
 ghost use Rattle.sqlite_rules.specs.Lists.{Has};
 ghost use Rattle.sched_book.specs.Sound.{Sound};
 ghost use Rattle.sched_book.specs.declared.world.World.{World};
-ghost use Rattle.table_worlds.specs.RowsOf.{AreRowsOf};
+ghost use Rattle.table_worlds.specs.RowsOf.{AreRowsBeside, without_units};
 ghost use Rattle.table_decoding.specs.Decoding.{Gives, schema_row};
 ghost use Rattle.table_decoding.specs.declared.fault.DecodeFault.TheVariants as fault;
 
 use crate::fault::{DecodeFault, RowFault};
 use crate::rows::{accounts, apps, hosts, versions};
 use crate::settings::{settings, tells_schema};
-use crate::units::units;
 use sched_book::World;
 use std::alloc::Global;
 use table_worlds::TableRows;
+use texts::Listed;
 
-/// The world of these rows, where one of them tells the schema.
+/// The world of these rows, without its workunits, where one of them tells the schema.
 fn world_of(alloc: Global, rows: &TableRows) -> Result<World, RowFault>
-    ensures { (w : World) → Sound w → AreRowsOf w rows.now → Gives result w }
+    ensures told { (w : World) → Sound w → AreRowsBeside w rows.now → Gives result (without_units w) }
+    ensures alone { IfOk result (λ d. d.units ≡ []) }
 {
     let settings = settings(rows.settings.as_slice())?;
     let accounts = accounts(alloc, rows.accounts.as_slice())?;
     let apps = apps(alloc, rows.apps.as_slice())?;
     let versions = versions(alloc, apps.as_slice(), rows.versions.as_slice())?;
-    let units = units(
-        alloc,
-        apps.as_slice(),
-        rows.units.as_slice(),
-        rows.instances.as_slice(),
-    )?;
     let hosts = hosts(alloc, rows.hosts.as_slice())?;
     Ok(World {
         settings,
         accounts,
         apps,
         versions,
-        units,
+        units: Listed::new(alloc),
         hosts,
     })
 }
 
-/// The world whose rows these are, if they are those of a sound world.
+/// The world whose rows these are, without its workunits, if they are those of a sound world.
 ///
 /// Nothing is promised of other rows: they may be told as some world, or refused.
 pub fn decoded_world(alloc: Global, rows: &TableRows) -> Result<World, DecodeFault>
-    ensures decoded { (w : World) → Sound w → AreRowsOf w rows.now → IfOk result (λ d. d ≡ w) }
-    ensures refused { (w : World) → Sound w → AreRowsOf w rows.now → IfErr result (λ e. e ≡ fault.Unavailable) }
+    ensures decoded { (w : World) → Sound w → AreRowsBeside w rows.now → IfOk result (λ d. d ≡ without_units w) }
+    ensures refused { (w : World) → Sound w → AreRowsBeside w rows.now → IfErr result (λ e. e ≡ fault.Unavailable) }
+    ensures alone { IfOk result (λ d. d.units ≡ []) }
     ensures no_schema { ¬ Has rows.now.settings schema_row → result ≡ Err fault.NotTables }
     ensures other_schema { IfErr result (λ e. e ≡ fault.NotTables → ¬ Has rows.now.settings schema_row) }
 {

@@ -1,9 +1,8 @@
 //! The instances of a workunit, from their rows.
 
-ghost use Rattle.std.specs.Prelude.{◌≡◌, ◌≤◌, ◌==◌, ℕ, pos, Bool, Option, if◌then◌else◌, length, option_map, option_and_then, All, Some, Ok, IfOk, OnOk, IfSome};
-ghost use Rattle.std.specs.Option.{option_copied};
-ghost use Rattle.sched_book.specs.Limits.{last_moment, most_instances, IsInstanceInLimits};
-ghost use Rattle.sched_book.specs.Places.{unit_at};
+ghost use Rattle.std.specs.Prelude.{◌≡◌, ◌≤◌, ◌==◌, ◌-◌, ℕ, pos, Bool, Option, if◌then◌else◌, option_map, option_and_then, All, Ok, IfOk, IfSome};
+ghost use Rattle.sched_book.specs.Given.{map_from};
+ghost use Rattle.sched_book.specs.Limits.{last_moment, IsInstanceInLimits};
 ghost use Rattle.sched_book.specs.declared.instance.Instance.{Instance};
 ghost use Rattle.sched_book.specs.declared.instance.Lapse.{Lapse};
 ghost use Rattle.sched_book.specs.declared.instance.Outcome.{Outcome};
@@ -17,24 +16,16 @@ ghost use Rattle.table_meaning.specs.Kept.{number_of};
 ghost use Rattle.table_meaning.specs.Rows.{columns_of};
 ghost use Rattle.table_meaning.specs.Worlds.{lapse_code, instance_row};
 ghost use Rattle.table_meaning.specs.declared.rows.StoredRow.TheVariants as stored;
-ghost use Rattle.table_worlds.specs.Keys.{row_in};
 ghost use Rattle.table_worlds.specs.ReadBack.{owner_in, lapse_in, report_in, job_in};
-ghost use Rattle.table_worlds.specs.RowsOf.{HaveSame};
-ghost use Rattle.table_worlds.specs.declared.keys.WorldKey.TheVariants as key;
 ghost use Rattle.table_decoding.specs.Decoding.{Gives};
-ghost use Rattle.table_decoding.specs.Placed.{AreIndexed, index_at, is_placed, instance_rows};
 
 use crate::fault::RowFault;
+use crate::listed_rows::each;
 use crate::rows::amount;
-use sched_book::limits::MOST_INSTANCES;
 use sched_book::{Instance, Lapse, Moment, Outcome, Owner};
 use std::alloc::Global;
-use std::collections::BTreeMap;
-use table_meaning::rows::{StoredInstance, StoredRow};
-use texts::{Listed, Memory};
-
-/// The indexes of the rows of instances, by workunit and number.
-pub(crate) type Indexes = BTreeMap<(u32, u32), usize>;
+use table_meaning::rows::StoredInstance;
+use texts::Listed;
 
 /// The moment that a table writes.
 fn moment(written: i64) -> Result<Moment, RowFault>
@@ -115,67 +106,12 @@ pub fn instance(row: &StoredInstance) -> Result<Instance, RowFault>
     })
 }
 
-/// The instance of a row of some table.
-fn told_instance(row: &StoredRow) -> Result<Instance, RowFault>
-    ensures { (w : World) (b : UnitBook) (unit number : ℕ) (x : Instance) → IsInstanceInLimits x
-        → row.now ≡ stored.Instance (instance_row w b unit number x) → Gives result x }
-{
-    match row {
-        StoredRow::Instance(row) => instance(row),
-        _ => Err(RowFault::BadRow),
-    }
-}
-
-/// Keeps the index of an instance's row by its place. A row of another table is passed over.
-fn keep_index(indexes: &mut Indexes, row: &StoredRow, index: usize) -> Result<(), Memory>
-    ensures { OnOk result ((unit number : ℕ) → index_at indexes.new unit number ≡ if is_placed unit number row.now then Some index else index_at indexes.old unit number) }
-{
-    if let StoredRow::Instance(instance) = row {
-        indexes.insert((instance.unit_id, instance.num), index)?;
-    }
-    Ok(())
-}
-
-/// The indexes of these rows by the places of their instances.
-pub(crate) fn indexes_of(alloc: Global, rows: &[StoredRow]) -> Result<Indexes, Memory>
-    ensures { IfOk result (λ indexes. AreIndexed rows.now (length rows.now) indexes) }
-{
-    let mut indexes = BTreeMap::new(alloc);
-    for (index, row) in rows.iter().enumerate() {
-        keep_index(&mut indexes, row, index)?;
-    }
-    Ok(indexes)
-}
-
-/// The row of the instance of a workunit that has this number.
-fn row_at<'a>(
-    rows: &'a [StoredRow],
-    indexes: &Indexes,
-    unit: u32,
-    number: u32,
-) -> Option<&'a StoredRow>
-    ensures { (w : World) → HaveSame rows.now (instance_rows w) → AreIndexed rows.now (length rows.now) indexes.now
-        → option_copied result ≡ row_in w (key.Instance (record { unit = unit; number = number })) }
-{
-    rows.get(*indexes.get(&(unit, number))?)
-}
-
-/// The instances of a workunit, in the order of their numbers. It is refused where it has more than it may have.
-pub(crate) fn instances_of(
+/// The instances of a workunit from their rows, in the order of their numbers.
+pub(crate) fn instances(
     alloc: Global,
-    rows: &[StoredRow],
-    indexes: &Indexes,
-    unit: u32,
+    rows: &[StoredInstance],
 ) -> Result<Listed<Instance>, RowFault>
-    ensures { (w : World) (b : UnitBook) → HaveSame rows.now (instance_rows w) → AreIndexed rows.now (length rows.now) indexes.now
-        → unit_at w unit ≡ Some b → length b.instances ≤ most_instances → All IsInstanceInLimits b.instances → Gives result b.instances }
+    ensures { (w : World) (b : UnitBook) (unit : ℕ) → All IsInstanceInLimits b.instances → rows.now ≡ map_from 1 (λ n x. instance_row w b unit (n - 1) x) b.instances → Gives result b.instances }
 {
-    let mut instances = Listed::new(alloc);
-    for number in 0..=MOST_INSTANCES as u32 {
-        match row_at(rows, indexes, unit, number) {
-            None => return Ok(instances),
-            Some(row) => instances.push(told_instance(row)?)?,
-        }
-    }
-    Err(RowFault::BadRow)
+    each(alloc, rows, instance)
 }

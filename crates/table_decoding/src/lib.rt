@@ -14,4 +14,4 @@ pub use decoded::decoded_world;
 pub use fault::{DecodeFault, RowFault};
 pub use instances::instance;
 pub use rows::{account, host};
-pub use units::workunit;
+pub use units::{unit_book, workunit};

@@ -4,23 +4,21 @@ ghost use Rattle.std.specs.Prelude.{◌≡◌, ℕ, List, Some, Result};
 ghost use Rattle.std.specs.Fn.{FnReturnsAt};
 ghost use Rattle.sched_book.specs.Given.{map_from};
 ghost use Rattle.sched_book.specs.Places.{nth};
-ghost use Rattle.table_meaning.specs.declared.rows.StoredRow.{StoredRow};
 ghost use Rattle.table_decoding.specs.Decoding.{Gives};
 ghost use Rattle.table_decoding.specs.declared.fault.RowFault.{RowFault};
 
 use crate::fault::RowFault;
 use std::alloc::Global;
-use table_meaning::rows::StoredRow;
 use texts::Listed;
 
 /// What each of these rows tells, in their order.
-pub(crate) fn each<T: Drop, F: Fn(&StoredRow) -> Result<T, RowFault>>(
+pub(crate) fn each<R, T: Drop, F: Fn(&R) -> Result<T, RowFault>>(
     alloc: Global,
-    rows: &[StoredRow],
+    rows: &[R],
     told: F,
 ) -> Result<Listed<T>, RowFault>
     requires { F.IsAlwaysCallable told }
-    ensures { (place : ℕ → T → StoredRow) (xs : List T) → ((id : ℕ) (x : T) (told_as : Result T RowFault) → nth xs id ≡ Some x → FnReturnsAt F.Fn told (place id x) told_as → Gives told_as x)
+    ensures { (place : ℕ → T → R) (xs : List T) → ((id : ℕ) (x : T) (told_as : Result T RowFault) → nth xs id ≡ Some x → FnReturnsAt F.Fn told (place id x) told_as → Gives told_as x)
         → rows.now ≡ map_from 1 place xs → Gives result xs }
 {
     let mut items = Listed::new(alloc);

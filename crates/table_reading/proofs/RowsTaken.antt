@@ -10,20 +10,21 @@ use Rattle.table_meaning.specs.declared.tables.TableName.TheVariants as name
 use Rattle.table_meaning.specs.Rows.{table_of, columns_of, rows_in}
 use Rattle.table_rows.specs.Visits.{VisitsAll, VisitsRows, VisitsTables}
 use Rattle.table_reading.specs.declared.rows.Reading.{Reading}
-use Rattle.table_reading.specs.Reading.{AllRows, AreAllRead, all_tables, is_call, is_import, later_host, no_rows, reading_of, with_row}
+use Rattle.table_reading.specs.Counting.{noted}
+use Rattle.table_reading.specs.Reading.{AllRows, AreAllRead, AreTyped, all_tables, is_call, is_import, later_host, no_rows, reading_of, with_row}
 
 abbrev pub Takes : Reading → StoredRow → Reading → Type 0
 Takes old row new = new ≡ with_row old row
 
 -- a reading with more rows of one table
 abbrev with_more : TableName → Reading → List StoredRow → Reading
-with_more name.Setting r rows = record r { world = record r.world { settings = r.world.settings ++ rows } }
-with_more name.Account r rows = record r { world = record r.world { accounts = r.world.accounts ++ rows } }
-with_more name.App r rows = record r { world = record r.world { apps = r.world.apps ++ rows } }
-with_more name.Version r rows = record r { world = record r.world { versions = r.world.versions ++ rows } }
-with_more name.Unit r rows = record r { world = record r.world { units = r.world.units ++ rows } }
-with_more name.Host r rows = record r { world = record r.world { hosts = r.world.hosts ++ rows } }
-with_more name.Instance r rows = record r { world = record r.world { instances = r.world.instances ++ rows } }
+with_more name.Setting r rows = record r { rows = record r.rows { settings = r.rows.settings ++ rows } }
+with_more name.Account r rows = record r { rows = record r.rows { accounts = r.rows.accounts ++ rows } }
+with_more name.App r rows = record r { rows = record r.rows { apps = r.rows.apps ++ rows } }
+with_more name.Version r rows = record r { rows = record r.rows { versions = r.rows.versions ++ rows } }
+with_more name.Unit r rows = record r { units = fold noted r.units rows }
+with_more name.Host r rows = record r { rows = record r.rows { hosts = r.rows.hosts ++ rows } }
+with_more name.Instance r rows = record r { units = fold noted r.units rows }
 with_more name.Kept r rows = record r { are_calls = r.are_calls && list_all is_call rows; last_host = fold later_host r.last_host rows }
 with_more name.Batch r rows = record r { are_imports = r.are_imports && list_all is_import rows }
 
@@ -36,24 +37,24 @@ and_assoc true b c = refl
 and_assoc false b c = refl
 
 none_more : (t : TableName) (r : Reading) → with_more t r [] ≡ r
-none_more name.Setting r = ap (λ xs. record r { world = record r.world { settings = xs } }) (append-nil r.world.settings)
-none_more name.Account r = ap (λ xs. record r { world = record r.world { accounts = xs } }) (append-nil r.world.accounts)
-none_more name.App r = ap (λ xs. record r { world = record r.world { apps = xs } }) (append-nil r.world.apps)
-none_more name.Version r = ap (λ xs. record r { world = record r.world { versions = xs } }) (append-nil r.world.versions)
-none_more name.Unit r = ap (λ xs. record r { world = record r.world { units = xs } }) (append-nil r.world.units)
-none_more name.Host r = ap (λ xs. record r { world = record r.world { hosts = xs } }) (append-nil r.world.hosts)
-none_more name.Instance r = ap (λ xs. record r { world = record r.world { instances = xs } }) (append-nil r.world.instances)
+none_more name.Setting r = ap (λ xs. record r { rows = record r.rows { settings = xs } }) (append-nil r.rows.settings)
+none_more name.Account r = ap (λ xs. record r { rows = record r.rows { accounts = xs } }) (append-nil r.rows.accounts)
+none_more name.App r = ap (λ xs. record r { rows = record r.rows { apps = xs } }) (append-nil r.rows.apps)
+none_more name.Version r = ap (λ xs. record r { rows = record r.rows { versions = xs } }) (append-nil r.rows.versions)
+none_more name.Unit r = refl
+none_more name.Host r = ap (λ xs. record r { rows = record r.rows { hosts = xs } }) (append-nil r.rows.hosts)
+none_more name.Instance r = refl
 none_more name.Kept r = ap (λ b. record r { are_calls = b }) (and_true r.are_calls)
 none_more name.Batch r = ap (λ b. record r { are_imports = b }) (and_true r.are_imports)
 
 one_more : (r : Reading) (row : StoredRow) (rows : List StoredRow) → with_more (table_of row) (with_row r row) rows ≡ with_more (table_of row) r (row ∷ rows)
-one_more r (stored.Setting x) rows = ap (λ xs. record r { world = record r.world { settings = xs } }) (append_assoc r.world.settings (stored.Setting x ∷ []) rows)
-one_more r (stored.Account x) rows = ap (λ xs. record r { world = record r.world { accounts = xs } }) (append_assoc r.world.accounts (stored.Account x ∷ []) rows)
-one_more r (stored.App x) rows = ap (λ xs. record r { world = record r.world { apps = xs } }) (append_assoc r.world.apps (stored.App x ∷ []) rows)
-one_more r (stored.Version x) rows = ap (λ xs. record r { world = record r.world { versions = xs } }) (append_assoc r.world.versions (stored.Version x ∷ []) rows)
-one_more r (stored.Unit x) rows = ap (λ xs. record r { world = record r.world { units = xs } }) (append_assoc r.world.units (stored.Unit x ∷ []) rows)
-one_more r (stored.Host x) rows = ap (λ xs. record r { world = record r.world { hosts = xs } }) (append_assoc r.world.hosts (stored.Host x ∷ []) rows)
-one_more r (stored.Instance x) rows = ap (λ xs. record r { world = record r.world { instances = xs } }) (append_assoc r.world.instances (stored.Instance x ∷ []) rows)
+one_more r (stored.Setting x) rows = ap (λ xs. record r { rows = record r.rows { settings = xs } }) (append_assoc r.rows.settings (stored.Setting x ∷ []) rows)
+one_more r (stored.Account x) rows = ap (λ xs. record r { rows = record r.rows { accounts = xs } }) (append_assoc r.rows.accounts (stored.Account x ∷ []) rows)
+one_more r (stored.App x) rows = ap (λ xs. record r { rows = record r.rows { apps = xs } }) (append_assoc r.rows.apps (stored.App x ∷ []) rows)
+one_more r (stored.Version x) rows = ap (λ xs. record r { rows = record r.rows { versions = xs } }) (append_assoc r.rows.versions (stored.Version x ∷ []) rows)
+one_more r (stored.Unit x) rows = refl
+one_more r (stored.Host x) rows = ap (λ xs. record r { rows = record r.rows { hosts = xs } }) (append_assoc r.rows.hosts (stored.Host x ∷ []) rows)
+one_more r (stored.Instance x) rows = refl
 one_more r (stored.Kept x) rows = ap (λ b. record r { are_calls = b; last_host = fold later_host r.last_host (stored.Kept x ∷ rows) }) (and_assoc r.are_calls (is_call (stored.Kept x)) (list_all is_call rows))
 one_more r (stored.Batch x) rows = ap (λ b. record r { are_imports = b }) (and_assoc r.are_imports (is_import (stored.Batch x)) (list_all is_import rows))
 
@@ -65,25 +66,26 @@ rows_taken t old new (row ∷ rows) all (mid, took, rest) =
 -- the tables are read, one behind the other
 abbrev Fills : Trees → Reading → List TableName → Reading → Type 0
 Fills trees old [] new = new ≡ old
-Fills trees old (t ∷ ts) new = (rows : List StoredRow) × (map columns_of rows ≡ rows_in trees t) × Fills trees (with_more t old rows) ts new
+Fills trees old (t ∷ ts) new = (rows : List StoredRow) × (map columns_of rows ≡ rows_in trees t) × AllByRecursion (λ r. table_of r ≡ t) rows × Fills trees (with_more t old rows) ts new
 
 tables_taken : (trees : Trees) (tables : List TableName) (old new : Reading) → VisitsTables Takes trees old tables new → Fills trees old tables new
 tables_taken trees [] old new same = same
 tables_taken trees (t ∷ ts) old new (mid, (rows, are, of_table, took), rest) =
-    (rows, are, subst (λ r. Fills trees r ts new) (rows_taken t old mid rows of_table took) (tables_taken trees ts mid new rest))
+    (rows, are, of_table, subst (λ r. Fills trees r ts new) (rows_taken t old mid rows of_table took) (tables_taken trees ts mid new rest))
 
 pub tables_more : (trees : Trees) (tables : List TableName) (t : TableName) (old mid new : Reading) → VisitsTables Takes trees old tables mid → VisitsRows Takes t mid (rows_in trees t) new → VisitsTables Takes trees old (tables ++ t ∷ []) new
 tables_more trees [] t old mid new same visits = (new, subst (λ r. VisitsRows Takes t r (rows_in trees t) new) same visits, refl)
 tables_more trees (first ∷ tables) t old mid new (next, one, rest) visits = (next, one, tables_more trees tables t next mid new rest visits)
 
-pub all_taken : (trees : Trees) (new : Reading) → VisitsTables Takes trees (reading_of no_rows) all_tables new → (all : AllRows) × AreAllRead trees all × (new ≡ reading_of all)
+pub all_taken : (trees : Trees) (new : Reading) → VisitsTables Takes trees (reading_of no_rows) all_tables new → (all : AllRows) × AreAllRead trees all × AreTyped all × (new ≡ reading_of all)
 all_taken trees new took =
-    let (settings, settings_are, (accounts, accounts_are, (apps, apps_are, (versions, versions_are, (units, units_are, (hosts, hosts_are, (instances, instances_are, (calls, calls_are, (batches, batches_are, same))))))))) = tables_taken trees all_tables (reading_of no_rows) new took in (
+    let (settings, settings_are, _, (accounts, accounts_are, _, (apps, apps_are, _, (versions, versions_are, _, (units, units_are, of_units, (hosts, hosts_are, _, (instances, instances_are, of_instances, (calls, calls_are, _, (batches, batches_are, _, same))))))))) = tables_taken trees all_tables (reading_of no_rows) new took in (
       record { world = record { settings = settings; accounts = accounts; apps = apps; versions = versions; units = units; hosts = hosts; instances = instances }; calls = calls; batches = batches },
       record {
         world = record { settings = settings_are; accounts = accounts_are; apps = apps_are; versions = versions_are; units = units_are; hosts = hosts_are; instances = instances_are };
         calls = calls_are;
         batches = batches_are;
       },
+      record { units = of_units; instances = of_instances },
       same,
     )

@@ -1,6 +1,6 @@
 -- What the rows of tables have to be for a world to be read from them.
 use Rattle.std.specs.Prelude.{◌≡◌, ℕ, Bool, false, not, ◌&&◌, ◌==◌, nat_le, max, IsTrue, List, [], ◌∷◌, ◌++◌, map, fold, length, is_some}
-use Rattle.std.specs.List.{list_all}
+use Rattle.std.specs.List.{AllByRecursion, list_all}
 use Rattle.sqlite.specs.State.{State, HasCleanDisk}
 use Rattle.sqlite_rules.specs.Lists.{Has}
 use Rattle.sqlite_trees.specs.Tree.{Trees}
@@ -15,10 +15,10 @@ use Rattle.table_meaning.specs.declared.tables.TableName.{TableName}
 use Rattle.table_meaning.specs.declared.tables.TableName.TheVariants as name
 use Rattle.table_meaning.specs.Formats.{HasBadRow}
 use Rattle.table_meaning.specs.Holding.{AreKnown}
-use Rattle.table_meaning.specs.Rows.{columns_of, rows_in}
+use Rattle.table_meaning.specs.Rows.{table_of, columns_of, rows_in}
 use Rattle.table_decoding.specs.Decoding.{schema_row}
-use Rattle.table_worlds.specs.RowsOf.{AreRowsOf, AreRead}
-use Rattle.table_worlds.specs.declared.matching.TableRows.{TableRows}
+use Rattle.table_worlds.specs.RowsOf.{WorldRows, AreRowsOf, AreRead, rows_beside}
+use Rattle.table_reading.specs.Counting.{noted, none_noted}
 use Rattle.table_reading.specs.declared.rows.Reading.{Reading}
 
 -- the tables, in the order in which they are read
@@ -27,7 +27,7 @@ all_tables = name.Setting ∷ name.Account ∷ name.App ∷ name.Version ∷ nam
 
 -- the rows of all tables
 pub record AllRows : Type 0 where
-  pub world : TableRows
+  pub world : WorldRows
   pub calls : List StoredRow
   pub batches : List StoredRow
 
@@ -36,6 +36,11 @@ pub record AreAllRead (trees : Trees) (all : AllRows) : Type 0 where
   pub world : AreRead trees all.world
   pub calls : map columns_of all.calls ≡ rows_in trees name.Kept
   pub batches : map columns_of all.batches ≡ rows_in trees name.Batch
+
+-- those of workunits and of instances have the types of their tables
+pub record AreTyped (all : AllRows) : Type 0 where
+  pub units : AllByRecursion (λ r. table_of r ≡ name.Unit) all.world.units
+  pub instances : AllByRecursion (λ r. table_of r ≡ name.Instance) all.world.instances
 
 -- the last number of a call
 abbrev pub last_seqno : ℕ
@@ -68,20 +73,20 @@ later_host n (stored.Kept k) = max n k.host_id
 later_host n other = n
 
 abbrev pub reading_of : AllRows → Reading
-reading_of all = record { world = all.world; are_calls = list_all is_call all.calls; last_host = fold later_host 0 all.calls; are_imports = list_all is_import all.batches }
+reading_of all = record { rows = rows_beside all.world; units = fold noted (fold noted none_noted all.world.units) all.world.instances; are_calls = list_all is_call all.calls; last_host = fold later_host 0 all.calls; are_imports = list_all is_import all.batches }
 
 abbrev pub no_rows : AllRows
 no_rows = record { world = record { settings = []; accounts = []; apps = []; versions = []; units = []; hosts = []; instances = [] }; calls = []; batches = [] }
 
 -- a reading with one row more
 abbrev pub with_row : Reading → StoredRow → Reading
-with_row r (stored.Setting s) = record r { world = record r.world { settings = r.world.settings ++ stored.Setting s ∷ [] } }
-with_row r (stored.Account a) = record r { world = record r.world { accounts = r.world.accounts ++ stored.Account a ∷ [] } }
-with_row r (stored.App a) = record r { world = record r.world { apps = r.world.apps ++ stored.App a ∷ [] } }
-with_row r (stored.Version v) = record r { world = record r.world { versions = r.world.versions ++ stored.Version v ∷ [] } }
-with_row r (stored.Unit u) = record r { world = record r.world { units = r.world.units ++ stored.Unit u ∷ [] } }
-with_row r (stored.Host h) = record r { world = record r.world { hosts = r.world.hosts ++ stored.Host h ∷ [] } }
-with_row r (stored.Instance i) = record r { world = record r.world { instances = r.world.instances ++ stored.Instance i ∷ [] } }
+with_row r (stored.Setting s) = record r { rows = record r.rows { settings = r.rows.settings ++ stored.Setting s ∷ [] } }
+with_row r (stored.Account a) = record r { rows = record r.rows { accounts = r.rows.accounts ++ stored.Account a ∷ [] } }
+with_row r (stored.App a) = record r { rows = record r.rows { apps = r.rows.apps ++ stored.App a ∷ [] } }
+with_row r (stored.Version v) = record r { rows = record r.rows { versions = r.rows.versions ++ stored.Version v ∷ [] } }
+with_row r (stored.Unit u) = record r { units = noted r.units (stored.Unit u) }
+with_row r (stored.Host h) = record r { rows = record r.rows { hosts = r.rows.hosts ++ stored.Host h ∷ [] } }
+with_row r (stored.Instance i) = record r { units = noted r.units (stored.Instance i) }
 with_row r (stored.Kept k) = record r { are_calls = r.are_calls && is_call (stored.Kept k); last_host = later_host r.last_host (stored.Kept k) }
 with_row r (stored.Batch b) = record r { are_imports = r.are_imports && is_import (stored.Batch b) }
 

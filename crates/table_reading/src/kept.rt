@@ -1,9 +1,8 @@
 //! The ranges of what is kept of calls and of imports.
 
-ghost use Rattle.std.specs.Prelude.{◌≡◌};
-ghost use Rattle.std.specs.List.{list_all};
+ghost use Rattle.std.specs.Prelude.{◌≡◌, ◌&&◌, nat_le, length};
 ghost use Rattle.table_meaning.specs.declared.rows.StoredRow.TheVariants as stored;
-ghost use Rattle.table_reading.specs.Reading.{AllRows, is_call, is_call_of, is_import, reading_of};
+ghost use Rattle.table_reading.specs.Reading.{is_call, is_import};
 
 use crate::rows::Reading;
 use pasts::Kind;
@@ -26,7 +25,7 @@ pub(crate) fn is_call(call: &StoredCall) -> bool
 
 /// Whether all that is kept of calls may stand beside this world.
 pub(crate) fn are_calls_of(world: &World, reading: &Reading) -> bool
-    ensures { (all : AllRows) → reading.now ≡ reading_of all → result ≡ list_all (is_call_of world.now) all.calls }
+    ensures { result ≡ (reading.now.are_calls && nat_le reading.now.last_host (length world.now.hosts)) }
 {
     reading.are_calls && reading.last_host as usize <= world.hosts.len()
 }

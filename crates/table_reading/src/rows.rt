@@ -4,8 +4,9 @@ ghost use Rattle.std.specs.Prelude.{◌≡◌, IfOk, IfErr, OnOk};
 ghost use Rattle.sqlite.specs.Held.{state};
 ghost use Rattle.table_meaning.specs.Reads.{Reads};
 ghost use Rattle.table_rows.specs.Visits.{VisitsTables};
-ghost use Rattle.table_reading.specs.Reading.{AllRows, no_rows, with_row, AreAllRead, reading_of, HasBadTable, WereKnown};
+ghost use Rattle.table_reading.specs.Reading.{AllRows, no_rows, with_row, AreAllRead, AreTyped, reading_of, HasBadTable, WereKnown};
 
+use crate::counts::UnitCounts;
 use crate::kept::{is_call, is_import};
 use sqlite::{Alter, Connection};
 use std::alloc::Global;
@@ -28,11 +29,14 @@ const ALL_TABLES: [TableName; 9] = [
     TableName::Batch,
 ];
 
-/// What was read of the tables. What is kept of calls and of imports is tested row by row, and not held.
+/// What was read of the tables. The rows of workunits and instances are counted and not held; what is kept of calls and of
+/// imports is tested row by row.
 #[derive(Drop)]
 pub struct Reading {
-    /// The rows that hold a world.
-    pub world: TableRows,
+    /// The rows of the other tables that hold a world.
+    pub rows: TableRows,
+    /// How many instances each workunit has.
+    pub units: UnitCounts,
     /// Whether each row that is kept of a call may be one, of whatever host.
     pub are_calls: bool,
     /// The greatest number of a host of these.
@@ -47,15 +51,14 @@ impl Reading {
         ensures { result ≡ reading_of no_rows }
     {
         Reading {
-            world: TableRows {
+            rows: TableRows {
                 settings: Listed::new(alloc),
                 accounts: Listed::new(alloc),
                 apps: Listed::new(alloc),
                 versions: Listed::new(alloc),
-                units: Listed::new(alloc),
                 hosts: Listed::new(alloc),
-                instances: Listed::new(alloc),
             },
+            units: UnitCounts::new(alloc),
             are_calls: true,
             last_host: 0,
             are_imports: true,
@@ -73,13 +76,13 @@ impl RowVisitor for Reading {
 
     fn visit(&mut self, row: StoredRow) -> Result<(), OpenFault> {
         match row {
-            StoredRow::Setting(_) => self.world.settings.push(row)?,
-            StoredRow::Account(_) => self.world.accounts.push(row)?,
-            StoredRow::App(_) => self.world.apps.push(row)?,
-            StoredRow::Version(_) => self.world.versions.push(row)?,
-            StoredRow::Unit(_) => self.world.units.push(row)?,
-            StoredRow::Host(_) => self.world.hosts.push(row)?,
-            StoredRow::Instance(_) => self.world.instances.push(row)?,
+            StoredRow::Setting(_) => self.rows.settings.push(row)?,
+            StoredRow::Account(_) => self.rows.accounts.push(row)?,
+            StoredRow::App(_) => self.rows.apps.push(row)?,
+            StoredRow::Version(_) => self.rows.versions.push(row)?,
+            StoredRow::Unit(unit) => self.units.note_unit(&unit)?,
+            StoredRow::Host(_) => self.rows.hosts.push(row)?,
+            StoredRow::Instance(instance) => self.units.note_instance(&instance),
             StoredRow::Kept(call) => {
                 self.are_calls = self.are_calls && is_call(&call);
                 self.last_host = self.last_host.max(call.host_id);
@@ -115,7 +118,7 @@ pub(crate) fn read_all<S: Alter>(
 ) -> Result<Reading, OpenFault>
     ensures reads { Reads (state S.Store conn.old) (state S.Store conn.new) }
     ensures rows { WereKnown (state S.Store conn.old) (state S.Store conn.new)
-        → IfOk result (λ reading. (all : AllRows) × AreAllRead (state S.Store conn.old).now.trees all × (reading ≡ reading_of all)) }
+        → IfOk result (λ reading. (all : AllRows) × AreAllRead (state S.Store conn.old).now.trees all × AreTyped all × (reading ≡ reading_of all)) }
     ensures bad { WereKnown (state S.Store conn.old) (state S.Store conn.new) → IfErr result (λ e. e ≡ OpenFault.BadRow → HasBadTable (state S.Store conn.old).now.trees) }
 {
     let mut reading = Reading::new(alloc);

@@ -1,75 +1,136 @@
 //! The sound world that rows stand for.
 
-ghost use Rattle.std.specs.Prelude.{◌≡◌, ◌≢◌, ◌⊎◌, IfOk, IfErr, OnOk};
+ghost use Rattle.std.specs.Prelude.{◌≡◌, ◌↔◌, ◌⊎◌, [], List, length, IsTrue, IfOk, IfErr, OnOk};
 ghost use Rattle.sqlite.specs.Held.{state};
 ghost use Rattle.sqlite_rules.specs.Lists.{Has};
 ghost use Rattle.sched_book.specs.Sound.{Sound};
+ghost use Rattle.sched_book.specs.declared.instance.UnitBook.{UnitBook as Book};
 ghost use Rattle.sched_book.specs.declared.world.World.{World as Known};
 ghost use Rattle.table_meaning.specs.Kept.{calls_in, batches_in};
 ghost use Rattle.table_meaning.specs.Reads.{Reads};
 ghost use Rattle.table_meaning.specs.Worlds.{HoldWorld};
+ghost use Rattle.table_worlds.specs.RowsOf.{having, without_units, AreRowsBeside};
+ghost use Rattle.table_worlds.specs.StoredWorld.{world_in};
 ghost use Rattle.table_decoding.specs.Decoding.{schema_row};
-ghost use Rattle.table_reading.specs.Reading.{AllRows, reading_of, WereKnown, ReadFrom, StandFor, StandForNone, HasBadTable, HasOtherSchema};
+ghost use Rattle.table_reading.specs.Reading.{AllRows, AreAllRead, AreTyped, reading_of, WereKnown, ReadFrom, StandFor, StandForNone, HasBadTable, HasOtherSchema};
+ghost use Rattle.table_reading.specs.Testing.{AreTested, IsFit};
 
 use crate::kept::are_calls_of;
 use crate::rows::{Reading, read_all};
-use sched_book::World;
+use crate::units::test_units;
+use sched_book::limits::MOST_WORKUNITS;
+use sched_book::{App, Settings, Unavailable, World};
 use sqlite::{Alter, Connection};
 use std::alloc::Global;
 use table_decoding::{DecodeFault, decoded_world};
 use table_rows::OpenFault;
-use table_worlds::are_rows_of;
+use table_worlds::{are_rows_beside, no_totals};
+use texts::Listed;
 use world_soundness::is_sound;
 
-/// Tests whether a world is sound, it is its rows that were read, and what is kept may stand beside it: `BadRow` where not.
-fn test_world(alloc: Global, world: &World, reading: &Reading) -> Result<(), OpenFault>
-    ensures stands { (all : AllRows) → reading.now ≡ reading_of all → OnOk result (StandFor world.now all) }
-    ensures sound { OnOk result (Sound world.now) }
-    ensures bad { (all : AllRows) → reading.now ≡ reading_of all → IfErr result (λ e. e ≡ OpenFault.BadRow → ¬ StandFor world.now all) }
-    ensures known { IfErr result (λ e. e ≢ OpenFault.NotTables) }
-{
-    if !are_rows_of(alloc, world, &reading.world)? {
-        return Err(OpenFault::BadRow);
-    }
-    if !is_sound(alloc, world)? {
-        return Err(OpenFault::BadRow);
-    }
-    if !are_calls_of(world, reading) {
-        return Err(OpenFault::BadRow);
-    }
-    if !reading.are_imports {
-        return Err(OpenFault::BadRow);
-    }
-    Ok(())
+/// What is kept of the world beside its tables.
+#[derive(Drop)]
+pub struct KeptBeside {
+    pub settings: Settings,
+    pub apps: Listed<App>,
 }
 
-/// The sound world that all rows stand for; there is one at most.
-fn world_of(alloc: Global, reading: &Reading) -> Result<World, OpenFault>
-    ensures stands { (all : AllRows) → reading.now ≡ reading_of all → IfOk result (λ w. StandFor w all) }
-    ensures sound { IfOk result Sound }
-    ensures other_schema { IfErr result (λ e. e ≡ OpenFault.NotTables → ¬ Has reading.now.world.settings schema_row) }
-    ensures bad { (all : AllRows) → reading.now ≡ reading_of all → IfErr result (λ e. e ≡ OpenFault.BadRow → (w : Known) → ¬ StandFor w all) }
+/// Whether a world without its workunits is sound, these are numbered in turn and not too many, and what is kept may stand
+/// beside it.
+fn is_fit(alloc: Global, world: &World, reading: &Reading) -> Result<bool, Unavailable>
+    ensures { IfOk result (λ fit. IsTrue fit ↔ IsFit world.now reading.now) }
 {
-    let world = match decoded_world(alloc, &reading.world) {
-        Ok(world) => world,
-        Err(DecodeFault::NotTables) => return Err(OpenFault::NotTables),
-        Err(DecodeFault::BadRow) => return Err(OpenFault::BadRow),
-        Err(DecodeFault::Unavailable) => return Err(OpenFault::Unavailable),
-    };
-    test_world(alloc, &world, reading)?;
-    Ok(world)
+    let sound = is_sound(alloc, world)?;
+    Ok(
+        sound
+            && reading.units.are_in_turn
+            && reading.units.counts.len() <= MOST_WORKUNITS
+            && are_calls_of(world, reading)
+            && reading.are_imports,
+    )
 }
 
-/// The sound world that the tables of a connection hold, if their schema is the known one. `NotTables` where no setting
-/// tells this schema; `BadRow` where a row has not the format of its table, or the rows stand for no sound world: a value
-/// is out of its range, a reference leads to nothing, a number is left out, or what is counted of other rows is off. The
-/// connection shows what it showed.
-pub fn stored_world<S: Alter>(alloc: Global, conn: &mut Connection<S>) -> Result<World, OpenFault>
+/// Tests the workunits of the tables one by one, and with what is counted of them the rows that were read. `BadRow` where no
+/// workunits stand at their keys, or the rows are not those of the world with these.
+fn test_rows<S: Alter>(
+    alloc: Global,
+    conn: &mut Connection<S>,
+    world: &World,
+    reading: &Reading,
+) -> Result<(), OpenFault>
     ensures reads { Reads (state S.Store conn.old) (state S.Store conn.new) }
-    ensures sound { IfOk result Sound }
-    ensures stands { WereKnown (state S.Store conn.old) (state S.Store conn.new) → IfOk result (ReadFrom (state S.Store conn.old).now.trees) }
-    ensures held { WereKnown (state S.Store conn.old) (state S.Store conn.new)
-        → IfOk result (λ w. HoldWorld (state S.Store conn.old).now w (calls_in (state S.Store conn.old).now.trees) (batches_in (state S.Store conn.old).now.trees)) }
+    ensures stand { WereKnown (state S.Store conn.old) (state S.Store conn.new) → OnOk result ((books : List Book)
+        × AreTested (state S.Store conn.old).now.trees world.now reading.now.units.counts (length reading.now.units.counts) books × AreRowsBeside (having world.now books) reading.now.rows) }
+    ensures bad { WereKnown (state S.Store conn.old) (state S.Store conn.new) → IfErr result (λ e. e ≡ OpenFault.BadRow → (books : List Book)
+        → AreTested (state S.Store conn.old).now.trees world.now reading.now.units.counts (length reading.now.units.counts) books → ¬ AreRowsBeside (having world.now books) reading.now.rows) }
+{
+    let mut totals = no_totals(alloc, world.hosts.len())?;
+    test_units(
+        alloc,
+        conn,
+        world,
+        reading.units.counts.as_slice(),
+        totals.as_mut_slice(),
+    )?;
+    if are_rows_beside(alloc, world, totals.as_slice(), &reading.rows)? {
+        Ok(())
+    } else {
+        Err(OpenFault::BadRow)
+    }
+}
+
+/// Tests whether all rows are those of a sound world, which is this one with some workunits: `BadRow` where not.
+fn test_world<S: Alter>(
+    alloc: Global,
+    conn: &mut Connection<S>,
+    world: &World,
+    reading: &Reading,
+) -> Result<(), OpenFault>
+    ensures reads { Reads (state S.Store conn.old) (state S.Store conn.new) }
+    ensures stands { WereKnown (state S.Store conn.old) (state S.Store conn.new) → (all : AllRows) → AreAllRead (state S.Store conn.old).now.trees all → AreTyped all
+        → reading.now ≡ reading_of all → OnOk result ((books : List Book) × StandFor (having world.now books) all) }
+    ensures bad { WereKnown (state S.Store conn.old) (state S.Store conn.new) → (all : AllRows) → AreAllRead (state S.Store conn.old).now.trees all → AreTyped all
+        → reading.now ≡ reading_of all → world.now.units ≡ [] → IfErr result (λ e. e ≡ OpenFault.BadRow → (books : List Book) → ¬ StandFor (having world.now books) all) }
+{
+    if !is_fit(alloc, world, reading)? {
+        return Err(OpenFault::BadRow);
+    }
+    test_rows(alloc, conn, world, reading)
+}
+
+/// The world that the rows of the other tables tell, without its workunits.
+fn world_beside(alloc: Global, reading: &Reading) -> Result<World, OpenFault>
+    ensures told { (w : Known) → Sound w → AreRowsBeside w reading.now.rows → IfOk result (λ d. d ≡ without_units w) }
+    ensures alone { IfOk result (λ d. d.units ≡ []) }
+    ensures refused { (w : Known) → Sound w → AreRowsBeside w reading.now.rows → IfErr result (λ e. e ≡ OpenFault.Unavailable) }
+    ensures other_schema { IfErr result (λ e. e ≡ OpenFault.NotTables → ¬ Has reading.now.rows.settings schema_row) }
+{
+    match decoded_world(alloc, &reading.rows) {
+        Ok(world) => Ok(world),
+        Err(DecodeFault::NotTables) => Err(OpenFault::NotTables),
+        Err(DecodeFault::BadRow) => Err(OpenFault::BadRow),
+        Err(DecodeFault::Unavailable) => Err(OpenFault::Unavailable),
+    }
+}
+
+/// The settings and the applications of the sound world that the tables of a connection hold, if their schema is the known
+/// one. `NotTables` where no setting tells this schema; `BadRow` where a row has not the format of its table, or the rows
+/// stand for no sound world: a value is out of its range, a reference leads to nothing, a number is left out, or what is
+/// counted of other rows is off. The connection shows what it showed.
+///
+/// Workunits and instances are read by their keys, one workunit at a time; of the others the rows are held while they are
+/// tested, and of each workunit its name and how many instances it has.
+pub fn stored_world<S: Alter>(
+    alloc: Global,
+    conn: &mut Connection<S>,
+) -> Result<KeptBeside, OpenFault>
+    ensures reads { Reads (state S.Store conn.old) (state S.Store conn.new) }
+    ensures stands { WereKnown (state S.Store conn.old) (state S.Store conn.new)
+        → OnOk result (ReadFrom (state S.Store conn.old).now.trees (world_in (state S.Store conn.old).now.trees)) }
+    ensures held { WereKnown (state S.Store conn.old) (state S.Store conn.new) → OnOk result
+        (HoldWorld (state S.Store conn.old).now (world_in (state S.Store conn.old).now.trees) (calls_in (state S.Store conn.old).now.trees) (batches_in (state S.Store conn.old).now.trees)) }
+    ensures kept { WereKnown (state S.Store conn.old) (state S.Store conn.new) → IfOk result (λ kept.
+        (kept.settings ≡ (world_in (state S.Store conn.old).now.trees).settings) × (kept.apps ≡ (world_in (state S.Store conn.old).now.trees).apps)) }
     ensures other_schema { WereKnown (state S.Store conn.old) (state S.Store conn.new)
         → IfErr result (λ e. e ≡ OpenFault.NotTables → HasOtherSchema (state S.Store conn.old).now.trees) }
     ensures bad { WereKnown (state S.Store conn.old) (state S.Store conn.new)
@@ -80,5 +141,13 @@ pub fn stored_world<S: Alter>(alloc: Global, conn: &mut Connection<S>) -> Result
         Err(OpenFault::BadRow) => return Err(OpenFault::BadRow),
         Err(_) => return Err(OpenFault::Unavailable),
     };
-    world_of(alloc, &reading)
+    let world = world_beside(alloc, &reading)?;
+    match test_world(alloc, conn, &world, &reading) {
+        Ok(()) => Ok(KeptBeside {
+            settings: world.settings,
+            apps: world.apps,
+        }),
+        Err(OpenFault::BadRow) => Err(OpenFault::BadRow),
+        Err(_) => Err(OpenFault::Unavailable),
+    }
 }

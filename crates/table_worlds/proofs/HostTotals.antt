@@ -12,7 +12,7 @@ use Rattle.sched_book.proofs.PlacesOf.{nth-suc}
 use Rattle.table_worlds.specs.Totals.{total_of, totals_of}
 use Rattle.table_worlds.specs.declared.totals.Total.{Total}
 
-slice_get-map_from : {X Y : Type 0} (f : ℕ → X → Y) (n : ℕ) (xs : List X) (i : ℕ) → slice_get (map_from n f xs) i ≡ option_map (f (i + n)) (slice_get xs i)
+pub slice_get-map_from : {X Y : Type 0} (f : ℕ → X → Y) (n : ℕ) (xs : List X) (i : ℕ) → slice_get (map_from n f xs) i ≡ option_map (f (i + n)) (slice_get xs i)
 slice_get-map_from f n [] i = refl
 slice_get-map_from f n (x ∷ xs) zero = ap (λ m. Some (f m x)) (let same : n ≡ 0 + n = omega arith in same)
 slice_get-map_from f n (x ∷ xs) (suc i) = slice_get-map_from f (n + 1) xs i ∙ ap (λ m. option_map (f m) (slice_get xs i)) (let same : i + (n + 1) ≡ suc i + n = omega arith in same)

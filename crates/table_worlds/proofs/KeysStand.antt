@@ -15,7 +15,6 @@ use Rattle.table_meaning.specs.declared.rows.StoredRow.TheVariants as stored
 use Rattle.table_meaning.specs.Rows.{RowKey, key_of}
 use Rattle.table_meaning.specs.Worlds.{instance_row}
 use Rattle.table_worlds.specs.declared.keys.NumberedTable.{NumberedTable}
-use Rattle.table_worlds.specs.declared.keys.NumberedTable.TheVariants as table
 use Rattle.table_worlds.specs.declared.keys.WorldKey.{WorldKey}
 use Rattle.table_worlds.specs.declared.keys.WorldKey.TheVariants.{Account, App, Version, Unit, Host, Instance}
 use Rattle.table_worlds.specs.Keys.{row_key, row_in, keyed, numbered}

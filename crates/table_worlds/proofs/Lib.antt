@@ -1,6 +1,7 @@
 pub mod AppsNamed
 pub mod ByNumber
 pub mod ByPlace
+pub mod ColumnsBack
 pub mod HostTotals
 pub mod InstanceRows
 pub mod JoinedWords
@@ -10,8 +11,10 @@ pub mod NewWorld
 pub mod NothingGoes
 pub mod OneWorld
 pub mod ReadBack
+pub mod RowsFound
 pub mod RowsHold
 pub mod StaysReadable
 pub mod TotalsCounted
+pub mod UnitRowsRead
 pub mod WorldReadBack
 pub mod WorldSettled

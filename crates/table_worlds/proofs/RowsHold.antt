@@ -21,13 +21,12 @@ use Rattle.table_meaning.specs.Rows.{RowKey, setting_key, account_key, app_key, 
 use Rattle.table_meaning.specs.Worlds.{BatchText, setting_in, contents_of}
 use Rattle.table_meaning.proofs.Keys.{is_put, one_key}
 use Rattle.table_meaning.proofs.RowsHeld.{held_at, mapped, source}
-use Rattle.table_worlds.specs.declared.matching.TableRows.{TableRows}
 use Rattle.table_worlds.specs.declared.keys.NumberedTable.{NumberedTable}
 use Rattle.table_worlds.specs.declared.keys.NumberedTable.TheVariants as table
 use Rattle.table_worlds.specs.declared.keys.WorldKey.{WorldKey}
 use Rattle.table_worlds.specs.declared.keys.WorldKey.TheVariants.{Instance}
 use Rattle.table_worlds.specs.Keys.{row_key, row_in, keyed, numbered}
-use Rattle.table_worlds.specs.RowsOf.{setting_rows, HaveSame, AreRowsOf, AreRead}
+use Rattle.table_worlds.specs.RowsOf.{setting_rows, HaveSame, WorldRows, AreRowsOf, AreRead}
 use Rattle.table_worlds.proofs.KeysStand.{by_number, instance_listed, no_row, row_has_key}
 use Rattle.table_worlds.proofs.NewWorld.{each_stands, others_none}
 
@@ -140,7 +139,7 @@ module _ (s : Settings) where
 
 -- ---- the whole world
 
-pub world_held : (trees : Trees) (w : World) (rows : TableRows) → AreRead trees rows → AreRowsOf w rows → (calls : ℕ → Option Call) (batches : List ℕ → List ℕ → Option BatchText)
+pub world_held : (trees : Trees) (w : World) (rows : WorldRows) → AreRead trees rows → AreRowsOf w rows → (calls : ℕ → Option Call) (batches : List ℕ → List ℕ → Option BatchText)
     → ((id : ℕ) → look_up trees (kept_key id) ≡ option_map columns_of (contents_of w calls batches (kept_key id)))
     → ((kind text : List ℕ) → look_up trees (batch_key kind text) ≡ option_map columns_of (contents_of w calls batches (batch_key kind text)))
     → (key : RowKey) → look_up trees key ≡ option_map columns_of (contents_of w calls batches key)

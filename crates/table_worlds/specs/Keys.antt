@@ -22,6 +22,15 @@ row_key (Instance p) = instance_key p.unit p.number
 abbrev pub row_in : World → WorldKey → Option StoredRow
 row_in w key = contents_of w (λ _. None) (λ _ _. None) (row_key key)
 
+-- the row that it has at a key of any table but those of workunits and instances
+abbrev pub row_beside : World → WorldKey → Option StoredRow
+row_beside w (Account id) = row_in w (Account id)
+row_beside w (App id) = row_in w (App id)
+row_beside w (Version id) = row_in w (Version id)
+row_beside w (Unit id) = None
+row_beside w (Host id) = row_in w (Host id)
+row_beside w (Instance p) = None
+
 -- the key of the row of a number
 abbrev pub keyed : NumberedTable → ℕ → WorldKey
 keyed table.Account id = Account id

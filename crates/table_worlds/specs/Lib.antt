@@ -1,7 +1,6 @@
 pub mod Changes
 pub mod Keys
 pub mod OneWorld
-pub mod PlacesSeen
 pub mod Readable
 pub mod ReadBack
 pub mod RowsOf

@@ -1,19 +1,22 @@
 -- The rows of a world, a table each.
-use Rattle.std.specs.Prelude.{◌≡◌, ℕ, List, [], ◌∷◌, map, filter_map, length, codes, option_map}
+use Rattle.std.specs.Prelude.{◌≡◌, ℕ, ◌-◌, List, [], ◌∷◌, map, filter_map, length, codes, option_map}
 use Rattle.sqlite_rules.specs.Lists.{Has}
 use Rattle.sqlite_trees.specs.Tree.{Trees}
+use Rattle.sched_book.specs.Given.{map_from}
 use Rattle.sched_book.specs.Places.{places}
+use Rattle.sched_book.specs.declared.instance.UnitBook.{UnitBook}
 use Rattle.sched_book.specs.declared.settings.Settings.{Settings}
 use Rattle.sched_book.specs.declared.world.World.{World}
 use Rattle.table_meaning.specs.declared.rows.StoredRow.{StoredRow}
 use Rattle.table_meaning.specs.declared.rows.StoredRow.TheVariants as stored
 use Rattle.table_meaning.specs.declared.tables.TableName.TheVariants as name
 use Rattle.table_meaning.specs.Rows.{columns_of, rows_in}
-use Rattle.table_meaning.specs.Worlds.{setting_in}
+use Rattle.table_meaning.specs.Worlds.{setting_in, unit_row, instance_row}
 use Rattle.table_worlds.specs.declared.matching.TableRows.{TableRows}
+use Rattle.table_worlds.specs.declared.unit_rows.UnitRows.{UnitRows}
 use Rattle.table_worlds.specs.declared.keys.NumberedTable.TheVariants as table
 use Rattle.table_worlds.specs.declared.keys.WorldKey.TheVariants.{Instance}
-use Rattle.table_worlds.specs.Keys.{row_in, numbered}
+use Rattle.table_worlds.specs.Keys.{row_in, row_beside, numbered}
 
 -- the names of the settings
 abbrev pub setting_names : List (List ℕ)
@@ -35,8 +38,18 @@ setting_rows s = filter_map (λ name. option_map (λ v. stored.Setting (record {
 abbrev pub HaveSame : List StoredRow → List StoredRow → Type 0
 HaveSame xs ys = ((r : StoredRow) → Has xs r → Has ys r) × ((r : StoredRow) → Has ys r → Has xs r)
 
+-- the rows of all tables that hold a world
+pub record WorldRows : Type 0 where
+  pub settings : List StoredRow
+  pub accounts : List StoredRow
+  pub apps : List StoredRow
+  pub versions : List StoredRow
+  pub units : List StoredRow
+  pub hosts : List StoredRow
+  pub instances : List StoredRow
+
 -- These are the rows of a world: of settings and instances in any order.
-pub record AreRowsOf (w : World) (rows : TableRows) : Type 0 where
+pub record AreRowsOf (w : World) (rows : WorldRows) : Type 0 where
   pub settings : HaveSame rows.settings (setting_rows w.settings)
   pub accounts : rows.accounts ≡ filter_map (row_in w) (numbered table.Account (length w.accounts))
   pub apps : rows.apps ≡ filter_map (row_in w) (numbered table.App (length w.apps))
@@ -46,7 +59,7 @@ pub record AreRowsOf (w : World) (rows : TableRows) : Type 0 where
   pub instances : HaveSame rows.instances (filter_map (row_in w) (map Instance (places w)))
 
 -- the rows of each table of a world, as they were read
-pub record AreRead (trees : Trees) (rows : TableRows) : Type 0 where
+pub record AreRead (trees : Trees) (rows : WorldRows) : Type 0 where
   pub settings : map columns_of rows.settings ≡ rows_in trees name.Setting
   pub accounts : map columns_of rows.accounts ≡ rows_in trees name.Account
   pub apps : map columns_of rows.apps ≡ rows_in trees name.App
@@ -54,3 +67,28 @@ pub record AreRead (trees : Trees) (rows : TableRows) : Type 0 where
   pub units : map columns_of rows.units ≡ rows_in trees name.Unit
   pub hosts : map columns_of rows.hosts ≡ rows_in trees name.Host
   pub instances : map columns_of rows.instances ≡ rows_in trees name.Instance
+
+-- ---- workunits and instances apart from the others
+
+-- a world with these workunits in place of its own
+abbrev pub having : World → List UnitBook → World
+having w books = record w { units = books }
+
+abbrev pub without_units : World → World
+without_units w = having w []
+
+-- the rows of all tables but those
+abbrev pub rows_beside : WorldRows → TableRows
+rows_beside rows = record { settings = rows.settings; accounts = rows.accounts; apps = rows.apps; versions = rows.versions; hosts = rows.hosts }
+
+-- These are the rows of a world but for those of workunits and instances: of settings in any order.
+pub record AreRowsBeside (w : World) (rows : TableRows) : Type 0 where
+  pub settings : HaveSame rows.settings (setting_rows w.settings)
+  pub accounts : rows.accounts ≡ filter_map (row_beside w) (numbered table.Account (length w.accounts))
+  pub apps : rows.apps ≡ filter_map (row_beside w) (numbered table.App (length w.apps))
+  pub versions : rows.versions ≡ filter_map (row_beside w) (numbered table.Version (length w.versions))
+  pub hosts : rows.hosts ≡ filter_map (row_beside w) (numbered table.Host (length w.hosts))
+
+-- the rows of a workunit of a number, and of its instances in their order, where these are the applications of the world
+abbrev pub rows_of_unit : World → ℕ → UnitBook → UnitRows
+rows_of_unit w id b = record { unit = unit_row w id b; instances = map_from 1 (λ n x. instance_row w b id (n - 1) x) b.instances }

@@ -8,9 +8,11 @@ mod rows;
 mod sameness;
 mod settings;
 pub mod totals;
+pub mod unit_rows;
 
 pub use keys::WorldKey;
-pub use matching::{TableRows, are_rows_of};
-pub use rows::{account_row, app_row, host_row, instance_row, row_at, unit_row, version_row};
+pub use matching::{TableRows, are_rows_beside};
+pub use rows::{account_row, app_row, host_row, instance_row, unit_row, version_row};
 pub use settings::setting_rows;
-pub use totals::{Total, totals_of};
+pub use totals::{Total, count_unit, no_totals};
+pub use unit_rows::{UnitRows, are_unit_rows};

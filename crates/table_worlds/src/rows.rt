@@ -1,13 +1,14 @@
 //! The row of a world at a key.
 
-ghost use Rattle.std.specs.Prelude.{◌≡◌, pos, position, option_map, option_and_then, if◌then◌else◌, IfOk};
+ghost use Rattle.std.specs.Prelude.{◌≡◌, List, pos, position, option_map, option_and_then, if◌then◌else◌, IfOk};
 ghost use Rattle.std.specs.Str.{bytes_eq};
 ghost use Rattle.sched_book.specs.Places.{status_of};
 ghost use Rattle.sched_book.specs.declared.instance.UnitBook.{UnitBook};
 ghost use Rattle.sched_book.specs.declared.world.World.{World};
 ghost use Rattle.table_meaning.specs.declared.rows.StoredRow.TheVariants as stored;
 ghost use Rattle.table_meaning.specs.Worlds.{agreement_limit, status_code, lapse_code, joined, app_place, is_queued, account_row, app_row, version_row, unit_row, host_row, instance_row};
-ghost use Rattle.table_worlds.specs.Keys.{row_in};
+ghost use Rattle.table_worlds.specs.Keys.{row_in, row_beside};
+ghost use Rattle.table_worlds.specs.RowsOf.{having};
 ghost use Rattle.table_worlds.specs.declared.keys.WorldKey.TheVariants as key;
 ghost use Rattle.table_worlds.specs.Totals.{totals_of};
 
@@ -87,7 +88,7 @@ fn app_index(apps: &[App], name: &str) -> Option<usize>
 }
 
 /// The place of the application of this name, 0 where none has it.
-fn app_place(world: &World, name: &str) -> Result<u32, Unavailable>
+pub(crate) fn app_place(world: &World, name: &str) -> Result<u32, Unavailable>
     ensures { IfOk result (λ place. place ≡ app_place world.now name.now) }
 {
     match app_index(world.apps.as_slice(), name) {
@@ -131,7 +132,7 @@ pub fn version_row(id: u32, app: u32, version: &Version) -> Result<StoredRow, Un
 }
 
 /// Where a workunit of the world stands; one with more instances than it may have is not told.
-fn status_of(world: &World, book: &UnitBook) -> Result<Status, Unavailable>
+pub(crate) fn status_of(world: &World, book: &UnitBook) -> Result<Status, Unavailable>
     ensures { IfOk result (λ status. status ≡ status_of world.now book.now) }
 {
     if book.instances.len() > MOST_INSTANCES {
@@ -255,7 +256,7 @@ fn host_at(
     totals: &[Total],
     id: u32,
 ) -> Result<Option<StoredRow>, Unavailable>
-    ensures { totals.now ≡ totals_of world.now → IfOk result (λ row. row ≡ row_in world.now (key.Host id)) }
+    ensures { (books : List UnitBook) → totals.now ≡ totals_of (having world.now books) → IfOk result (λ row. row ≡ row_in (having world.now books) (key.Host id)) }
 {
     let Some(host) = nth(world.hosts.as_slice(), id) else {
         return Ok(None);
@@ -266,28 +267,15 @@ fn host_at(
     }
 }
 
-/// The row of an instance.
-fn instance_at(world: &World, place: Place) -> Result<Option<StoredRow>, Unavailable>
-    ensures { IfOk result (λ row. row ≡ row_in world.now (key.Instance place)) }
-{
-    let Some(book) = nth(world.units.as_slice(), place.unit) else {
-        return Ok(None);
-    };
-    match book.instances.as_slice().get(place.number as usize) {
-        None => Ok(None),
-        Some(instance) => Ok(Some(instance_row(place, instance, status_of(world, book)?)?)),
-    }
-}
-
-/// The row of a world at a key, where these are the totals of its hosts. It is unavailable where memory is wanting, or a
-/// number is not one that a table can hold.
-pub fn row_at(
+/// The row of a world at a key, whatever its workunits are, where these are the totals of its hosts; none at a key of a
+/// workunit or an instance. It is unavailable where memory is wanting, or a number is not one that a table can hold.
+pub(crate) fn row_at(
     alloc: Global,
     world: &World,
     totals: &[Total],
     key: WorldKey,
 ) -> Result<Option<StoredRow>, Unavailable>
-    ensures { totals.now ≡ totals_of world.now → IfOk result (λ row. row ≡ row_in world.now key) }
+    ensures { (books : List UnitBook) → totals.now ≡ totals_of (having world.now books) → IfOk result (λ row. row ≡ row_beside (having world.now books) key) }
 {
     match key {
         WorldKey::Account(id) => match nth(world.accounts.as_slice(), id) {
@@ -306,16 +294,7 @@ pub fn row_at(
                 version,
             )?)),
         },
-        WorldKey::Unit(id) => match nth(world.units.as_slice(), id) {
-            None => Ok(None),
-            Some(book) => Ok(Some(unit_row(
-                id,
-                app_place(world, book.unit.app.as_str())?,
-                &book.unit,
-                status_of(world, book)?,
-            )?)),
-        },
         WorldKey::Host(id) => host_at(alloc, world, totals, id),
-        WorldKey::Instance(place) => instance_at(world, place),
+        WorldKey::Unit(_) | WorldKey::Instance(_) => Ok(None),
     }
 }

@@ -63,7 +63,7 @@ fn same_version(left: &StoredVersion, right: &StoredVersion) -> bool
         && left.num == right.num
 }
 
-fn same_unit(left: &StoredUnit, right: &StoredUnit) -> bool
+pub(crate) fn same_unit(left: &StoredUnit, right: &StoredUnit) -> bool
     ensures { Decides result (left.now ≡ right.now) }
 {
     left.id == right.id
@@ -113,7 +113,7 @@ fn same_report(left: &StoredInstance, right: &StoredInstance) -> bool
         && left.place == right.place
 }
 
-fn same_instance(left: &StoredInstance, right: &StoredInstance) -> bool
+pub(crate) fn same_instance(left: &StoredInstance, right: &StoredInstance) -> bool
     ensures { Decides result (left.now ≡ right.now) }
 {
     left.unit_id == right.unit_id

@@ -4,13 +4,13 @@ ghost use Rattle.std.specs.Prelude.{◌≡◌, ◌≤◌, length, replicate, if�
 ghost use Rattle.sched_book.specs.Count.{verdict_by, is_valid};
 ghost use Rattle.sched_book.specs.Given.{map_from};
 ghost use Rattle.sched_book.specs.Reports.{modify_nth};
-ghost use Rattle.table_worlds.specs.Totals.{more, with_instance, with_unit, totals_of};
+ghost use Rattle.table_worlds.specs.Totals.{more, with_instance, with_unit};
 
 use sched_book::count::{agreement_by, canonical, is_valid, verdict_by};
 use sched_book::limits::MOST_INSTANCES;
-use sched_book::{Agreement, App, Instance, Unavailable, UnitBook, World};
+use sched_book::{Agreement, App, Instance, Unavailable, UnitBook};
 use std::alloc::Global;
-use texts::{Listed, Memory};
+use texts::Memory;
 
 /// What is counted of a host.
 #[derive(Clone, Copy)]
@@ -76,7 +76,7 @@ fn earned(
 }
 
 /// Counts the instances of a workunit; one with more instances than it may have is not counted.
-fn count_unit(totals: &mut [Total], apps: &[App], book: &UnitBook) -> Result<(), Unavailable>
+pub fn count_unit(totals: &mut [Total], apps: &[App], book: &UnitBook) -> Result<(), Unavailable>
     ensures { OnOk result (totals.new ≡ map_from 1 (with_unit apps.now book.now) totals.old) }
 {
     let instances = book.instances.as_slice();
@@ -96,7 +96,7 @@ fn count_unit(totals: &mut [Total], apps: &[App], book: &UnitBook) -> Result<(),
 }
 
 /// Totals of so many hosts, of which nothing was counted yet.
-fn no_totals(alloc: Global, count: usize) -> Result<Vec<Total>, Memory>
+pub fn no_totals(alloc: Global, count: usize) -> Result<Vec<Total>, Memory>
     ensures { IfOk result (λ totals. totals.items ≡ replicate count (record { held = 0; credit = 0 })) }
 {
     let mut totals = Vec::new(alloc);
@@ -104,15 +104,4 @@ fn no_totals(alloc: Global, count: usize) -> Result<Vec<Total>, Memory>
         totals.push(Total { held: 0, credit: 0 })?;
     }
     Ok(totals)
-}
-
-/// What is counted of each host, by its number, in one pass over all instances.
-pub fn totals_of(alloc: Global, world: &World) -> Result<Listed<Total>, Unavailable>
-    ensures { IfOk result (λ totals. totals ≡ totals_of world.now) }
-{
-    let mut totals = no_totals(alloc, world.hosts.len())?;
-    for book in world.units.as_slice() {
-        count_unit(totals.as_mut_slice(), world.apps.as_slice(), book)?;
-    }
-    Ok(Listed::of(totals))
 }

@@ -6,4 +6,5 @@ mod keyed;
 mod sound_units;
 mod soundness;
 
+pub use sound_units::is_sound_unit;
 pub use soundness::is_sound;

@@ -155,7 +155,7 @@ fn is_well_unit(hosts: &[HostRow], apps: &[App], book: &UnitBook) -> bool
 }
 
 /// Whether a workunit is sound, where these are the hosts and applications.
-pub(crate) fn is_sound_unit(hosts: &[HostRow], apps: &[App], book: &UnitBook) -> bool
+pub fn is_sound_unit(hosts: &[HostRow], apps: &[App], book: &UnitBook) -> bool
     ensures { IsTrue result ↔ IsSoundUnit hosts.now apps.now book.now }
 {
     is_well_unit(hosts, apps, book)

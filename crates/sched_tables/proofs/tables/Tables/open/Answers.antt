@@ -11,7 +11,8 @@ returns-clause-sound g c = λ honest.
     let opens = c.in_ok-conn.ensures.opens in
     let known = c.in_ok-conn.ensures.known in
     let reads = c.stored_world.ensures.reads in
-    opened_sound taken read opens known reads honest c.in_ok-world.world c.in_ok-world.ensures.sound (c.in_ok-world.ensures.held (was_known taken read opens known reads honest))
+    let were = was_known taken read opens known reads honest in
+    opened_sound taken read opens known reads honest (c.in_ok-kept.ensures.stands were) (c.in_ok-kept.ensures.held were)
 
 pub returns-clause-held : goal.returns-clause-held
 returns-clause-held g c = λ honest.
@@ -20,9 +21,12 @@ returns-clause-held g c = λ honest.
     let opens = c.in_ok-conn.ensures.opens in
     let known = c.in_ok-conn.ensures.known in
     let reads = c.stored_world.ensures.reads in
-    let held = c.in_ok-world.ensures.held (was_known taken read opens known reads honest) in (
-      opened_kept taken read opens known reads honest c.in_ok-world.world c.in_ok-world.ensures.sound held,
-      opened_beside taken read opens known reads honest c.in_ok-world.world c.in_ok-world.ensures.sound held c.new.result c.new.ensures,
+    let were = was_known taken read opens known reads honest in
+    let stands = c.in_ok-kept.ensures.stands were in
+    let held = c.in_ok-kept.ensures.held were in
+    let kept = c.in_ok-kept.ensures.kept were in (
+      opened_kept taken read opens known reads honest stands held,
+      opened_beside taken read opens known reads honest stands held c.in_ok-kept.kept.settings c.in_ok-kept.kept.apps c.new.result kept.0 kept.1 c.new.ensures,
     )
 
 pub returns-clause-same : goal.returns-clause-same
@@ -42,7 +46,7 @@ returns-clause-rows g c = λ honest.
     let known = c.in_ok-conn.ensures.known in
     let reads = c.stored_world.ensures.reads in
     let were = was_known taken read opens known reads honest in
-    opened_rows taken read opens known reads honest c.in_ok-world.world c.in_ok-world.ensures.sound (c.in_ok-world.ensures.held were) (c.in_ok-world.ensures.stands were)
+    opened_rows taken read opens known reads honest (c.in_ok-kept.ensures.stands were) (c.in_ok-kept.ensures.held were)
 
 pub returns-clause-stop : goal.returns-clause-stop
 returns-clause-stop g c = λ honest w calls batches found.

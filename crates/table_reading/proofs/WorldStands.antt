@@ -1,0 +1,396 @@
+-- Rows are those of a sound world just where its workunits stand at their keys, and the other rows are those of it beside them.
+use Rattle.std.proofs.Common.{◌≡◌, ◌≤◌, ◌<◌, ℕ, zero, suc, ◌+◌, ◌-◌, true, List, [], ◌∷◌, map, filter_map, fold, length, get_or, Option, Some, option_map, All, refl, sym, ap, subst, ◌∙◌, inl, inr, arith}
+use Rattle.std.specs.List.{AllByRecursion, cons_option, range_with_len}
+use Rattle.std.specs.Prelude.{slice_get, unwrap_or, option_and_then}
+use Rattle.std.proofs.lemmas.Bool.Decides.{nat_tests}
+use Rattle.std.proofs.lemmas.Option.{none-some, slice_get_within, get_or_from_slice_get}
+use Rattle.sqlite.specs.Effect.{Database}
+use Rattle.sqlite_rules.specs.Lists.{Has}
+use Rattle.sqlite_value.specs.Order.{Row}
+use Rattle.sched_book.specs.Given.{map_from}
+use Rattle.sched_book.specs.Limits.{most_instances}
+use Rattle.sched_book.specs.Sound.{Sound, IsSoundUnit}
+use Rattle.sched_book.specs.declared.instance.Instance.{Instance as Job}
+use Rattle.sched_book.specs.declared.instance.UnitBook.{UnitBook}
+use Rattle.sched_book.specs.declared.world.World.{World}
+use Rattle.table_meaning.specs.declared.rows.StoredInstance.{StoredInstance}
+use Rattle.table_meaning.specs.declared.rows.StoredRow.{StoredRow}
+use Rattle.table_meaning.specs.declared.rows.StoredRow.TheVariants as stored
+use Rattle.table_meaning.specs.declared.tables.TableName.TheVariants as name
+use Rattle.table_meaning.specs.Holding.{AreKnown}
+use Rattle.table_meaning.specs.Kept.{calls_in, batches_in}
+use Rattle.table_meaning.specs.Rows.{unit_key, instance_key, columns_of, table_of, table_at, key_of, look_up}
+use Rattle.table_meaning.specs.Worlds.{HoldWorld, unit_row, instance_row}
+use Rattle.table_meaning.proofs.RowsHeld.{held_row}
+use Rattle.table_worlds.specs.Keys.{row_in, row_beside, keyed, numbered}
+use Rattle.table_worlds.specs.RowsOf.{AreRowsBeside, having, rows_beside, rows_of_unit}
+use Rattle.table_worlds.specs.declared.keys.NumberedTable.TheVariants as table
+use Rattle.table_worlds.specs.declared.keys.WorldKey.{WorldKey}
+use Rattle.table_worlds.proofs.ByPlace.{nth_next, all_got}
+use Rattle.table_worlds.proofs.ColumnsBack.{one_unit, one_instance, is_unit_row, is_instance_row}
+use Rattle.table_worlds.proofs.HostTotals.{slice_get-map_from}
+use Rattle.table_worlds.proofs.InstanceRows.{own_rows, own_listed, listed_own}
+use Rattle.table_worlds.proofs.Members.{has_got}
+use Rattle.table_worlds.proofs.RowsFound.{found_at_key}
+use Rattle.table_worlds.proofs.UnitRowsRead.{length-map_from, written_at}
+use Rattle.table_decoding.specs.Decoding.{of_unit}
+use Rattle.table_decoding.proofs.RowsInOrder.{unit_rows}
+use Rattle.table_reading.specs.Counting.{is_numbered, next_number, noted, none_noted}
+use Rattle.table_reading.specs.Reading.{AllRows, AreAllRead, AreTyped, StandFor, reading_of}
+use Rattle.table_reading.specs.Testing.{StandsAt, AreTested, IsFit}
+use Rattle.table_reading.specs.declared.counts.UnitCounts.{UnitCounts}
+use Rattle.table_reading.specs.declared.rows.Reading.{Reading}
+use Rattle.table_reading.proofs.CallsTested.{calls_tested}
+use Rattle.table_reading.proofs.CountsNoted.{AreInTurn, AreOfUnits, same_count, in_turn_told, was_in_turn, of_units_counted, units_counted, units_without, units_told, units_turned}
+use Rattle.table_reading.proofs.KeptRows.{held_by_rows}
+use Rattle.table_reading.proofs.UnitsTested.{stands_within, same_each}
+
+-- ---- lists
+
+each_at : {X : Type 0} (P : X → Type 0) (xs : List X) (i : ℕ) (x : X) → slice_get xs i ≡ Some x → AllByRecursion P xs → P x
+each_at P [] i x is all = absurd (none-some x is)
+each_at P (y ∷ xs) zero x is all = subst P (ap (λ o. unwrap_or o y) is) all.0
+each_at P (y ∷ xs) (suc i) x is all = each_at P xs i x is all.1
+
+each_of : {X : Type 0} (P : X → Type 0) (xs : List X) (x : X) → Has xs x → AllByRecursion P xs → P x
+each_of P [] x has all = absurd has
+each_of P (y ∷ xs) x (inl same) all = subst P (sym same) all.0
+each_of P (y ∷ xs) x (inr later) all = each_of P xs x later all.1
+
+same_rows : (f g : WorldKey → Option StoredRow) (key : ℕ → WorldKey) → ((id : ℕ) → f (key id) ≡ g (key id)) → (ids : List ℕ) → filter_map f (map key ids) ≡ filter_map g (map key ids)
+same_rows f g key each [] = refl
+same_rows f g key each (id ∷ ids) = ap (λ o. cons_option o (filter_map f (map key ids))) (each id) ∙ ap (λ rows. cons_option (g (key id)) rows) (same_rows f g key each ids)
+
+one_row : (r s : Row) (o : Option Row) → o ≡ Some r → o ≡ Some s → r ≡ s
+one_row r s o first other = ap (λ p. unwrap_or p r) (sym first ∙ other)
+
+same_number : (n m : ℕ) → unit_key n ≡ unit_key m → n ≡ m
+same_number n m e = cc
+
+numbered_within : (cs : List ℕ) (n : ℕ) → is_numbered cs n ≡ true → (1 ≤ n) × (n ≤ length cs)
+numbered_within cs n is = (grind (arith, nat_tests, is), grind (arith, nat_tests, is))
+
+numbered_is : (cs : List ℕ) (n : ℕ) → 1 ≤ n → n ≤ length cs → is_numbered cs n ≡ true
+numbered_is cs n from until = grind (arith, nat_tests, from, until)
+
+same_instance : (x y : StoredInstance) → stored.Instance x ≡ stored.Instance y → x ≡ y
+same_instance x y e = cc
+
+module _ (db : Database) (known : AreKnown db) (all : AllRows) (read : AreAllRead db.trees all) (typed : AreTyped all) (d : World) (books : List UnitBook) where
+  abbrev w : World
+  w = having d books
+
+  -- what was noted of workunits, and then of instances
+  abbrev before : UnitCounts
+  before = fold noted none_noted all.world.units
+
+  abbrev after : UnitCounts
+  after = fold noted before all.world.instances
+
+  abbrev counts : List ℕ
+  counts = after.counts
+
+  count_units : length counts ≡ length all.world.units
+  count_units =
+      let instances : length counts ≡ length before.counts = same_count all.world.instances before typed.instances in
+      let units : length before.counts ≡ 0 + length all.world.units = units_counted all.world.units none_noted typed.units in
+      omega (arith, instances, units)
+
+  units_of_table : (r : StoredRow) → Has all.world.units r → table_at (key_of r) ≡ name.Unit
+  units_of_table r has = let u = is_unit_row r (each_of (λ s. table_of s ≡ name.Unit) all.world.units r has typed.units) in ap (λ s. table_at (key_of s)) u.1
+
+  instances_of_table : (r : StoredRow) → Has all.world.instances r → table_at (key_of r) ≡ name.Instance
+  instances_of_table r has = let x = is_instance_row r (each_of (λ s. table_of s ≡ name.Instance) all.world.instances r has typed.instances) in ap (λ s. table_at (key_of s)) x.1
+
+  -- ---- where all was tested
+
+  module _ (fit : IsFit d (reading_of all)) (tested : AreTested db.trees d counts (length counts) books) (beside : AreRowsBeside w (rows_beside all.world)) where
+    -- the workunit of an index stands, with so many instances
+    stands : (i : ℕ) (b : UnitBook) → slice_get books i ≡ Some b → (n : ℕ) × (slice_get counts i ≡ Some n) × StandsAt db.trees d (i + 1) n b
+    stands i b is =
+        let within = slice_get_within books i b is in
+        let n = stands_within counts i (omega (arith, within, tested.all)) in
+        (n.0, n.1, tested.each i n.0 b n.1 is)
+
+    instances_counted : (i : ℕ) (b : UnitBook) (n : ℕ) → StandsAt db.trees d (i + 1) n b → length b.instances ≡ n
+    instances_counted i b n at = sym (length-map_from (λ k x. instance_row d b (i + 1) (k - 1) x) 1 b.instances) ∙ at.found.instances_at.count
+
+    -- the row of an instance stands at its key
+    instance_at : (i k n : ℕ) (b : UnitBook) (x : Job) → StandsAt db.trees d (i + 1) n b → slice_get b.instances k ≡ Some x
+        → look_up db.trees (instance_key (i + 1) k) ≡ Some (columns_of (stored.Instance (instance_row d b (i + 1) k x)))
+    instance_at i k n b x at is =
+        at.found.instances_at.at k (instance_row d b (i + 1) k x)
+        (slice_get-map_from (λ m y. instance_row d b (i + 1) (m - 1) y) 1 b.instances k
+        ∙ ap (option_map (λ (y : Job). instance_row d b (i + 1) (k + 1 - 1) y)) is
+        ∙ ap (λ m. Some (instance_row d b (i + 1) m x)) (let same : k + 1 - 1 ≡ k = omega arith in same))
+
+    in_turn : AreInTurn 0 all.world.units
+    in_turn = (units_told all.world.units none_noted typed.units (was_in_turn all.world.instances before typed.instances fit.in_turn)).1
+
+    units_listed : all.world.units ≡ filter_map (row_in w) (numbered table.Unit (length books))
+    units_listed =
+        same_each all.world.units (map_from 1 (of_unit w) books) (let few = length-map_from (of_unit w) 1 books in omega (arith, few, count_units, tested.all)) one
+        ∙ sym (unit_rows w)
+      where
+        one : (i : ℕ) (r s : StoredRow) → slice_get all.world.units i ≡ Some r → slice_get (map_from 1 (of_unit w) books) i ≡ Some s → r ≡ s
+        one i r s is other =
+            let within = slice_get_within all.world.units i r is in
+            let b = stands_within books i (omega (arith, within, count_units, tested.all)) in
+            let at = stands i b.0 b.1 in
+            let u = is_unit_row r (each_at (λ q. table_of q ≡ name.Unit) all.world.units i r is typed.units) in
+            let has : Has all.world.units (stored.Unit u.0) = subst (Has all.world.units) u.1 (has_got all.world.units i r is) in
+            let found = found_at_key db known (stored.Unit u.0) all.world.units read.world.units has in
+            let id : u.0.id ≡ i + 1 = same_number u.0.id (i + 0 + 1) (sym (ap key_of u.1) ∙ in_turn i r is) ∙ (let same : i + 0 + 1 ≡ i + 1 = omega arith in same) in
+            let row : u.0 ≡ unit_row d (i + 1) b.0 = one_unit u.0 (unit_row d (i + 1) b.0) (one_row _ _ _ (subst (λ n. look_up db.trees (unit_key n) ≡ Some (columns_of (stored.Unit u.0))) id found) at.2.found.unit_at) in
+            let written : Some (of_unit w (i + 1) b.0) ≡ Some s = sym (ap (option_map (of_unit w (i + 1))) b.1) ∙ sym (slice_get-map_from (of_unit w) 1 books i) ∙ other in
+            u.1 ∙ ap stored.Unit row ∙ ap (λ o. unwrap_or o s) written
+
+    -- an instance that was read is one of the world's
+    of_row : (i : StoredInstance) → Has all.world.instances (stored.Instance i) → Has (own_rows w) (stored.Instance i)
+    of_row i there =
+        let told = in_turn_told all.world.instances before typed.instances fit.in_turn i there in
+        let reached : next_number i.num ≤ get_or counts (i.unit_id - 1) 0 = told.1 in
+        let within = numbered_within before.counts i.unit_id told.0 in
+        let same : length counts ≡ length before.counts = same_count all.world.instances before typed.instances in
+        let index = i.unit_id - 1 in
+        let inside : i.unit_id - 1 < length books = omega (arith, within.0, within.1, same, tested.all) in
+        let b = stands_within books index inside in
+        let at = stands index b.0 b.1 in
+        let few : length b.0.instances ≡ at.0 = instances_counted index b.0 at.0 at.2 in
+        let most : length b.0.instances ≤ most_instances = at.2.sound.well.few in
+        let count : get_or counts (i.unit_id - 1) 0 ≡ at.0 = get_or_from_slice_get counts index at.0 0 at.1 in
+        let below : i.num < length b.0.instances = omega (arith, reached, count, few, most) in
+        let x = stands_within b.0.instances i.num below in
+        let found = found_at_key db known (stored.Instance i) all.world.instances read.world.instances there in
+        let unit : i.unit_id ≡ i.unit_id - 1 + 1 = omega (arith, within.0) in
+        let row : i ≡ instance_row d b.0 (index + 1) i.num x.0 =
+        one_instance i (instance_row d b.0 (index + 1) i.num x.0) (one_row _ _ _ (subst (λ n. look_up db.trees (instance_key n i.num) ≡ Some (columns_of (stored.Instance i))) unit found) (instance_at index i.num at.0 b.0 x.0 at.2 x.1)) in
+        subst (λ (j : StoredInstance). Has (own_rows w) (stored.Instance j)) (sym row) (own_listed w index i.num b.0 x.0 b.1 x.1)
+
+    listed : (r : StoredRow) → Has all.world.instances r → Has (own_rows w) r
+    listed r has =
+        let x = is_instance_row r (each_of (λ q. table_of q ≡ name.Instance) all.world.instances r has typed.instances) in
+        subst (Has (own_rows w)) (sym x.1) (of_row x.0 (subst (Has all.world.instances) x.1 has))
+
+    -- and each of these was read
+    among : (r : StoredRow) → Has (own_rows w) r → Has all.world.instances r
+    among r own =
+        let p = listed_own w r own in
+        let at = stands p.1.index p.1.book p.1.book_is in
+        let number = p.0.number in
+        let found = instance_at p.1.index number at.0 p.1.book p.1.instance at.2 p.1.instance_is in
+        let s = held_row db.trees name.Instance all.world.instances read.world.instances instances_of_table (instance_key (p.1.index + 1) number) refl _ found in
+        let x = is_instance_row s.0 (each_of (λ q. table_of q ≡ name.Instance) all.world.instances s.0 s.1 typed.instances) in
+        let same : instance_row d p.1.book (p.1.index + 1) number p.1.instance ≡ x.0 = one_instance _ x.0 (s.2 ∙ ap columns_of x.1) in
+        subst (Has all.world.instances) (x.1 ∙ ap stored.Instance (sym same) ∙ sym p.1.row_is) s.1
+
+    books_sound : All (IsSoundUnit d.hosts d.apps) books
+    books_sound k e within =
+        let b = stands_within books k within in
+        subst (IsSoundUnit d.hosts d.apps) (sym (get_or_from_slice_get books k b.0 e b.1)) (stands k b.0 b.1).2.sound
+
+    sound : Sound w
+    sound =
+        let bound : length counts ≤ 200000 = fit.few in
+        let few : length books ≤ 200000 = omega (arith, bound, tested.all) in
+        let rows = fit.sound.rows in
+        record {
+          rows = record {
+            settings = rows.settings;
+            accounts = rows.accounts;
+            apps = rows.apps;
+            versions = rows.versions;
+            hosts = rows.hosts;
+            account_names = rows.account_names;
+            app_names = rows.app_names;
+            version_names = rows.version_names;
+            unit_names = tested.names;
+            host_keys = rows.host_keys;
+            account_count = rows.account_count;
+            app_count = rows.app_count;
+            version_count = rows.version_count;
+            unit_count = few;
+            host_count = rows.host_count;
+          };
+          units = books_sound;
+        }
+
+    pub stand_for : StandFor w all
+    stand_for = record {
+      sound = sound;
+      rows = record {
+        settings = beside.settings;
+        accounts = beside.accounts ∙ same_rows (row_beside w) (row_in w) (keyed table.Account) (λ id. refl) (range_with_len 1 (length d.accounts));
+        apps = beside.apps ∙ same_rows (row_beside w) (row_in w) (keyed table.App) (λ id. refl) (range_with_len 1 (length d.apps));
+        versions = beside.versions ∙ same_rows (row_beside w) (row_in w) (keyed table.Version) (λ id. refl) (range_with_len 1 (length d.versions));
+        units = units_listed;
+        hosts = beside.hosts ∙ same_rows (row_beside w) (row_in w) (keyed table.Host) (λ id. refl) (range_with_len 1 (length d.hosts));
+        instances = (listed, among);
+      };
+      calls = sym (calls_tested w all) ∙ fit.calls;
+      batches = fit.imports;
+    }
+
+  -- ---- where they are those of a sound world
+
+  module _ (stand : StandFor w all) where
+    holds : HoldWorld db w (calls_in db.trees) (batches_in db.trees)
+    holds = held_by_rows db w all known read stand
+
+    units_are : all.world.units ≡ map_from 1 (of_unit w) books
+    units_are = stand.rows.units ∙ unit_rows w
+
+    count_books : length counts ≡ length books
+    count_books = count_units ∙ ap length units_are ∙ length-map_from (of_unit w) 1 books
+
+    units_turn : AreInTurn 0 all.world.units
+    units_turn i r is =
+        let written = written_at (of_unit w) all.world.units books i units_are in
+        let within = slice_get_within all.world.units i r is in
+        let b = stands_within books i (omega (arith, within, count_units, count_books)) in
+        let row : Some r ≡ Some (of_unit w (i + 1) b.0) = sym is ∙ written ∙ ap (option_map (of_unit w (i + 1))) b.1 in
+        ap (λ o. key_of (unwrap_or o r)) row ∙ ap unit_key (let same : i + 1 ≡ i + 0 + 1 = omega arith in same)
+
+    -- the instance of a row
+    abbrev IsOf : StoredInstance → Type 0
+    IsOf i = (index : ℕ) × (b : UnitBook) × (slice_get books index ≡ Some b) × (i.unit_id ≡ index + 1) × (i.num < length b.instances)
+
+    instance_of : (i : StoredInstance) → Has all.world.instances (stored.Instance i) → IsOf i
+    instance_of i has =
+        let p = listed_own w (stored.Instance i) (stand.rows.instances.0 (stored.Instance i) has) in
+        let row = same_instance i (instance_row w p.1.book (p.1.index + 1) p.0.number p.1.instance) p.1.row_is in
+        let number : i.num ≡ p.0.number = ap (λ (x : StoredInstance). x.num) row in
+        let within = slice_get_within p.1.book.instances p.0.number p.1.instance p.1.instance_is in
+        (p.1.index, p.1.book, p.1.book_is, ap (λ (x : StoredInstance). x.unit_id) row, omega (arith, number, within))
+
+    abbrev most : ℕ → ℕ
+    most j = unwrap_or (option_map (λ (b : UnitBook). length b.instances) (slice_get books j)) 0
+
+    of_units : AreOfUnits before.counts all.world.instances
+    of_units i has =
+        let x = instance_of i has in
+        let within = slice_get_within books x.0 x.1 x.2 in
+        let same : length counts ≡ length before.counts = same_count all.world.instances before typed.instances in
+        numbered_is before.counts i.unit_id (omega (arith, x.3)) (omega (arith, x.3, within, same, count_books))
+
+    counted : (after.are_in_turn ≡ true) × ((j : ℕ) → get_or counts j 0 ≤ most j)
+    counted =
+        of_units_counted all.world.instances before most typed.instances of_units (units_turned all.world.units none_noted typed.units refl units_turn)
+        (λ j. let none = units_without all.world.units none_noted typed.units (λ k. refl) j in omega (arith, none))
+        (λ i has.
+        let x = instance_of i has in
+        let index : i.unit_id - 1 ≡ x.0 = omega (arith, x.3) in
+        let count : most (i.unit_id - 1) ≡ length x.1.instances = ap (λ j. most j) index ∙ ap (λ o. unwrap_or (option_map (λ (b : UnitBook). length b.instances) o) 0) x.2 in
+        let within = x.4 in
+        omega (arith, count, within))
+
+    -- each workunit has as many instances as are counted
+    at_least : (i : ℕ) (b : UnitBook) → slice_get books i ≡ Some b → (m : ℕ) → length b.instances ≡ m → length b.instances ≤ get_or counts i 0
+    at_least i b is zero none = omega (arith, none)
+    at_least i b is (suc k) some =
+        let x = stands_within b.instances k (omega (arith, some)) in
+        let few : length b.instances ≤ most_instances = (all_got (IsSoundUnit d.hosts d.apps) books i b is stand.sound.units).well.few in
+        let has = stand.rows.instances.1 (stored.Instance (instance_row w b (i + 1) k x.0)) (own_listed w i k b x.0 is x.1) in
+        let told = (in_turn_told all.world.instances before typed.instances counted.0 (instance_row w b (i + 1) k x.0) has).1 in
+        let index : i + 1 - 1 ≡ i = omega arith in
+        let reached : next_number k ≤ get_or counts i 0 = subst (λ j. next_number k ≤ get_or counts j 0) index told in
+        omega (arith, reached, some, few)
+
+    instances_count : (i n : ℕ) (b : UnitBook) → slice_get counts i ≡ Some n → slice_get books i ≡ Some b → length b.instances ≡ n
+    instances_count i n b count is =
+        let at : get_or counts i 0 ≡ n = get_or_from_slice_get counts i n 0 count in
+        let above : get_or counts i 0 ≤ most i = counted.1 i in
+        let bound : most i ≡ length b.instances = ap (λ o. unwrap_or (option_map (λ (c : UnitBook). length c.instances) o) 0) is in
+        let below : length b.instances ≤ get_or counts i 0 = at_least i b is (length b.instances) refl in
+        omega (arith, at, above, bound, below)
+
+    instance_found : (i k : ℕ) (b : UnitBook) (r : StoredInstance) → slice_get books i ≡ Some b → slice_get (rows_of_unit d (i + 1) b).instances k ≡ Some r → look_up db.trees (instance_key (i + 1) k) ≡ Some (columns_of (stored.Instance r))
+    instance_found i k b r is row =
+        let few = length-map_from (λ m x. instance_row d b (i + 1) (m - 1) x) 1 b.instances in
+        let within = slice_get_within (rows_of_unit d (i + 1) b).instances k r row in
+        let x = stands_within b.instances k (omega (arith, few, within)) in
+        let written : Some r ≡ Some (instance_row d b (i + 1) k x.0) =
+        sym row ∙ slice_get-map_from (λ m y. instance_row d b (i + 1) (m - 1) y) 1 b.instances k
+        ∙ ap (option_map (λ (y : Job). instance_row d b (i + 1) (k + 1 - 1) y)) x.1
+        ∙ ap (λ m. Some (instance_row d b (i + 1) m x.0)) (let same : k + 1 - 1 ≡ k = omega arith in same) in
+        holds.rows (instance_key (i + 1) k)
+        ∙ ap (λ o. option_map columns_of (option_and_then (λ (c : UnitBook). option_map (λ (y : Job). stored.Instance (instance_row w c (i + 1) k y)) (slice_get c.instances k)) o)) (nth_next books i ∙ is)
+        ∙ ap (λ o. option_map columns_of (option_map (λ (y : Job). stored.Instance (instance_row w b (i + 1) k y)) o)) x.1
+        ∙ ap (λ o. option_map (λ (q : StoredInstance). columns_of (stored.Instance q)) o) (sym written)
+
+    pub tested_all : AreTested db.trees d counts (length counts) books
+    tested_all = record {
+      all = sym count_books;
+      each = λ i n b count is. record {
+        sound = all_got (IsSoundUnit d.hosts d.apps) books i b is stand.sound.units;
+        found = record {
+          unit_at = holds.rows (unit_key (i + 1)) ∙ ap (λ o. option_map columns_of (option_map (λ (c : UnitBook). stored.Unit (unit_row w (i + 1) c)) o)) (nth_next books i ∙ is);
+          instances_at = record {
+            count = length-map_from (λ k x. instance_row d b (i + 1) (k - 1) x) 1 b.instances ∙ instances_count i n b count is;
+            at = λ k r row. instance_found i k b r is row;
+          };
+        };
+      };
+      names = stand.sound.rows.unit_names;
+    }
+
+    pub rows_are : AreRowsBeside w (rows_beside all.world)
+    rows_are = record {
+      settings = stand.rows.settings;
+      accounts = stand.rows.accounts ∙ sym (same_rows (row_beside w) (row_in w) (keyed table.Account) (λ id. refl) (range_with_len 1 (length d.accounts)));
+      apps = stand.rows.apps ∙ sym (same_rows (row_beside w) (row_in w) (keyed table.App) (λ id. refl) (range_with_len 1 (length d.apps)));
+      versions = stand.rows.versions ∙ sym (same_rows (row_beside w) (row_in w) (keyed table.Version) (λ id. refl) (range_with_len 1 (length d.versions)));
+      hosts = stand.rows.hosts ∙ sym (same_rows (row_beside w) (row_in w) (keyed table.Host) (λ id. refl) (range_with_len 1 (length d.hosts)));
+    }
+
+    sound_without : d.units ≡ [] → Sound d
+    sound_without none =
+        let rows = stand.sound.rows in
+        let empty : length d.units ≡ 0 = ap length none in
+        record {
+          rows = record {
+            settings = rows.settings;
+            accounts = rows.accounts;
+            apps = rows.apps;
+            versions = rows.versions;
+            hosts = rows.hosts;
+            account_names = rows.account_names;
+            app_names = rows.app_names;
+            version_names = rows.version_names;
+            unit_names = λ i j e lt within. absurd (omega (arith, within, empty));
+            host_keys = rows.host_keys;
+            account_count = rows.account_count;
+            app_count = rows.app_count;
+            version_count = rows.version_count;
+            unit_count = omega (arith, empty);
+            host_count = rows.host_count;
+          };
+          units = λ k e within. absurd (omega (arith, within, empty));
+        }
+
+    pub is_fit : d.units ≡ [] → IsFit d (reading_of all)
+    is_fit none = record {
+      sound = sound_without none;
+      in_turn = counted.0;
+      few = let few : length books ≤ 200000 = stand.sound.rows.unit_count in omega (arith, few, count_books);
+      calls = calls_tested w all ∙ stand.calls;
+      imports = stand.batches;
+    }
+
+-- ---- the same of what was read, which holds less than the rows
+
+module _ (db : Database) (known : AreKnown db) (all : AllRows) (read : AreAllRead db.trees all) (typed : AreTyped all) (r : Reading) (is : r ≡ reading_of all) (d : World) (books : List UnitBook) where
+  pub stand_read : IsFit d r → AreTested db.trees d r.units.counts (length r.units.counts) books → AreRowsBeside (having d books) r.rows → StandFor (having d books) all
+  stand_read =
+      subst (λ (q : Reading). IsFit d q → AreTested db.trees d q.units.counts (length q.units.counts) books → AreRowsBeside (having d books) q.rows → StandFor (having d books) all) (sym is)
+      (stand_for db known all read typed d books)
+
+  module _ (stand : StandFor (having d books) all) where
+    pub fit_read : d.units ≡ [] → IsFit d r
+    fit_read none = subst (IsFit d) (sym is) (is_fit db known all read typed d books stand none)
+
+    pub tested_read : AreTested db.trees d r.units.counts (length r.units.counts) books
+    tested_read = subst (λ (q : Reading). AreTested db.trees d q.units.counts (length q.units.counts) books) (sym is) (tested_all db known all read typed d books stand)
+
+    pub beside_read : AreRowsBeside (having d books) r.rows
+    beside_read = subst (λ (q : Reading). AreRowsBeside (having d books) q.rows) (sym is) (rows_are db known all read typed d books stand)

@@ -1,0 +1,27 @@
+-- What is noted of the rows of workunits and instances, in the order of their tables.
+use Rattle.std.specs.Prelude.{ℕ, ◌+◌, ◌-◌, max, min, Bool, true, false, not, ◌&&◌, ◌==◌, nat_le, if◌then◌else◌, List, [], ◌∷◌, ◌++◌, length, slice_index_or, slice_set}
+use Rattle.sched_book.specs.Limits.{most_instances}
+use Rattle.table_meaning.specs.declared.rows.StoredRow.{StoredRow}
+use Rattle.table_meaning.specs.declared.rows.StoredRow.TheVariants as stored
+use Rattle.table_reading.specs.declared.counts.UnitCounts.{UnitCounts}
+
+-- it is the number of one of so many workunits
+abbrev pub is_numbered : List ℕ → ℕ → Bool
+is_numbered counts unit = not (unit == 0) && nat_le unit (length counts)
+
+-- one more than the number of an instance, or than the most that a workunit may have
+abbrev pub next_number : ℕ → ℕ
+next_number number = min number most_instances + 1
+
+-- with the row of one more instance, of this workunit and number
+abbrev pub counted : List ℕ → ℕ → ℕ → List ℕ
+counted counts unit number = slice_set counts (unit - 1) (max (slice_index_or counts (unit - 1) 0) (next_number number))
+
+-- with the row of one more workunit or instance
+abbrev pub noted : UnitCounts → StoredRow → UnitCounts
+noted c (stored.Unit u) = record { counts = c.counts ++ 0 ∷ []; are_in_turn = c.are_in_turn && (u.id == length c.counts + 1) }
+noted c (stored.Instance i) = if is_numbered c.counts i.unit_id then record c { counts = counted c.counts i.unit_id i.num } else record c { are_in_turn = false }
+noted c other = c
+
+abbrev pub none_noted : UnitCounts
+none_noted = record { counts = []; are_in_turn = true }

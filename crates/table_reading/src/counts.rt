@@ -1,0 +1,56 @@
+//! How many instances each workunit has, as the rows of both are read.
+
+ghost use Rattle.std.specs.Prelude.{◌≡◌, [], OnOk};
+ghost use Rattle.table_meaning.specs.declared.rows.StoredRow.TheVariants as stored;
+ghost use Rattle.table_reading.specs.Counting.{noted, none_noted};
+
+use sched_book::limits::MOST_INSTANCES;
+use std::alloc::Global;
+use table_meaning::rows::{StoredInstance, StoredUnit};
+use texts::{Listed, Memory};
+
+/// How many instances each workunit has, if its instances are all that have lower numbers than the last one.
+#[derive(Drop)]
+pub struct UnitCounts {
+    /// Of each workunit, by its number, one more than the greatest number of its instances, and one past the most that a
+    /// workunit may have where that is greater.
+    pub counts: Listed<u32>,
+    /// Whether the workunits have the numbers from 1 on, in turn, and each instance is of one of them.
+    pub are_in_turn: bool,
+}
+
+impl UnitCounts {
+    /// No row came by.
+    pub(crate) fn new(alloc: Global) -> UnitCounts
+        ensures { result ≡ none_noted }
+    {
+        UnitCounts {
+            counts: Listed::new(alloc),
+            are_in_turn: true,
+        }
+    }
+
+    /// Takes note of the row of a workunit, which stands behind those before it.
+    pub(crate) fn note_unit(&mut self, row: &StoredUnit) -> Result<(), Memory>
+        ensures { OnOk result (self.new ≡ noted self.old (stored.Unit row.now)) }
+    {
+        let in_turn = (row.id as usize).checked_sub(1) == Some(self.counts.len());
+        self.are_in_turn = self.are_in_turn && in_turn;
+        self.counts.push(0)?;
+        Ok(())
+    }
+
+    /// Takes note of the row of an instance, once those of all workunits came by.
+    pub(crate) fn note_instance(&mut self, row: &StoredInstance)
+        ensures { self.new ≡ noted self.old (stored.Instance row.now) }
+    {
+        let unit = row.unit_id as usize;
+        if unit != 0 && unit <= self.counts.len() {
+            let next = row.num.min(MOST_INSTANCES as u32) + 1;
+            let count = self.counts.as_slice()[unit - 1];
+            self.counts.replace(unit - 1, count.max(next));
+        } else {
+            self.are_in_turn = false;
+        }
+    }
+}

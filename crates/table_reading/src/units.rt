@@ -1,0 +1,203 @@
+//! Workunits and their instances, read by their keys and tested one workunit at a time.
+
+ghost use Rattle.std.specs.Prelude.{◌≡◌, ◌<◌, ℕ, false, ◌||◌, List, length, Some, None, IsTrue, IfOk, IfErr, OnOk};
+ghost use Rattle.std.specs.Str.{bytes_eq};
+ghost use Rattle.sqlite.specs.Held.{state};
+ghost use Rattle.sqlite.specs.State.{HasCleanDisk};
+ghost use Rattle.sched_book.specs.Given.{map_from};
+ghost use Rattle.sched_book.specs.Sound.{IsSoundUnit};
+ghost use Rattle.sched_book.specs.declared.instance.UnitBook.{UnitBook as Book};
+ghost use Rattle.table_meaning.specs.Holding.{AreKnown};
+ghost use Rattle.table_meaning.specs.Reads.{Reads};
+ghost use Rattle.table_meaning.specs.Rows.{unit_key, instance_key, columns_of, look_up};
+ghost use Rattle.table_meaning.specs.declared.rows.StoredRow.TheVariants as stored;
+ghost use Rattle.table_worlds.specs.RowsOf.{rows_of_unit};
+ghost use Rattle.table_worlds.specs.Totals.{with_unit, with_units};
+ghost use Rattle.table_reading.specs.Reading.{WereKnown};
+ghost use Rattle.table_reading.specs.Testing.{AreInstancesFound, AreFound, HasGap, StandsAt, AreTested, has_name};
+
+use sched_book::{UnitBook, World};
+use sqlite::{Alter, Connection};
+use std::alloc::Global;
+use table_decoding::{RowFault, unit_book};
+use table_meaning::rows::{StoredInstance, StoredUnit};
+use table_rows::{OpenFault, instance_of, unit_of};
+use table_worlds::{Total, UnitRows, are_unit_rows, count_unit};
+use texts::{Listed, SeenSet, Text};
+use world_soundness::is_sound_unit;
+
+/// The row of the workunit of a number. `BadRow` where none stands.
+fn standing_unit<S: Alter>(
+    alloc: Global,
+    conn: &mut Connection<S>,
+    id: u32,
+) -> Result<StoredUnit, OpenFault>
+    ensures reads { Reads (state S.Store conn.old) (state S.Store conn.new) }
+    ensures found { HasCleanDisk (state S.Store conn.new) → AreKnown (state S.Store conn.old).now
+        → IfOk result (λ row. look_up (state S.Store conn.old).now.trees (unit_key id) ≡ Some (columns_of (stored.Unit row))) }
+    ensures bad { HasCleanDisk (state S.Store conn.new) → AreKnown (state S.Store conn.old).now
+        → IfErr result (λ e. e ≡ OpenFault.BadRow → look_up (state S.Store conn.old).now.trees (unit_key id) ≡ None) }
+{
+    match unit_of(alloc, conn, id) {
+        Ok(Some(row)) => Ok(row),
+        Ok(None) => Err(OpenFault::BadRow),
+        Err(_) => Err(OpenFault::Unavailable),
+    }
+}
+
+/// The row of the instance of a workunit that has this number. `BadRow` where none stands.
+fn standing_instance<S: Alter>(
+    alloc: Global,
+    conn: &mut Connection<S>,
+    id: u32,
+    number: u32,
+) -> Result<StoredInstance, OpenFault>
+    ensures reads { Reads (state S.Store conn.old) (state S.Store conn.new) }
+    ensures found { HasCleanDisk (state S.Store conn.new) → AreKnown (state S.Store conn.old).now
+        → IfOk result (λ row. look_up (state S.Store conn.old).now.trees (instance_key id number) ≡ Some (columns_of (stored.Instance row))) }
+    ensures bad { HasCleanDisk (state S.Store conn.new) → AreKnown (state S.Store conn.old).now
+        → IfErr result (λ e. e ≡ OpenFault.BadRow → look_up (state S.Store conn.old).now.trees (instance_key id number) ≡ None) }
+{
+    match instance_of(alloc, conn, id, number) {
+        Ok(Some(row)) => Ok(row),
+        Ok(None) => Err(OpenFault::BadRow),
+        Err(_) => Err(OpenFault::Unavailable),
+    }
+}
+
+/// The rows of the first so many instances of a workunit. `BadRow` where one of them does not stand.
+fn instance_rows<S: Alter>(
+    alloc: Global,
+    conn: &mut Connection<S>,
+    id: u32,
+    count: u32,
+) -> Result<Listed<StoredInstance>, OpenFault>
+    ensures reads { Reads (state S.Store conn.old) (state S.Store conn.new) }
+    ensures found { WereKnown (state S.Store conn.old) (state S.Store conn.new) → IfOk result (AreInstancesFound (state S.Store conn.old).now.trees id count) }
+    ensures bad { WereKnown (state S.Store conn.old) (state S.Store conn.new)
+        → IfErr result (λ e. e ≡ OpenFault.BadRow → (k : ℕ) × (k < count) × (look_up (state S.Store conn.old).now.trees (instance_key id k) ≡ None)) }
+{
+    let mut rows = Listed::new(alloc);
+    for number in 0..count {
+        let row = standing_instance(alloc, conn, id, number)?;
+        rows.push(row)?;
+    }
+    Ok(rows)
+}
+
+/// The rows of a workunit and of its first so many instances. `BadRow` where one of them does not stand.
+fn unit_rows<S: Alter>(
+    alloc: Global,
+    conn: &mut Connection<S>,
+    id: u32,
+    count: u32,
+) -> Result<UnitRows, OpenFault>
+    ensures reads { Reads (state S.Store conn.old) (state S.Store conn.new) }
+    ensures found { WereKnown (state S.Store conn.old) (state S.Store conn.new) → IfOk result (AreFound (state S.Store conn.old).now.trees id count) }
+    ensures bad { WereKnown (state S.Store conn.old) (state S.Store conn.new) → IfErr result (λ e. e ≡ OpenFault.BadRow → HasGap (state S.Store conn.old).now.trees id count) }
+{
+    let instances = instance_rows(alloc, conn, id, count)?;
+    let unit = standing_unit(alloc, conn, id)?;
+    Ok(UnitRows { unit, instances })
+}
+
+/// Tests a workunit against its rows and takes note of its name, and of what its hosts hold and earned. `BadRow` where the
+/// rows are others, it is not sound, or its name came by.
+fn test_book(
+    world: &World,
+    id: u32,
+    book: &UnitBook,
+    rows: &UnitRows,
+    names: &mut SeenSet<Text>,
+    totals: &mut [Total],
+) -> Result<(), OpenFault>
+    ensures passes { OnOk result (IsSoundUnit world.now.hosts world.now.apps book.now × (rows.now ≡ rows_of_unit world.now id book.now)) }
+    ensures name { OnOk result ((has_name names.old book.now.unit.name ≡ false)
+        × ((other : List ℕ) → has_name names.new other ≡ (bytes_eq other book.now.unit.name || has_name names.old other))) }
+    ensures counts { OnOk result (totals.new ≡ map_from 1 (with_unit world.now.apps book.now) totals.old) }
+    ensures bad { IfErr result (λ e. e ≡ OpenFault.BadRow → IsSoundUnit world.now.hosts world.now.apps book.now → rows.now ≡ rows_of_unit world.now id book.now
+        → IsTrue (has_name names.old book.now.unit.name)) }
+{
+    if !are_unit_rows(world, id, book, rows)? {
+        return Err(OpenFault::BadRow);
+    }
+    if !is_sound_unit(world.hosts.as_slice(), world.apps.as_slice(), book) {
+        return Err(OpenFault::BadRow);
+    }
+    if !names.is_first(book.unit.name.clone()?)? {
+        return Err(OpenFault::BadRow);
+    }
+    count_unit(totals, world.apps.as_slice(), book)?;
+    Ok(())
+}
+
+/// Tests the workunit of these rows as [`test_book`] does. `BadRow` where they are those of no sound workunit, or its name
+/// came by.
+fn test_rows(
+    alloc: Global,
+    world: &World,
+    id: u32,
+    rows: &UnitRows,
+    names: &mut SeenSet<Text>,
+    totals: &mut [Total],
+) -> Result<(), OpenFault>
+    ensures passes { OnOk result ((b : Book) × IsSoundUnit world.now.hosts world.now.apps b × (rows.now ≡ rows_of_unit world.now id b)
+        × (has_name names.old b.unit.name ≡ false) × ((other : List ℕ) → has_name names.new other ≡ (bytes_eq other b.unit.name || has_name names.old other))
+        × (totals.new ≡ map_from 1 (with_unit world.now.apps b) totals.old)) }
+    ensures bad { IfErr result (λ e. e ≡ OpenFault.BadRow → (b : Book) → IsSoundUnit world.now.hosts world.now.apps b → rows.now ≡ rows_of_unit world.now id b
+        → IsTrue (has_name names.old b.unit.name)) }
+{
+    let book = match unit_book(alloc, world.apps.as_slice(), rows) {
+        Ok(book) => book,
+        Err(RowFault::BadRow) => return Err(OpenFault::BadRow),
+        Err(RowFault::Unavailable) => return Err(OpenFault::Unavailable),
+    };
+    test_book(world, id, &book, rows, names, totals)
+}
+
+/// Reads the rows of a workunit with so many instances by their keys, and tests it as [`test_book`] does. `BadRow` where it
+/// does not stand, or its name came by.
+fn test_unit<S: Alter>(
+    alloc: Global,
+    conn: &mut Connection<S>,
+    world: &World,
+    id: u32,
+    count: u32,
+    names: &mut SeenSet<Text>,
+    totals: &mut [Total],
+) -> Result<(), OpenFault>
+    ensures reads { Reads (state S.Store conn.old) (state S.Store conn.new) }
+    ensures stands { WereKnown (state S.Store conn.old) (state S.Store conn.new) → OnOk result ((b : Book) × StandsAt (state S.Store conn.old).now.trees world.now id count b
+        × (has_name names.old b.unit.name ≡ false) × ((other : List ℕ) → has_name names.new other ≡ (bytes_eq other b.unit.name || has_name names.old other))
+        × (totals.new ≡ map_from 1 (with_unit world.now.apps b) totals.old)) }
+    ensures bad { WereKnown (state S.Store conn.old) (state S.Store conn.new)
+        → IfErr result (λ e. e ≡ OpenFault.BadRow → (b : Book) → StandsAt (state S.Store conn.old).now.trees world.now id count b → IsTrue (has_name names.old b.unit.name)) }
+{
+    let rows = unit_rows(alloc, conn, id, count)?;
+    test_rows(alloc, world, id, &rows, names, totals)
+}
+
+/// Tests the workunits of the tables in the order of their numbers, of which each has so many instances, and counts for each
+/// host what it holds of them and what it earned. `BadRow` where one does not stand, or two have the same name.
+pub(crate) fn test_units<S: Alter>(
+    alloc: Global,
+    conn: &mut Connection<S>,
+    world: &World,
+    counts: &[u32],
+    totals: &mut [Total],
+) -> Result<(), OpenFault>
+    ensures reads { Reads (state S.Store conn.old) (state S.Store conn.new) }
+    ensures stand { WereKnown (state S.Store conn.old) (state S.Store conn.new) → OnOk result ((books : List Book)
+        × AreTested (state S.Store conn.old).now.trees world.now counts.now (length counts.now) books × (totals.new ≡ map_from 1 (with_units world.now.apps books) totals.old)) }
+    ensures bad { WereKnown (state S.Store conn.old) (state S.Store conn.new)
+        → IfErr result (λ e. e ≡ OpenFault.BadRow → (books : List Book) → ¬ AreTested (state S.Store conn.old).now.trees world.now counts.now (length counts.now) books) }
+{
+    let mut names = SeenSet::new(alloc);
+    for (index, count) in counts.iter().enumerate() {
+        let Ok(id) = u32::try_from(index + 1) else {
+            return Err(OpenFault::Unavailable);
+        };
+        test_unit(alloc, conn, world, id, *count, &mut names, totals)?;
+    }
+    Ok(())
+}

@@ -1,0 +1,116 @@
+//! The rows of one workunit.
+
+ghost use Rattle.std.specs.Prelude.{◌≡◌, ◌-◌, IfOk};
+ghost use Rattle.std.specs.Bool.{Decides};
+ghost use Rattle.sched_book.specs.Given.{map_from};
+ghost use Rattle.sched_book.specs.Places.{status_of};
+ghost use Rattle.sched_book.specs.declared.instance.UnitBook.{UnitBook};
+ghost use Rattle.sched_book.specs.declared.world.World.{World};
+ghost use Rattle.table_meaning.specs.Worlds.{unit_row, instance_row};
+ghost use Rattle.table_meaning.specs.declared.rows.StoredRow.TheVariants as stored;
+ghost use Rattle.table_worlds.specs.RowsOf.{rows_of_unit};
+
+use crate::rows::{app_place, instance_row, status_of, unit_row};
+use crate::sameness::{same_instance, same_unit};
+use sched_book::{Instance, Place, Status, Unavailable, UnitBook, World};
+use table_meaning::rows::{StoredInstance, StoredRow, StoredUnit};
+use texts::Listed;
+
+/// The rows of a workunit and of its instances in their order, as they were read.
+#[derive(Drop)]
+pub struct UnitRows {
+    pub unit: StoredUnit,
+    pub instances: Listed<StoredInstance>,
+}
+
+/// Whether the row is this one of a workunit.
+fn is_unit(own: &StoredRow, row: &StoredUnit) -> bool
+    ensures { Decides result (stored.Unit row.now ≡ own.now) }
+{
+    match own {
+        StoredRow::Unit(own) => same_unit(row, own),
+        _ => false,
+    }
+}
+
+/// Whether the row is this one of an instance.
+fn is_instance(own: &StoredRow, row: &StoredInstance) -> bool
+    ensures { Decides result (stored.Instance row.now ≡ own.now) }
+{
+    match own {
+        StoredRow::Instance(own) => same_instance(row, own),
+        _ => false,
+    }
+}
+
+/// Whether the row is that of an instance whose workunit has this status.
+fn is_row_of(
+    place: Place,
+    instance: &Instance,
+    status: Status,
+    row: &StoredInstance,
+) -> Result<bool, Unavailable>
+    ensures { (w : World) (b : UnitBook) → status ≡ status_of w b
+        → IfOk result (λ same. Decides same (row.now ≡ instance_row w b place.unit place.number instance.now)) }
+{
+    let own = instance_row(place, instance, status)?;
+    Ok(is_instance(&own, row))
+}
+
+/// Whether these are the rows of the instances of a workunit that has this status.
+fn are_instance_rows(
+    unit: u32,
+    status: Status,
+    instances: &[Instance],
+    rows: &[StoredInstance],
+) -> Result<bool, Unavailable>
+    ensures { (w : World) (b : UnitBook) → status ≡ status_of w b
+        → IfOk result (λ same. Decides same (rows.now ≡ map_from 1 (λ n x. instance_row w b unit (n - 1) x) instances.now)) }
+{
+    if instances.len() != rows.len() {
+        return Ok(false);
+    }
+    for (index, instance) in instances.iter().enumerate() {
+        let number = u32::try_from(index).map_err(|_| Unavailable)?;
+        if !is_row_of(Place { unit, number }, instance, status, &rows[index])? {
+            return Ok(false);
+        }
+    }
+    Ok(true)
+}
+
+/// Whether the row is that of a workunit of this number, which has this status.
+fn is_row_of_unit(
+    world: &World,
+    id: u32,
+    book: &UnitBook,
+    status: Status,
+    row: &StoredUnit,
+) -> Result<bool, Unavailable>
+    ensures { status ≡ status_of world.now book.now → IfOk result (λ same. Decides same (row.now ≡ unit_row world.now id book.now)) }
+{
+    let app = app_place(world, book.unit.app.as_str())?;
+    let own = unit_row(id, app, &book.unit, status)?;
+    Ok(is_unit(&own, row))
+}
+
+/// Whether these are the rows of a workunit of this number with its instances, where these are the applications of the
+/// world. It is unavailable where memory is wanting, or a number is not one that a table can hold.
+pub fn are_unit_rows(
+    world: &World,
+    id: u32,
+    book: &UnitBook,
+    rows: &UnitRows,
+) -> Result<bool, Unavailable>
+    ensures { IfOk result (λ same. Decides same (rows.now ≡ rows_of_unit world.now id book.now)) }
+{
+    let status = status_of(world, book)?;
+    let unit = is_row_of_unit(world, id, book, status, &rows.unit)?;
+    let instances = are_instance_rows(
+        id,
+        status,
+        book.instances.as_slice(),
+        rows.instances.as_slice(),
+    )?;
+    Ok(unit && instances)
+}
