@@ -114,13 +114,25 @@ fn version_read(
 }
 
 /// What was read since the last commit: rows by their numbers, and the account and the version that were read last.
-#[derive(Drop)]
 pub(crate) struct Remembered {
     units: RowsRead<Workunit>,
     instances: RowsRead<Listed<Instance>>,
     hosts: RowsRead<CountedHost>,
     account: Option<AccountRead>,
     version: Option<VersionRead>,
+}
+
+// It is written out, so that a caller does not prove again how each part is dropped.
+impl Drop for Remembered {
+    fn drop(self) {
+        let Remembered {
+            units: _units,
+            instances: _instances,
+            hosts: _hosts,
+            account: _account,
+            version: _version,
+        } = self;
+    }
 }
 
 impl Remembered {

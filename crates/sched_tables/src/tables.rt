@@ -12,7 +12,6 @@ use texts::Listed;
 /// The stored tables as a desk. What seldom changes is kept beside them: the settings, which never do, and the
 /// applications, of which there are at most a hundred. All else is read by its key or by an index, where it was not
 /// read since the last commit.
-#[derive(Drop)]
 pub struct Tables<S: Alter> {
     pub(crate) alloc: Global,
     pub(crate) conn: Connection<S>,
@@ -27,6 +26,26 @@ impl<S: Alter> Tables<S> {
         ensures same { ((state S.Store result).now ≡ (state_of S.Store self).now) × ((state S.Store result).committed ≡ (state_of S.Store self).committed) }
         ensures honest { IsHonest (state_of S.Store self) → IsHonest (state S.Store result) }
     {
-        self.conn
+        let Tables {
+            alloc: _,
+            conn,
+            settings: _settings,
+            apps: _apps,
+            remembered: _remembered,
+        } = self;
+        conn
+    }
+}
+
+// It is written out, so that a caller does not prove again how each part is dropped.
+impl<S: Alter + Drop> Drop for Tables<S> {
+    fn drop(self) {
+        let Tables {
+            alloc: _,
+            conn: _conn,
+            settings: _settings,
+            apps: _apps,
+            remembered: _remembered,
+        } = self;
     }
 }
