@@ -51,7 +51,7 @@ key_shown (Instance r) raw is = ap (take 2) is
 key_shown (Kept r) raw is = ap (take 1) is
 key_shown (Batch r) raw is = ap (take 2) is
 
-has_key_is : (s : StoredRow) (raw : Row) (key : RowKey) → shown (table_at (key_of s)) raw ≡ columns_of s → table_at key ≡ table_at (key_of s) → has_key key raw ≡ same_key key (key_of s)
+pub has_key_is : (s : StoredRow) (raw : Row) (key : RowKey) → shown (table_at (key_of s)) raw ≡ columns_of s → table_at key ≡ table_at (key_of s) → has_key key raw ≡ same_key key (key_of s)
 has_key_is s raw key is same =
     ap (λ t. agree plain (key_places t) raw (slots_of key) (key_columns key)) same
     ∙ agree_from plain (key_places (table_at (key_of s))) (slots_of (key_of s)) (slots_of key) raw (key_columns (key_of s)) (key_columns key) (key_shown s raw is)

@@ -1,19 +1,16 @@
 -- A row that was read of a table is what stands at its key.
-use Rattle.std.proofs.Common.{◌≡◌, Bool, true, false, cond, List, [], ◌∷◌, map, find, take, Some, option_map, refl, sym, ap, subst, ◌∙◌, inl, inr, true≢false}
-use Rattle.std.proofs.lemmas.Bool.{and_parts}
+use Rattle.std.proofs.Common.{◌≡◌, Bool, true, false, cond, List, [], ◌∷◌, map, find, Some, option_map, refl, sym, ap, subst, ◌∙◌, inl, inr, true≢false}
 use Rattle.sqlite.specs.Effect.{Database}
-use Rattle.sqlite_value.specs.Order.{Row, column}
+use Rattle.sqlite_value.specs.Order.{Row}
 use Rattle.sqlite_value.specs.Keys.{plain}
 use Rattle.sqlite_rules.specs.Lists.{Has}
 use Rattle.sqlite_rules.proofs.KeyLemmas.{agree_back, agree_chain}
 use Rattle.table_meaning.specs.declared.tables.TableName.{TableName}
 use Rattle.table_meaning.specs.declared.rows.StoredRow.{StoredRow}
-use Rattle.table_meaning.specs.declared.rows.StoredRow.TheVariants.{Setting, Account, App, Version, Unit, Host, Instance, Kept, Batch}
 use Rattle.table_meaning.specs.Holding.{AreKnown}
 use Rattle.table_meaning.specs.Rows.{RowKey, tree_of, key_places, shown, rows_in, columns_of, table_at, key_columns, key_of, slots_of, has_key, look_up}
 use Rattle.table_meaning.proofs.Keys.{key_itself}
-use Rattle.table_meaning.proofs.PutRows.{agree_from}
-use Rattle.table_meaning.proofs.RowsHeld.{mapped, source}
+use Rattle.table_meaning.proofs.RowsHeld.{mapped, source, has_key_is}
 
 -- the one member that passes is found
 find_one : {X : Type 0} (p : X → Bool) (xs : List X) (x : X) → Has xs x → p x ≡ true → ((y : X) → Has xs y → p y ≡ true → y ≡ x) → find p xs ≡ Some x
@@ -27,23 +24,8 @@ find_one {X} p (y ∷ ys) x has passes one = go (p y) refl (λ later. find_one p
       | inr later ↦ more later
     ]
 
--- a row of the tree shows its key first
-key_shown : (s : StoredRow) (raw : Row) → shown (table_at (key_of s)) raw ≡ columns_of s
-    → map (column raw) (key_places (table_at (key_of s))) ≡ map (column (key_columns (key_of s))) (slots_of (key_of s))
-key_shown (Setting r) raw is = ap (take 1) is
-key_shown (Account r) raw is = ap (take 1) is
-key_shown (App r) raw is = ap (take 1) is
-key_shown (Version r) raw is = ap (take 1) is
-key_shown (Unit r) raw is = ap (take 1) is
-key_shown (Host r) raw is = ap (take 1) is
-key_shown (Instance r) raw is = ap (take 2) is
-key_shown (Kept r) raw is = ap (take 1) is
-key_shown (Batch r) raw is = ap (take 2) is
-
 has_own_key : (s : StoredRow) (raw : Row) → shown (table_at (key_of s)) raw ≡ columns_of s → has_key (key_of s) raw ≡ true
-has_own_key s raw is =
-    let key = key_of s in
-    agree_from plain (key_places (table_at key)) (slots_of key) (slots_of key) raw (key_columns key) (key_columns key) (key_shown s raw is) ∙ (and_parts _ _ (key_itself key)).1
+has_own_key s raw is = has_key_is s raw (key_of s) is refl ∙ key_itself (key_of s)
 
 pub found_at_key : (db : Database) → AreKnown db → (r : StoredRow) (rows : List StoredRow) → map columns_of rows ≡ rows_in db.trees (table_at (key_of r)) → Has rows r → look_up db.trees (key_of r) ≡ Some (columns_of r)
 found_at_key db known r rows read has =
