@@ -1,0 +1,73 @@
+"""The JSON text of a call (docs/PROFILE.md, "The request")."""
+import json
+
+from .client_requests import ClientRequest, Report
+
+MOST_BYTES = 262_144
+MOST_REPORTS = 256
+MOST_OTHER_RESULTS = 1024
+COMMA = 1
+
+_written = json.JSONEncoder(ensure_ascii=False, separators=(",", ":")).encode
+
+
+def written_length(value: object) -> int:
+    """How many bytes a value takes in a list."""
+    return len(_written(value).encode()) + COMMA
+
+
+def told_report(report: Report) -> dict[str, object]:
+    """A report as the profile has it."""
+    return {"name": report.name, "exit_status": report.exit_status, "output": report.output}
+
+
+def reports_that_fit(request: ClientRequest, room: int, by_name: bool) -> int:
+    """How many reports, from the first on, go into so many bytes. The others are told by their names, where names are told."""
+    names = [written_length(report.name) if by_name else 0 for report in request.results]
+    room -= sum(names)
+    for count, (report, name) in enumerate(zip(request.results[:MOST_REPORTS], names)):
+        room -= written_length(told_report(report)) - name
+        if room < 0:
+            return count
+    return min(len(request.results), MOST_REPORTS)
+
+
+def call_text(request: ClientRequest, host_cpid: str, number: int, in_hand: list[str], seconds_in_hand: int) -> bytes:
+    """The call of a request, under a number of the bridge's own.
+
+    The names in hand are those of jobs that the bridge has for the client: they are told as if the client had them, and
+    their seconds count as received. What the profile has no room for is put off: results beyond the first ones are told
+    by their names, so that they don't count as lost, and all names are left out where they are too many, or leave no room
+    for a single report.
+    """
+    record = {
+        "authenticator": request.authenticator,
+        "hostid": 0,
+        "rpc_seqno": number,
+        "host_info": {
+            "host_cpid": host_cpid,
+            "p_fpops": request.p_fpops,
+            "m_nbytes": request.m_nbytes,
+            "d_free": request.d_free,
+        },
+        "platform_name": request.platform_name,
+        "alt_platforms": request.alt_platforms,
+        "work_req_seconds": max(0, request.work_req_seconds - seconds_in_hand),
+        "other_results": [],
+        "results": [],
+    }
+    room = MOST_BYTES - written_length(record)
+    other = None if request.other_results is None else list(dict.fromkeys([*request.other_results, *in_hand]))
+    if other is not None:
+        names_room = room - sum(map(written_length, other))
+        count = reports_that_fit(request, names_room, True)
+        other += [report.name for report in request.results[count:]]
+        if len(other) > MOST_OTHER_RESULTS or sum(map(written_length, other)) > room or count == 0 < len(request.results):
+            other = None
+    if other is None:
+        count = reports_that_fit(request, room, False)
+        del record["other_results"]
+    else:
+        record["other_results"] = other
+    record["results"] = [told_report(report) for report in request.results[:count]]
+    return _written(record).encode()

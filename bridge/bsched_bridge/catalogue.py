@@ -1,0 +1,256 @@
+"""The catalogue: what a client needs for its jobs and the profile does not carry.
+
+It tells, for each application, the command line and the input files of its workunits, and for each version its files. The
+file is TOML, written by the operator, and looked at when the bridge starts.
+"""
+import re
+import threading
+from dataclasses import dataclass, field
+from pathlib import Path
+
+from cryptography.hazmat.primitives.asymmetric import rsa
+
+from .code_signing import KeyFault, file_md5, is_signature, read_public_key
+from .operator_files import Entry, OperatorFile
+from .words import NO_XML
+
+FILE_NAME = re.compile(r"[A-Za-z0-9_][A-Za-z0-9_.+-]{0,127}")
+WORKUNIT = "{workunit}"  # stands for the name of the workunit, in what an application tells for all of its workunits
+
+
+@dataclass(frozen=True, slots=True)
+class StoredFile:
+    """A file that clients may download."""
+
+    name: str
+    size: int
+    md5: str
+
+
+@dataclass(frozen=True, slots=True)
+class VersionFile:
+    """A file of a version, with its signature; the client runs the main program."""
+
+    file: StoredFile
+    signature: str
+    is_main_program: bool
+    open_name: str | None  # the name under which the program opens it, where it is another
+
+
+@dataclass(frozen=True, slots=True)
+class Version:
+    """A version of an application for a platform."""
+
+    app: str
+    platform: str
+    number: int
+    files: tuple[VersionFile, ...]
+
+
+@dataclass(frozen=True, slots=True)
+class InputFile:
+    """The name of an input file, and the name under which the program opens it."""
+
+    name: str
+    open_name: str
+
+
+@dataclass(frozen=True, slots=True)
+class Work:
+    """What a client is told of a workunit."""
+
+    command_line: str
+    input_files: tuple[InputFile, ...]
+
+    def of(self, workunit: str) -> "Work":
+        """The same for one workunit of an application."""
+        files = tuple(InputFile(file.name.replace(WORKUNIT, workunit), file.open_name) for file in self.input_files)
+        return Work(self.command_line.replace(WORKUNIT, workunit), files)
+
+
+@dataclass(frozen=True, slots=True)
+class App:
+    """An application."""
+
+    name: str
+    title: str
+    rsc_memory_bound: int  # bytes
+    rsc_disk_bound: int  # bytes; the client ends a job that uses more
+    fpops_bound_factor: int  # the client ends a job that takes so many times its estimate
+    work: Work
+
+
+class MissingFile(Exception):
+    """A file that should be there is not, or can't be read."""
+
+
+class FileFolder:
+    """The folder of the files that clients may download."""
+
+    def __init__(self, path: Path):
+        self.path = path
+        self._known: dict[tuple[str, int, int], StoredFile] = {}
+        self._lock = threading.Lock()
+
+    def path_of(self, name: str) -> Path:
+        """Where the file of a name lies, if it is one."""
+        path = self.path / name
+        if not FILE_NAME.fullmatch(name) or not path.is_file():
+            raise MissingFile(name)
+        return path
+
+    def stored(self, name: str) -> StoredFile:
+        """A file with its size and MD5. The MD5 is made once for a file, and again where it was changed."""
+        path = self.path_of(name)
+        try:
+            status = path.stat()
+            key = (name, status.st_size, status.st_mtime_ns)
+            with self._lock:
+                known = self._known.get(key)
+            if known is None:
+                known = StoredFile(name, status.st_size, file_md5(path))
+                with self._lock:
+                    self._known[key] = known
+        except OSError:
+            raise MissingFile(name) from None
+        return known
+
+
+@dataclass(frozen=True, slots=True)
+class Catalogue:
+    """What the catalogue file tells."""
+
+    code_sign_key: str
+    folder: FileFolder
+    apps: dict[str, App]
+    versions: dict[tuple[str, str, int], Version]
+    works: dict[str, Work] = field(default_factory=dict)  # of the workunits that have an entry of their own
+
+    def work(self, app: App, workunit: str) -> Work:
+        """The command line and the input files of a workunit."""
+        own = self.works.get(workunit)
+        return app.work.of(workunit) if own is None else own
+
+
+# ---- Reading
+
+
+def file_name(entry: Entry, member: str, with_workunit: bool = False) -> str:
+    """A name of a file: in it there is no slash, and it does not begin with a point."""
+    name = entry.text(member)
+    plain = name.replace(WORKUNIT, "w") if with_workunit else name
+    if not FILE_NAME.fullmatch(plain):
+        entry.fault(f"{member} is no name of a file: letters, digits, '_', '.', '+' and '-', at most 128", member)
+    return name
+
+
+def read_work(entry: Entry, folder: FileFolder, of_app: bool) -> Work:
+    """The command line and the input files that an entry tells. Files that are named in full have to be there."""
+    command_line = entry.text("command_line", "")
+    if NO_XML.search(command_line) or "\n" in command_line or "\r" in command_line or len(command_line.encode()) > 4096:
+        entry.fault("command_line has more than one line, more than 4096 bytes, or a control character", "command_line")
+    files = []
+    for item in entry.entries("input_files", []):
+        name = file_name(item, "name", of_app)
+        files.append(InputFile(name, file_name(item, "open_name") if "open_name" in item.members else name))
+        item.end()
+        if WORKUNIT not in name or not of_app:
+            try:
+                folder.path_of(name)
+            except MissingFile:
+                item.fault(f"the input file {folder.path / name} is not there")
+    return Work(command_line, tuple(files))
+
+
+def read_app(entry: Entry, folder: FileFolder) -> App:
+    """An application."""
+    name = entry.word("name")
+    title = entry.text("title", name)
+    if not title or not title.isprintable():
+        entry.fault("title is empty, or has a character that can't be printed", "title")
+    app = App(
+        name=name,
+        title=title,
+        rsc_memory_bound=entry.whole("rsc_memory_bound", 0, 10**18, 10**8),
+        rsc_disk_bound=entry.whole("rsc_disk_bound", 1, 10**18, 10**9),
+        fpops_bound_factor=entry.whole("fpops_bound_factor", 1, 10**6, 10),
+        work=read_work(entry, folder, True),
+    )
+    entry.end()
+    return app
+
+
+def read_version_file(entry: Entry, folder: FileFolder, key: rsa.RSAPublicKey) -> VersionFile:
+    """A file of a version; its signature has to be that of the key."""
+    name = file_name(entry, "name")
+    try:
+        file = folder.stored(name)
+    except MissingFile:
+        entry.fault(f"the file {folder.path / name} is not there, or can't be read")
+    path = entry.existing("signature")
+    try:
+        signature = path.read_text(encoding="ascii")
+    except (OSError, UnicodeDecodeError):
+        entry.fault(f"the signature {path} can't be read")
+    if not is_signature(file.md5, signature, key):
+        entry.fault(f"{path} is not the signature of {name} by the key of this catalogue")
+    is_main = entry.taken("main_program", bool, "true or false", False)
+    open_name = file_name(entry, "open_name") if "open_name" in entry.members else None
+    entry.end()
+    return VersionFile(file, signature, is_main, open_name)
+
+
+def read_version(entry: Entry, apps: dict[str, App], folder: FileFolder, key: rsa.RSAPublicKey) -> Version:
+    """A version."""
+    app, platform = entry.word("app"), entry.word("platform")
+    if app not in apps:
+        entry.fault(f"there is no application {app}", "app")
+    number = entry.whole("version_num", 1, 10**6)
+    files = tuple(read_version_file(item, folder, key) for item in entry.entries("files"))
+    if sum(file.is_main_program for file in files) != 1:
+        entry.fault("not exactly one of the files has main_program = true", "files")
+    entry.end()
+    return Version(app, platform, number, files)
+
+
+def read_key(file: Entry) -> tuple[str, rsa.RSAPublicKey]:
+    """The code signing key, as text and as a key."""
+    path = file.existing("code_sign_key")
+    try:
+        text = path.read_text(encoding="ascii")
+        return text, read_public_key(text)
+    except (OSError, UnicodeDecodeError):
+        file.fault(f"code_sign_key: {path} can't be read", "code_sign_key")
+    except KeyFault as fault:
+        file.fault(f"code_sign_key: {path} {fault}", "code_sign_key")
+
+
+def read_catalogue(path: Path) -> Catalogue:
+    """The catalogue of a file; paths in it are relative to its folder."""
+    file = OperatorFile(path)
+    text, key = read_key(file)
+    folder = FileFolder(file.existing("files"))
+    catalogue = Catalogue(text, folder, {}, {})
+    lines: dict[object, int] = {}
+
+    def once(entry: Entry, what: str, name: object) -> None:
+        """A name may stand once."""
+        if (what, name) in lines:
+            entry.fault(f"this {what} stands on line {lines[what, name]} already")
+        lines[what, name] = entry.line()
+
+    for entry in file.tables("app"):
+        app = read_app(entry, folder)
+        once(entry, "app", app.name)
+        catalogue.apps[app.name] = app
+    for entry in file.tables("version"):
+        version = read_version(entry, catalogue.apps, folder, key)
+        once(entry, "version", (version.app, version.platform, version.number))
+        catalogue.versions[version.app, version.platform, version.number] = version
+    for entry in file.tables("workunit"):
+        name = entry.word("name")
+        once(entry, "workunit", name)
+        catalogue.works[name] = read_work(entry, folder, False)
+        entry.end()
+    file.end()
+    return catalogue

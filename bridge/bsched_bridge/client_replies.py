@@ -1,0 +1,198 @@
+"""The XML of a scheduler_reply (BOINC's documentation, "Scheduler RPC protocol").
+
+Elements that say yes are written `<x>1</x>`: the client reads that as it reads `<x/>`.
+"""
+import logging
+from xml.etree.ElementTree import Element, SubElement, indent, tostring
+
+from .catalogue import App, Catalogue, MissingFile, StoredFile, Version, Work
+from .client_requests import ClientRequest
+from .exchange import PutOff
+from .scheduler import Job, Reply
+from .words import xml_text
+
+SCHEDULER_VERSION = 720  # the version of BOINC's scheduler whose replies these are like
+MILLICREDITS = 1000
+KEY_CHANGED = "The project has changed its code signing key. To fix this, remove and add this project."
+
+# what a volunteer is told who asked for work and got none, by the end word of the reply
+NO_JOBS = {
+    "enough": "Project has no tasks available",
+    "reply_limit": "Project has no tasks available",
+    "in_progress_limit": "This computer has reached a limit on tasks in progress",
+    "daily_quota": "This computer has finished a daily quota of tasks",
+    "no_eligible_work": "No tasks are available for this computer",
+}
+
+log = logging.getLogger(__name__)
+
+
+def add(parent: Element, name: str, value: object) -> None:
+    """Adds an element with a text."""
+    SubElement(parent, name).text = xml_text(str(value))
+
+
+def add_message(parent: Element, text: str, priority: str) -> None:
+    """Adds a message, which the client shows to the volunteer."""
+    message = SubElement(parent, "message", {"priority": priority})
+    message.text = xml_text(text)
+
+
+def written(root: Element) -> bytes:
+    """The text of an element."""
+    indent(root, "    ")
+    return tostring(root, encoding="utf-8", xml_declaration=False, short_empty_elements=False) + b"\n"
+
+
+class ReplyWriter:
+    """Who writes replies for a project."""
+
+    def __init__(self, catalogue: Catalogue, name: str, url: str):
+        self.catalogue, self.name, self.url = catalogue, name, url
+
+    def _begun(self, delay: int) -> Element:
+        """What each reply begins with."""
+        root = Element("scheduler_reply")
+        add(root, "scheduler_version", SCHEDULER_VERSION)
+        add(root, "master_url", self.url)
+        add(root, "project_name", self.name)
+        add(root, "request_delay", f"{delay:.6f}")
+        return root
+
+    def put_off(self, put: PutOff) -> bytes:
+        """The reply to a request that is put off. It acknowledges nothing, so the client loses nothing."""
+        root = self._begun(put.delay)
+        add_message(root, put.message, put.priority)
+        if put.is_down:
+            add(root, "project_is_down", 1)
+        return written(root)
+
+    def reply(self, request: ClientRequest, reply: Reply) -> bytes:
+        """The reply to a request. A client that has a hostid would take another for a sign that it was copied."""
+        root = self._begun(reply.request_delay)
+        add(root, "user_name", reply.user_name)
+        add(root, "user_total_credit", f"{reply.user_total_credit / MILLICREDITS:.3f}")
+        add(root, "host_total_credit", f"{reply.host_total_credit / MILLICREDITS:.3f}")
+        if request.hostid == 0:
+            add(root, "hostid", reply.hostid)
+        for what, names in (("result_ack", reply.result_ack), ("result_abort", reply.result_abort)):
+            for name in names:
+                add(SubElement(root, what), "name", name)
+        self._add_key(root, request.code_sign_key)
+        self._add_jobs(root, request, reply.results)
+        if request.work_req_seconds and not reply.results:
+            add_message(root, NO_JOBS.get(reply.end_word, NO_JOBS["no_eligible_work"]), "low")
+        return written(root)
+
+    def _add_key(self, root: Element, has: str) -> None:
+        """Adds the code signing key for a client that has none: one that has a key takes it for a change of the key."""
+        if not has:
+            add(root, "code_sign_key", "\n" + self.catalogue.code_sign_key)
+        elif has != "".join(self.catalogue.code_sign_key.split()):
+            add_message(root, KEY_CHANGED, "notice")
+
+    # ---- Jobs
+
+    def _add_jobs(self, root: Element, request: ClientRequest, jobs: list[Job]) -> None:
+        """Adds the jobs with all that they need, each application, version and file once."""
+        apps: dict[str, App] = {}
+        versions: dict[tuple[str, str, int], Version] = {}
+        files: dict[str, tuple[StoredFile, str | None, bool]] = {}  # with the signature, and whether it is a program
+        sent: list[tuple[Job, App, Work]] = []
+        for job in jobs:
+            try:
+                sent.append((job, *self._needs(job, apps, versions, files)))
+            except MissingFile as missing:
+                # without an entry in the client's next list of what it has, it comes again
+                log.error("job %s is not handed on: %s is not in the catalogue or not there", job.name, missing)
+                add_message(root, f"The project lacks a file for the job {job.name}.", "low")
+        for app in apps.values():
+            self._add_app(root, app)
+        for file, signature, is_program in files.values():
+            self._add_file(root, file, signature, is_program)
+        for version in versions.values():
+            self._add_version(root, version, request)
+        workunits = set()
+        for job, app, work in sent:
+            if job.wu_name not in workunits:
+                workunits.add(job.wu_name)
+                self._add_workunit(root, job, app, work, request)
+        for job, _, _ in sent:
+            self._add_result(root, job)
+
+    def _needs(self, job: Job, apps: dict, versions: dict, files: dict) -> tuple[App, Work]:
+        """The application of a job and its work; what it needs is put to what is told already."""
+        key = job.app_name, job.platform, job.version_num
+        app, version = self.catalogue.apps.get(job.app_name), self.catalogue.versions.get(key)
+        if app is None or version is None:
+            raise MissingFile(f"version {job.version_num} of {job.app_name} for {job.platform}")
+        work = self.catalogue.work(app, job.wu_name)
+        inputs = [self.catalogue.folder.stored(file.name) for file in work.input_files]
+        apps[app.name], versions[key] = app, version
+        for item in version.files:
+            files[item.file.name] = item.file, item.signature, item.is_main_program
+        for file in inputs:
+            files.setdefault(file.name, (file, None, False))
+        return app, work
+
+    def _add_app(self, root: Element, app: App) -> None:
+        """Adds an application."""
+        element = SubElement(root, "app")
+        add(element, "name", app.name)
+        add(element, "user_friendly_name", app.title)
+
+    def _add_file(self, root: Element, file: StoredFile, signature: str | None, is_program: bool) -> None:
+        """Adds a file that the client downloads."""
+        element = SubElement(root, "file_info")
+        add(element, "name", file.name)
+        add(element, "url", f"{self.url}download/{file.name}")
+        if is_program:
+            add(element, "executable", 1)
+        if signature is not None:
+            add(element, "file_signature", "\n" + signature)
+        add(element, "nbytes", file.size)
+        add(element, "md5_cksum", file.md5)
+
+    def _add_version(self, root: Element, version: Version, request: ClientRequest) -> None:
+        """Adds a version; its speed is the one that the client told, so that both reckon alike."""
+        element = SubElement(root, "app_version")
+        add(element, "app_name", version.app)
+        add(element, "version_num", version.number)
+        add(element, "platform", version.platform)
+        add(element, "avg_ncpus", 1)
+        add(element, "flops", request.p_fpops)
+        for item in version.files:
+            reference = SubElement(element, "file_ref")
+            add(reference, "file_name", item.file.name)
+            if item.open_name is not None:
+                add(reference, "open_name", item.open_name)
+                add(reference, "copy_file", 1)
+            if item.is_main_program:
+                add(reference, "main_program", 1)
+
+    def _add_workunit(self, root: Element, job: Job, app: App, work: Work, request: ClientRequest) -> None:
+        """Adds a workunit. Its operations are those of bsched's estimate for this client, to a second."""
+        element = SubElement(root, "workunit")
+        operations = job.estimate * request.p_fpops
+        add(element, "name", job.wu_name)
+        add(element, "app_name", job.app_name)
+        add(element, "rsc_fpops_est", operations)
+        add(element, "rsc_fpops_bound", operations * app.fpops_bound_factor)
+        add(element, "rsc_memory_bound", app.rsc_memory_bound)
+        add(element, "rsc_disk_bound", app.rsc_disk_bound)
+        if work.command_line:
+            add(element, "command_line", work.command_line)
+        for file in work.input_files:
+            reference = SubElement(element, "file_ref")
+            add(reference, "file_name", file.name)
+            add(reference, "open_name", file.open_name)
+            add(reference, "copy_file", 1)
+
+    def _add_result(self, root: Element, job: Job) -> None:
+        """Adds a result, which is a job."""
+        element = SubElement(root, "result")
+        add(element, "name", job.name)
+        add(element, "wu_name", job.wu_name)
+        add(element, "platform", job.platform)
+        add(element, "version_num", job.version_num)
+        add(element, "report_deadline", job.report_deadline)

@@ -1,0 +1,208 @@
+"""What the XML of a scheduler_request says (BOINC's documentation, "Scheduler RPC protocol").
+
+The elements become what the profile takes, as the table in 'Writing a bridge' of docs/PROFILE.md has it: decimals become
+whole numbers, and what is longer than the profile takes is cut. XML is read by defusedxml, which refuses entities and
+document types.
+"""
+import re
+from dataclasses import dataclass
+from decimal import Decimal, InvalidOperation
+from xml.etree.ElementTree import Element, ParseError
+
+from defusedxml import DefusedXmlException, ElementTree
+
+from .words import cut_to_bytes, is_word, xml_text
+
+MOST_BYTES = 16 * 1024 * 1024  # of a request; a result brings at most 64 KB of standard error
+MOST_TAGS = 800_000  # at the begin and the end of elements: so many elements take some 40 MB
+MOST_NUMBER = 10**18
+MOST_SECONDS = 10**9
+MOST_PLATFORMS = 7
+MOST_OUTPUT = 1024
+MOST_NAME = 254
+FINISHED = 5  # the client's state of a result that ended well (RESULT_FILES_UPLOADED)
+LEAST_STATUS, MOST_STATUS = -(2**31), 2**31 - 1
+WITHOUT_STATUS = 1  # the exit status that is told of a result that did not end well, and has none
+
+# The client puts what a program wrote to its standard error between these, and lines of its own before them. It stands in a
+# section CDATA as it was written, but for bytes beyond ASCII: each is written as the reference of a character.
+STANDARD_ERROR = re.compile(r"<stderr_txt>(.*)</stderr_txt>", re.DOTALL)
+BYTE = re.compile(rb"&#(12[89]|1[3-9][0-9]|2[0-4][0-9]|25[0-5]);")
+SECTION_BEGINS, SECTION_ENDS, ERROR_ENDS = "<![CDATA[", "]]>", "</stderr_out>"
+# A program may mark its answer, where something else writes to its standard error too.
+ANSWER = re.compile(r"<answer>(.*?)</answer>", re.DOTALL)
+
+
+class RequestFault(Exception):
+    """A request can't be read; its text tells a volunteer why."""
+
+
+@dataclass(frozen=True, slots=True)
+class Report:
+    """A result that the client has finished."""
+
+    name: str
+    exit_status: int
+    output: str
+
+
+@dataclass(frozen=True, slots=True)
+class ClientRequest:
+    """A request, within the ranges of the profile."""
+
+    authenticator: str
+    hostid: int  # the number that the client was given, or 0
+    host_cpid: str
+    p_fpops: int
+    m_nbytes: int
+    d_free: int
+    platform_name: str
+    alt_platforms: tuple[str, ...]
+    work_req_seconds: int
+    other_results: tuple[str, ...] | None  # None where the client tells nothing of what it has
+    results: tuple[Report, ...]
+    code_sign_key: str  # the key that the client has, without blanks and ends of lines; empty where it has none
+
+
+# ---- Elements
+
+
+def text_of(parent: Element, path: str) -> str | None:
+    """The text of the last element at a path, without blanks around it; none where no element stands."""
+    found = parent.findall(path)
+    return (found[-1].text or "").strip() if found else None
+
+
+def decimal_of(parent: Element, path: str) -> Decimal | None:
+    """The decimal number of an element; none where it is absent."""
+    text = text_of(parent, path)
+    if text is None:
+        return None
+    try:
+        number = Decimal(text)
+    except InvalidOperation:
+        number = Decimal("nan")
+    if number.is_nan():
+        raise RequestFault(f"{path} is not a number")
+    return number
+
+
+def whole_of(parent: Element, path: str, least: int, most: int, absent: int, up: bool = False) -> int:
+    """The whole number of an element, rounded down or up, and the nearest one within a range."""
+    number = decimal_of(parent, path)
+    if number is None:
+        return absent
+    if number <= least:
+        return least
+    if number >= most:
+        return most
+    whole = int(number)
+    return whole + (up and whole < number)
+
+
+def word_of(parent: Element, path: str) -> str:
+    """The word of an element that has to stand."""
+    word = text_of(parent, path)
+    if not is_word(word):
+        raise RequestFault(f"{path} is missing, or is not 1 to 64 letters, digits, '_', '-' and '.'")
+    return word
+
+
+def is_result_name(name: str | None) -> bool:
+    """Whether a text can be told as the name of a result."""
+    return name is not None and 1 <= len(name.encode()) <= MOST_NAME
+
+
+# ---- Results
+
+
+def with_whole_sections(text: str) -> str:
+    """The text of a request in which no standard error ends its section: the client does not look whether `]]>` stands in it."""
+    parts = text.split(ERROR_ENDS)
+    for index, part in enumerate(parts):
+        begins = part.find(SECTION_BEGINS) + len(SECTION_BEGINS)
+        ends = part.rfind(SECTION_ENDS)
+        if len(SECTION_BEGINS) <= begins <= ends and SECTION_ENDS in part[begins:ends]:
+            inner = part[begins:ends].replace(SECTION_ENDS, f"]]{SECTION_ENDS}{SECTION_BEGINS}>")
+            parts[index] = part[:begins] + inner + part[ends:]
+    return ERROR_ENDS.join(parts)
+
+
+def with_bytes(text: str) -> str:
+    """A standard error with its bytes beyond ASCII; where these are no UTF-8 they are replaced."""
+    return BYTE.sub(lambda told: bytes([int(told[1])]), text.encode()).decode(errors="replace")
+
+
+def output_of(result: Element) -> str:
+    """What a program wrote to its standard error, without blanks around it, or what it marked of that as its answer."""
+    told = result.find("stderr_out")
+    if told is None:
+        return ""
+    text = "".join([told.text or "", *(part.tail or "" for part in told)])
+    if inner := STANDARD_ERROR.search(text):
+        text = inner[1]
+    if marked := ANSWER.search(text):
+        text = marked[1]
+    return cut_to_bytes(with_bytes(text).strip(), MOST_OUTPUT)
+
+
+def report_of(result: Element) -> Report | None:
+    """The report of a finished result; none where its name can't be one."""
+    name = text_of(result, "name")
+    if not is_result_name(name):
+        return None
+    status = whole_of(result, "exit_status", LEAST_STATUS, MOST_STATUS, 0)
+    state = whole_of(result, "state", 0, 100, 0)
+    if status == 0 and state != FINISHED:
+        status = WITHOUT_STATUS
+    return Report(name, status, output_of(result))
+
+
+# ---- The request
+
+
+def element_of(body: bytes) -> Element:
+    """The element of a request.
+
+    What a program wrote to its standard error may have characters that XML has no place for, and `]]>`; the client sends it
+    as it is, so these are replaced before the XML is read.
+    """
+    if len(body) > MOST_BYTES:
+        raise RequestFault("the request is too long")
+    if body.count(b"<") > MOST_TAGS:
+        raise RequestFault("the request has too many elements")
+    try:
+        text = with_whole_sections(xml_text(body.decode(errors="replace")))
+        root = ElementTree.fromstring(text.encode(), forbid_dtd=True)
+    except ParseError as error:
+        raise RequestFault(f"incomplete or faulty XML: {error}") from None
+    except DefusedXmlException:
+        raise RequestFault("XML with a document type or entities is not taken") from None
+    if root.tag != "scheduler_request":
+        raise RequestFault("the XML is no scheduler_request")
+    return root
+
+
+def read_request(body: bytes) -> ClientRequest:
+    """The request of a body; a RequestFault where it is none."""
+    root = element_of(body)
+    has = root.find("other_results")
+    other = None
+    if has is not None:
+        told = (text_of(item, "name") for item in has.findall("other_result"))
+        other = tuple(filter(is_result_name, told))
+    alternatives = filter(is_word, (text_of(item, "name") for item in root.findall("alt_platform")))
+    return ClientRequest(
+        authenticator=word_of(root, "authenticator"),
+        hostid=whole_of(root, "hostid", 0, 2**31 - 1, 0),
+        host_cpid=word_of(root, "host_info/host_cpid"),
+        p_fpops=whole_of(root, "host_info/p_fpops", 1, MOST_NUMBER, 1),
+        m_nbytes=whole_of(root, "host_info/m_nbytes", 0, MOST_NUMBER, 0),
+        d_free=whole_of(root, "host_info/d_free", 0, MOST_NUMBER, 0),
+        platform_name=word_of(root, "platform_name"),
+        alt_platforms=tuple(alternatives)[:MOST_PLATFORMS],
+        work_req_seconds=whole_of(root, "work_req_seconds", 0, MOST_SECONDS, 0, up=True),
+        other_results=other,
+        results=tuple(filter(None, map(report_of, root.findall("result")))),
+        code_sign_key="".join((text_of(root, "code_sign_key") or "").split()),
+    )

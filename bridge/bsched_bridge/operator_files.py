@@ -1,0 +1,127 @@
+"""TOML files that an operator writes: each fault is told with its line."""
+import re
+import tomllib
+from bisect import bisect_right
+from pathlib import Path
+from typing import Any, NoReturn
+
+from .words import is_word
+
+TABLE = re.compile(r"[ \t]*\[\[?[ \t]*([A-Za-z0-9_-]+)[ \t]*\]\]?")
+
+
+class OperatorFault(Exception):
+    """A fault in a file that an operator wrote."""
+
+    def __init__(self, path: Path, line: int | None, what: str):
+        where = f"{path}: " if line is None else f"{path}: line {line}: "
+        super().__init__(where + what)
+
+
+class Entry:
+    """A table of such a file: its members are taken one after the other, and what is left over is a fault."""
+
+    def __init__(self, path: Path, members: dict[str, Any], lines: list[str], first: int, last: int):
+        self.path, self.members, self.untaken = path, members, set(members)
+        self._lines, self._first, self._last = lines, first, last
+
+    def line(self, member: str | None = None) -> int:
+        """The line on which a member stands, or the one on which the entry begins."""
+        if member is not None:
+            begins = re.compile(rf"[ \t]*[\"']?{re.escape(member)}[\"']?[ \t]*=")
+            for number in range(self._first, self._last + 1):
+                if begins.match(self._lines[number - 1]):
+                    return number
+        return self._first
+
+    def fault(self, what: str, member: str | None = None) -> NoReturn:
+        """Tells a fault of a member, or of the whole entry."""
+        raise OperatorFault(self.path, self.line(member), what)
+
+    def taken(self, member: str, kind: type, kind_name: str, default: Any = ...) -> Any:
+        """The value of a member, of a kind; without a default the member has to stand."""
+        self.untaken.discard(member)
+        value = self.members.get(member, default)
+        if value is ...:
+            self.fault(f"{member} is missing")
+        if value is not default and type(value) is not kind:
+            self.fault(f"{member} is not {kind_name}", member)
+        return value
+
+    def text(self, member: str, default: Any = ...) -> str:
+        """A text."""
+        return self.taken(member, str, "a text in quotes", default)
+
+    def word(self, member: str) -> str:
+        """A word: 1 to 64 letters, digits, `_`, `-` and `.`."""
+        value = self.text(member)
+        if not is_word(value):
+            self.fault(f"{member} is not 1 to 64 letters, digits, '_', '-' and '.'", member)
+        return value
+
+    def whole(self, member: str, least: int, most: int, default: Any = ...) -> int:
+        """A whole number within a range."""
+        value = self.taken(member, int, "a whole number", default)
+        if value is not default and not least <= value <= most:
+            self.fault(f"{member} is not within {least} to {most}", member)
+        return value
+
+    def entries(self, member: str, default: Any = ...) -> list["Entry"]:
+        """The tables of an array that stands in one member."""
+        value = self.taken(member, list, "an array", default)
+        if not all(isinstance(item, dict) for item in value):
+            self.fault(f"{member} is not an array of tables {{ .. }}", member)
+        line = self.line(member)
+        return [Entry(self.path, item, self._lines, line, line) for item in value]
+
+    def existing(self, member: str, default: Any = ...) -> Path:
+        """The path of something that stands, relative to the folder of this file."""
+        path = self.path.parent / self.text(member, default)
+        if not path.exists():
+            self.fault(f"{member}: {path} does not stand", member if member in self.members else None)
+        return path
+
+    def end(self) -> None:
+        """No further members may stand."""
+        if self.untaken:
+            member = min(self.untaken, key=self.line)
+            self.fault(f"{member} is not known here", member)
+
+
+class OperatorFile(Entry):
+    """The whole file; the members before the first table are its own."""
+
+    def __init__(self, path: Path):
+        try:
+            text = path.read_text(encoding="utf-8")
+            members = tomllib.loads(text)
+        except OSError as error:
+            raise OperatorFault(path, None, error.strerror or "can't be read") from None
+        except UnicodeDecodeError as error:
+            line = error.object.count(b"\n", 0, error.start) + 1
+            raise OperatorFault(path, line, "is not UTF-8") from None
+        except tomllib.TOMLDecodeError as error:
+            raise OperatorFault(path, None, f"is not TOML: {error}") from None  # it tells line and column
+        lines = text.split("\n")
+        self._tables = [(match[1], number) for number, line in enumerate(lines, 1) if (match := TABLE.match(line))]
+        own = self._tables[0][1] - 1 if self._tables else len(lines)
+        super().__init__(path, members, lines, 1, max(own, 1))
+
+    def line(self, member: str | None = None) -> int:
+        """The line on which a member stands, be it a table."""
+        return next((line for name, line in self._tables if name == member), super().line(member))
+
+    def tables(self, name: str) -> list[Entry]:
+        """The tables under the headers `[[name]]`, each with its lines."""
+        self.untaken.discard(name)
+        found = self.members.get(name, [])
+        if not isinstance(found, list) or not all(isinstance(item, dict) for item in found):
+            self.fault(f"{name} is not a row of tables [[{name}]]", name)
+        begins = [line for told, line in self._tables if told == name]
+        if len(begins) != len(found):  # written in another way, such as one array of tables
+            begins = [self.line(name)] * len(found)
+        headers = [line for _, line in self._tables] + [len(self._lines) + 1]
+        return [
+            Entry(self.path, members, self._lines, first, headers[bisect_right(headers, first)] - 1)
+            for members, first in zip(found, begins)
+        ]

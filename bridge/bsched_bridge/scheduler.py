@@ -1,0 +1,129 @@
+"""The connection to bsched, and what its answers say (docs/PROFILE.md, "The reply", "Refusals" and "HTTP messages")."""
+import http.client
+import json
+import logging
+import time
+from dataclasses import dataclass, field
+from typing import Any
+
+from .settings import Address
+
+ATTEMPTS = 3
+PAUSE_SECONDS = 0.5  # between attempts
+UNAVAILABLE = "unavailable"
+NO_HOST = 2**31 - 1  # no host has this number: there are at most 100,000
+MOST_ANSWER = 16 * 1024 * 1024
+
+log = logging.getLogger(__name__)
+
+
+class NoAnswer(Exception):
+    """bsched gave no answer, or was unavailable. What was sent may have been acted on, and is sent again as it was."""
+
+
+@dataclass(frozen=True, slots=True)
+class Job:
+    """A job of a reply."""
+
+    name: str
+    wu_name: str
+    app_name: str
+    platform: str
+    version_num: int
+    estimate: int
+    report_deadline: int
+    resent: bool
+
+
+@dataclass(frozen=True, slots=True)
+class Reply:
+    """A reply to a call."""
+
+    hostid: int
+    user_name: str
+    user_total_credit: int
+    host_total_credit: int
+    request_delay: int
+    end_word: str
+    result_ack: list[str]
+    result_abort: list[str]
+    results: list[Job]
+    rpc_seqno: int
+
+
+@dataclass(frozen=True, slots=True)
+class Refusal:
+    """A refusal, by the name of its error, with what it tells beside."""
+
+    error: str
+    members: dict[str, Any] = field(default_factory=dict)
+
+
+def read_reply(said: dict[str, Any]) -> Reply:
+    """The reply of a JSON object."""
+    return Reply(**{**said, "results": [Job(**job) for job in said["results"]]})
+
+
+class Scheduler:
+    """Who sends messages to bsched. Each message has a connection of its own, as bsched wants it."""
+
+    def __init__(self, address: Address, answer_seconds: int):
+        self.address, self.answer_seconds = address, answer_seconds
+
+    def message(self, method: str, path: str, body: bytes | None = None, fields: dict[str, str] | None = None) -> tuple[int, bytes]:
+        """The status and the body of the answer to a message."""
+        connection = http.client.HTTPConnection(self.address.host, self.address.port, timeout=self.answer_seconds)
+        try:
+            connection.request(method, path, body, fields or {})
+            response = connection.getresponse()
+            told = response.read(MOST_ANSWER)
+        except (OSError, http.client.HTTPException) as error:
+            raise NoAnswer(str(error) or type(error).__name__) from None
+        finally:
+            connection.close()
+        return response.status, told
+
+    def call_once(self, body: bytes) -> Reply | Refusal:
+        """The answer to a call."""
+        status, told = self.message("POST", "/scheduler", body, {"content-type": "application/json"})
+        try:
+            said = json.loads(told)
+            if status == 200:
+                return read_reply(said)
+            error = said.pop("error")
+        except (ValueError, KeyError, TypeError, AttributeError):
+            raise NoAnswer(f"status {status} with a body that is no answer of bsched") from None
+        if error == UNAVAILABLE or status >= 500:
+            raise NoAnswer(error)
+        return Refusal(error, said)
+
+    def call(self, body: bytes) -> Reply | Refusal:
+        """The answer to a call; where none comes, the same bytes are sent again, a few times and within a bounded time."""
+        ends = time.monotonic() + self.answer_seconds
+        for attempt in range(1, ATTEMPTS + 1):
+            try:
+                return self.call_once(body)
+            except NoAnswer as failure:
+                log.warning("no answer of bsched at %s:%d: %s", self.address.host, self.address.port, failure)
+                if attempt == ATTEMPTS or time.monotonic() > ends:
+                    raise
+            time.sleep(PAUSE_SECONDS)
+        raise AssertionError("the last attempt returns or raises")
+
+    def statement(self, hostid: int, operator_key: str) -> str | None:
+        """The statement of a host; none where bsched refuses it."""
+        status, told = self.message("GET", f"/hosts/{hostid}", None, {"x-operator-key": operator_key})
+        return told.decode(errors="replace") if status == 200 else None
+
+    def has_account(self, authenticator: str) -> bool:
+        """Whether an account stands.
+
+        It is asked by a call that changes nothing: one of a host that has another number than the call tells is refused as
+        bad_host, and that comes behind the look for the account.
+        """
+        record = {
+            "authenticator": authenticator, "hostid": NO_HOST, "rpc_seqno": 0, "platform_name": "none",
+            "host_info": {"host_cpid": "none", "p_fpops": 1, "m_nbytes": 0, "d_free": 0},
+        }
+        answer = self.call_once(json.dumps(record).encode())
+        return isinstance(answer, Refusal) and answer.error == "bad_host"

@@ -1,0 +1,117 @@
+"""What the tests share: a bsched that can lose answers, and a bridge before it."""
+import io
+import sys
+from pathlib import Path
+
+import pytest
+
+sys.dont_write_bytecode = True
+BRIDGE = Path(__file__).resolve().parent.parent
+sys.path[:0] = [str(BRIDGE), str(BRIDGE.parent / "bench"), str(BRIDGE / "tests")]
+
+from twin import Twin  # noqa: E402
+
+from bsched_bridge.application import Application  # noqa: E402
+from bsched_bridge.catalogue import read_catalogue  # noqa: E402
+from bsched_bridge.code_signing import file_md5, new_key, public_key_text, signature_text  # noqa: E402
+from bsched_bridge.counts import Counts  # noqa: E402
+from bsched_bridge.scheduler import Scheduler  # noqa: E402
+from bsched_bridge.settings import read_settings  # noqa: E402
+
+CATALOGUE = """\
+code_sign_key = "key"
+files = "files"
+
+[[app]]
+name = "sum"
+title = "Sums & more"
+command_line = "--name {workunit}"
+
+[[version]]
+app = "sum"
+platform = "x86_64-pc-linux-gnu"
+version_num = 1
+files = [{ name = "sum_1", signature = "sum_1.signature", main_program = true }]
+
+[[workunit]]
+name = "u2"
+command_line = "--two <2>"
+input_files = [{ name = "two.txt", open_name = "numbers" }]
+"""
+
+
+@pytest.fixture(scope="session")
+def key():
+    """A code signing key."""
+    return new_key()
+
+
+@pytest.fixture
+def project(tmp_path, key):
+    """A folder with the files of a bridge."""
+    (tmp_path / "files").mkdir()
+    (tmp_path / "files" / "sum_1").write_text("#!/bin/sh\n")
+    (tmp_path / "files" / "two.txt").write_text("2\n")
+    (tmp_path / "key").write_text(public_key_text(key.public_key()))
+    (tmp_path / "sum_1.signature").write_text(signature_text(file_md5(tmp_path / "files" / "sum_1"), key))
+    (tmp_path / "catalogue.toml").write_text(CATALOGUE)
+    (tmp_path / "bridge.toml").write_text(
+        'name = "Sums"\nurl = "http://127.0.0.1:8081/p/"\nlisten = "127.0.0.1:8081"\nscheduler = "127.0.0.1:8080"\n'
+        'operator_key = "change-this-key"\ncatalogue = "catalogue.toml"\nstate = "bridge.db"\n'
+    )
+    return tmp_path
+
+
+@pytest.fixture
+def twin():
+    """A bsched: the plain twin behind HTTP."""
+    served = Twin()
+    yield served
+    served.close()
+
+
+class Bridge:
+    """A bridge that can be stopped and started again."""
+
+    def __init__(self, folder: Path, twin: Twin):
+        self.folder, self.twin = folder, twin
+        self.start()
+
+    def start(self) -> None:
+        """Starts it over what its file has."""
+        settings = read_settings(self.folder / "bridge.toml")
+        self.counts = Counts(settings.state)
+        scheduler = Scheduler(self.twin.address, answer_seconds=2)
+        self.application = Application(settings, read_catalogue(settings.catalogue), self.counts, scheduler)
+
+    def restart(self) -> None:
+        """What a stop leaves is what is on the disk."""
+        self.counts.close()
+        self.start()
+
+    def got(self, path: str, method: str = "GET", body: bytes = b"", **more: str) -> tuple[str, dict[str, str], bytes]:
+        """The status, the fields and the body of an answer."""
+        path, _, query = path.partition("?")
+        environ = {
+            "REQUEST_METHOD": method, "PATH_INFO": path, "QUERY_STRING": query, "wsgi.input": io.BytesIO(body),
+            "CONTENT_LENGTH": str(len(body)) if method == "POST" else "", **more,
+        }
+        told = []
+        blocks = self.application(environ, lambda status, fields: told.append((status, dict(fields))))
+        body = b"".join(blocks)
+        return *told[0], body
+
+    def call(self, body: bytes | str) -> bytes:
+        """The reply to a scheduler_request."""
+        status, _, told = self.got("/p/cgi", "POST", body.encode() if isinstance(body, str) else body)
+        assert status == "200 OK"
+        return told
+
+
+@pytest.fixture
+def bridge(project, twin, monkeypatch):
+    """A bridge before the twin."""
+    monkeypatch.setattr("bsched_bridge.scheduler.PAUSE_SECONDS", 0.0)
+    made = Bridge(project, twin)
+    yield made
+    made.counts.close()

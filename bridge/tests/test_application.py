@@ -1,0 +1,168 @@
+"""The pages, the downloads, and what is no message to the bridge."""
+import xml.etree.ElementTree as ElementTree
+
+import pytest
+from messages import jobs, names, request, value
+
+from bsched_bridge import client_requests
+
+
+def test_the_master_page_has_both_forms(bridge):
+    status, fields, body = bridge.got("/p/")
+    assert (status, fields["Content-Type"]) == ("200 OK", "text/html; charset=utf-8")
+    lines = body.decode().split("\n")
+    assert "<scheduler>http://127.0.0.1:8081/p/cgi</scheduler>" in lines
+    assert '<link rel="boinc_scheduler" href="http://127.0.0.1:8081/p/cgi">' in lines
+
+
+def test_the_pages_of_an_attach(bridge):
+    config = ElementTree.fromstring(bridge.got("/p/get_project_config.php")[2])
+    assert config.findtext("name") == "Sums"
+    assert config.findtext("master_url") == "http://127.0.0.1:8081/p/"
+    assert config.findtext("platforms/platform/platform_name") == "x86_64-pc-linux-gnu"
+    for member in ("authenticator", "email_addr"):
+        told = bridge.got(f"/p/lookup_account.php?{member}=ann-key&passwd_hash=00")[2]
+        assert ElementTree.fromstring(told).findtext("authenticator") == "ann-key"
+    for query in ("?authenticator=nobody", "?authenticator=a%20b", "?email_addr=", ""):
+        told = ElementTree.fromstring(bridge.got(f"/p/lookup_account.php{query}")[2])
+        assert (told.tag, told.findtext("error_num")) == ("error", "-136")
+    assert bridge.twin.service.machine.hosts == {}  # asking makes no host
+    bridge.twin.close()
+    assert ElementTree.fromstring(bridge.got("/p/lookup_account.php?authenticator=ann-key")[2]).findtext("error_num") == "-183"
+
+
+def test_the_status_page(bridge):
+    bridge.call(request())
+    page = bridge.got("/p/status")[2].decode()
+    assert "<td>Ann</td><td>0.000</td>" in page
+    assert "<td>1</td><td>1</td><td>1</td><td>2</td>" in page  # out, waiting, done, failed
+    bridge.call(request(key="bob-key", cpid="c2"))
+    assert "Bob" not in bridge.got("/p/status")[2].decode()  # it is not read anew for each look
+
+
+def test_users_of_one_name_are_two(bridge):
+    bridge.twin.service.imported("accounts", "second", "authenticator,name\nann-two,Ann\n")
+    bridge.call(request())
+    bridge.call(request(key="ann-two", cpid="c2"))
+    page = bridge.got("/p/status")[2].decode()
+    assert page.count("<td>Ann</td><td>0.000</td>") == 2
+    assert "ann-two" not in page
+
+
+def test_the_status_page_of_no_hosts(bridge):
+    assert "for the 0 hosts" in bridge.got("/p/status")[2].decode()
+
+
+def test_the_status_page_without_statements(bridge):
+    bridge.call(request())
+    bridge.twin.close()
+    page = bridge.got("/p/status")[2].decode()
+    assert "Ann" in page
+    assert "waiting" not in page
+
+
+def test_a_reply_has_all_that_a_client_needs(bridge):
+    bridge.call(request(seconds=61))
+    reply = ElementTree.fromstring(bridge.call(request(seconds=61)))
+    assert [job.findtext("name") for job in reply.findall("result")] == ["u1_0", "u2_0"]
+    assert reply.findtext("app/user_friendly_name") == "Sums & more"
+    program, data = reply.findall("file_info")
+    assert program.findtext("url") == "http://127.0.0.1:8081/p/download/sum_1"
+    assert (program.findtext("nbytes"), program.findtext("executable")) == ("10", "1")
+    assert program.findtext("file_signature").strip().endswith("\n.")
+    assert (data.findtext("name"), data.findtext("nbytes")) == ("two.txt", "2")
+    assert data.findtext("md5_cksum") == "26ab0db90d72e28ad0ba1e22ee510510"
+    assert data.find("file_signature") is None
+    version = reply.find("app_version")
+    assert (version.findtext("version_num"), version.findtext("file_ref/main_program")) == ("1", "1")
+    one, two = reply.findall("workunit")
+    assert (one.findtext("command_line"), two.findtext("command_line")) == ("--name u1", "--two <2>")
+    assert (one.findtext("rsc_fpops_est"), one.findtext("rsc_fpops_bound")) == ("60000000000", "600000000000")
+    assert two.findtext("file_ref/open_name") == "numbers"
+    assert reply.findtext("code_sign_key").strip() == (bridge.folder / "key").read_text().strip()
+
+
+def test_the_key_is_told_to_a_client_that_has_none(bridge):
+    key = (bridge.folder / "key").read_text()
+    reply = bridge.call(request(extra=f"<code_sign_key>\n{key}\n</code_sign_key>\n"))
+    assert b"code_sign_key" not in reply
+    reply = bridge.call(request(extra="<code_sign_key>\n1024\n00\n.\n</code_sign_key>\n"))
+    assert b"<code_sign_key>" not in reply
+    assert "changed its code signing key" in value(reply, "message")
+
+
+def test_a_job_whose_file_is_gone_comes_again(bridge):
+    (bridge.folder / "files" / "two.txt").unlink()
+    reply = bridge.call(request(seconds=61))
+    assert jobs(reply) == ["u1_0"]
+    assert b"lacks a file for the job u2_0" in reply
+    (bridge.folder / "files" / "two.txt").write_text("2\n")
+    assert jobs(bridge.call(request(hostid=1, listed=["u1_0"], seconds=0))) == ["u2_0"]
+
+
+def test_a_name_of_any_characters(bridge):
+    bridge.twin.service.imported("accounts", "second", 'authenticator,name\ncid,"<C> &\x01\n\U0001f600"\n')
+    reply = bridge.call(request(key="cid"))
+    assert ElementTree.fromstring(reply).findtext("user_name") == "<C> &\ufffd\n\U0001f600"
+    assert "&lt;C&gt; &amp;" in bridge.got("/p/status")[2].decode()
+
+
+@pytest.mark.parametrize("end_word, told", [("no_eligible_work", "No tasks are available"), ("in_progress_limit", "limit on tasks")])
+def test_why_there_are_no_jobs(bridge, end_word, told):
+    listed = []
+    for _ in range(8):
+        reply = bridge.call(request(hostid=int(bool(listed)), listed=listed, seconds=1000))
+        if not jobs(reply):
+            break
+        listed += jobs(reply)
+        if end_word == "no_eligible_work":
+            bridge.call(request(hostid=1, listed=[], reports=[(name, "1") for name in listed], seconds=0))
+            listed = []
+    assert told in value(reply, "message")
+
+
+def test_aborted_names_are_told(bridge):
+    assert names(bridge.call(request(listed=["strange_0"])), "result_abort") == ["strange_0"]
+
+
+@pytest.mark.parametrize("body, why", [(b"", "incomplete or faulty XML"), (b"<a", "incomplete"), (b"<a/>", "no scheduler_request")])
+def test_a_faulty_request_gets_a_reply(bridge, body, why):
+    reply = bridge.call(body)
+    assert why in value(reply, "message")
+    assert value(reply, "request_delay") == "3600.000000"
+    assert bridge.twin.heard == []
+
+
+def test_what_is_no_message(bridge, monkeypatch):
+    assert bridge.got("/")[0] == "404 Not Found"
+    assert bridge.got("/p/nothing")[0] == "404 Not Found"
+    assert bridge.got("/p/cgi")[:2] == ("405 Method Not Allowed", {
+        "Content-Type": "text/plain; charset=utf-8", "Content-Length": "19", "Allow": "POST",
+    })
+    assert bridge.got("/p/", "POST")[0] == "405 Method Not Allowed"
+    assert bridge.got("/p/cgi", "POST", CONTENT_LENGTH="")[0] == "411 Length Required"
+    assert bridge.got("/p/cgi", "POST", CONTENT_LENGTH="-1")[0] == "411 Length Required"
+    assert bridge.got("/p/cgi", "POST", b"short", CONTENT_LENGTH="9")[0] == "400 Bad Request"
+    assert bridge.got("/p/cgi", "POST", CONTENT_LENGTH=str(client_requests.MOST_BYTES + 1))[0] == "413 Content Too Large"
+    assert bridge.got("/p/", "HEAD")[2] == b""
+
+
+def test_a_fault_of_the_bridge_is_no_answer_to_a_client(bridge, monkeypatch):
+    monkeypatch.setattr(bridge.application.exchange, "answer", lambda _request: 1 // 0)
+    assert bridge.got("/p/cgi", "POST", request().encode())[0] == "500 Internal Server Error"
+
+
+def test_downloads(bridge):
+    status, fields, body = bridge.got("/p/download/sum_1")
+    assert (status, fields["Content-Length"], body) == ("200 OK", "10", b"#!/bin/sh\n")
+    status, fields, body = bridge.got("/p/download/sum_1", HTTP_RANGE="bytes=2-")
+    assert (status, fields["Content-Range"], body) == ("206 Partial Content", "bytes 2-9/10", b"/bin/sh\n")
+    assert bridge.got("/p/download/sum_1", HTTP_RANGE="bytes=10-")[0] == "416 Range Not Satisfiable"
+    assert bridge.got("/p/download/sum_1", HTTP_RANGE="bytes=-1")[2] == b"#!/bin/sh\n"
+    assert bridge.got("/p/download/sum_1", "HEAD")[2] == b""
+    assert bridge.got("/p/download/sum_1", "POST")[0] == "405 Method Not Allowed"
+
+
+@pytest.mark.parametrize("name", ["", "none", "../key", "..", ".", "/etc/passwd", "%2e%2e", "a/b", "sum_1/", "\x00"])
+def test_what_may_not_be_downloaded(bridge, name):
+    assert bridge.got(f"/p/download/{name}")[0] == "404 Not Found"

@@ -1,0 +1,146 @@
+"""What is read of XML, and what is refused."""
+import time
+from pathlib import Path
+
+import pytest
+from messages import request
+
+from bsched_bridge import client_requests
+from bsched_bridge.client_requests import Report, RequestFault, read_request
+
+RECORDED = Path(__file__).parent / "requests"
+
+
+def recorded(name):
+    return (RECORDED / f"{name}.xml").read_bytes()
+
+
+def test_a_first_request():
+    told = read_request(recorded("first"))
+    assert told.authenticator == "ann-key"
+    assert told.hostid == 0
+    assert told.host_cpid == "0fb84cfbc167689574d58ef96c0de1b7"
+    assert (told.p_fpops, told.m_nbytes, told.d_free) == (1_000_000_000, 25_276_080_128, 66_681_540_608)  # rounded down
+    assert told.work_req_seconds == 1  # rounded up
+    assert (told.platform_name, told.alt_platforms) == ("x86_64-pc-linux-gnu", ("i686-pc-linux-gnu",))
+    assert told.other_results == ()  # the client says that it has nothing
+    assert told.results == ()
+    assert told.code_sign_key == ""
+
+
+def test_reports_and_what_the_client_has():
+    told = read_request(recorded("reports"))
+    assert told.hostid == 1
+    assert told.other_results == ("sum_5_0", "sum_6_1")
+    assert told.results == (
+        Report("sum_1_0", 0, "500500"),
+        Report("sum_2_0", 1, "<message>\ncouldn't start app: missing file</message>"),  # not finished, so no success
+        Report("sum_3_0", 203, "half"),
+        Report("sum_4_0", 0, "-12"),  # what the program marked as its answer
+    )
+    assert told.code_sign_key == "102400ff."
+
+
+def test_no_list_and_numbers_out_of_range():
+    told = read_request(recorded("unlisted"))
+    assert told.other_results is None
+    assert (told.p_fpops, told.m_nbytes, told.d_free) == (1, 0, 10**18)
+    assert told.work_req_seconds == 0
+
+
+def test_more_than_the_profile_takes():
+    platforms = "".join(f"<alt_platform><name>p{number}</name></alt_platform>" for number in range(9))
+    told = read_request(request(seconds=1e12, extra=platforms, reports=[("u1_0", "é" * 600)]).encode())
+    assert told.work_req_seconds == 10**9
+    assert told.alt_platforms == tuple(f"p{number}" for number in range(7))
+    assert told.results[0].output == "é" * 512
+    assert read_request(request(reports=[("u1_0", "x" + "é" * 600)]).encode()).results[0].output == "x" + "é" * 511
+
+
+@pytest.mark.parametrize("output, read", [
+    (b"\xff\x01ok", "\ufffd\ufffdok"), (b"a &amp; <b>", "a &amp; <b>"), (b"", ""), ("smile \U0001f600".encode(), "smile \U0001f600"),
+    (b"&#195;&#169; &#65; &#256; &#1;", "é &#65; &#256; &#1;"), (b"&#255;", "\ufffd"),
+    (b"]]>", "]]>"), (b"a ]]> b ]]>]]> c", "a ]]> b ]]>]]> c"), (b"]]]>", "]]]>"), (b"<![CDATA[ x ]]>", "<![CDATA[ x ]]>"),
+    (b"]]>\n<name>u9_9</name>", "]]>\n<name>u9_9</name>"),
+])
+def test_standard_error_of_any_bytes(output, read):
+    body = request(reports=[("u1_0", "HERE")]).encode().replace(b"HERE", output)
+    assert read_request(body).results[0].output == read
+
+
+def test_each_result_has_its_own_standard_error():
+    body = request(reports=[("u1_0", "a ]]> b"), ("u2_0", "c"), ("u3_0", "]]>")])
+    assert [report.output for report in read_request(body.encode()).results] == ["a ]]> b", "c", "]]>"]
+
+
+def test_sections_are_looked_at_once():
+    part = b"<stderr_out><![CDATA["
+    began = time.monotonic()
+    for body in (part * 350_000, (part + b"]]>") * 350_000, (part + b"</stderr_out>") * 200_000):
+        with pytest.raises(RequestFault):
+            read_request(body)
+    assert time.monotonic() - began < 10
+
+
+@pytest.mark.parametrize("told, status", [
+    ("0</exit_status><state>5", 0), ("0</exit_status><state>3", 1), ("-9</exit_status><state>3", -9),
+    ("3221225477</exit_status><state>3", 2**31 - 1), ("7</exit_status><state>5", 7),
+])
+def test_exit_statuses(told, status):
+    body = request(reports=[("u1_0", "")]).replace("0</exit_status><state>5", told)
+    assert read_request(body.encode()).results[0].exit_status == status
+
+
+def test_a_result_that_can_have_no_name_is_passed_over():
+    assert read_request(request(reports=[("u" * 255, ""), ("u1_0", "")]).encode()).results == (Report("u1_0", 0, ""),)
+
+
+@pytest.mark.parametrize("name", ["first", "reports", "unlisted"])
+def test_a_request_that_is_cut_anywhere_is_refused(name):
+    body = recorded(name).rstrip()
+    for end in range(len(body)):
+        with pytest.raises(RequestFault):
+            read_request(body[:end])
+
+
+BOMB = '<!DOCTYPE x [<!ENTITY a "aaaa"><!ENTITY b "&a;&a;">]><scheduler_request><authenticator>&b;</authenticator></scheduler_request>'
+FAULTS = {
+    "nothing": "",
+    "another element": "<scheduler_reply></scheduler_reply>",
+    "an entity bomb": BOMB,
+    "a document type": request().replace("<scheduler_request>", "<!DOCTYPE scheduler_request><scheduler_request>", 1),
+    "a file of the server": BOMB.replace('ENTITY a "aaaa"', 'ENTITY a SYSTEM "file:///etc/passwd"'),
+    "an unknown entity": request(key="&nothing;"),
+    "no authenticator": request().replace("authenticator>", "other>"),
+    "an authenticator that is no word": request(key="a b"),
+    "a host_cpid that is no word": request(cpid=""),
+    "a platform that is no word": request(platform="x" * 65),
+    "a speed that is no number": request(p_fpops="fast"),
+    "a speed that is not a number": request(p_fpops="nan"),
+}
+
+
+@pytest.mark.parametrize("fault", FAULTS)
+def test_faulty_requests(fault):
+    with pytest.raises(RequestFault):
+        read_request(FAULTS[fault].encode())
+
+
+def test_a_huge_request(monkeypatch):
+    monkeypatch.setattr(client_requests, "MOST_BYTES", 1000)
+    with pytest.raises(RequestFault, match="too long"):
+        read_request(b"<" + b"a" * 1000)
+
+
+def test_a_request_of_too_many_elements():
+    with pytest.raises(RequestFault, match="too many elements"):
+        read_request(b"<scheduler_request>" + b"<a/>" * client_requests.MOST_TAGS)
+
+
+def test_a_deep_request():
+    with pytest.raises(RequestFault):
+        read_request(b"<scheduler_request>" + b"<a>" * 100_000)
+
+
+def test_a_number_of_many_digits():
+    assert read_request(request(m_nbytes="1e999999", d_free="1" * 100_000).encode()).m_nbytes == 10**18

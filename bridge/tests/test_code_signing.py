@@ -1,0 +1,69 @@
+"""Keys and signatures in BOINC's form."""
+import pytest
+from test_operator_files import ordered
+
+from bsched_bridge.code_signing import (
+    KeyFault, file_md5, hex_bytes, hex_lines, is_signature, private_key_text, public_key_text, read_private_key, read_public_key,
+    signature_text,
+)
+
+MD5 = "d41d8cd98f00b204e9800998ecf8427e"
+
+
+def test_hexadecimal_lines():
+    assert hex_lines(bytes(range(33))) == bytes(range(32)).hex() + "\n20\n.\n"
+    assert hex_lines(bytes(32)) == "00" * 32 + "\n.\n"
+    assert hex_bytes(hex_lines(bytes(range(70)))) == bytes(range(70))
+    for faulty in ("0", "0g", "00\n.\n00", "0x00"):
+        with pytest.raises(KeyFault):
+            hex_bytes(faulty)
+
+
+def test_keys_are_read_again(key):
+    private = private_key_text(key)
+    assert read_private_key(private).private_numbers() == key.private_numbers()
+    assert private.count("\n") == 1 + 704 // 32 + 1
+    public = public_key_text(key.public_key())
+    assert read_public_key(public).public_numbers() == key.public_key().public_numbers()
+    lines = public.split("\n")
+    assert (lines[0], lines[-2:], len(lines)) == ("1024", [".", ""], 1 + 8 + 2)
+    assert lines[8].endswith("010001")  # the exponent, with zeros before it
+
+
+def test_signatures(key):
+    signature = signature_text(MD5, key)
+    assert is_signature(MD5, signature, key.public_key())
+    assert not is_signature(MD5.replace("d", "e"), signature, key.public_key())
+    assert not is_signature(MD5, signature.replace(signature[5], "0" if signature[5] != "0" else "1"), key.public_key())
+    assert not is_signature(MD5, "no signature", key.public_key())
+    assert [len(line) for line in signature.split("\n")] == [64, 64, 64, 64, 1, 0]
+
+
+def test_the_block_that_is_signed(key):
+    public = key.public_key().public_numbers()
+    signed = int.from_bytes(hex_bytes(signature_text(MD5, key)), "big")
+    block = pow(signed, public.e, public.n).to_bytes(128, "big")
+    assert block == b"\x00\x01" + b"\xff" * 93 + b"\x00" + MD5.encode()
+
+
+@pytest.mark.parametrize("text", ["", "512\n00\n.\n", "1024\n00\n.\n", "1024\n" + "zz" * 256, "1024\n" + "00" * 256])
+def test_what_is_no_key(text):
+    with pytest.raises(KeyFault):
+        read_public_key(text)
+    with pytest.raises(KeyFault):
+        read_private_key(text)
+
+
+def test_the_commands(tmp_path):
+    assert ordered(tmp_path, "keygen").returncode == 0
+    assert (tmp_path / "code_sign_private").stat().st_mode & 0o777 == 0o600
+    (tmp_path / "program").write_bytes(b"")
+    told = ordered(tmp_path, "sign", "program", "--key", "code_sign_private")
+    public = read_public_key((tmp_path / "code_sign_public").read_text())
+    assert told.returncode == 0
+    assert file_md5(tmp_path / "program") == MD5
+    assert is_signature(MD5, told.stdout, public)
+    assert ordered(tmp_path, "keygen").returncode == 1  # it writes over no key
+    told = ordered(tmp_path, "sign", "program", "--key", "code_sign_public")
+    assert (told.returncode, told.stderr) == (1, "bsched_bridge: code_sign_public has 256 bytes, and a private key has 704\n")
+    assert ordered(tmp_path, "sign", "nothing", "--key", "code_sign_private").returncode == 1

@@ -1,0 +1,266 @@
+"""The promises of the bridge: counts, answers that get lost, restarts, and what a client sees of a refusal."""
+import json
+import threading
+import time
+
+import pytest
+from messages import jobs, names, request, value
+from twin import Twin
+
+from bsched_bridge.counts import FIRST_KEY
+from bsched_bridge.exchange import Resending
+
+
+def wait_until(is_so):
+    """Waits until something is so, for ten seconds at most."""
+    for _ in range(1000):
+        if is_so():
+            return
+        time.sleep(0.01)
+    raise AssertionError("it did not come about")
+
+
+def test_a_first_call(bridge, twin):
+    reply = bridge.call(request())
+    assert value(reply, "hostid") == "1"
+    assert jobs(reply) == ["u1_0"]
+    assert value(reply, "user_name") == "Ann"
+    call = twin.calls()[0]
+    assert (call["hostid"], call["rpc_seqno"], call["other_results"]) == (0, 1, [])
+
+
+def test_hostid_is_left_out_for_a_client_that_has_one(bridge):
+    bridge.call(request())
+    assert value(bridge.call(request(hostid=1, listed=["u1_0"])), "hostid") is None
+    assert value(bridge.call(request(hostid=77, cpid="c1")), "hostid") is None
+
+
+def test_the_bridge_counts_by_itself(bridge, twin):
+    for seqno in (5, 5, 0, 7):  # whatever the client counts
+        bridge.call(request(seqno=seqno, listed=None))
+    assert [call["rpc_seqno"] for call in twin.calls()] == [1, 2, 3, 4]
+
+
+def test_a_host_cpid_that_changes_is_mapped(bridge, twin):
+    bridge.call(request(cpid="first"))
+    bridge.call(request(cpid="second", hostid=1))
+    assert [call["host_info"]["host_cpid"] for call in twin.calls()] == ["first", "first"]
+    assert [call["rpc_seqno"] for call in twin.calls()] == [1, 2]
+    bridge.restart()
+    bridge.call(request(cpid="third", hostid=1))
+    assert twin.calls()[-1]["host_info"]["host_cpid"] == "first"
+
+
+def test_a_reply_that_the_client_lost(bridge):
+    assert jobs(bridge.call(request())) == ["u1_0"]
+    assert jobs(bridge.call(request())) == ["u1_0"]  # it lists nothing, so the job comes again
+    assert jobs(bridge.call(request(hostid=1, listed=["u1_0"]))) == ["u2_0"]
+
+
+def test_a_quorum_brings_credit(bridge):
+    bridge.call(request())
+    bridge.call(request(key="bob-key", cpid="c2"))
+    assert names(bridge.call(request(hostid=1, seconds=0, reports=[("u1_0", "42")])), "result_ack") == ["u1_0"]
+    reply = bridge.call(request(hostid=2, key="bob-key", cpid="c2", seconds=0, reports=[("u1_1", "42")]))
+    assert value(reply, "user_total_credit") == "5.000"
+    assert value(bridge.call(request(hostid=1, seconds=0)), "host_total_credit") == "5.000"
+
+
+def test_an_answer_that_is_lost_is_asked_for_again_with_the_same_bytes(bridge, twin):
+    twin.faults = ["lost", "lost"]
+    assert jobs(bridge.call(request())) == ["u1_0"]
+    assert twin.heard[0] == twin.heard[1] == twin.heard[2]
+    assert twin.told[0] == twin.told[1] == twin.told[2]
+
+
+@pytest.mark.parametrize("fault", ["unheard", "lost", "unavailable", "garbage"])
+def test_no_answer_is_a_reply_with_a_delay_and_no_loss(bridge, twin, fault):
+    bridge.call(request())
+    twin.faults = [fault] * 3
+    reply = bridge.call(request(hostid=1, reports=[("u1_0", "42")]))
+    assert value(reply, "request_delay") == "60.000000"
+    assert value(reply, "project_is_down") == "1"
+    assert names(reply, "result_ack") == []
+    reply = bridge.call(request(hostid=1, reports=[("u1_0", "42")]))
+    assert names(reply, "result_ack") == ["u1_0"]
+    assert twin.heard[1] == twin.heard[4]  # the call without an answer comes first
+    assert twin.calls()[5]["rpc_seqno"] == 3
+    assert len(twin.heard) == 6
+
+
+def test_bsched_that_is_not_there(bridge, twin):
+    twin.close()
+    assert value(bridge.call(request()), "project_is_down") == "1"
+
+
+@pytest.mark.parametrize("resend", [True, False])
+@pytest.mark.parametrize("listed", [(), None])
+def test_jobs_of_an_answer_that_came_too_late_are_kept(project, monkeypatch, resend, listed):
+    from conftest import Bridge
+
+    monkeypatch.setattr("bsched_bridge.scheduler.PAUSE_SECONDS", 0.0)
+    twin = Twin(resend_lost_results=resend)
+    bridge = Bridge(project, twin)
+    twin.faults = ["lost"] * 3
+    assert value(bridge.call(request()), "project_is_down") == "1"
+    bridge.restart()
+    reply = bridge.call(request(listed=listed, seconds=61))
+    assert twin.heard[2] == twin.heard[3]
+    assert jobs(reply) == ["u1_0", "u2_0"]  # one of the late answer, and one for the second that it leaves wanting
+    assert value(reply, "hostid") == "1"
+    assert jobs(bridge.call(request(hostid=1, listed=["u1_0", "u2_0"], seconds=0))) == []
+    bridge.counts.close()
+    twin.close()
+
+
+def test_a_stop_between_a_call_and_its_answer(bridge, twin):
+    """The call stands with its bytes when bsched hears it; what a stop at that moment leaves is enough to go on."""
+    bridge.call(request())
+    seen = []
+    handle = twin.service.scheduler
+
+    def looked(body, now):
+        seen.append((body, bridge.counts.open_call(bridge.counts.key_of("ann-key", 1, "c1"))))
+        return handle(body, now)
+
+    twin.service.scheduler = looked
+    bridge.call(request(hostid=1, listed=["u1_0"]))
+    assert seen[0][0] == seen[0][1]
+
+
+def test_open_calls_are_sent_again_at_the_start(bridge, twin):
+    bridge.call(request())
+    twin.faults = ["unheard"] * 3
+    bridge.call(request(hostid=1, reports=[("u1_0", "42")], seconds=0))
+    bridge.restart()
+    resending = Resending(bridge.application.exchange, 0.01)
+    resending.start()
+    wait_until(lambda: bridge.counts.next_open(FIRST_KEY) is None)
+    resending.end()
+    assert twin.heard[3] == twin.heard[4]
+    assert len(twin.heard) == 5  # and no more, once there is an answer
+    assert json.loads(twin.told[-1])["result_ack"] == ["u1_0"]
+
+
+def test_a_call_that_gets_no_answer_does_not_keep_others_from_theirs(bridge, twin):
+    twin.faults = ["unheard"] * 6
+    bridge.call(request())
+    bridge.call(request(key="bob-key", cpid="c2"))
+    handle = twin.service.scheduler
+
+    def fails_for_ann(body, now):
+        if b"ann-key" in body:
+            raise OSError("no answer")
+        return handle(body, now)
+
+    twin.service.scheduler = fails_for_ann
+    resending = Resending(bridge.application.exchange, 0.01)
+    resending.start()
+    ann, bob = (bridge.counts.key_of(*told) for told in (("ann-key", 0, "c1"), ("bob-key", 0, "c2")))
+    wait_until(lambda: bridge.counts.open_call(bob) is None)
+    assert bridge.counts.open_call(ann) == twin.heard[0]
+    twin.service.scheduler = handle
+    wait_until(lambda: bridge.counts.open_call(ann) is None)
+    resending.end()
+
+
+def test_late_answers_are_not_handed_on_twice(bridge, twin):
+    twin.faults = ["lost"] * 3
+    bridge.call(request())
+    bridge.application.exchange.resend(bridge.counts.key_of("ann-key", 0, "c1"))
+    assert jobs(bridge.call(request(listed=["u1_0"], seconds=0))) == []  # the client has it by now
+
+
+def test_two_requests_of_a_client_at_once_share_no_number(bridge, twin):
+    twin.faults = ["slow"] * 4
+    threads = [threading.Thread(target=bridge.call, args=(request(listed=None),)) for _ in range(4)]
+    for thread in threads:
+        thread.start()
+    for thread in threads:
+        thread.join()
+    assert [call["rpc_seqno"] for call in twin.calls()] == [1, 2, 3, 4]
+
+
+def test_two_clients_at_once_do_not_wait_for_one_another(bridge, twin):
+    locks = bridge.application.exchange._locks
+    with locks.held(bridge.counts.key_of("ann-key", 0, "c1")):
+        assert jobs(bridge.call(request(key="bob-key", cpid="c2"))) == ["u1_0"]
+        locks.wait_seconds = 0.01
+        reply = bridge.call(request())
+        assert value(reply, "message") == "Another scheduler instance is running for this host."
+    assert locks._locks == {}
+
+
+def test_a_count_that_was_lost_goes_on(bridge, twin, project):
+    for _ in range(3):
+        bridge.call(request())
+    bridge.counts.close()
+    for path in project.glob("bridge.db*"):
+        path.unlink()
+    bridge.start()
+    assert value(bridge.call(request()), "hostid") == "1"
+    assert [call["rpc_seqno"] for call in twin.calls()[3:]] == [1, 4]
+    bridge.call(request())
+    assert twin.calls()[-1]["rpc_seqno"] == 5
+
+
+# what a client is told of each refusal of the profile, where a call gets it; no call gets those of operators' messages
+REFUSED = ("refused this request", "3600.000000", "low")
+REFUSALS = {
+    "bad_http": REFUSED,
+    "no_route": REFUSED,
+    "wrong_method": REFUSED,
+    "length_required": REFUSED,
+    "too_large": ("too large", "3600.000000", "low"),
+    "bad_json": ("can't read this request", "3600.000000", "low"),
+    "bad_member": ("can't read what this computer tells", "86400.000000", "notice"),
+    "bad_account": ("Invalid or missing account key", "86400.000000", "notice"),
+    "bad_host": REFUSED,
+    "stale": REFUSED,  # again and again; once is the matter of the bridge alone
+    "reused": REFUSED,
+    "hosts_full": ("takes no more computers", "86400.000000", "notice"),
+    **dict.fromkeys(
+        ["not_operator", "bad_csv", "duplicate_name", "unknown_reference", "batch_reused", "table_full", "no_such_host", "new"], REFUSED
+    ),
+    "unavailable": ("gives no answer at the moment", "60.000000", "low"),
+}
+
+
+@pytest.mark.parametrize("error", REFUSALS)
+def test_refusals(bridge, twin, error):
+    message, delay, priority = REFUSALS[error]
+    bridge.call(request())
+    more = {"last": 5} if error in ("stale", "reused") else {}
+    twin.faults = [json.dumps({"error": error, "number": 1, **more})] * (1 if not more and error != "unavailable" else 3)
+    reply = bridge.call(request(hostid=1, reports=[("u1_0", "42")]))
+    assert message in value(reply, "message")
+    assert f'priority="{priority}"' in reply.decode()
+    assert value(reply, "request_delay") == delay
+    assert names(reply, "result_ack") == []
+    assert names(bridge.call(request(hostid=1, reports=[("u1_0", "42")])), "result_ack") == ["u1_0"]
+
+
+def test_a_faulty_member_is_named(bridge, twin):
+    twin.faults = ['{"error":"bad_member","member":"platform_name","number":7}']
+    assert "(platform_name)" in value(bridge.call(request()), "message")
+
+
+@pytest.mark.parametrize("error", ["stale", "reused"])
+def test_a_count_behind_that_of_bsched(bridge, twin, error):
+    twin.faults = [json.dumps({"error": error, "last": 41, "number": 10})]
+    bridge.call(request())
+    assert [call["rpc_seqno"] for call in twin.calls()] == [1, 42]
+    twin.faults = [json.dumps({"error": error, "last": last, "number": 10}) for last in (50, 60, 70)]
+    assert "refused" in value(bridge.call(request(hostid=1)), "message")  # tried a few times, and no more
+    assert [call["rpc_seqno"] for call in twin.calls()[2:]] == [43, 51, 61]
+
+
+def test_an_account_that_does_not_stand_leaves_nothing(bridge):
+    assert "Invalid or missing account key" in value(bridge.call(request(key="nobody")), "message")
+    assert bridge.counts._row("SELECT count(*) FROM host") == (0,)
+
+
+def test_a_resent_call_that_is_refused_is_let_go(bridge, twin):
+    twin.faults = ["unheard"] * 3 + ['{"error":"hosts_full","number":12}']
+    bridge.call(request())
+    assert jobs(bridge.call(request())) == ["u1_0"]

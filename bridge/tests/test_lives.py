@@ -1,0 +1,152 @@
+"""Random lives of clients: answers, replies and bridges get lost, and nothing else does."""
+import http.client
+import json
+import random
+import socket
+import threading
+import time
+
+import pytest
+from messages import jobs, names, request, value
+
+from trial.programs import Bridge
+
+FAULTS = ["lost", "unheard", "unavailable", "garbage"]
+
+
+class Client:
+    """A client as BOINC's is: what it has it lists, and what it finished it reports until that is acknowledged."""
+
+    def __init__(self, key, cpid, lists):
+        self.key, self.cpid, self.lists, self.hostid, self.working, self.finished = key, cpid, lists, 0, set(), set()
+
+    def call(self, bridge, chance, loses, seconds=61):
+        """Calls; the reply may be lost on the way, or the bridge."""
+        self.finished |= {name for name in self.working if chance.random() < 0.5}
+        self.working -= self.finished
+        told = request(
+            hostid=self.hostid, key=self.key, cpid=self.cpid, seconds=seconds, listed=sorted(self.working) if self.lists else None,
+            reports=[(name, name.split("_")[0]) for name in sorted(self.finished)],
+        )
+        try:
+            reply = bridge.call(told)
+        except (OSError, http.client.HTTPException):
+            return
+        if loses:
+            return
+        self.finished -= set(names(reply, "result_ack"))
+        self.working |= set(jobs(reply)) - self.finished
+        hostid = value(reply, "hostid")
+        assert (hostid is None) if self.hostid else (hostid is not None or value(reply, "project_is_down") == "1")
+        self.hostid = int(hostid or self.hostid)
+
+
+@pytest.mark.parametrize("seed", range(12))
+def test_a_life(bridge, twin, seed):
+    chance = random.Random(seed)
+    clients = [Client("ann-key", "c1", True), Client("bob-key", "c2", True)]
+    for step in range(120):
+        client = chance.choice(clients)
+        if chance.random() < 0.3:
+            twin.faults = [chance.choice(FAULTS) for _ in range(chance.randint(1, 6))]
+        client.call(bridge, chance, loses=chance.random() < 0.2)
+        twin.faults = []
+        if chance.random() < 0.1:
+            bridge.restart()
+        if client.hostid and chance.random() < 0.05:
+            client.cpid = f"{client.cpid}_{step}"
+    for _ in range(40):
+        for client in clients:
+            client.call(bridge, chance, loses=False)
+    # each client has had each of the eight workunits, and has credit for each, once
+    for number, client in enumerate(clients, 1):
+        reply = bridge.call(request(hostid=client.hostid, key=client.key, cpid=client.cpid, seconds=0))
+        assert value(reply, "user_total_credit") == "40.000"
+        assert not client.working and not client.finished
+    assert len(twin.service.machine.hosts) == 2
+    looked_at_numbers(twin)
+
+
+def looked_at_numbers(twin):
+    """The numbers of a key rise, and only the same bytes have the same number; no call was refused."""
+    last = {}
+    for body in twin.heard:
+        call = json.loads(body)
+        key = call["authenticator"], call["host_info"]["host_cpid"]
+        number, before = last.get(key, (0, b""))
+        assert call["rpc_seqno"] > number or (call["rpc_seqno"] == number and body == before)
+        last[key] = call["rpc_seqno"], body
+    assert not any('"error"' in told and "unavailable" not in told for told in twin.told)
+
+
+@pytest.mark.parametrize("seed", range(6))
+def test_a_life_of_a_client_that_lists_nothing(bridge, twin, seed):
+    """Such a client is sent nothing again by bsched: what answers bring that were late is handed on by the bridge alone."""
+    chance = random.Random(seed)
+    clients = [Client("ann-key", "c1", False), Client("bob-key", "c2", False)]
+    for _ in range(60):
+        if chance.random() < 0.3:
+            twin.faults = [chance.choice(FAULTS) for _ in range(chance.randint(1, 6))]
+        chance.choice(clients).call(bridge, chance, loses=False)
+        twin.faults = []
+        if chance.random() < 0.2:
+            bridge.restart()
+    for _ in range(20):
+        for client in clients:
+            client.call(bridge, chance, loses=False)
+    assert [host.credit for host in twin.service.machine.hosts.values()] == [40000, 40000]
+    looked_at_numbers(twin)
+
+
+# ---- A bridge that is killed
+
+
+class KilledBridge(Bridge):
+    """A bridge in a process of its own."""
+
+    def call(self, body):
+        """The reply to a scheduler_request; an OSError or an HTTPException where the bridge is killed before it is there."""
+        connection = http.client.HTTPConnection("127.0.0.1", self.port, timeout=10)
+        try:
+            connection.request("POST", "/p/cgi", body.encode())
+            return connection.getresponse().read()
+        finally:
+            connection.close()
+
+
+@pytest.mark.parametrize("seed", range(2))
+def test_a_bridge_that_is_killed_at_random_moments(project, twin, seed):
+    chance = random.Random(seed)
+    with socket.socket() as listener:
+        listener.bind(("127.0.0.1", 0))
+        port = listener.getsockname()[1]
+    settings = (project / "bridge.toml").read_text().replace("127.0.0.1:8080", f"127.0.0.1:{twin.address.port}")
+    (project / "bridge.toml").write_text(settings.replace('listen = "127.0.0.1:8081"', f'listen = "127.0.0.1:{port}"'))
+    bridge = KilledBridge(project, port)
+    bridge.start()
+    clients = [Client("ann-key", "c1", True), Client("bob-key", "c2", True)]
+    ended = threading.Event()
+
+    def live(client, chance):
+        while not ended.is_set():
+            client.call(bridge, chance, loses=False)
+            time.sleep(0.002)
+
+    threads = [threading.Thread(target=live, args=(client, random.Random(seed + 10 * place))) for place, client in enumerate(clients)]
+    for thread in threads:
+        thread.start()
+    try:
+        for _ in range(12):
+            time.sleep(chance.random() * 0.1)
+            bridge.kill()
+            bridge.start()
+    finally:
+        ended.set()
+        for thread in threads:
+            thread.join()
+    for _ in range(40):
+        for client in clients:
+            client.call(bridge, chance, loses=False)
+    bridge.kill()
+    assert [host.credit for host in twin.service.machine.hosts.values()] == [40000, 40000]
+    looked_at_numbers(twin)

@@ -1,0 +1,145 @@
+"""Faults of the settings and of the catalogue are told with their line."""
+import re
+import subprocess
+import sys
+
+import pytest
+from conftest import BRIDGE
+
+from bsched_bridge.catalogue import read_catalogue
+from bsched_bridge.code_signing import new_key, signature_text
+from bsched_bridge.operator_files import OperatorFault
+from bsched_bridge.settings import Address, read_settings
+
+
+def test_settings(project):
+    settings = read_settings(project / "bridge.toml")
+    assert settings.listen == Address("127.0.0.1", 8081)
+    assert settings.path == "/p/"
+    assert settings.state == project / "bridge.db"
+    assert (settings.threads, settings.answer_seconds, settings.retry_delay) == (8, 15, 60)
+
+
+SETTINGS_FAULTS = [
+    ('"Sums"', "Sums", None, "is not TOML.*line 1"),
+    ('name = "Sums"', "", 1, "name is missing"),
+    ('"Sums"', "1", 1, "name is not a text in quotes"),
+    ('"Sums"', '" "', 1, "name is empty"),
+    ("http://127.0.0.1:8081/p/", "127.0.0.1:8081/p/", 2, "url is not http"),
+    ("http://127.0.0.1:8081/p/", "ftp://x/", 2, "url is not http"),
+    ("http://127.0.0.1:8081/p/", "http://x/?a", 2, "url is not http"),
+    ("http://127.0.0.1:8081/p/", "http://x:99999/", 2, "url is not http"),
+    ("http://127.0.0.1:8081/p/", "http://x/p", 2, "does not end with a slash"),
+    ("http://127.0.0.1:8081/p/", "http://X/", 2, "capital letters"),
+    ("http://127.0.0.1:8081/p/", "http://x/<a/", 2, "has to be escaped"),
+    ("http://127.0.0.1:8081/p/", "http://x/%20/", 2, "has to be escaped"),
+    ('listen = "127.0.0.1:8081"', 'listen = "127.0.0.1"', 3, "listen is not HOST:PORT"),
+    ('"127.0.0.1:8080"', '"127.0.0.1:0"', 4, "scheduler is not HOST:PORT"),
+    ("change-this-key", "a key", 5, "operator_key is not 1 to 64"),
+    ("catalogue.toml", "none.toml", 6, "none.toml does not stand"),
+    ('"bridge.db"', '"bridge.db"\nthreads = 0', 8, "threads is not within 1 to 64"),
+    ('"bridge.db"', '"bridge.db"\nthreads = true', 8, "threads is not a whole number"),
+    ('"bridge.db"', '"bridge.db"\nthread = 1', 8, "thread is not known here"),
+    ('"bridge.db"', '"bridge.db"\n[more]\nx = 1', 8, "more is not known here"),
+]
+
+
+@pytest.mark.parametrize("old, new, line, what", SETTINGS_FAULTS)
+def test_faulty_settings(project, old, new, line, what):
+    path = project / "bridge.toml"
+    path.write_text(path.read_text().replace(old, new, 1))
+    with pytest.raises(OperatorFault) as told:
+        read_settings(path)
+    assert re.search(what, str(told.value))
+    assert str(told.value).startswith(f"{path}: " if line is None else f"{path}: line {line}: ")
+
+
+def test_settings_that_can_not_be_read(project):
+    with pytest.raises(OperatorFault, match="No such file"):
+        read_settings(project / "none.toml")
+    (project / "bridge.toml").write_bytes(b'name = "Sums"\n# \xff\n')
+    with pytest.raises(OperatorFault, match="line 2: is not UTF-8"):
+        read_settings(project / "bridge.toml")
+
+
+def test_a_catalogue(project):
+    catalogue = read_catalogue(project / "catalogue.toml")
+    app = catalogue.apps["sum"]
+    assert catalogue.work(app, "u1").command_line == "--name u1"
+    assert catalogue.work(app, "u2").command_line == "--two <2>"
+    assert catalogue.work(app, "u2").input_files[0].open_name == "numbers"
+    assert catalogue.versions["sum", "x86_64-pc-linux-gnu", 1].files[0].is_main_program
+
+
+MORE_WORK = '\n[[workunit]]\nname = "u3"\n'
+CATALOGUE_FAULTS = [
+    ('"key"', '"nothing"', 1, "code_sign_key: .*nothing does not stand"),
+    ('"key"', '"files/two.txt"', 1, "code_sign_key: .* its first line is not 1024"),
+    ('files = "files"', "", 1, "files is missing"),
+    ('name = "sum"', 'name = "s m"', 5, "name is not 1 to 64"),
+    ('title = "Sums & more"', 'title = ""', 6, "title is empty"),
+    ('title = "Sums & more"', "rsc_disk_bound = 0", 6, "rsc_disk_bound is not within"),
+    ('title = "Sums & more"', 'titel = "x"', 6, "titel is not known here"),
+    ('title = "Sums & more"', 'input_files = ["x"]', 6, "input_files is not an array of tables"),
+    ('title = "Sums & more"', 'input_files = [{ name = "../key" }]', 6, "name is no name of a file"),
+    ('title = "Sums & more"', 'input_files = [{ name = ".hidden" }]', 6, "name is no name of a file"),
+    ('title = "Sums & more"', 'input_files = [{ name = "none.txt" }]', 6, "none.txt is not there"),
+    ('"--name {workunit}"', '"a\\nb"', 7, "command_line has more than one line"),
+    ('app = "sum"', 'app = "other"', 10, "there is no application other"),
+    ('platform = "x86_64-pc-linux-gnu"', "", 9, "platform is missing"),
+    ("version_num = 1", "version_num = 0", 12, "version_num is not within 1 to 1000000"),
+    ('name = "sum_1"', 'name = "sum_2"', 13, "sum_2 is not there"),
+    ('"sum_1.signature"', '"none"', 13, "signature: .*none does not stand"),
+    ('"sum_1.signature"', '"key"', 13, "key is not the signature of sum_1"),
+    (", main_program = true", "", 13, "not exactly one of the files has main_program"),
+    ("main_program = true", 'main_program = "yes"', 13, "main_program is not true or false"),
+    ('name = "u2"', "", 15, "name is missing"),
+    ('"two.txt"', '"three.txt"', 18, "three.txt is not there"),
+    ('open_name = "numbers"', 'open_name = "a/b"', 18, "open_name is no name of a file"),
+    ('open_name = "numbers" }]', 'open_name = "numbers" }]\n' + MORE_WORK + MORE_WORK, 23, "this workunit stands on line 20 already"),
+    ('open_name = "numbers" }]', 'open_name = "numbers" }]\n[[app]]\nname = "sum"', 19, "this app stands on line 4 already"),
+    ('open_name = "numbers" }]', 'open_name = "numbers" }]\n[[works]]\nname = "sum"', 19, "works is not known here"),
+    ('[[app]]', '[app]', 4, "app is not a row of tables"),
+]
+
+
+@pytest.mark.parametrize("old, new, line, what", CATALOGUE_FAULTS)
+def test_faulty_catalogues(project, old, new, line, what):
+    path = project / "catalogue.toml"
+    path.write_text(path.read_text().replace(old, new, 1))
+    with pytest.raises(OperatorFault) as told:
+        read_catalogue(path)
+    assert re.search(what, str(told.value))
+    assert str(told.value).startswith(f"{path}: line {line}: ")
+
+
+def test_a_program_that_was_changed_after_it_was_signed(project):
+    (project / "files" / "sum_1").write_text("#!/bin/sh\nrm -rf /\n")
+    with pytest.raises(OperatorFault, match="line 13: .* is not the signature of sum_1"):
+        read_catalogue(project / "catalogue.toml")
+
+
+def test_a_signature_of_another_key(project):
+    from bsched_bridge.code_signing import file_md5
+
+    (project / "sum_1.signature").write_text(signature_text(file_md5(project / "files" / "sum_1"), new_key()))
+    with pytest.raises(OperatorFault, match="line 13"):
+        read_catalogue(project / "catalogue.toml")
+
+
+def ordered(folder, *words):
+    """What the command line does."""
+    return subprocess.run(
+        [sys.executable, "-m", "bsched_bridge", *words], cwd=folder, env={"PYTHONPATH": str(BRIDGE), "PYTHONDONTWRITEBYTECODE": "1"},
+        capture_output=True, text=True, timeout=60,
+    )
+
+
+def test_the_command_line(project):
+    told = ordered(project, "--config", "bridge.toml", "--check")
+    assert (told.returncode, told.stdout) == (0, "good: 1 applications, 1 versions, 1 workunits\n")
+    (project / "catalogue.toml").write_text("x = 1\n")
+    told = ordered(project, "--config", "bridge.toml")
+    assert (told.returncode, told.stderr) == (1, "bsched_bridge: catalogue.toml: line 1: code_sign_key is missing\n")
+    for words in ([], ["nothing"], ["sign", "files/two.txt"], ["--other"]):
+        assert ordered(project, *words).returncode == 64

@@ -1,0 +1,107 @@
+"""A bsched for tests: the plain twin of bench/plain.py behind HTTP, which loses answers where it is told to."""
+import json
+import threading
+import time
+from http.server import BaseHTTPRequestHandler, ThreadingHTTPServer
+
+import plain
+from plain_formats import Refused
+
+from bsched_bridge.settings import Address
+
+IMPORTS = {
+    "accounts": "authenticator,name\nann-key,Ann\nbob-key,Bob\n",
+    "apps": "name,agreement\nsum,exact\n",
+    "versions": "app,platform,version_num\nsum,x86_64-pc-linux-gnu,1\n",
+    "workunits": "name,app,min_quorum,target_nresults,max_error_results,max_total_results,max_success_results,delay_bound,"
+    "rsc_fpops_est,rsc_memory_bound,rsc_disk_bound,credit\n"
+    + "".join(f"u{number},sum,2,2,3,5,4,86400,60000000000,1000,1000,5000\n" for number in range(1, 9)),
+}
+STATEMENT = """\
+result,app,sent,deadline,server_state,outcome,validate_state,credit
+u1_0,sum,2026-01-01 00:00:00,2026-01-02 00:00:00,5,1,1,5.000
+u2_0,sum,2026-01-01 00:00:00,2026-01-02 00:00:00,4,0,0,0.000
+u3_0,sum,2026-01-01 00:00:00,2026-01-02 00:00:00,5,1,0,0.000
+u4_0,sum,2026-01-01 00:00:00,2026-01-02 00:00:00,5,3,0,0.000
+u5_0,sum,2026-01-01 00:00:00,2026-01-02 00:00:00,5,4,0,0.000
+total,,,,,,,5.000
+"""
+
+
+class Handler(BaseHTTPRequestHandler):
+    """One message."""
+
+    def do_POST(self):
+        """A call."""
+        twin = self.server.twin
+        body = self.rfile.read(int(self.headers["content-length"]))
+        with twin.lock:
+            fault = twin.faults.pop(0) if twin.faults else None
+            twin.heard.append(body)
+            if fault == "unheard":
+                return
+            if fault == "unavailable":
+                status, told = 503, '{"error":"unavailable","number":20}'
+            elif fault == "garbage":
+                status, told = 200, "<html>"
+            elif fault is not None and fault.startswith("{"):
+                status, told = 400, fault
+            else:
+                try:
+                    status, told = 200, twin.service.scheduler(body, int(time.time()))
+                except Refused as refusal:
+                    status, told = refusal.status, refusal.body
+            twin.told.append(told)
+        if fault == "slow":
+            time.sleep(0.3)
+        if fault != "lost":
+            self.say(status, told)
+
+    def do_GET(self):
+        """A statement."""
+        if self.headers["x-operator-key"] != "change-this-key":
+            return self.say(403, '{"error":"not_operator","number":13}')
+        return self.say(200, STATEMENT)
+
+    def say(self, status, told):
+        """Writes an answer."""
+        self.send_response(status)
+        self.send_header("content-length", str(len(told.encode())))
+        self.end_headers()
+        self.wfile.write(told.encode())
+
+    def log_message(self, *_words):
+        """Nothing."""
+
+
+class Server(ThreadingHTTPServer):
+    """A server that tells nothing of connections that break."""
+
+    def handle_error(self, _request, _address):
+        """Nothing."""
+
+
+class Twin:
+    """The twin with what it heard. Each message takes one of the faults, in their order: `unheard`, `lost`, `slow`,
+    `unavailable`, `garbage`, or the JSON of a refusal."""
+
+    def __init__(self, **settings):
+        self.service = plain.Service({
+            **plain.SETTINGS, "max_hosts": 100, "daily_result_quota": 100, "max_wus_in_progress": 8, "max_wus_to_send": 2, **settings,
+        })
+        for kind, text in IMPORTS.items():
+            self.service.imported(kind, "first", text)
+        self.lock, self.faults, self.heard, self.told = threading.Lock(), [], [], []
+        self.server = Server(("127.0.0.1", 0), Handler)
+        self.server.twin = self
+        self.address = Address(*self.server.server_address)
+        threading.Thread(target=self.server.serve_forever, args=(0.02,), daemon=True).start()
+
+    def calls(self):
+        """What was heard, as JSON."""
+        return [json.loads(body) for body in self.heard]
+
+    def close(self):
+        """Ends it."""
+        self.server.shutdown()
+        self.server.server_close()

@@ -1,0 +1,1 @@
+"""What `bridge/try` is made of. None of it is part of the bridge."""

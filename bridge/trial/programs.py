@@ -1,0 +1,146 @@
+"""The programs of a trial: bsched, the bridge and the clients."""
+import os
+import re
+import signal
+import socket
+import subprocess
+import sys
+import time
+import urllib.request
+from pathlib import Path
+
+BRIDGE = Path(__file__).resolve().parent.parent
+CLIENT_OPTIONS = ["--allow_multiple_clients", "--skip_cpu_benchmarks", "--no_gpus", "--no_info_fetch"]
+CLIENT_CONFIG = """\
+<cc_config>
+<log_flags><sched_ops>1</sched_ops><task>1</task><file_xfer>1</file_xfer><sched_op_debug>1</sched_op_debug></log_flags>
+<options><ncpus>2</ncpus></options>
+</cc_config>
+"""
+PREFERENCES = "<global_preferences><suspend_cpu_usage>0</suspend_cpu_usage></global_preferences>\n"
+
+
+class TrialFault(Exception):
+    """Something is not as it has to be."""
+
+
+def listens(port: int) -> bool:
+    """Whether somebody listens on a port of 127.0.0.1."""
+    with socket.socket() as probe:
+        return probe.connect_ex(("127.0.0.1", port)) == 0
+
+
+class Program:
+    """A program that runs, writes to a log, and can be killed and started again."""
+
+    def __init__(self, name: str, words: list[str], folder: Path, port: int, environment: dict[str, str] | None = None):
+        self.name, self.words, self.folder, self.port = name, words, folder, port
+        self.environment = {**os.environ, **(environment or {})}
+        self.process: subprocess.Popen | None = None
+
+    def start(self) -> None:
+        """Starts it, and waits until it listens."""
+        with (self.folder / f"{self.name}.log").open("ab") as log:
+            self.process = subprocess.Popen(self.words, cwd=self.folder, env=self.environment, stdout=log, stderr=log)
+        for _ in range(300):
+            if listens(self.port):
+                return
+            if self.process.poll() is not None:
+                break
+            time.sleep(0.1)
+        raise TrialFault(f"{self.name} does not start, see {self.folder / self.name}.log")
+
+    def kill(self) -> None:
+        """Kills it with no time to do anything."""
+        if self.process is not None and self.process.poll() is None:
+            self.process.send_signal(signal.SIGKILL)
+            self.process.wait()
+
+
+class Scheduler(Program):
+    """A bsched over tables in a file."""
+
+    def __init__(self, program: str, folder: Path, port: int, operator_key: str):
+        words = [program, "serve", "--tables", "project.db", "--port", str(port), "--count", "100000"]
+        super().__init__("bsched", words, folder, port)
+        self.program, self.operator_key = program, operator_key
+
+    def order(self, *words: str) -> str:
+        """What an order prints."""
+        told = subprocess.run([self.program, *words], cwd=self.folder, capture_output=True, text=True)
+        if told.returncode:
+            raise TrialFault(f"bsched {' '.join(words)}: status {told.returncode}, {told.stdout}{told.stderr}")
+        return told.stdout
+
+    def asked(self, path: str, body: str | None = None) -> str:
+        """The answer to an operator's message."""
+        message = urllib.request.Request(
+            f"http://127.0.0.1:{self.port}{path}", None if body is None else body.encode(), {"x-operator-key": self.operator_key}
+        )
+        with urllib.request.urlopen(message, timeout=30) as response:
+            return response.read().decode()
+
+    def statement(self, host: int) -> dict[str, list[str]]:
+        """The lines of a host's statement, by the results."""
+        lines = [line.split(",") for line in self.asked(f"/hosts/{host}").splitlines()]
+        return {line[0]: line[1:] for line in lines[1:]}
+
+
+class Bridge(Program):
+    """The bridge."""
+
+    def __init__(self, folder: Path, port: int):
+        words = [sys.executable, "-m", "bsched_bridge", "--config", "bridge.toml"]
+        super().__init__("bridge", words, folder, port, {"PYTHONPATH": str(BRIDGE), "PYTHONDONTWRITEBYTECODE": "1"})
+
+    def order(self, *words: str) -> str:
+        """What an order prints."""
+        return subprocess.run(
+            [*self.words[:3], *words], cwd=self.folder, env=self.environment, check=True, capture_output=True, text=True
+        ).stdout
+
+
+class Client(Program):
+    """BOINC's client of a user."""
+
+    def __init__(self, name: str, authenticator: str, url: str, folder: Path, port: int):
+        self.home = folder / name
+        self.home.mkdir()
+        (self.home / "cc_config.xml").write_text(CLIENT_CONFIG)
+        (self.home / "global_prefs_override.xml").write_text(PREFERENCES)
+        words = ["boinc", "--dir", str(self.home), "--gui_rpc_port", str(port), *CLIENT_OPTIONS]
+        super().__init__(name, words, folder, port)
+        self.authenticator, self.url = authenticator, url
+
+    def command(self, *words: str) -> str:
+        """What boinccmd prints."""
+        password = (self.home / "gui_rpc_auth.cfg").read_text().strip()
+        told = subprocess.run(
+            ["boinccmd", "--host", f"127.0.0.1:{self.port}", "--passwd", password, *words],
+            cwd=self.home, capture_output=True, text=True, timeout=30,
+        )
+        return told.stdout + told.stderr
+
+    def attach(self) -> None:
+        """Attaches the client to the project."""
+        self.command("--project_attach", self.url, self.authenticator)
+
+    def update(self) -> None:
+        """Has the client call its project as soon as it can."""
+        self.command("--project", self.url, "update")
+
+    def tasks(self) -> dict[str, str]:
+        """The results that the client has, with its own state of each."""
+        told = self.command("--get_tasks")
+        return dict(re.findall(r"^   name: (\S+)$.*?^   state: ([^\n]*)$", told, re.MULTILINE | re.DOTALL))
+
+    def rename(self, host_cpid: str) -> None:
+        """Stops the client, and starts it again with another host_cpid."""
+        self.kill()
+        state = self.home / "client_state.xml"
+        state.write_text(re.sub("<host_cpid>.*?</host_cpid>", f"<host_cpid>{host_cpid}</host_cpid>", state.read_text()))
+        self.start()
+
+    def log(self) -> str:
+        """What the client told."""
+        return (self.folder / f"{self.name}.log").read_text(errors="replace")

@@ -1,0 +1,104 @@
+"""A proxy of HTTP between two programs of a trial, which loses or holds answers where it is told to."""
+import http.client
+import threading
+from collections.abc import Callable
+from dataclasses import dataclass, field
+from http.server import BaseHTTPRequestHandler, ThreadingHTTPServer
+
+ANSWER_SECONDS = 30
+HOP_FIELDS = {"connection", "keep-alive", "transfer-encoding", "content-length", "date", "server", "host"}
+
+
+@dataclass
+class Message:
+    """A message that went through, and its answer."""
+
+    path: str
+    body: bytes
+    answer: bytes | None = None  # what the other program answered
+    was_handed_on: bool = False
+
+
+@dataclass
+class Fault:
+    """What is done with the answer to the first message that it fits: it is lost, at once or when it is let go."""
+
+    fits: Callable[[Message], bool]
+    is_held: bool = False
+    met: threading.Event = field(default_factory=threading.Event)  # the other program has answered such a message
+    let_go: threading.Event = field(default_factory=threading.Event)
+    message: Message | None = None  # that message
+
+
+class Handler(BaseHTTPRequestHandler):
+    """One message."""
+
+    protocol_version = "HTTP/1.1"
+
+    def pass_on(self) -> None:
+        """Passes a message on, and its answer back."""
+        proxy = self.server.proxy
+        self.close_connection = True
+        message = Message(self.path, self.rfile.read(int(self.headers.get("content-length", 0))))
+        proxy.messages.append(message)
+        fields = {name: value for name, value in self.headers.items() if name.lower() not in HOP_FIELDS}
+        connection = http.client.HTTPConnection("127.0.0.1", proxy.target, timeout=ANSWER_SECONDS)
+        try:
+            connection.request(self.command, self.path, message.body if self.command == "POST" else None, fields)
+            response = connection.getresponse()
+            message.answer = response.read()
+        except (OSError, http.client.HTTPException):
+            return
+        finally:
+            connection.close()
+        if fault := proxy.fault_of(message):
+            fault.met.set()
+            if fault.is_held:
+                fault.let_go.wait(ANSWER_SECONDS)
+            return
+        try:
+            self.send_response(response.status, response.reason)
+            for name, value in response.getheaders():
+                if name.lower() not in HOP_FIELDS:
+                    self.send_header(name, value)
+            self.send_header("content-length", str(len(message.answer)))
+            self.send_header("connection", "close")
+            self.end_headers()
+            self.wfile.write(message.answer)
+            message.was_handed_on = True
+        except OSError:
+            pass
+
+    do_GET = do_POST = pass_on
+
+    def log_message(self, *_words) -> None:
+        """Nothing: no line for each message."""
+
+
+class Proxy:
+    """A proxy that listens on one port of 127.0.0.1 and passes on to another."""
+
+    def __init__(self, port: int, target: int):
+        self.target = target
+        self.messages: list[Message] = []
+        self._faults: list[Fault] = []
+        self._lock = threading.Lock()
+        self._server = ThreadingHTTPServer(("127.0.0.1", port), Handler)
+        self._server.daemon_threads = True
+        self._server.proxy = self
+        threading.Thread(target=self._server.serve_forever, daemon=True).start()
+
+    def plan(self, fault: Fault) -> Fault:
+        """Plans a fault; it happens once."""
+        with self._lock:
+            self._faults.append(fault)
+        return fault
+
+    def fault_of(self, message: Message) -> Fault | None:
+        """The first planned fault that a message fits."""
+        with self._lock:
+            fault = next((fault for fault in self._faults if fault.fits(message)), None)
+            if fault is not None:
+                self._faults.remove(fault)
+                fault.message = message
+            return fault
