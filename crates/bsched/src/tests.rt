@@ -18,7 +18,7 @@ mod stops;
 mod stored;
 
 use commands::default_settings;
-use message_engine::{ListStore, Store};
+use message_engine::ListStore;
 use repeats::{first_answered_otherwise, first_answered_otherwise_in_files};
 use replay_lines::{Ended, replay};
 use rows::first_wrong;
@@ -30,6 +30,7 @@ use std::alloc::Global;
 use std::io;
 use std::io::{BufRead, BufReader, ErrorKind, Read};
 use std::test::Fail;
+use stores::Store;
 
 /// The service over a store.
 fn service_over<S: Store + Drop>(alloc: Global, store: S) -> Result<Service<S>, Fail> {

@@ -1,7 +1,6 @@
 //! The files of an order.
 
 use crate::ending::Failure;
-use message_engine::Store;
 use office_files::{SettingsFault, settings_of};
 use sched_book::Settings;
 use sched_server::Service;
@@ -10,6 +9,7 @@ use sqlite::{Alter, Connection};
 use std::alloc::Global;
 use std::fs::File;
 use std::io::Read;
+use stores::Store;
 use texts::utf8_text;
 
 /// The longest file of settings, in bytes.

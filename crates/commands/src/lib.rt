@@ -4,6 +4,7 @@
 //! order does to the tables is done by [`sched_server::Service::handle`], which has.
 #![tactic(auto)]
 
+mod connection;
 mod ending;
 mod files;
 mod orders;

@@ -10,7 +10,6 @@ use command_line::Order;
 use http_requests::{import_request, statement_request, tick_request};
 use http_responses::Media;
 use http_serving::Handler;
-use message_engine::Store;
 use replay_lines::replay;
 use sched_book::{Moment, Settings};
 use sched_server::{Answer, Service};
@@ -20,6 +19,7 @@ use std::alloc::Global;
 use std::io::{BufReader, BufWriter, Write};
 use std::net::TcpListener;
 use std::{fs, io};
+use stores::Store;
 use texts::{Memory, Text};
 
 /// The most bytes of an import's file that are read: what is longer is refused.
@@ -132,7 +132,7 @@ fn create(rt: &HostRuntime, settings: &str, tables: &str) -> Result<Outcome, Fai
     Ok(Outcome::Done)
 }
 
-/// Serves so many connections on a port of 127.0.0.1.
+/// Serves so many connections on a port of 127.0.0.1, or as many as come before a fault of the disk.
 fn serve<S: Store>(
     rt: &HostRuntime,
     service: &mut Service<S>,
@@ -140,7 +140,7 @@ fn serve<S: Store>(
     count: u32,
 ) -> Result<Outcome, Failure> {
     let listener = TcpListener::bind(rt, ("127.0.0.1", port))?;
-    serve_on(rt, service, &listener, count);
+    serve_on(rt, service, &listener, count)?;
     Ok(Outcome::Done)
 }
 

@@ -4,7 +4,7 @@ use Rattle.std.proofs.lemmas.Slice.Eq.{bytes_eq-Decides}
 use Rattle.std.proofs.lemmas.Str.{is_utf8-from_IsUtf8}
 use Rattle.std.specs.Prelude.{codes, if◌then◌else◌}
 use Rattle.std.specs.Str.{bytes_eq, is_utf8}
-use Rattle.pasts.specs.Kinds.{kind_of}
+use Rattle.stores.specs.Kinds.{kind_of}
 use Rattle.texts.proofs.Words.{IsUtf8-word}
 use Rattle.texts.specs.Words.{is_word}
 

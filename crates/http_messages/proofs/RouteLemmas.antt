@@ -10,8 +10,8 @@ use Rattle.matchit.specs.Seek.{seek, step, first, has_slash}
 use Rattle.matchit.proofs.OnLiterals.{matchit_on_literals}
 use Rattle.matchit.proofs.RenameLemmas.{first-rename}
 use Rattle.matchit.proofs.SeekLemmas.{first-prefix, seek-empty}
-use Rattle.pasts.specs.Kinds.{kind_of}
-use Rattle.pasts.specs.declared.kind.Kind.{Kind}
+use Rattle.stores.specs.Kinds.{kind_of}
+use Rattle.stores.specs.declared.kind.Kind.{Kind}
 use Rattle.texts.specs.Words.{is_word, is_word_byte}
 use Rattle.http_messages.specs.Routing.{Route, scheduler, tick, hosts, is_slash, is_part, import_of, import_with, hosts_of, route_of}
 use Rattle.http_messages.specs.Routers.{the_routes, found_place, found_route, route_at}

@@ -3,8 +3,8 @@ use Rattle.std.specs.Prelude.{ℕ, Bool, ◌&&◌, ◌==◌, nat_eq, nat_lt, not
 use Rattle.std.specs.List.{before_first, list_any, starts_with}
 use Rattle.std.specs.Str.{bytes_eq}
 use Rattle.texts.specs.Words.{is_word}
-use Rattle.pasts.specs.Kinds.{kind_of}
-use Rattle.pasts.specs.declared.kind.Kind.{Kind}
+use Rattle.stores.specs.Kinds.{kind_of}
+use Rattle.stores.specs.declared.kind.Kind.{Kind}
 use Rattle.http_messages.specs.declared.place.Place.{Place}
 use Rattle.http_messages.specs.declared.place.Place.TheVariants as at
 use Rattle.http_messages.specs.declared.routes.Route.{Route as RouteRead}

@@ -1,6 +1,6 @@
 use http_responses::Method;
-use pasts::Kind;
 use rpc_records::Fault;
+use stores::Kind;
 
 /// What a message asks for.
 #[derive(Clone, Copy)]

@@ -1,13 +1,13 @@
 ghost use Rattle.std.specs.Prelude.{◌≡◌, ◌<◌, length, IfOk, IfSome, option_map, position};
-ghost use Rattle.pasts.specs.Kinds.{kind_of};
+ghost use Rattle.stores.specs.Kinds.{kind_of};
 ghost use Rattle.http_messages.specs.Routing as spec;
 ghost use Rattle.http_messages.specs.Routers as routers;
 ghost use Rattle.http_messages.specs.Routers.{the_routes};
 
 use crate::place::Place;
 use matchit::{InsertError, Router};
-use pasts::Kind;
 use std::alloc::Global;
+use stores::Kind;
 use texts::{utf8_text, word_of};
 
 /// Where a request goes, with what its path names.

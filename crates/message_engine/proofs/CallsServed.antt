@@ -1,10 +1,10 @@
 -- A call over a store: what it is told, and what acting on it does.
-use Rattle.std.proofs.Common.{◌≡◌, ℕ, ◌≤◌, ◌<◌, Bool, true, false, cond, nat_lt, List, [], ◌∷◌, length, Option, Some, None, Result, Ok, Err, refl, sym, ◌∙◌, ap, subst, arith}
-use Rattle.std.specs.Prelude.{option_and_then, IfOk, OnOk, OnErr}
+use Rattle.std.proofs.Common.{◌≡◌, ℕ, ◌≤◌, ◌<◌, Bool, true, false, cond, nat_lt, List, length, Option, Some, None, Result, Ok, Err, refl, sym, ◌∙◌, ap, subst, arith}
+use Rattle.std.specs.Prelude.{option_and_then, IfOk, OnOk}
 use Rattle.std.proofs.lemmas.Bool.{lt-ltb}
 use Rattle.std.proofs.lemmas.Bool.Decides.{nat_tests}
 use Rattle.std.proofs.lemmas.Option.{none-some}
-use Rattle.reply_register.specs.Calls.{heard}
+use Rattle.reply_register.specs.Calls.{heard, reply_at}
 use Rattle.reply_register.specs.declared.kept.Heard.{Heard}
 use Rattle.reply_register.specs.declared.kept.Heard.TheVariants as heard
 use Rattle.reply_register.specs.declared.kept.Kept.{Kept}
@@ -26,29 +26,21 @@ use Rattle.sched_book.specs.declared.machine.Caller.{Caller}
 use Rattle.sched_book.specs.declared.world.World.{World}
 use Rattle.sched_machine.specs.Admission as admission
 use Rattle.sched_machine.specs.Calling.{IsAdmitted, IsFull}
+use Rattle.stores.specs.Eras.{this_era}
+use Rattle.stores.specs.Held.{Calls, Held, calls_with, IsCommitted, IsKeptSoundly, IsLeft}
+use Rattle.stores.specs.declared.entry.Entry.TheVariants as entry
 use Rattle.pasts.specs.Answers.{kept_after, kept_call}
-use Rattle.pasts.specs.ByNumber.{kept_at, calls_by_number}
+use Rattle.pasts.specs.ByNumber.{kept_at, calls_by_number, AreOfHosts}
 use Rattle.pasts.specs.FirstHeard.{has_host_room}
 use Rattle.pasts.specs.Leaves.{host_of_key}
-use Rattle.pasts.specs.Messages.{Rpc, key_of}
+use Rattle.pasts.specs.Messages.{Rpc, key_of, heard_now}
 use Rattle.sched_book.specs.Limits.{last_moment}
-use Rattle.pasts.specs.Stands.{ServesAs}
 use Rattle.pasts.specs.Told.{told_fresh, told_heard, told_beside, told_call, told_account, told_number}
 use Rattle.pasts.specs.declared.answer.Answer.{Answer}
 use Rattle.pasts.specs.declared.answer.Answer.TheVariants.{Good, Refusal}
-use Rattle.pasts.specs.declared.kind.Kind.{Kind}
 use Rattle.pasts.proofs.ByNumber.{kept_by_number}
-use Rattle.message_engine.proofs.EntriesKept.{told_serves}
-use Rattle.message_engine.specs.Calls.{IsNamed, told_caller, MayAct, ServesCall}
-use Rattle.message_engine.specs.Stores.{Calls, Batches, tables_by, calls_with, IsCommitted, IsLeft, IsServed, ServesSoundly}
-use Rattle.message_engine.specs.declared.entry.Entry.TheVariants as entry
-
--- ---- what is left
-
--- what is kept by key is as it was
-same_calls : (w after : World) (calls later : Calls) → after ≡ w → ((host : ℕ) → later host ≡ calls host)
-    → (key : Key) → calls_by_number after later key ≡ calls_by_number w calls key
-same_calls w after calls later world_is calls_are key = λ i. kept_at (λ host. calls_are host i) (host_of_key (world_is i) key)
+use Rattle.message_engine.specs.Calls.{IsNamed, told_caller, MayAct, ServesCall, IsCallServed}
+use Rattle.message_engine.proofs.EntriesKept.{told_serves, step_serves, IsStep}
 
 -- ---- who calls
 
@@ -71,68 +63,25 @@ told_named w c r kept named =
 
 -- ---- beside the kept calls, with the room taken apart
 
-heard_some : (room : Bool) (reply : List ℕ) (h : Heard) (answer : Answer) → told_heard true reply h ≡ Some answer → told_heard room reply h ≡ Some answer
-heard_some room reply heard.Fresh answer is = absurd (none-some answer is)
-heard_some room reply heard.Repeat answer is = is
-heard_some room reply (heard.Reused last) answer is = is
-heard_some room reply (heard.Stale last) answer is = is
+heard_some : (room : Bool) (kept : List Kept) (h : Heard) (answer : Answer) → told_heard true kept h ≡ Some answer → told_heard room kept h ≡ Some answer
+heard_some room kept heard.Fresh answer is = absurd (none-some answer is)
+heard_some room kept (heard.Repeat place) answer is = is
+heard_some room kept (heard.Reused last) answer is = is
+heard_some room kept (heard.Stale last) answer is = is
 
 beside_some : (room : Bool) (kept : List Kept) (seqno : ℕ) (text : List ℕ) (answer : Answer) → told_beside true kept seqno text ≡ Some answer
     → told_beside room kept seqno text ≡ Some answer
-beside_some room [] seqno text answer is = absurd (none-some answer is)
-beside_some room (last ∷ older) seqno text answer is = heard_some room last.reply (heard (Some last) seqno text) answer is
+beside_some room kept seqno text answer is = heard_some room kept (heard kept seqno text) answer is
 
-heard_fresh : (room : Bool) (reply : List ℕ) (h : Heard) → told_heard true reply h ≡ None → told_heard room reply h ≡ told_fresh room
-heard_fresh room reply heard.Fresh is = refl
-heard_fresh room reply heard.Repeat is = absurd (none-some (Good reply) (sym is))
-heard_fresh room reply (heard.Reused last) is = absurd (none-some (Refusal (fault.Reused last)) (sym is))
-heard_fresh room reply (heard.Stale last) is = absurd (none-some (Refusal (fault.Stale last)) (sym is))
+heard_fresh : (room : Bool) (kept : List Kept) (h : Heard) → told_heard true kept h ≡ None → told_heard room kept h ≡ told_fresh room
+heard_fresh room kept heard.Fresh is = refl
+heard_fresh room kept (heard.Repeat place) is = absurd (none-some (Good (reply_at kept place)) (sym is))
+heard_fresh room kept (heard.Reused last) is = absurd (none-some (Refusal (fault.Reused last)) (sym is))
+heard_fresh room kept (heard.Stale last) is = absurd (none-some (Refusal (fault.Stale last)) (sym is))
 
 beside_fresh : (room : Bool) (kept : List Kept) (seqno : ℕ) (text : List ℕ) → told_beside true kept seqno text ≡ None
     → told_beside room kept seqno text ≡ told_fresh room
-beside_fresh room [] seqno text is = refl
-beside_fresh room (last ∷ older) seqno text is = heard_fresh room last.reply (heard (Some last) seqno text) is
-
--- what a call that may act is told is for room to say
-told_acting : (w : World) (calls : Calls) (c : Caller) (r : Request) → MayAct w calls c r
-    → told_call w (calls_by_number w calls (key_of r)) r ≡ told_fresh (room_for w c)
-told_acting w calls c r may =
-    told_named w c r (calls_by_number w calls (key_of r)) may.0
-    ∙ ap (λ o. told_beside (room_for w c) (kept_at calls o) r.rpc_seqno (canonical_text r)) (number_named w c r may.0)
-    ∙ beside_fresh (room_for w c) (kept_at calls c.host) r.rpc_seqno (canonical_text r) may.1
-
--- ---- a call that is told something
-
-pub account_serves : (w after : World) (calls later : Calls) (batches newer : Batches) (r : Request) (now : ℕ)
-    → account_place w r.authenticator ≡ None → IsLeft w calls batches after later newer
-    → ServesCall r now (Refusal fault.BadAccount) w calls batches after later newer
-account_serves w after calls later batches newer r now unknown left =
-    told_serves (record { now = now; said = Rpc r }) (Refusal fault.BadAccount) w after calls later batches newer
-    (ap (told_account w (calls_by_number w calls (key_of r)) r) unknown) left
-
-pub number_serves : (w after : World) (calls later : Calls) (batches newer : Batches) (r : Request) (now : ℕ)
-    → admission.TellsWrongNumber w r → IsLeft w calls batches after later newer
-    → ServesCall r now (Refusal fault.BadHost) w calls batches after later newer
-number_serves w after calls later batches newer r now tells left =
-    let kept : List Kept = calls_by_number w calls (key_of r) in
-    let number : Option ℕ = known_host w tells.account r.host.host_cpid in
-    told_serves (record { now = now; said = Rpc r }) (Refusal fault.BadHost) w after calls later batches newer
-    (ap (told_account w kept r) tells.stands
-    ∙ ap (λ (b : Bool). cond b (told_beside (has_host_room w.settings.max_hosts number (length w.hosts)) kept r.rpc_seqno (canonical_text r)) (Some (Refusal fault.BadHost)))
-    tells.wrong)
-    left
-
-pub again_serves : (w after : World) (calls later : Calls) (batches newer : Batches) (c : Caller) (r : Request) (now : ℕ) (text : List ℕ)
-    (told : Option Answer) (answer : Answer)
-    → text ≡ canonical_text r → told ≡ Some answer → told ≡ told_caller calls c r.rpc_seqno text → IsLeft w calls batches after later newer
-    → IsNamed w c r → ServesCall r now answer w calls batches after later newer
-again_serves w after calls later batches newer c r now text told answer spelt is told_is left named =
-    told_serves (record { now = now; said = Rpc r }) answer w after calls later batches newer
-    (told_named w c r (calls_by_number w calls (key_of r)) named
-    ∙ ap (λ o. told_beside (room_for w c) (kept_at calls o) r.rpc_seqno (canonical_text r)) (number_named w c r named)
-    ∙ beside_some (room_for w c) (kept_at calls c.host) r.rpc_seqno (canonical_text r) answer
-    (ap (told_caller calls c r.rpc_seqno) (sym spelt) ∙ sym told_is ∙ is))
-    left
+beside_fresh room kept seqno text is = heard_fresh room kept (heard kept seqno text) is
 
 not_less : (a b : ℕ) → b ≤ a → nat_lt a b ≡ false
 not_less a b most = grind (arith, nat_tests)
@@ -141,12 +90,47 @@ no_room : (max count : ℕ) (number : Option ℕ) → number ≡ None → max �
 no_room max count None none full = not_less count max full
 no_room max count (Some number) none full = absurd (none-some number (sym none))
 
-pub full_serves : (w after : World) (calls later : Calls) (batches newer : Batches) (c : Caller) (r : Request) (now : ℕ)
-    → IsFull w (call.Rpc c r) → IsLeft w calls batches after later newer
-    → MayAct w calls c r → ServesCall r now (Refusal fault.HostsFull) w calls batches after later newer
-full_serves w after calls later batches newer c r now full left may =
-    told_serves (record { now = now; said = Rpc r }) (Refusal fault.HostsFull) w after calls later batches newer
-    (told_acting w calls c r may ∙ ap told_fresh (no_room w.settings.max_hosts (length w.hosts) c.host full.0 full.1)) left
+-- what a call that may act is told is for room to say
+told_acting : (held : Held) (c : Caller) (r : Request) → MayAct held c r → told_call held.world (calls_by_number held.world held.calls (key_of r)) r ≡ told_fresh (room_for held.world c)
+told_acting held c r may =
+    told_named held.world c r (calls_by_number held.world held.calls (key_of r)) may.0
+    ∙ ap (λ o. told_beside (room_for held.world c) (kept_at held.calls o) r.rpc_seqno (canonical_text r)) (number_named held.world c r may.0)
+    ∙ beside_fresh (room_for held.world c) (kept_at held.calls c.host) r.rpc_seqno (canonical_text r) may.1
+
+-- ---- a call that is told something, of a store whose world is w
+
+module _ (old new : Held) (w : World) (world_is : old.world ≡ w) (left : IsLeft old new) (r : Request) (now : ℕ) where
+  pub account_serves : account_place w r.authenticator ≡ None → ServesCall r now (Refusal fault.BadAccount) old new
+  account_serves unknown =
+      told_serves (heard_now now (Rpc r)) (Refusal fault.BadAccount) old new
+      (ap (told_account old.world (calls_by_number old.world old.calls (key_of r)) r) (ap (λ v. account_place v r.authenticator) world_is ∙ unknown)) left
+
+  pub number_serves : admission.TellsWrongNumber w r → ServesCall r now (Refusal fault.BadHost) old new
+  number_serves tells_there =
+      let tells : admission.TellsWrongNumber old.world r = subst (λ v. admission.TellsWrongNumber v r) (sym world_is) tells_there in
+      let kept : List Kept = calls_by_number old.world old.calls (key_of r) in
+      let number : Option ℕ = known_host old.world tells.account r.host.host_cpid in
+      told_serves (heard_now now (Rpc r)) (Refusal fault.BadHost) old new
+      (ap (told_account old.world kept r) tells.stands
+      ∙ ap (λ (b : Bool). cond b (told_beside (has_host_room old.world.settings.max_hosts number (length old.world.hosts)) kept r.rpc_seqno (canonical_text r)) (Some (Refusal fault.BadHost)))
+      tells.wrong)
+      left
+
+  pub full_serves : (c : Caller) → IsFull w (call.Rpc c r) → MayAct old c r → ServesCall r now (Refusal fault.HostsFull) old new
+  full_serves c full_there may =
+      let full : IsFull old.world (call.Rpc c r) = subst (λ v. IsFull v (call.Rpc c r)) (sym world_is) full_there in
+      told_serves (heard_now now (Rpc r)) (Refusal fault.HostsFull) old new
+      (told_acting old c r may ∙ ap told_fresh (no_room old.world.settings.max_hosts (length old.world.hosts) c.host full.0 full.1)) left
+
+  pub again_serves : (c : Caller) (text : List ℕ) (told : Option Answer) (answer : Answer)
+      → text ≡ canonical_text r → told ≡ Some answer → told ≡ told_caller old.calls c r.rpc_seqno text → IsNamed old.world c r → ServesCall r now answer old new
+  again_serves c text told answer spelt is told_is named =
+      told_serves (heard_now now (Rpc r)) answer old new
+      (told_named old.world c r (calls_by_number old.world old.calls (key_of r)) named
+      ∙ ap (λ o. told_beside (room_for old.world c) (kept_at old.calls o) r.rpc_seqno (canonical_text r)) (number_named old.world c r named)
+      ∙ beside_some (room_for old.world c) (kept_at old.calls c.host) r.rpc_seqno (canonical_text r) answer
+      (ap (told_caller old.calls c r.rpc_seqno) (sym spelt) ∙ sym told_is ∙ is))
+      left
 
 -- ---- a call that acts
 
@@ -154,137 +138,54 @@ has_room : (max count : ℕ) (number : Option ℕ) → (number ≡ None → coun
 has_room max count None room = lt-ltb count max (room refl)
 has_room max count (Some number) room = refl
 
--- what is kept once a call is put in is what the message leaves of each key
+-- what is kept once a call is put in is what the message leaves of each key, and is kept of hosts that stand
 calls_kept : (w : World) (c : Caller) (r : Request) (now : ℕ) (delta : List Change) (reply : Reply) → Sound w
-    → RpcStep w c r now (applied w delta) reply → (calls : Calls) (key : Key)
-    → calls_by_number (applied w delta) (calls_with (entry.Kept reply.hostid (kept_call r (reply_text_of reply))) calls) key
-    ≡ kept_after key (Rpc r) (reply_text_of reply) (calls_by_number w calls key)
-calls_kept w c r now delta reply sound step calls key =
+    → RpcStep w c r now (applied w delta) reply → (calls : Calls) → AreOfHosts w calls
+    → AreOfHosts (applied w delta) (calls_with (entry.Kept reply.hostid (kept_call r (reply_text_of reply))) calls)
+    × ((key : Key) → calls_by_number (applied w delta) (calls_with (entry.Kept reply.hostid (kept_call r (reply_text_of reply))) calls) key
+    ≡ kept_after this_era key (Rpc r) (reply_text_of reply) (calls_by_number w calls key))
+calls_kept w c r now delta reply sound step calls of =
     let number : reply.hostid ≡ host_number w c = ap (λ (x : Reply). x.hostid) step.answer in
-    ap (λ host. calls_by_number (applied w delta) (calls_with (entry.Kept host (kept_call r (reply_text_of reply))) calls) key) number
-    ∙ kept_by_number w (applied w delta) (Rpc r) (call.Rpc c r) now (answered.Rpc reply) sound refl step calls key
+    let P : ℕ → Type 0 = λ host. AreOfHosts (applied w delta) (calls_with (entry.Kept host (kept_call r (reply_text_of reply))) calls)
+    × ((key : Key) → calls_by_number (applied w delta) (calls_with (entry.Kept host (kept_call r (reply_text_of reply))) calls) key
+    ≡ kept_after this_era key (Rpc r) (reply_text_of reply) (calls_by_number w calls key)) in
+    subst P (sym number) (kept_by_number w (applied w delta) (Rpc r) (call.Rpc c r) now (answered.Rpc reply) sound refl step this_era calls of)
 
-acted : (w after : World) (calls later : Calls) (batches newer : Batches) (c : Caller) (r : Request) (now : ℕ) (delta : List Change) (reply : Reply)
-    → now ≤ last_moment → IsInRange r → MayAct w calls c r → Sound w
-    → RpcStep w c r now (applied w delta) reply → Sound (applied w delta)
-    → IsCommitted delta (entry.Kept reply.hostid (kept_call r (reply_text_of reply))) w calls batches after later newer
-    → ServesSoundly (record { now = now; said = Rpc r }) (Good (reply_text_of reply)) w calls batches after later newer
-acted w after calls later batches newer c r now delta reply moment range may sound step soundly done = record {
-  serves =
-      subst (λ told. ServesAs told (tables_by w calls batches) (record { now = now; said = Rpc r }) (Good (reply_text_of reply)) (tables_by after later newer))
-      (sym (told_acting w calls c r may ∙ ap told_fresh (has_room w.settings.max_hosts (length w.hosts) c.host step.room)))
-      (record {
-        call = call.Rpc c r;
-        answered = answered.Rpc reply;
-        is_call = refl;
-        limits = record { request = range; moment = moment };
-        step = subst (λ x. RpcStep w c r now x reply) (sym done.world_is) step;
-        answer_is = refl;
-        calls = λ key.
-            same_calls (applied w delta) after (calls_with (entry.Kept reply.hostid (kept_call r (reply_text_of reply))) calls) later done.world_is
-            done.calls_are key
-            ∙ calls_kept w c r now delta reply sound step calls key;
-        batches = done.batches_are;
-      });
-  sound = subst Sound (sym done.world_is) soundly;
-}
-
--- A step was made of a call that may act, and what is committed on what was read is committed on what stood before.
-module _ (w u after : World) (calls d later : Calls) (batches b newer : Batches) (c : Caller) (r : Request) (now : ℕ) (delta : List Change)
-    (reply : Reply) (text : List ℕ) (world_is : u ≡ w) (calls_are : (host : ℕ) → d host ≡ calls host)
-    (batches_are : (kind : Kind) (batch : List ℕ) → b kind batch ≡ batches kind batch)
+-- A step was made of a call that may act, in the world of the store, and is committed with what is kept of it.
+module _ (old new : Held) (w : World) (world_is : old.world ≡ w) (c : Caller) (r : Request) (now : ℕ) (delta : List Change) (reply : Reply) (text : List ℕ)
     (moment : now ≤ last_moment) (range : IsInRange r) (spelt : text ≡ canonical_text r)
-    (step : Sound w → IsAdmitted w c r → RpcStep w c r now (applied w delta) reply) (soundly : Sound w → IsAdmitted w c r → Sound (applied w delta))
-    (fits : Sound w → IsAdmitted w c r → Fits w delta) where
-  abbrev IsKept : World → Calls → Batches → List ℕ → Type 0
-  IsKept x e k t =
-      Fits x delta → Sound (applied x delta)
-      → IsCommitted delta (entry.Kept reply.hostid (record { seqno = r.rpc_seqno; text = t; reply = reply_text_of reply })) x e k after later newer
-
-  acts : IsKept u d b text → MayAct w calls c r → ServesCall r now (Good (reply_text_of reply)) w calls batches after later newer
+    (made : IsStep (λ v. IsAdmitted v c r) (λ v after. RpcStep v c r now after reply) delta w) where
+  acts : IsKeptSoundly delta (entry.Kept reply.hostid (record { seqno = r.rpc_seqno; text = text; reply = reply_text_of reply })) old new
+      → MayAct old c r → ServesCall r now (Good (reply_text_of reply)) old new
   acts commits may sound =
-      let admitted : IsAdmitted w c r = record { caller = may.0.0; limits = range } in
-      let commits_here : IsKept w calls batches (canonical_text r) =
-      subst (λ (t : World × (Calls × (Batches × List ℕ))). IsKept t.0 t.1.0 t.1.1.0 t.1.1.1)
-      (λ i. (world_is i, (λ host. calls_are host i, (λ kind batch. batches_are kind batch i, spelt i)))) commits in
-      acted w after calls later batches newer c r now delta reply moment range may sound (step sound admitted) (soundly sound admitted)
-      (commits_here (fits sound admitted) (soundly sound admitted))
+      let here = subst (IsStep (λ v. IsAdmitted v c r) (λ v after. RpcStep v c r now after reply) delta) (sym world_is) made in
+      let admitted : IsAdmitted old.world c r = record { caller = may.0.0; limits = range } in
+      let step = here.step sound.world admitted in
+      step_serves (heard_now now (Rpc r)) (call.Rpc c r) (answered.Rpc reply) delta
+      (entry.Kept reply.hostid (kept_call r (reply_text_of reply))) old new
+      (told_acting old c r may ∙ ap told_fresh (has_room old.world.settings.max_hosts (length old.world.hosts) c.host step.room))
+      refl (record { request = range; moment = moment }) step (here.sound sound.world admitted)
+      (calls_kept old.world c r now delta reply sound.world step old.calls sound.hosts) (λ kind batch. refl)
+      (subst (λ t. IsCommitted delta (entry.Kept reply.hostid (record { seqno = r.rpc_seqno; text = t; reply = reply_text_of reply })) old new) spelt
+      (commits (here.fits sound.world admitted) (here.sound sound.world admitted))) sound
 
   -- its reply is kept with it
   pub kept_serves : {E : Type 0} (result : Result Answer E) → IfOk result (λ answer. answer ≡ Good (reply_text_of reply))
-      → OnOk result (Fits u delta
-      → IsCommitted delta (entry.Kept reply.hostid (record { seqno = r.rpc_seqno; text = text; reply = reply_text_of reply })) u d b after later newer)
-      → IfOk result (λ answer. MayAct w calls c r → ServesCall r now answer w calls batches after later newer)
+      → OnOk result (Fits old.world delta
+      → IsCommitted delta (entry.Kept reply.hostid (record { seqno = r.rpc_seqno; text = text; reply = reply_text_of reply })) old new)
+      → IfOk result (λ answer. MayAct old c r → ServesCall r now answer old new)
   kept_serves (Err e) told commits = tt
   kept_serves (Ok answer) told commits = λ may.
-      subst (λ x. ServesCall r now x w calls batches after later newer) (sym told) (acts (λ fits_here soundly_here. commits fits_here) may)
+      subst (λ x. ServesCall r now x old new) (sym told) (acts (λ fits_here soundly_here. commits fits_here) may)
 
   -- what a stop leaves of a commit is one call ahead
-  pub kept_ahead : IsKept u d b text → MayAct w calls c r → IsServed (record { now = now; said = Rpc r }) w calls batches after later newer
+  pub kept_ahead : IsKeptSoundly delta (entry.Kept reply.hostid (record { seqno = r.rpc_seqno; text = text; reply = reply_text_of reply })) old new
+      → MayAct old c r → IsCallServed r now old new
   kept_ahead commits may = (Good (reply_text_of reply), acts commits may)
 
--- ---- what was only read before
+-- ---- what was looked at before
 
--- a fresh call acts as it would have before what is kept was read
-pub fresh_serves : {E : Type 0} (w u after : World) (calls d later : Calls) (batches b newer : Batches) (c : Caller) (r : Request) (now : ℕ) (text : List ℕ)
-    (told : Option Answer) (result : Result Answer E)
-    → u ≡ w → ((host : ℕ) → d host ≡ calls host) → ((kind : Kind) (batch : List ℕ) → b kind batch ≡ batches kind batch)
-    → text ≡ canonical_text r → told ≡ None → told ≡ told_caller calls c r.rpc_seqno text
-    → IfOk result (λ answer. MayAct u d c r → ServesCall r now answer u d b after later newer)
-    → IfOk result (λ answer. IsNamed w c r → ServesCall r now answer w calls batches after later newer)
-fresh_serves w u after calls d later batches b newer c r now text told (Err e) world_is calls_are batches_are spelt fresh told_is acts = tt
-fresh_serves w u after calls d later batches b newer c r now text told (Ok answer) world_is calls_are batches_are spelt fresh told_is acts = λ named.
-    subst
-    (λ (t : World × (Calls × Batches)). MayAct t.0 t.1.0 c r → ServesCall r now answer t.0 t.1.0 t.1.1 after later newer)
-    (λ i. (world_is i, (λ host. calls_are host i, λ kind batch. batches_are kind batch i))) acts
-    (named, ap (told_caller calls c r.rpc_seqno) (sym spelt) ∙ sym told_is ∙ fresh)
-
--- and the same of what a stop leaves
-pub fresh_ahead : (w u after : World) (calls d later : Calls) (batches b newer : Batches) (c : Caller) (r : Request) (now : ℕ) (text : List ℕ)
-    (told : Option Answer)
-    → u ≡ w → ((host : ℕ) → d host ≡ calls host) → ((kind : Kind) (batch : List ℕ) → b kind batch ≡ batches kind batch)
-    → text ≡ canonical_text r → told ≡ None → told ≡ told_caller calls c r.rpc_seqno text
-    → (MayAct u d c r → IsServed (record { now = now; said = Rpc r }) u d b after later newer)
-    → IsNamed w c r → IsServed (record { now = now; said = Rpc r }) w calls batches after later newer
-fresh_ahead w u after calls d later batches b newer c r now text told world_is calls_are batches_are spelt fresh told_is acts named =
-    subst
-    (λ (t : World × (Calls × Batches)). MayAct t.0 t.1.0 c r → IsServed (record { now = now; said = Rpc r }) t.0 t.1.0 t.1.1 after later newer)
-    (λ i. (world_is i, (λ host. calls_are host i, λ kind batch. batches_are kind batch i))) acts
-    (named, ap (told_caller calls c r.rpc_seqno) (sym spelt) ∙ sym told_is ∙ fresh)
-
--- a named call is served as it would have been before it was named
-pub named_serves : {E : Type 0} (w u after : World) (calls d later : Calls) (batches b newer : Batches) (c : Caller) (r : Request) (now : ℕ)
-    (result : Result Answer E)
-    → u ≡ w → ((host : ℕ) → d host ≡ calls host) → ((kind : Kind) (batch : List ℕ) → b kind batch ≡ batches kind batch)
-    → IsNamed w c r
-    → IfOk result (λ answer. IsNamed u c r → ServesCall r now answer u d b after later newer)
-    → IfOk result (λ answer. ServesCall r now answer w calls batches after later newer)
-named_serves w u after calls d later batches b newer c r now (Err e) world_is calls_are batches_are named serves = tt
-named_serves w u after calls d later batches b newer c r now (Ok answer) world_is calls_are batches_are named serves =
-    subst
-    (λ (t : World × (Calls × Batches)). IsNamed t.0 c r → ServesCall r now answer t.0 t.1.0 t.1.1 after later newer)
-    (λ i. (world_is i, (λ host. calls_are host i, λ kind batch. batches_are kind batch i))) serves named
-
--- and the same of what a stop leaves
-pub named_ahead : (w u after : World) (calls d later : Calls) (batches b newer : Batches) (c : Caller) (r : Request) (now : ℕ)
-    → u ≡ w → ((host : ℕ) → d host ≡ calls host) → ((kind : Kind) (batch : List ℕ) → b kind batch ≡ batches kind batch)
-    → IsNamed w c r
-    → (IsNamed u c r → IsServed (record { now = now; said = Rpc r }) u d b after later newer)
-    → IsServed (record { now = now; said = Rpc r }) w calls batches after later newer
-named_ahead w u after calls d later batches b newer c r now world_is calls_are batches_are named serves =
-    subst
-    (λ (t : World × (Calls × Batches)). IsNamed t.0 c r → IsServed (record { now = now; said = Rpc r }) t.0 t.1.0 t.1.1 after later newer)
-    (λ i. (world_is i, (λ host. calls_are host i, λ kind batch. batches_are kind batch i))) serves named
-
--- ---- want of memory
-
--- what was left of what was read is left of what stood before
-pub left_before : {E : Type 0} (w u after : World) (calls d later : Calls) (batches b newer : Batches) (result : Result Answer E)
-    → u ≡ w → ((host : ℕ) → d host ≡ calls host) → ((kind : Kind) (batch : List ℕ) → b kind batch ≡ batches kind batch)
-    → OnErr result (IsLeft u d b after later newer) → OnErr result (IsLeft w calls batches after later newer)
-left_before w u after calls d later batches b newer (Ok answer) world_is calls_are batches_are left = tt
-left_before w u after calls d later batches b newer (Err e) world_is calls_are batches_are left = record {
-  world_is = left.world_is ∙ world_is;
-  calls_are = λ host. left.calls_are host ∙ calls_are host;
-  batches_are = λ kind batch. left.batches_are kind batch ∙ batches_are kind batch;
-}
+-- a fresh call of a named caller may act
+pub may_act : (held : Held) (c : Caller) (r : Request) (text : List ℕ) (told : Option Answer) → text ≡ canonical_text r → told ≡ None
+    → told ≡ told_caller held.calls c r.rpc_seqno text → IsNamed held.world c r → MayAct held c r
+may_act held c r text told spelt fresh told_is named = (named, ap (told_caller held.calls c r.rpc_seqno) (sym spelt) ∙ sym told_is ∙ fresh)

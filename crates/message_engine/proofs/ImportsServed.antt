@@ -13,36 +13,27 @@ use Rattle.rpc_records.specs.declared.fault.Fault.TheVariants as fault
 use Rattle.sched_book.specs.Delta.{applied, Fits}
 use Rattle.sched_book.specs.Imports.{AreChecked, fault_of_rows, shelf_of}
 use Rattle.sched_book.specs.Limits.{last_moment, AreRowsInLimits}
-use Rattle.sched_book.specs.Sound.{Sound}
 use Rattle.sched_book.specs.Step.{ImportStep}
 use Rattle.sched_book.specs.declared.delta.Change.{Change}
-use Rattle.sched_book.specs.declared.desk.Unavailable.{Unavailable}
 use Rattle.sched_book.specs.declared.machine.Answered.TheVariants as answered
 use Rattle.sched_book.specs.declared.machine.Call.TheVariants as call
 use Rattle.sched_book.specs.declared.rows.Rows.{Rows}
 use Rattle.sched_book.specs.declared.world.World.{World}
+use Rattle.stores.specs.Eras.{this_era}
+use Rattle.stores.specs.Held.{Batches, Held, IsCommitted, IsKeptSoundly, IsLeft}
 use Rattle.pasts.specs.Answers.{imported_text}
-use Rattle.pasts.specs.Kinds.{kind_name}
-use Rattle.pasts.specs.Messages.{Message, Import}
+use Rattle.stores.specs.Kinds.{kind_name}
 use Rattle.pasts.specs.Told.{told_import}
 use Rattle.pasts.specs.declared.answer.Answer.{Answer}
 use Rattle.pasts.specs.declared.answer.Answer.TheVariants.{Good, Refusal}
-use Rattle.pasts.specs.declared.batch.KeptBatch.{KeptBatch}
-use Rattle.pasts.specs.declared.kind.Kind.{Kind}
+use Rattle.stores.specs.declared.batch.KeptBatch.{KeptBatch}
+use Rattle.stores.specs.declared.kind.Kind.{Kind}
 use Rattle.pasts.proofs.ByNumber.{kept_by_number}
-use Rattle.message_engine.specs.Imports.{reading_of, as_refusal, Reads}
-use Rattle.message_engine.specs.Stores.{Calls, Batches, IsCommitted, IsLeft, IsServed, ServesIn}
-use Rattle.message_engine.specs.declared.entry.Entry.{Entry}
-use Rattle.message_engine.specs.declared.entry.Entry.TheVariants as entry
-use Rattle.message_engine.proofs.EntriesKept.{committed_on, serves_on, told_serves, step_serves}
-
-abbrev pub message_of : ℕ → Kind → List ℕ → List ℕ → Result Rows Fault → Message
-message_of now kind batch text read = record { now = now; said = Import kind batch text read }
-
--- what the text of an import reads as, and that it is served so
-abbrev pub ServesRead : ℕ → Kind → List ℕ → List ℕ → Answer → World → Calls → Batches → World → Calls → Batches → Type 0
-ServesRead now kind batch text answer w calls batches w' calls' batches' =
-    (read : Result Rows Fault) × Reads kind text read × ServesIn (message_of now kind batch text read) answer w calls batches w' calls' batches'
+use Rattle.stores.specs.declared.entry.Entry.{Entry}
+use Rattle.stores.specs.declared.entry.Entry.TheVariants as entry
+use Rattle.message_engine.specs.Imports.{reading_of, as_refusal, import_of, ServesImport, IsImportServed}
+use Rattle.message_engine.specs.Stores.{IsServed, ServesIn}
+use Rattle.message_engine.proofs.EntriesKept.{told_serves, step_serves, IsStep}
 
 -- ---- a batch that is kept
 
@@ -51,18 +42,21 @@ looked_up : (batches : Batches) (kind : Kind) (batch name : List ℕ) (looked ke
     → looked ≡ kept → name ≡ batch → looked ≡ batches kind name → batches kind batch ≡ kept
 looked_up batches kind batch name looked kept is same there = ap (batches kind) (sym same) ∙ sym there ∙ is
 
-pub again_serves : (now : ℕ) (kind : Kind) (batch text : List ℕ) (name : List ℕ) (looked : Option KeptBatch) (kept : KeptBatch) (answer : Answer)
-    (w w' : World) (calls calls' : Calls) (batches batches' : Batches)
-    → looked ≡ Some kept → name ≡ batch → looked ≡ batches kind name → answer ≡ (if bytes_eq kept.text text then Good kept.answer else Refusal fault.BatchReused)
-    → IsLeft w calls batches w' calls' batches' → ServesRead now kind batch text answer w calls batches w' calls' batches'
-again_serves now kind batch text name looked kept answer w w' calls calls' batches batches' found same there is left =
+pub again_serves : (now : ℕ) (kind : Kind) (batch text name : List ℕ) (looked : Option KeptBatch) (kept : KeptBatch) (answer : Answer) (old new : Held)
+    → looked ≡ Some kept → name ≡ batch → looked ≡ old.batches kind name → answer ≡ (if bytes_eq kept.text text then Good kept.answer else Refusal fault.BatchReused)
+    → IsLeft old new → ServesImport now kind batch text answer old new
+again_serves now kind batch text name looked kept answer old new found same there is left =
     let one = text_has_one_list text in
     let read : Result Rows Fault = as_refusal (reading_of kind one.0) in (
       read,
       (reading_of kind one.0, (one.0, one.1, refl), refl),
-      told_serves (message_of now kind batch text read) answer w w' calls calls' batches batches'
-          (ap (λ o. told_import w o text read) (looked_up batches kind batch name looked (Some kept) found same there) ∙ ap Some (sym is)) left,
+      told_serves (import_of now kind batch text read) answer old new
+          (ap (λ o. told_import old.world o text read) (looked_up old.batches kind batch name looked (Some kept) found same there) ∙ ap Some (sym is)) left,
     )
+
+-- one that was looked for and not found
+pub still_none : (batches : Batches) (kind : Kind) (batch name : List ℕ) (looked : Option KeptBatch) → looked ≡ None → name ≡ batch → looked ≡ batches kind name → batches kind batch ≡ None
+still_none batches kind batch name looked none same there = looked_up batches kind batch name looked None none same there
 
 -- ---- a refusal
 
@@ -75,110 +69,71 @@ says_fault reading text (rows_fault.DuplicateName row) known refuses = absurd re
 says_fault reading text (rows_fault.UnknownReference row) known refuses = absurd refuses
 says_fault reading text rows_fault.TableFull known refuses = absurd refuses
 
-pub unread_serves : (now : ℕ) (kind : Kind) (batch text : List ℕ) (e : RowsFault) (refusal : Fault) (w : World) (calls : Calls) (batches : Batches)
-    → (e ≡ rows_fault.Unavailable → ⊥) → refusal ≡ refusal_of e → Refuses (reading_of kind) text e → batches kind batch ≡ None
-    → ServesRead now kind batch text (Refusal refusal) w calls batches w calls batches
-unread_serves now kind batch text e refusal w calls batches known is refuses none =
+pub unread_serves : (now : ℕ) (kind : Kind) (batch text : List ℕ) (e : RowsFault) (refusal : Fault) (old new : Held)
+    → (e ≡ rows_fault.Unavailable → ⊥) → refusal ≡ refusal_of e → Refuses (reading_of kind) text e → IsLeft old new
+    → old.batches kind batch ≡ None → ServesImport now kind batch text (Refusal refusal) old new
+unread_serves now kind batch text e refusal old new known is refuses left none =
     let read : Result Rows Fault = Err refusal in (
       read,
       (Err e, says_fault (reading_of kind) text e known refuses, ap (λ f. Err f) is),
-      told_serves (message_of now kind batch text read) (Refusal refusal) w w calls calls batches batches
-          (ap (λ o. told_import w o text read) none) (record { world_is = refl; calls_are = λ host. refl; batches_are = λ k b. refl }),
+      told_serves (import_of now kind batch text read) (Refusal refusal) old new (ap (λ o. told_import old.world o text read) none) left,
     )
+
+-- what was found of rows in the world of a store
+pub unforbidden : (old : Held) (w : World) → old.world ≡ w → (rows : Rows) (found : Option Fault) → fault_of_rows (shelf_of w) rows ≡ found → fault_of_rows (shelf_of old.world) rows ≡ found
+unforbidden old w world_is rows found is = ap (λ v. fault_of_rows (shelf_of v) rows) world_is ∙ is
+
+-- rows that what stands forbids
+pub forbidden_serves : (now : ℕ) (kind : Kind) (batch text : List ℕ) (rows : Rows) (refusal : Fault) (old new : Held)
+    → fault_of_rows (shelf_of old.world) rows ≡ Some refusal → IsLeft old new
+    → old.batches kind batch ≡ None → ServesIn (import_of now kind batch text (Ok rows)) (Refusal refusal) old new
+forbidden_serves now kind batch text rows refusal old new forbids left none =
+    told_serves (import_of now kind batch text (Ok rows)) (Refusal refusal) old new
+    (ap (λ o. told_import old.world o text (Ok rows)) none ∙ ap (option_map Refusal) forbids) left
 
 -- ---- rows that are added
 
 abbrev pub entry_of : Kind → List ℕ → List ℕ → ℕ → Entry
 entry_of kind batch text count = entry.Batch kind batch (record { text = text; answer = imported_text (kind_name kind) batch count })
 
-module _ (now count : ℕ) (kind : Kind) (batch text : List ℕ) (new : Rows) (delta : List Change)
-    (u v w : World) (calls calls' calls'' : Calls) (batches batches' batches'' : Batches)
-    (soon : now ≤ last_moment) (limits : AreRowsInLimits new) (left : IsLeft u calls batches v calls' batches')
-    (step : Sound u → AreChecked u new → ImportStep u new (applied u delta) count)
-    (after : Sound u → AreChecked u new → Sound (applied u delta)) (fits : Sound u → AreChecked u new → Fits u delta) where
-  abbrev m : Message
-  m = message_of now kind batch text (Ok new)
+module _ (now count : ℕ) (kind : Kind) (batch text : List ℕ) (new_rows : Rows) (delta : List Change) (old new : Held) (w : World) (world_is : old.world ≡ w)
+    (soon : now ≤ last_moment) (limits : AreRowsInLimits new_rows)
+    (made : IsStep (λ v. AreChecked v new_rows) (λ v after. ImportStep v new_rows after count) delta w) where
+  rows_serve : IsKeptSoundly delta (entry_of kind batch text count) old new
+      → old.batches kind batch ≡ None → fault_of_rows (shelf_of old.world) new_rows ≡ None
+      → ServesIn (import_of now kind batch text (Ok new_rows)) (Good (imported_text (kind_name kind) batch count)) old new
+  rows_serve done none unrefused sound =
+      let here = subst (IsStep (λ v. AreChecked v new_rows) (λ v after. ImportStep v new_rows after count) delta) (sym world_is) made in
+      let checked : AreChecked old.world new_rows = record { in_limits = limits; unrefused = unrefused } in
+      let m = import_of now kind batch text (Ok new_rows) in
+      step_serves m (call.Import new_rows) (answered.Imported count) delta (entry_of kind batch text count) old new
+      (ap (λ o. told_import old.world o text (Ok new_rows)) none ∙ ap (option_map Refusal) unrefused)
+      refl (record { request = tt; moment = soon }) (here.step sound.world checked) (here.sound sound.world checked)
+      (kept_by_number old.world (applied old.world delta) m.said (call.Import new_rows) now (answered.Imported count) sound.world refl (here.step sound.world checked) this_era old.calls
+      sound.hosts)
+      (λ k b. refl) (done (here.fits sound.world checked) (here.sound sound.world checked)) sound
 
-  rows_serve : (answer : Answer) → answer ≡ Good (imported_text (kind_name kind) batch count)
-      → (Fits v delta → Sound (applied v delta) → IsCommitted delta (entry_of kind batch text count) v calls' batches' w calls'' batches'')
-      → batches kind batch ≡ None → fault_of_rows (shelf_of u) new ≡ None → ServesIn m answer u calls batches w calls'' batches''
-  rows_serve answer is done none unrefused sound =
-      let P : World → Type 0 = λ x. Fits x delta in
-      let R : World → Type 0 = λ x. Sound (applied x delta) in
-      let Q : Answer → Type 0 = λ a. ServesIn m a u calls batches w calls'' batches'' in
-      let checked : AreChecked u new = record { in_limits = limits; unrefused = unrefused } in
-      let made = committed_on delta (entry_of kind batch text count) u v w calls calls' calls'' batches batches' batches'' left
-      (done (subst P (sym left.world_is) (fits sound checked)) (subst R (sym left.world_is) (after sound checked))) in
-      subst Q (sym is)
-      (step_serves m (call.Import new) (answered.Imported count) delta (entry_of kind batch text count) u w calls calls'' batches batches''
-      (ap (λ o. told_import u o text (Ok new)) none ∙ ap (option_map Refusal) unrefused)
-      refl (record { request = tt; moment = soon }) (step sound checked) (after sound checked)
-      (kept_by_number u (applied u delta) m.said (call.Import new) now (answered.Imported count) sound refl (step sound checked) calls)
-      (λ k b. refl) made) sound
-
-  pub rows_done : (result : Result Answer Unavailable) → IfOk result (λ answer. answer ≡ Good (imported_text (kind_name kind) batch count))
-      → OnOk result (Fits v delta → IsCommitted delta (entry_of kind batch text count) v calls' batches' w calls'' batches'')
-      → IfOk result (λ answer. batches kind batch ≡ None → fault_of_rows (shelf_of u) new ≡ None → ServesIn m answer u calls batches w calls'' batches'')
-  rows_done (Ok answer) is done = rows_serve answer is (λ fits_here soundly. done fits_here)
+  pub rows_done : {E : Type 0} (result : Result Answer E) → IfOk result (λ answer. answer ≡ Good (imported_text (kind_name kind) batch count))
+      → OnOk result (Fits old.world delta → IsCommitted delta (entry_of kind batch text count) old new)
+      → IfOk result (λ answer. old.batches kind batch ≡ None → fault_of_rows (shelf_of old.world) new_rows ≡ None
+      → ServesIn (import_of now kind batch text (Ok new_rows)) answer old new)
+  rows_done (Ok answer) is done = λ none unrefused.
+      subst (λ a. ServesIn (import_of now kind batch text (Ok new_rows)) a old new) (sym is) (rows_serve (λ fits_here soundly. done fits_here) none unrefused)
   rows_done (Err e) is done = tt
 
   -- what a stop leaves of a commit is one import ahead
-  pub rows_ahead : (Fits v delta → Sound (applied v delta) → IsCommitted delta (entry_of kind batch text count) v calls' batches' w calls'' batches'')
-      → batches kind batch ≡ None → fault_of_rows (shelf_of u) new ≡ None → IsServed m u calls batches w calls'' batches''
-  rows_ahead done none unrefused =
-      (Good (imported_text (kind_name kind) batch count), rows_serve (Good (imported_text (kind_name kind) batch count)) refl done none unrefused)
+  pub rows_ahead : IsKeptSoundly delta (entry_of kind batch text count) old new
+      → old.batches kind batch ≡ None → fault_of_rows (shelf_of old.world) new_rows ≡ None → IsServed (import_of now kind batch text (Ok new_rows)) old new
+  rows_ahead done none unrefused = (Good (imported_text (kind_name kind) batch count), rows_serve done none unrefused)
 
--- ---- what was read before
+-- ---- rows that were read, and then imported
 
-module _ (now : ℕ) (kind : Kind) (batch text : List ℕ) (u v w : World) (calls calls' calls'' : Calls) (batches batches' batches'' : Batches)
-    (left : IsLeft u calls batches v calls' batches') where
-  still : batches kind batch ≡ None → batches' kind batch ≡ None
-  still none = left.batches_are kind batch ∙ none
+pub read_on : {E : Type 0} (now : ℕ) (kind : Kind) (batch text : List ℕ) (rows : Rows) (old new : Held) (result : Result Answer E) → Says (reading_of kind) text (Ok rows)
+    → IfOk result (λ answer. old.batches kind batch ≡ None → ServesIn (import_of now kind batch text (Ok rows)) answer old new)
+    → IfOk result (λ answer. old.batches kind batch ≡ None → ServesImport now kind batch text answer old new)
+read_on now kind batch text rows old new (Ok answer) says serves = λ none. (Ok rows, (Ok rows, says, refl), serves none)
+read_on now kind batch text rows old new (Err e) says serves = tt
 
-  -- rows that were looked at, and then added
-  pub added_on : (new : Rows) (result : Result Answer Unavailable) → fault_of_rows (shelf_of u) new ≡ None
-      → IfOk result (λ answer. batches' kind batch ≡ None → fault_of_rows (shelf_of v) new ≡ None
-      → ServesIn (message_of now kind batch text (Ok new)) answer v calls' batches' w calls'' batches'')
-      → IfOk result (λ answer. batches kind batch ≡ None → ServesIn (message_of now kind batch text (Ok new)) answer u calls batches w calls'' batches'')
-  added_on new (Ok answer) unrefused serves = λ none.
-      serves_on (message_of now kind batch text (Ok new)) answer u v w calls calls' calls'' batches batches' batches'' left
-      (serves (still none) (ap (λ x. fault_of_rows (shelf_of x) new) left.world_is ∙ unrefused))
-  added_on new (Err e) unrefused serves = tt
-
-  -- and the same of what a stop leaves
-  pub added_ahead : (new : Rows) → fault_of_rows (shelf_of u) new ≡ None
-      → (batches' kind batch ≡ None → fault_of_rows (shelf_of v) new ≡ None
-      → IsServed (message_of now kind batch text (Ok new)) v calls' batches' w calls'' batches'')
-      → batches kind batch ≡ None → IsServed (message_of now kind batch text (Ok new)) u calls batches w calls'' batches''
-  added_ahead new unrefused serves none =
-      let served = serves (still none) (ap (λ x. fault_of_rows (shelf_of x) new) left.world_is ∙ unrefused) in
-      (served.0, serves_on (message_of now kind batch text (Ok new)) served.0 u v w calls calls' calls'' batches batches' batches'' left served.1)
-
-  -- a batch that was looked for, and then imported
-  pub new_on : (name : List ℕ) (looked : Option KeptBatch) (result : Result Answer Unavailable) → looked ≡ None → name ≡ batch → looked ≡ batches kind name
-      → IfOk result (λ answer. batches' kind batch ≡ None → ServesRead now kind batch text answer v calls' batches' w calls'' batches'')
-      → IfOk result (λ answer. ServesRead now kind batch text answer u calls batches w calls'' batches'')
-  new_on name looked (Ok answer) none same there serves =
-      let read = serves (still (looked_up batches kind batch name looked None none same there)) in
-      (read.0, read.1, serves_on (message_of now kind batch text read.0) answer u v w calls calls' calls'' batches batches' batches'' left read.2)
-  new_on name looked (Err e) none same there serves = tt
-
-  -- and the same of what a stop leaves
-  pub new_ahead : (name : List ℕ) (looked : Option KeptBatch) → looked ≡ None → name ≡ batch → looked ≡ batches kind name
-      → (batches' kind batch ≡ None
-      → (read : Result Rows Fault) × Reads kind text read × IsServed (message_of now kind batch text read) v calls' batches' w calls'' batches'')
-      → (read : Result Rows Fault) × Reads kind text read × IsServed (message_of now kind batch text read) u calls batches w calls'' batches''
-  new_ahead name looked none same there serves =
-      let served = serves (still (looked_up batches kind batch name looked None none same there)) in (
-        served.0,
-        served.1,
-        (served.2.0, serves_on (message_of now kind batch text served.0) served.2.0 u v w calls calls' calls'' batches batches' batches'' left served.2.1),
-      )
-
--- rows that were read, and then imported
-pub read_on : (now : ℕ) (kind : Kind) (batch text : List ℕ) (new : Rows) (u w : World) (calls calls'' : Calls) (batches batches'' : Batches)
-    (result : Result Answer Unavailable) → Says (reading_of kind) text (Ok new)
-    → IfOk result (λ answer. batches kind batch ≡ None → ServesIn (message_of now kind batch text (Ok new)) answer u calls batches w calls'' batches'')
-    → IfOk result (λ answer. batches kind batch ≡ None → ServesRead now kind batch text answer u calls batches w calls'' batches'')
-read_on now kind batch text new u w calls calls'' batches batches'' (Ok answer) says serves = λ none. (Ok new, (Ok new, says, refl), serves none)
-read_on now kind batch text new u w calls calls'' batches batches'' (Err e) says serves = tt
+pub read_ahead : (now : ℕ) (kind : Kind) (batch text : List ℕ) (rows : Rows) (old new : Held) → Says (reading_of kind) text (Ok rows)
+    → (old.batches kind batch ≡ None → IsServed (import_of now kind batch text (Ok rows)) old new) → old.batches kind batch ≡ None → IsImportServed now kind batch text old new
+read_ahead now kind batch text rows old new says served none = (Ok rows, (Ok rows, says, refl), served none)

@@ -1,7 +1,5 @@
 pub mod HostCalls
-mod EntriesKept
+pub mod EntriesKept
 mod CallsServed
 mod ImportsServed
 mod TicksServed
-pub mod Stopped
-pub mod Begun

@@ -6,11 +6,12 @@ use Rattle.sched_book.specs.Step.{IsCaller}
 use Rattle.sched_book.specs.declared.machine.Caller.{Caller}
 use Rattle.sched_book.specs.declared.world.World.{World}
 use Rattle.sched_machine.specs.Admission.{names_host}
+use Rattle.stores.specs.Held.{Calls, Held}
 use Rattle.pasts.specs.ByNumber.{kept_at}
-use Rattle.pasts.specs.Messages.{Rpc}
+use Rattle.pasts.specs.Messages.{Rpc, heard_now}
 use Rattle.pasts.specs.Told.{told_beside}
 use Rattle.pasts.specs.declared.answer.Answer.{Answer}
-use Rattle.message_engine.specs.Stores.{Calls, Batches, ServesIn}
+use Rattle.message_engine.specs.Stores.{ServesIn, IsServed}
 
 -- the caller is the one that the call names, and the call tells no wrong number
 abbrev pub IsNamed : World → Caller → Request → Type 0
@@ -21,9 +22,13 @@ abbrev pub told_caller : Calls → Caller → ℕ → List ℕ → Option Answer
 told_caller calls c seqno text = told_beside true (kept_at calls c.host) seqno text
 
 -- a call that nothing but want of room may refuse
-abbrev pub MayAct : World → Calls → Caller → Request → Type 0
-MayAct w calls c r = IsNamed w c r × (told_caller calls c r.rpc_seqno (canonical_text r) ≡ None)
+abbrev pub MayAct : Held → Caller → Request → Type 0
+MayAct held c r = IsNamed held.world c r × (told_caller held.calls c r.rpc_seqno (canonical_text r) ≡ None)
 
 -- what a call does to a store
-abbrev pub ServesCall : Request → ℕ → Answer → World → Calls → Batches → World → Calls → Batches → Type 0
-ServesCall r now = ServesIn (record { now = now; said = Rpc r })
+abbrev pub ServesCall : Request → ℕ → Answer → Held → Held → Type 0
+ServesCall r now = ServesIn (heard_now now (Rpc r))
+
+-- and that it did, with some answer
+abbrev pub IsCallServed : Request → ℕ → Held → Held → Type 0
+IsCallServed r now = IsServed (heard_now now (Rpc r))

@@ -6,21 +6,46 @@ use Rattle.office_files.specs.Records.{Record}
 use Rattle.office_files.specs.declared.fault.RowsFault.{RowsFault}
 use Rattle.rpc_records.specs.declared.fault.Fault.{Fault}
 use Rattle.sched_book.specs.declared.rows.Rows.{Rows}
-use Rattle.pasts.specs.declared.kind.Kind.{Kind}
-use Rattle.pasts.specs.declared.kind.Kind.TheVariants.{Accounts, Apps, Versions, Workunits}
+use Rattle.stores.specs.Eras.{this_era}
+use Rattle.stores.specs.Held.{Held}
+use Rattle.stores.specs.declared.kind.Kind.{Kind}
+use Rattle.stores.specs.declared.kind.Kind.TheVariants.{Accounts, Apps, Versions, Workunits}
+use Rattle.pasts.specs.Messages.{Import, Message, heard_now}
+use Rattle.pasts.specs.declared.answer.Answer.{Answer}
+use Rattle.message_engine.specs.Stores.{ServesIn, IsServed}
 
--- what the records of a text say, of rows of a kind
+-- what the records of a text say, of rows of a kind, by the formats of an era (in all eras so far they are the same)
+abbrev pub reading_in : ℕ → Kind → List Record → Result Rows RowsFault
+reading_in era Accounts = accounts_in
+reading_in era Apps = apps_in
+reading_in era Versions = versions_in
+reading_in era Workunits = workunits_in
+
+-- by those of this program
 abbrev pub reading_of : Kind → List Record → Result Rows RowsFault
-reading_of Accounts = accounts_in
-reading_of Apps = apps_in
-reading_of Versions = versions_in
-reading_of Workunits = workunits_in
+reading_of = reading_in this_era
 
 -- the same, with a fault as the refusal that tells it
 abbrev pub as_refusal : Result Rows RowsFault → Result Rows Fault
 as_refusal (Ok rows) = Ok rows
 as_refusal (Err fault) = Err (refusal_of fault)
 
--- a text reads as these rows of a kind, or as this refusal
+-- a text reads as these rows of a kind, or as this refusal, by the formats of an era
+abbrev pub ReadsIn : ℕ → Kind → List ℕ → Result Rows Fault → Type 0
+ReadsIn era kind text read = (said : Result Rows RowsFault) × Says (reading_in era kind) text said × (read ≡ as_refusal said)
+
 abbrev pub Reads : Kind → List ℕ → Result Rows Fault → Type 0
-Reads kind text read = (said : Result Rows RowsFault) × Says (reading_of kind) text said × (read ≡ as_refusal said)
+Reads = ReadsIn this_era
+
+-- the import of a text of a kind, which reads as this
+abbrev pub import_of : ℕ → Kind → List ℕ → List ℕ → Result Rows Fault → Message
+import_of now kind batch text read = heard_now now (Import kind batch text read)
+
+-- what the text of an import reads as, and that it is served so
+abbrev pub ServesImport : ℕ → Kind → List ℕ → List ℕ → Answer → Held → Held → Type 0
+ServesImport now kind batch text answer old new =
+    (read : Result Rows Fault) × Reads kind text read × ServesIn (import_of now kind batch text read) answer old new
+
+-- and that it was, with some answer
+abbrev pub IsImportServed : ℕ → Kind → List ℕ → List ℕ → Held → Held → Type 0
+IsImportServed now kind batch text old new = (read : Result Rows Fault) × Reads kind text read × IsServed (import_of now kind batch text read) old new

@@ -1,12 +1,14 @@
 -- What a store over lists in memory holds. (This project's own.)
-use Rattle.std.specs.Prelude.{ℕ, Bool, ◌&&◌, List, [], reverse, find, Option, option_map, unwrap_or}
+use Rattle.std.proofs.Common.{sym}
+use Rattle.std.specs.Prelude.{◌≡◌, ℕ, Bool, ◌&&◌, List, [], reverse, find, Option, option_map, unwrap_or}
 use Rattle.std.specs.Str.{bytes_eq}
 use Rattle.reply_register.specs.declared.kept.Kept.{Kept}
 use Rattle.sched_book.specs.Places.{nth}
 use Rattle.sched_book.specs.declared.world.World.{World}
-use Rattle.pasts.specs.Kinds.{same_kind}
-use Rattle.pasts.specs.declared.batch.KeptBatch.{KeptBatch}
-use Rattle.pasts.specs.declared.kind.Kind.{Kind}
+use Rattle.stores.specs.Held.{Held, IsLeft}
+use Rattle.stores.specs.Kinds.{same_kind}
+use Rattle.stores.specs.declared.batch.KeptBatch.{KeptBatch}
+use Rattle.stores.specs.declared.kind.Kind.{Kind}
 use Rattle.message_engine.specs.declared.list_store.Batch.{Batch}
 use Rattle.message_engine.specs.declared.list_store.ListStore.{ListStore}
 
@@ -22,12 +24,17 @@ is_batch kind name b = same_kind b.kind kind && bytes_eq b.name name
 abbrev pub batch_at : List Batch → Kind → List ℕ → Option KeptBatch
 batch_at batches kind name = option_map (λ b. b.kept) (find (is_batch kind name) (reverse batches))
 
--- the world that a store holds, and what it keeps of calls and of imports
+-- the world that a store holds, and all that it holds
 abbrev pub world_of : ListStore → World
 world_of store = store.desk
 
-abbrev pub calls_of : ListStore → ℕ → List Kept
-calls_of store = calls_at store.calls
+abbrev pub held_of : ListStore → Held
+held_of store = record { world = world_of store; calls = calls_at store.calls; batches = batch_at store.batches }
 
-abbrev pub batches_of : ListStore → Kind → List ℕ → Option KeptBatch
-batches_of store = batch_at store.batches
+-- a store that is as it was holds what it held
+pub stays_left_alone : (a b : ListStore) → a ≡ b → IsLeft (held_of a) (held_of b)
+stays_left_alone a b same = record {
+  world_is = λ i. (held_of (sym same i)).world;
+  calls_are = λ host. λ i. (held_of (sym same i)).calls host;
+  batches_are = λ kind batch. λ i. (held_of (sym same i)).batches kind batch;
+}

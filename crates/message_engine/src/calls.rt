@@ -1,6 +1,7 @@
 //! A call of a host, over any store.
 
-ghost use Rattle.std.specs.Prelude.{◌≡◌, true, IfOk, OnOk, OnErr, IsErrOf};
+ghost use Rattle.std.specs.Prelude.{◌≡◌, ◌<◌, true, length, is_ok, IfOk, OnOk, IsErrOf};
+ghost use Rattle.reply_register.specs.Calls.{reply_at};
 ghost use Rattle.rpc_records.specs.Ranges.{IsInRange};
 ghost use Rattle.rpc_records.specs.Replies.{reply_text_of};
 ghost use Rattle.rpc_records.specs.Spelling.{canonical_text};
@@ -12,37 +13,40 @@ ghost use Rattle.sched_book.specs.declared.machine.Answered.TheVariants as answe
 ghost use Rattle.sched_book.specs.declared.machine.Call.TheVariants as call;
 ghost use Rattle.sched_machine.specs.Calling.{IsAdmitted, IsFull, MayBeHeard};
 ghost use Rattle.sched_machine.specs.declared.admission.Refused.TheVariants as refused;
+ghost use Rattle.stores.specs.Acting.{ActsWhole};
+ghost use Rattle.stores.specs.Held.{IsCommitted, IsKeptSoundly};
+ghost use Rattle.stores.specs.declared.entry.Entry.TheVariants as entry;
 ghost use Rattle.pasts.specs.ByNumber.{kept_at};
-ghost use Rattle.pasts.specs.Messages.{Rpc};
 ghost use Rattle.pasts.specs.Told.{told_beside};
 ghost use Rattle.pasts.specs.declared.answer.Answer.TheVariants.{Good};
-ghost use Rattle.message_engine.specs.Calls.{IsNamed, MayAct, ServesCall, told_caller};
-ghost use Rattle.message_engine.specs.Stops.{AtAStop};
-ghost use Rattle.message_engine.specs.Stores.{ServesIn, IsServed, IsCommitted, IsLeft};
-ghost use Rattle.message_engine.specs.declared.entry.Entry.TheVariants as entry;
+ghost use Rattle.message_engine.specs.Calls.{IsNamed, IsCallServed, MayAct, ServesCall, told_caller};
 
 use crate::commits::commit_and_answer;
-use crate::entry::Entry;
-use crate::store::Store;
 use pasts::Answer;
 use reply_register::{Heard, Kept, classify};
 use rpc_records::{Fault, Reply, Request, reply_text, request_text};
 use sched_book::{Answered, Call, Caller, Delta, Desk, Moment, Unavailable};
 use sched_machine::{Refused, admit, step};
 use std::alloc::Global;
+use stores::{Entry, Store, confirmed};
 use texts::{Listed, Memory, Text};
 
-/// What a call of this number and canonical text is told beside what is kept of its host's calls, of which the last
-/// decides: nothing, where it is fresh.
+/// The reply of the kept call at this place again.
+fn kept_reply(kept: &[Kept], place: usize) -> Result<Answer, Memory>
+    requires { place < length kept.now }
+    ensures { IfOk result (λ answer. answer ≡ Good (reply_at kept.now place)) }
+{
+    Ok(Answer::Good(kept[place].reply.clone()?))
+}
+
+/// What a call of this number and canonical text is told beside what is kept of its host's calls: nothing, where it is
+/// fresh.
 fn told_beside(kept: &[Kept], seqno: u32, text: &str) -> Result<Option<Answer>, Memory>
     ensures { IfOk result (λ told. told ≡ told_beside true kept.now seqno text.now) }
 {
-    let Some(last) = kept.first() else {
-        return Ok(None);
-    };
-    match classify(Some(last), seqno, text) {
+    match classify(kept, seqno, text) {
         Heard::Fresh => Ok(None),
-        Heard::Repeat => Ok(Some(Answer::Good(last.reply.clone()?))),
+        Heard::Repeat(place) => Ok(Some(kept_reply(kept, place)?)),
         Heard::Reused(last) => Ok(Some(Answer::Refusal(Fault::Reused(last)))),
         Heard::Stale(last) => Ok(Some(Answer::Refusal(Fault::Stale(last)))),
     }
@@ -55,7 +59,7 @@ fn kept_of<S: Store>(
     caller: &Caller,
 ) -> Result<Listed<Kept>, Unavailable>
     ensures reads { S.reads store.old store.new }
-    ensures kept { Trusted S.Units store.old store.new (IfOk result (λ kept. kept ≡ kept_at (S.calls store.old) caller.now.host)) }
+    ensures kept { Trusted S.Units store.old store.new (IfOk result (λ kept. kept ≡ kept_at (S.holds store.old).calls caller.now.host)) }
 {
     match caller.host {
         Some(number) => store.kept(alloc, number),
@@ -73,7 +77,7 @@ fn told_kept<S: Store>(
 ) -> Result<Option<Answer>, Unavailable>
     ensures reads { S.reads store.old store.new }
     ensures told { Trusted S.Units store.old store.new (IfOk result (λ told.
-        told ≡ told_caller (S.calls store.old) caller.now seqno text.now)) }
+        told ≡ told_caller (S.holds store.old).calls caller.now seqno text.now)) }
 {
     let kept = kept_of(alloc, store, caller)?;
     Ok(told_beside(kept.as_slice(), seqno, text)?)
@@ -145,18 +149,10 @@ fn keep<S: Store>(
     seqno: u32,
     text: Text,
 ) -> Result<Answer, Unavailable>
-    ensures honest { S.honest store.new → S.honest store.old }
-    ensures kept { Trusted S.Units store.old store.new (S.well_kept store.new) }
+    ensures acts { ActsWhole S.Store (is_ok result) (IsKeptSoundly delta.now (entry.Kept reply.now.hostid (record { seqno = seqno; text = text; reply = reply_text_of reply.now })) (S.holds store.old)) store.old store.new }
     ensures answer { IfOk result (λ answer. answer ≡ Good (reply_text_of reply.now)) }
-    ensures ok { Trusted S.Units store.old store.new (OnOk result (Fits (S.world store.old) delta.now →
-        IsCommitted delta.now (entry.Kept reply.now.hostid (record { seqno = seqno; text = text; reply = reply_text_of reply.now }))
-        (S.world store.old) (S.calls store.old) (S.batches store.old) (S.world store.new) (S.calls store.new) (S.batches store.new))) }
-    ensures err { Trusted S.Units store.old store.new (OnErr result (
-        IsLeft (S.world store.old) (S.calls store.old) (S.batches store.old) (S.world store.new) (S.calls store.new) (S.batches store.new))) }
-    ensures stop { AtAStop S.Units S.may_leave store.old store.new (λ w calls batches.
-        Fits (S.world store.old) delta.now → Sound (applied (S.world store.old) delta.now) →
-        IsCommitted delta.now (entry.Kept reply.now.hostid (record { seqno = seqno; text = text; reply = reply_text_of reply.now }))
-        (S.world store.old) (S.calls store.old) (S.batches store.old) w calls batches) }
+    ensures made { Trusted S.Units store.old store.new (OnOk result (Fits (S.holds store.old).world delta.now →
+        IsCommitted delta.now (entry.Kept reply.now.hostid (record { seqno = seqno; text = text; reply = reply_text_of reply.now })) (S.holds store.old) (S.holds store.new))) }
 {
     let body = reply_text(alloc, reply)?;
     let entry = call_entry(reply.hostid, seqno, text, &body)?;
@@ -174,21 +170,15 @@ fn call_fresh<S: Store>(
 ) -> Result<Answer, Unavailable>
     requires in_range { IsInRange request }
     requires text { text ≡ canonical_text request }
-    ensures honest { S.honest store.new → S.honest store.old }
-    ensures kept { Trusted S.Units store.old store.new (S.well_kept store.new) }
+    ensures acts { ActsWhole S.Store (is_ok result) (λ h.
+        MayAct (S.holds store.old) caller request → IsCallServed request now (S.holds store.old) h) store.old store.new }
     ensures exact { Trusted S.Units store.old store.new (IfOk result (λ answer.
-        MayAct (S.world store.old) (S.calls store.old) caller request → ServesCall request now answer
-        (S.world store.old) (S.calls store.old) (S.batches store.old) (S.world store.new) (S.calls store.new) (S.batches store.new))) }
-    ensures err { Trusted S.Units store.old store.new (OnErr result (
-        IsLeft (S.world store.old) (S.calls store.old) (S.batches store.old) (S.world store.new) (S.calls store.new) (S.batches store.new))) }
-    ensures stop { AtAStop S.Units S.may_leave store.old store.new (λ w calls batches.
-        MayAct (S.world store.old) (S.calls store.old) caller request →
-        IsServed (record { now = now; said = Rpc request }) (S.world store.old) (S.calls store.old) (S.batches store.old) w calls batches) }
+        MayAct (S.holds store.old) caller request → ServesCall request now answer (S.holds store.old) (S.holds store.new))) }
 {
     let seqno = request.rpc_seqno;
     match call_step(alloc, store, caller, request, now) {
         Ok((delta, reply)) => keep(alloc, store, &delta, &reply, seqno, text),
-        Err(Refused::HostsFull) => Ok(Answer::Refusal(Fault::HostsFull)),
+        Err(Refused::HostsFull) => confirmed(store, Answer::Refusal(Fault::HostsFull)),
         Err(_) => Err(Unavailable),
     }
 }
@@ -202,20 +192,14 @@ fn call_admitted<S: Store>(
     now: Moment,
 ) -> Result<Answer, Unavailable>
     requires in_range { IsInRange request }
-    ensures honest { S.honest store.new → S.honest store.old }
-    ensures kept { Trusted S.Units store.old store.new (S.well_kept store.new) }
+    ensures acts { ActsWhole S.Store (is_ok result) (λ h.
+        IsNamed (S.holds store.old).world caller request → IsCallServed request now (S.holds store.old) h) store.old store.new }
     ensures exact { Trusted S.Units store.old store.new (IfOk result (λ answer.
-        IsNamed (S.world store.old) caller request → ServesCall request now answer
-        (S.world store.old) (S.calls store.old) (S.batches store.old) (S.world store.new) (S.calls store.new) (S.batches store.new))) }
-    ensures err { Trusted S.Units store.old store.new (OnErr result (
-        IsLeft (S.world store.old) (S.calls store.old) (S.batches store.old) (S.world store.new) (S.calls store.new) (S.batches store.new))) }
-    ensures stop { AtAStop S.Units S.may_leave store.old store.new (λ w calls batches.
-        IsNamed (S.world store.old) caller request →
-        IsServed (record { now = now; said = Rpc request }) (S.world store.old) (S.calls store.old) (S.batches store.old) w calls batches) }
+        IsNamed (S.holds store.old).world caller request → ServesCall request now answer (S.holds store.old) (S.holds store.new))) }
 {
     let text = request_text(alloc, &request)?;
     match told_kept(alloc, store, &caller, request.rpc_seqno, text.as_str())? {
-        Some(answer) => Ok(answer),
+        Some(answer) => confirmed(store, answer),
         None => call_fresh(alloc, store, caller, request, text, now),
     }
 }
@@ -226,7 +210,7 @@ fn call_admitted<S: Store>(
 ///
 /// # Errors
 ///
-/// [`Unavailable`] leaves all as it was.
+/// [`Unavailable`] leaves all as it was, unless a fault has shut the store.
 pub fn call<S: Store>(
     alloc: Global,
     store: &mut S,
@@ -234,20 +218,14 @@ pub fn call<S: Store>(
     now: Moment,
 ) -> Result<Answer, Unavailable>
     requires in_range { IsInRange request }
-    ensures honest { S.honest store.new → S.honest store.old }
-    ensures kept { Trusted S.Units store.old store.new (S.well_kept store.new) }
+    ensures acts { ActsWhole S.Store (is_ok result) (IsCallServed request now (S.holds store.old)) store.old store.new }
     ensures exact { Trusted S.Units store.old store.new (IfOk result (λ answer.
-        ServesIn (record { now = now; said = Rpc request }) answer
-        (S.world store.old) (S.calls store.old) (S.batches store.old) (S.world store.new) (S.calls store.new) (S.batches store.new))) }
-    ensures err { Trusted S.Units store.old store.new (OnErr result (
-        IsLeft (S.world store.old) (S.calls store.old) (S.batches store.old) (S.world store.new) (S.calls store.new) (S.batches store.new))) }
-    ensures stop { AtAStop S.Units S.may_leave store.old store.new (λ w calls batches.
-        IsServed (record { now = now; said = Rpc request }) (S.world store.old) (S.calls store.old) (S.batches store.old) w calls batches) }
+        ServesCall request now answer (S.holds store.old) (S.holds store.new))) }
 {
     match admit(alloc, store, &request) {
         Ok(caller) => call_admitted(alloc, store, caller, request, now),
-        Err(Refused::BadAccount) => Ok(Answer::Refusal(Fault::BadAccount)),
-        Err(Refused::BadHost) => Ok(Answer::Refusal(Fault::BadHost)),
+        Err(Refused::BadAccount) => confirmed(store, Answer::Refusal(Fault::BadAccount)),
+        Err(Refused::BadHost) => confirmed(store, Answer::Refusal(Fault::BadHost)),
         Err(_) => Err(Unavailable),
     }
 }

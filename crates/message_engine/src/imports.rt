@@ -1,37 +1,33 @@
 //! Imports, over any store.
 
-ghost use Rattle.std.specs.Prelude.{◌≡◌, Result, Ok, None, IfOk, IfErr, OnOk, OnErr, if◌then◌else◌};
+ghost use Rattle.std.specs.Prelude.{◌≡◌, Ok, None, is_ok, IfOk, IfErr, OnOk, if◌then◌else◌};
 ghost use Rattle.std.specs.Str.{bytes_eq};
 ghost use Rattle.office_files.specs.Importing.{Says, Refuses};
-ghost use Rattle.rpc_records.specs.declared.fault.Fault.{Fault};
 ghost use Rattle.rpc_records.specs.declared.fault.Fault.TheVariants as fault;
-ghost use Rattle.sched_book.specs.Delta.{applied, Fits};
-ghost use Rattle.sched_book.specs.Sound.{Sound};
+ghost use Rattle.sched_book.specs.Delta.{Fits};
 ghost use Rattle.sched_book.specs.Imports.{fault_of_rows, shelf_of};
 ghost use Rattle.sched_book.specs.Limits.{AreRowsInLimits};
 ghost use Rattle.sched_book.specs.Trusted.{Trusted};
-ghost use Rattle.sched_book.specs.declared.rows.Rows.{Rows};
+ghost use Rattle.stores.specs.Acting.{ActsWhole};
+ghost use Rattle.stores.specs.Held.{IsCommitted, IsKeptSoundly};
+ghost use Rattle.stores.specs.Kinds.{kind_name};
+ghost use Rattle.stores.specs.declared.entry.Entry.TheVariants as entry;
 ghost use Rattle.pasts.specs.Answers.{imported_text};
-ghost use Rattle.pasts.specs.Kinds.{kind_name};
-ghost use Rattle.pasts.specs.Messages.{Import};
 ghost use Rattle.pasts.specs.declared.answer.Answer.TheVariants as answers;
-ghost use Rattle.message_engine.specs.Imports.{reading_of, Reads};
-ghost use Rattle.message_engine.specs.Stops.{AtAStop};
-ghost use Rattle.message_engine.specs.Stores.{IsCommitted, IsLeft, IsServed, ServesIn};
-ghost use Rattle.message_engine.specs.declared.entry.Entry.TheVariants as entry;
+ghost use Rattle.message_engine.specs.Imports.{reading_of, import_of, ServesImport, IsImportServed};
+ghost use Rattle.message_engine.specs.Stores.{IsServed, ServesIn};
 
 use crate::bodies::imported;
 use crate::commits::commit_and_answer;
-use crate::entry::Entry;
 use crate::steps::import_step;
-use crate::store::Store;
 use office_files::{
     RowsFault, check_rows, read_accounts, read_apps, read_versions, read_workunits,
 };
-use pasts::{Answer, KeptBatch, Kind};
+use pasts::Answer;
 use rpc_records::Fault;
 use sched_book::{Delta, Moment, Rows, Unavailable};
 use std::alloc::Global;
+use stores::{Entry, KeptBatch, Kind, Store, confirmed};
 use texts::{Listed, Text};
 
 /// The rows of this kind that a text says, or its first fault.
@@ -86,17 +82,10 @@ fn keep_batch<S: Store>(
     delta: &Delta,
     count: u32,
 ) -> Result<Answer, Unavailable>
-    ensures honest { S.honest store.new → S.honest store.old }
-    ensures kept { Trusted S.Units store.old store.new (S.well_kept store.new) }
+    ensures acts { ActsWhole S.Store (is_ok result) (IsKeptSoundly delta.now (entry.Batch kind batch.now (record { text = text.now; answer = imported_text (kind_name kind) batch.now count })) (S.holds store.old)) store.old store.new }
     ensures answer { IfOk result (λ answer. answer ≡ answers.Good (imported_text (kind_name kind) batch.now count)) }
-    ensures ok { Trusted S.Units store.old store.new (OnOk result (Fits (S.world store.old) delta.now →
-        IsCommitted delta.now (entry.Batch kind batch.now (record { text = text.now; answer = imported_text (kind_name kind) batch.now count }))
-        (S.world store.old) (S.calls store.old) (S.batches store.old) (S.world store.new) (S.calls store.new) (S.batches store.new))) }
-    ensures err { Trusted S.Units store.old store.new (OnErr result (
-        IsLeft (S.world store.old) (S.calls store.old) (S.batches store.old) (S.world store.new) (S.calls store.new) (S.batches store.new))) }
-    ensures stop { AtAStop S.Units S.may_leave store.old store.new (λ w calls batches.
-        Fits (S.world store.old) delta.now → Sound (applied (S.world store.old) delta.now) →
-        IsCommitted delta.now (entry.Batch kind batch.now (record { text = text.now; answer = imported_text (kind_name kind) batch.now count })) (S.world store.old) (S.calls store.old) (S.batches store.old) w calls batches) }
+    ensures made { Trusted S.Units store.old store.new (OnOk result (Fits (S.holds store.old).world delta.now →
+        IsCommitted delta.now (entry.Batch kind batch.now (record { text = text.now; answer = imported_text (kind_name kind) batch.now count })) (S.holds store.old) (S.holds store.new))) }
 {
     let body = imported(alloc, kind.name(), batch.as_str(), count as u64)?;
     let entry = batch_entry(alloc, kind, batch, text, &body)?;
@@ -114,17 +103,12 @@ fn add_rows<S: Store>(
     now: Moment,
 ) -> Result<Answer, Unavailable>
     requires limits { AreRowsInLimits rows }
-    ensures honest { S.honest store.new → S.honest store.old }
-    ensures kept { Trusted S.Units store.old store.new (S.well_kept store.new) }
+    ensures acts { ActsWhole S.Store (is_ok result) (λ h.
+        (S.holds store.old).batches kind batch.now ≡ None → fault_of_rows (shelf_of (S.holds store.old).world) rows ≡ None →
+        IsServed (import_of now kind batch.now text.now (Ok rows)) (S.holds store.old) h) store.old store.new }
     ensures exact { Trusted S.Units store.old store.new (IfOk result (λ answer.
-        S.batches store.old kind batch.now ≡ None → fault_of_rows (shelf_of (S.world store.old)) rows ≡ None →
-        ServesIn (record { now = now; said = Import kind batch.now text.now (Ok rows) }) answer
-        (S.world store.old) (S.calls store.old) (S.batches store.old) (S.world store.new) (S.calls store.new) (S.batches store.new))) }
-    ensures err { Trusted S.Units store.old store.new (OnErr result (
-        IsLeft (S.world store.old) (S.calls store.old) (S.batches store.old) (S.world store.new) (S.calls store.new) (S.batches store.new))) }
-    ensures stop { AtAStop S.Units S.may_leave store.old store.new (λ w calls batches.
-        S.batches store.old kind batch.now ≡ None → fault_of_rows (shelf_of (S.world store.old)) rows ≡ None →
-        IsServed (record { now = now; said = Import kind batch.now text.now (Ok rows) }) (S.world store.old) (S.calls store.old) (S.batches store.old) w calls batches) }
+        (S.holds store.old).batches kind batch.now ≡ None → fault_of_rows (shelf_of (S.holds store.old).world) rows ≡ None →
+        ServesIn (import_of now kind batch.now text.now (Ok rows)) answer (S.holds store.old) (S.holds store.new))) }
 {
     let (delta, count) = import_step(alloc, store, rows, now)?;
     keep_batch(alloc, store, kind, batch, text, &delta, count)
@@ -141,22 +125,15 @@ fn import_rows<S: Store>(
     now: Moment,
 ) -> Result<Answer, Unavailable>
     requires limits { AreRowsInLimits rows }
-    ensures honest { S.honest store.new → S.honest store.old }
-    ensures kept { Trusted S.Units store.old store.new (S.well_kept store.new) }
-    ensures exact { Trusted S.Units store.old store.new (IfOk result (λ answer.
-        S.batches store.old kind batch.now ≡ None →
-        ServesIn (record { now = now; said = Import kind batch.now text.now (Ok rows) }) answer
-        (S.world store.old) (S.calls store.old) (S.batches store.old) (S.world store.new) (S.calls store.new) (S.batches store.new))) }
-    ensures err { Trusted S.Units store.old store.new (OnErr result (
-        IsLeft (S.world store.old) (S.calls store.old) (S.batches store.old) (S.world store.new) (S.calls store.new) (S.batches store.new))) }
-    ensures stop { AtAStop S.Units S.may_leave store.old store.new (λ w calls batches.
-        S.batches store.old kind batch.now ≡ None →
-        IsServed (record { now = now; said = Import kind batch.now text.now (Ok rows) }) (S.world store.old) (S.calls store.old) (S.batches store.old) w calls batches) }
+    ensures acts { ActsWhole S.Store (is_ok result) (λ h. (S.holds store.old).batches kind batch.now ≡ None →
+        IsServed (import_of now kind batch.now text.now (Ok rows)) (S.holds store.old) h) store.old store.new }
+    ensures exact { Trusted S.Units store.old store.new (IfOk result (λ answer. (S.holds store.old).batches kind batch.now ≡ None →
+        ServesIn (import_of now kind batch.now text.now (Ok rows)) answer (S.holds store.old) (S.holds store.new))) }
 {
     match check_rows(alloc, store, &rows) {
         Ok(()) => add_rows(alloc, store, kind, batch, text, rows, now),
         Err(RowsFault::Unavailable) => Err(Unavailable),
-        Err(fault) => Ok(Answer::Refusal(fault.fault())),
+        Err(fault) => confirmed(store, Answer::Refusal(fault.fault())),
     }
 }
 
@@ -169,22 +146,15 @@ fn import_new<S: Store>(
     text: &[u8],
     now: Moment,
 ) -> Result<Answer, Unavailable>
-    ensures honest { S.honest store.new → S.honest store.old }
-    ensures kept { Trusted S.Units store.old store.new (S.well_kept store.new) }
-    ensures exact { Trusted S.Units store.old store.new (IfOk result (λ answer.
-        S.batches store.old kind batch.now ≡ None → (read : Result Rows Fault) × Reads kind text.now read ×
-        ServesIn (record { now = now; said = Import kind batch.now text.now read }) answer
-        (S.world store.old) (S.calls store.old) (S.batches store.old) (S.world store.new) (S.calls store.new) (S.batches store.new))) }
-    ensures err { Trusted S.Units store.old store.new (OnErr result (
-        IsLeft (S.world store.old) (S.calls store.old) (S.batches store.old) (S.world store.new) (S.calls store.new) (S.batches store.new))) }
-    ensures stop { AtAStop S.Units S.may_leave store.old store.new (λ w calls batches.
-        S.batches store.old kind batch.now ≡ None → (read : Result Rows Fault) × Reads kind text.now read ×
-        IsServed (record { now = now; said = Import kind batch.now text.now read }) (S.world store.old) (S.calls store.old) (S.batches store.old) w calls batches) }
+    ensures acts { ActsWhole S.Store (is_ok result) (λ h. (S.holds store.old).batches kind batch.now ≡ None →
+        IsImportServed now kind batch.now text.now (S.holds store.old) h) store.old store.new }
+    ensures exact { Trusted S.Units store.old store.new (IfOk result (λ answer. (S.holds store.old).batches kind batch.now ≡ None →
+        ServesImport now kind batch.now text.now answer (S.holds store.old) (S.holds store.new))) }
 {
     match read_rows(alloc, kind, text) {
         Ok(rows) => import_rows(alloc, store, kind, batch, text, rows, now),
         Err(RowsFault::Unavailable) => Err(Unavailable),
-        Err(fault) => Ok(Answer::Refusal(fault.fault())),
+        Err(fault) => confirmed(store, Answer::Refusal(fault.fault())),
     }
 }
 
@@ -194,7 +164,7 @@ fn import_new<S: Store>(
 ///
 /// # Errors
 ///
-/// [`Unavailable`] leaves all as it was.
+/// [`Unavailable`] leaves all as it was, unless a fault has shut the store.
 pub fn import<S: Store>(
     alloc: Global,
     store: &mut S,
@@ -203,20 +173,12 @@ pub fn import<S: Store>(
     text: &[u8],
     now: Moment,
 ) -> Result<Answer, Unavailable>
-    ensures honest { S.honest store.new → S.honest store.old }
-    ensures kept { Trusted S.Units store.old store.new (S.well_kept store.new) }
+    ensures acts { ActsWhole S.Store (is_ok result) (IsImportServed now kind batch.now text.now (S.holds store.old)) store.old store.new }
     ensures exact { Trusted S.Units store.old store.new (IfOk result (λ answer.
-        (read : Result Rows Fault) × Reads kind text.now read ×
-        ServesIn (record { now = now; said = Import kind batch.now text.now read }) answer
-        (S.world store.old) (S.calls store.old) (S.batches store.old) (S.world store.new) (S.calls store.new) (S.batches store.new))) }
-    ensures err { Trusted S.Units store.old store.new (OnErr result (
-        IsLeft (S.world store.old) (S.calls store.old) (S.batches store.old) (S.world store.new) (S.calls store.new) (S.batches store.new))) }
-    ensures stop { AtAStop S.Units S.may_leave store.old store.new (λ w calls batches.
-        (read : Result Rows Fault) × Reads kind text.now read ×
-        IsServed (record { now = now; said = Import kind batch.now text.now read }) (S.world store.old) (S.calls store.old) (S.batches store.old) w calls batches) }
+        ServesImport now kind batch.now text.now answer (S.holds store.old) (S.holds store.new))) }
 {
     match store.kept_batch(alloc, kind, batch.as_str())? {
-        Some(kept) => Ok(told_again(kept, text)),
+        Some(kept) => confirmed(store, told_again(kept, text)),
         None => import_new(alloc, store, kind, batch, text, now),
     }
 }

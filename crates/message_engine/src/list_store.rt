@@ -1,28 +1,23 @@
 //! The plain store, which keeps all in lists in memory.
 
-ghost use Rattle.std.specs.Prelude.{◌≡◌, ℕ, [], ◌∷◌, ◌+◌, ◌<◌, List, length, take, find, reverse, None, Ok, ⊤, IfOk, OnOk, OnErr};
+ghost use Rattle.std.specs.Prelude.{◌≡◌, ℕ, ◌∷◌, ◌+◌, ◌<◌, length, take, find, reverse, Ok, ⊤, IfOk, OnOk, OnErr};
 ghost use Rattle.std.specs.Option.{option_copied};
 ghost use Rattle.sched_book.specs.Delta.{applied};
 ghost use Rattle.sched_book.specs.Desk.{counts, agreement_at, unit_status};
-ghost use Rattle.sched_book.specs.Limits.{AreSettingsInLimits};
 ghost use Rattle.sched_book.specs.Places.{unit_named, known_host, held_by, sent_on_day, host_credit, user_credit};
-ghost use Rattle.sched_book.specs.Step.{empty_world};
-ghost use Rattle.pasts.specs.Answers.{kept_beside_last};
-ghost use Rattle.pasts.specs.declared.kind.Kind.{Kind};
-ghost use Rattle.message_engine.specs.ListStores.{calls_at, is_batch, batch_at, world_of, calls_of, batches_of};
-ghost use Rattle.message_engine.specs.Stores.{IsCommitted, IsLeft, StandsForNothing};
-ghost use Rattle.message_engine.specs.declared.entry.Entry.TheVariants as entry;
+ghost use Rattle.stores.specs.Eras.{kept_beside, this_era};
+ghost use Rattle.stores.specs.Held.{IsCommitted, IsLeft, IsNew};
+ghost use Rattle.stores.specs.declared.entry.Entry.TheVariants as entry;
+ghost use Rattle.message_engine.specs.ListStores.{calls_at, is_batch, world_of, held_of};
 
-use crate::copies::{append_copies, copy_batch, copy_kept};
-use crate::entry::Entry;
-use crate::store::Store;
-use pasts::{KeptBatch, Kind};
-use reply_register::Kept;
+use crate::copies::copy_batch;
+use reply_register::{Kept, append_copies, copy_kept};
 use sched_book::{
     Account, Agreement, App, Counts, Delta, Desk, HostRow, Instance, ListDesk, Moment, Place,
     Placed, Settings, Status, Taker, Unavailable, Units, Version, Workunit,
 };
 use std::alloc::Global;
+use stores::{Entry, KeptBatch, Kind, Store};
 use texts::{Listed, Memory, Text};
 
 /// How many calls of a host are kept beside its last: only the last call is kept.
@@ -63,7 +58,7 @@ fn calls_of(calls: &[Listed<Kept>], host: u32) -> &[Kept]
 
 /// What is kept of a host's calls once this one is heard.
 fn kept_with(alloc: Global, kept: &Kept, older: &[Kept]) -> Result<Listed<Kept>, Memory>
-    ensures { IfOk result (λ calls. calls ≡ kept.now ∷ take kept_beside_last older.now) }
+    ensures { IfOk result (λ calls. calls ≡ kept.now ∷ take (kept_beside this_era) older.now) }
 {
     let mut calls = Listed::new(alloc);
     calls.push(copy_kept(kept)?)?;
@@ -105,12 +100,9 @@ fn find_batch<'a>(batches: &'a [Batch], kind: Kind, name: &str) -> Option<&'a Ba
 }
 
 impl ListStore {
-    /// A store with these settings, in which nothing stands and which has heard nothing. It stands for the empty past.
+    /// A store with these settings, in which nothing stands and which has heard nothing.
     pub fn new(alloc: Global, settings: &Settings) -> Result<ListStore, Memory>
-        ensures world { IfOk result (λ store. world_of store ≡ empty_world settings.now) }
-        ensures calls { IfOk result (λ store. (host : ℕ) → calls_of store host ≡ []) }
-        ensures batches { IfOk result (λ store. (kind : Kind) (batch : List ℕ) → batches_of store kind batch ≡ None) }
-        ensures stands { IfOk result (λ store. AreSettingsInLimits settings.now → StandsForNothing (world_of store) (calls_of store) (batches_of store)) }
+        ensures { IfOk result (λ store. IsNew settings.now (held_of store)) }
     {
         Ok(ListStore {
             alloc,
@@ -123,10 +115,9 @@ impl ListStore {
     /// Makes these changes and keeps this call of the host of this number, or does neither.
     fn commit_call(&mut self, delta: &Delta, host: u32, kept: &Kept) -> Result<(), Unavailable>
         ensures ok { OnOk result (
-            IsCommitted delta.now (entry.Kept host kept.now) (world_of self.old) (calls_of self.old) (batches_of self.old)
-            (world_of self.new) (calls_of self.new) (batches_of self.new)) }
+            IsCommitted delta.now (entry.Kept host kept.now) (held_of self.old) (held_of self.new)) }
         ensures err { OnErr result (
-            IsLeft (world_of self.old) (calls_of self.old) (batches_of self.old) (world_of self.new) (calls_of self.new) (batches_of self.new)) }
+            IsLeft (held_of self.old) (held_of self.new)) }
     {
         let calls = kept_with(self.alloc, kept, calls_of(self.calls.as_slice(), host))?;
         let index = list_host(self.alloc, &mut self.calls, host)?;
@@ -144,10 +135,9 @@ impl ListStore {
         kept: &KeptBatch,
     ) -> Result<(), Unavailable>
         ensures ok { OnOk result (
-            IsCommitted delta.now (entry.Batch kind name.now kept.now) (world_of self.old) (calls_of self.old) (batches_of self.old)
-            (world_of self.new) (calls_of self.new) (batches_of self.new)) }
+            IsCommitted delta.now (entry.Batch kind name.now kept.now) (held_of self.old) (held_of self.new)) }
         ensures err { OnErr result (
-            IsLeft (world_of self.old) (calls_of self.old) (batches_of self.old) (world_of self.new) (calls_of self.new) (batches_of self.new)) }
+            IsLeft (held_of self.old) (held_of self.new)) }
     {
         let batch = Batch {
             kind,
@@ -332,13 +322,16 @@ impl Desk for ListStore {
 
 impl Store for ListStore {
     ghost use Rattle.std.proofs.Common.{rules};
+    ghost use Rattle.message_engine.specs.ListStores.{stays_left_alone};
 
-    ghost calls = { calls_of };
+    ghost holds = { held_of };
 
-    ghost batches = { batches_of };
+    // nothing below it fails, and nothing is left of lists in memory
+    ghost clean = { λ _. ⊤ };
 
-    // nothing is left of lists in memory
-    ghost may_leave = { λ store w kept imports. ⊥ };
+    ghost lasting = { ⊤ };
+
+    ghost may_leave = { λ store held. ⊥ };
 
     fn kept(&mut self, alloc: Global, host: u32) -> Result<Listed<Kept>, Unavailable> {
         let mut kept = Listed::new(alloc);
@@ -358,6 +351,10 @@ impl Store for ListStore {
         }
     }
 
+    fn is_open(&mut self) -> Result<bool, Memory> {
+        Ok(true)
+    }
+
     fn commit(&mut self, delta: &Delta, entry: &Entry) -> Result<(), Unavailable> {
         match entry {
             Entry::Kept(host, kept) => self.commit_call(delta, *host, kept),
@@ -366,11 +363,17 @@ impl Store for ListStore {
         }
     }
 
-    ghost stays_calls = { λ a b h k l host. Prim.search rules };
+    ghost world_held = { λ a. Prim.search rules };
 
-    ghost stays_batches = { λ a b h k l kind batch. Prim.search rules };
+    ghost is_clean = { λ a h. Prim.search rules };
 
-    ghost stays_left = { λ a b h w kept imports left. left };
+    ghost stays_clean = { λ a b h k. Prim.search rules };
 
-    ghost settled = { λ a h k l w kept imports left. absurd left };
+    ghost stays_open = { λ a b l h k. Prim.search rules };
+
+    ghost stays_held = { λ a b same h k. stays_left_alone a b same };
+
+    ghost stays_left = { λ a b same h left. left };
+
+    ghost settled = { λ a h k l held left. absurd left };
 }

@@ -1,24 +1,23 @@
 //! A tick, over any store.
 
-ghost use Rattle.std.specs.Prelude.{◌≡◌, IfOk, OnOk, OnErr};
-ghost use Rattle.sched_book.specs.Delta.{applied, Fits};
-ghost use Rattle.sched_book.specs.Sound.{Sound};
+ghost use Rattle.std.specs.Prelude.{◌≡◌, is_ok, IfOk, OnOk};
+ghost use Rattle.sched_book.specs.Delta.{Fits};
 ghost use Rattle.sched_book.specs.Trusted.{Trusted};
+ghost use Rattle.stores.specs.Acting.{ActsWhole};
+ghost use Rattle.stores.specs.Held.{IsCommitted, IsKeptSoundly};
+ghost use Rattle.stores.specs.declared.entry.Entry.TheVariants as entry;
 ghost use Rattle.pasts.specs.Answers.{lapsed_text};
-ghost use Rattle.pasts.specs.Messages.{Tick};
+ghost use Rattle.pasts.specs.Messages.{Tick, heard_now};
 ghost use Rattle.pasts.specs.declared.answer.Answer.TheVariants as answers;
-ghost use Rattle.message_engine.specs.Stops.{AtAStop};
-ghost use Rattle.message_engine.specs.Stores.{IsCommitted, IsLeft, IsServed, ServesIn};
-ghost use Rattle.message_engine.specs.declared.entry.Entry.TheVariants as entry;
+ghost use Rattle.message_engine.specs.Stores.{IsServed, ServesIn};
 
 use crate::bodies::lapsed;
 use crate::commits::commit_and_answer;
-use crate::entry::Entry;
 use crate::steps::tick_step;
-use crate::store::Store;
 use pasts::Answer;
 use sched_book::{Delta, Moment, Unavailable};
 use std::alloc::Global;
+use stores::{Entry, Store};
 
 /// Makes the changes of a tick, and tells how many instances lapsed.
 fn make_lapse<S: Store>(
@@ -27,17 +26,10 @@ fn make_lapse<S: Store>(
     delta: &Delta,
     count: u32,
 ) -> Result<Answer, Unavailable>
-    ensures honest { S.honest store.new → S.honest store.old }
-    ensures kept { Trusted S.Units store.old store.new (S.well_kept store.new) }
+    ensures acts { ActsWhole S.Store (is_ok result) (IsKeptSoundly delta.now entry.Nothing (S.holds store.old)) store.old store.new }
     ensures answer { IfOk result (λ answer. answer ≡ answers.Good (lapsed_text count)) }
-    ensures ok { Trusted S.Units store.old store.new (OnOk result (Fits (S.world store.old) delta.now →
-        IsCommitted delta.now entry.Nothing (S.world store.old) (S.calls store.old) (S.batches store.old)
-        (S.world store.new) (S.calls store.new) (S.batches store.new))) }
-    ensures err { Trusted S.Units store.old store.new (OnErr result (
-        IsLeft (S.world store.old) (S.calls store.old) (S.batches store.old) (S.world store.new) (S.calls store.new) (S.batches store.new))) }
-    ensures stop { AtAStop S.Units S.may_leave store.old store.new (λ w calls batches.
-        Fits (S.world store.old) delta.now → Sound (applied (S.world store.old) delta.now) →
-        IsCommitted delta.now entry.Nothing (S.world store.old) (S.calls store.old) (S.batches store.old) w calls batches) }
+    ensures made { Trusted S.Units store.old store.new (OnOk result (Fits (S.holds store.old).world delta.now →
+        IsCommitted delta.now entry.Nothing (S.holds store.old) (S.holds store.new))) }
 {
     let body = lapsed(alloc, count)?;
     commit_and_answer(store, delta, &Entry::Nothing, body)
@@ -48,17 +40,11 @@ fn make_lapse<S: Store>(
 ///
 /// # Errors
 ///
-/// [`Unavailable`] leaves all as it was.
+/// [`Unavailable`] leaves all as it was, unless a fault has shut the store.
 pub fn tick<S: Store>(alloc: Global, store: &mut S, now: Moment) -> Result<Answer, Unavailable>
-    ensures honest { S.honest store.new → S.honest store.old }
-    ensures kept { Trusted S.Units store.old store.new (S.well_kept store.new) }
+    ensures acts { ActsWhole S.Store (is_ok result) (IsServed (heard_now now Tick) (S.holds store.old)) store.old store.new }
     ensures exact { Trusted S.Units store.old store.new (IfOk result (λ answer.
-        ServesIn (record { now = now; said = Tick }) answer
-        (S.world store.old) (S.calls store.old) (S.batches store.old) (S.world store.new) (S.calls store.new) (S.batches store.new))) }
-    ensures err { Trusted S.Units store.old store.new (OnErr result (
-        IsLeft (S.world store.old) (S.calls store.old) (S.batches store.old) (S.world store.new) (S.calls store.new) (S.batches store.new))) }
-    ensures stop { AtAStop S.Units S.may_leave store.old store.new (λ w calls batches.
-        IsServed (record { now = now; said = Tick }) (S.world store.old) (S.calls store.old) (S.batches store.old) w calls batches) }
+        ServesIn (heard_now now Tick) answer (S.holds store.old) (S.holds store.new))) }
 {
     let (delta, count) = tick_step(alloc, store, now)?;
     make_lapse(alloc, store, &delta, count)

@@ -71,7 +71,7 @@ owner_stays old new m answer serves = cases (told_by old m.said) serves
     cases None c = owners_stay_in_step old.world new.world c.call m.now c.answered c.step
 
 -- what is said of an owner is said of one with the same host
-same_host : (w : World) (m : Message) (p : Place) (n o : Owner) → n.host ≡ o.host → IsSentAgainBy w m p n → IsSentAgainBy w m p o
+pub same_host : (w : World) (m : Message) (p : Place) (n o : Owner) → n.host ≡ o.host → IsSentAgainBy w m p n → IsSentAgainBy w m p o
 same_host w m p n o same by = record {
   caller = by.caller;
   request = by.request;

@@ -5,7 +5,7 @@ use Rattle.std.specs.List.{position_from}
 use Rattle.std.specs.Option.{option_or}
 use Rattle.std.specs.Str.{bytes_eq}
 use Rattle.std.proofs.lemmas.Bool.{and_parts, eqb-true, eq-eqb}
-use Rattle.std.proofs.lemmas.List.{length-map}
+use Rattle.std.proofs.lemmas.List.{length-append, length-map}
 use Rattle.std.proofs.lemmas.Option.{slice_get_within, get_or_from_slice_get}
 use Rattle.std.proofs.lemmas.Slice.Eq.{bytes_eq-Decides}
 use Rattle.reply_register.specs.Keys.{same_key}
@@ -27,13 +27,16 @@ use Rattle.sched_book.specs.declared.rows.Rows.{Rows}
 use Rattle.sched_book.specs.declared.rows.Rows.TheVariants as rows
 use Rattle.sched_book.specs.declared.world.World.{World}
 use Rattle.sched_book.proofs.PlacesOf.{place_where-is, place_where-push}
-use Rattle.pasts.specs.Answers.{body_of, kept_beside_last, kept_call, kept_after}
-use Rattle.pasts.specs.ByNumber.{kept_at, put_at, numbered_after, calls_by_number, KeptByNumber}
+use Rattle.stores.specs.Eras.{kept_beside}
+use Rattle.stores.specs.Held.{put_at, put_call}
+use Rattle.pasts.specs.Answers.{body_of, kept_call, kept_after}
+use Rattle.pasts.specs.ByNumber.{kept_at, numbered_after, calls_by_number, AreOfHosts, KeptByNumber}
 use Rattle.pasts.specs.FirstHeard.{account_on}
 use Rattle.pasts.specs.Leaves.{host_name, Frame, host_of_key}
 use Rattle.pasts.specs.Messages.{Rpc, Import, Tick, Read, Refused, key_of}
 use Rattle.pasts.proofs.HostKeys.{is_name, names_after, known-place, names_entered, same_test}
 use Rattle.pasts.proofs.Places.{FoundFrom, found_from, found, place-more}
+use Rattle.pasts.proofs.RunLeaves.{hosts_with_rows}
 use Rattle.pasts.proofs.StepLeaves.{step_leaves}
 
 -- ---- names in a list
@@ -130,16 +133,24 @@ host_in-frame w key = λ i. option_and_then (λ account. known account i) (accou
     known account =
         known-place w.hosts account key.host_cpid ∙ sym (place_where-is (is_name account key.host_cpid) (map host_name w.hosts))
 
-call_kept : (w after : World) (c : Caller) (r : Request) (now : ℕ) (answer : Answered) → IsCaller w c r → Step w (call.Rpc c r) now after answer
-    → (body : List ℕ) (kept : ℕ → List Kept) (key : Key)
-    → calls_by_number after (numbered_after w (call.Rpc c r) body kept) key ≡ kept_after key (Rpc r) body (calls_by_number w kept key)
-call_kept w after c r now answer caller step body kept key =
+-- what is kept at the number of a caller's host, also of one that is yet to be made
+at_number : (w : World) (host : Option ℕ) (kept : ℕ → List Kept) → AreOfHosts w kept → kept (unwrap_or host (length w.hosts + 1)) ≡ kept_at kept host
+at_number w None kept of = of (length w.hosts + 1) (omega arith)
+at_number w (Some n) kept of = refl
+
+call_kept : (era : ℕ) (w after : World) (c : Caller) (r : Request) (now : ℕ) (answer : Answered) → IsCaller w c r → Step w (call.Rpc c r) now after answer
+    → (body : List ℕ) (kept : ℕ → List Kept) → AreOfHosts w kept → (key : Key)
+    → calls_by_number after (numbered_after era w (call.Rpc c r) body kept) key ≡ kept_after era key (Rpc r) body (calls_by_number w kept key)
+call_kept era w after c r now answer caller step body kept of key =
     let put : ℕ → List Kept = put_at (host_number w c) (new (kept_at kept c.host)) kept in
+    let is_put : put_call era (host_number w c) (kept_call r body) kept ≡ put =
+    ap (λ older. put_at (host_number w c) (new older) kept) (at_number w c.host kept of) in
     let there : host_of_key after key ≡ host_in (shelf_of w) (names_after mine c.host names) key =
     host_in-frame after key
     ∙ ap (λ (f : Frame). host_in f.shelf f.hosts key) (step_leaves w after (call.Rpc c r) now answer step)
     ∙ ap (λ ns. host_in (shelf_of w) ns key) (names_entered w c r caller) in
-    ap (kept_at put) there ∙ cases (account_place w key.authenticator) refl
+    ap (λ calls. kept_at calls (host_of_key after key)) is_put
+    ∙ ap (kept_at put) there ∙ cases (account_place w key.authenticator) refl
     ∙ ap (λ o. if same_key key (key_of r) then new (kept_at kept o) else kept_at kept o) (sym (host_in-frame w key))
   where
     names : List (ℕ × List ℕ)
@@ -149,7 +160,7 @@ call_kept w after c r now answer caller step body kept key =
     mine = (c.account, r.host.host_cpid)
 
     new : List Kept → List Kept
-    new older = kept_call r body ∷ take kept_beside_last older
+    new older = kept_call r body ∷ take (kept_beside era) older
 
     here : place_of mine names ≡ c.host
     here = place_where-is (is_name c.account r.host.host_cpid) names ∙ sym (known-place w.hosts c.account r.host.host_cpid) ∙ caller.host
@@ -243,6 +254,53 @@ tick_kept w after now answer step key =
     ∙ ap (λ (f : Frame). host_in f.shelf f.hosts key) (step_leaves w after call.Tick now answer step)
     ∙ sym (host_in-frame w key)
 
+-- ---- hosts that stand
+
+-- no number is put at that is beyond the hosts
+put_of : (m n : ℕ) (number : ℕ) (new : List Kept) (kept : ℕ → List Kept) → ((host : ℕ) → m < host → kept host ≡ []) → m ≤ n → number ≤ n
+    → (host : ℕ) → n < host → put_at number new kept host ≡ []
+put_of m n number new kept of more within host beyond =
+    unless (eqb number host) new (kept host) (λ equal. let same : number ≡ host = eqb-true number host equal in omega (arith, same, within, beyond))
+    ∙ of host (omega (arith, more, beyond))
+
+-- a call puts at the number of a host that stands after it
+names_stand : (names : List (ℕ × List ℕ)) (mine : ℕ × List ℕ) (o : Option ℕ) → place_of mine names ≡ o
+    → (length names ≤ length (names_after mine o names)) × (unwrap_or o (length names + 1) ≤ length (names_after mine o names))
+names_stand names mine None here =
+    let one_more : length (names ++ mine ∷ []) ≡ length names + 1 = length-append names (mine ∷ []) in
+    (omega (arith, one_more), omega (arith, one_more))
+names_stand names mine (Some n) here = (omega arith, within names mine n here)
+
+call_of_hosts : (era : ℕ) (w after : World) (c : Caller) (r : Request) (now : ℕ) (answer : Answered) → IsCaller w c r → Step w (call.Rpc c r) now after answer
+    → (body : List ℕ) (kept : ℕ → List Kept) → AreOfHosts w kept → AreOfHosts after (numbered_after era w (call.Rpc c r) body kept)
+call_of_hosts era w after c r now answer caller step body kept of =
+    let names : List (ℕ × List ℕ) = map host_name w.hosts in
+    let mine : ℕ × List ℕ = (c.account, r.host.host_cpid) in
+    let here : place_of mine names ≡ c.host =
+    place_where-is (is_name c.account r.host.host_cpid) names ∙ sym (known-place w.hosts c.account r.host.host_cpid) ∙ caller.host in
+    let hosts : map host_name after.hosts ≡ names_after mine c.host names =
+    ap (λ (f : Frame). f.hosts) (step_leaves w after (call.Rpc c r) now answer step) ∙ names_entered w c r caller in
+    let count : length after.hosts ≡ length (names_after mine c.host names) = sym (length-map after.hosts host_name) ∙ ap length hosts in
+    let before : length names ≡ length w.hosts = length-map w.hosts host_name in
+    let stand = names_stand names mine c.host here in
+    let P : ℕ → Type 0 = λ n. unwrap_or c.host (n + 1) ≤ length (names_after mine c.host names) in
+    let number : host_number w c ≤ length (names_after mine c.host names) = subst P before stand.1 in
+    put_of (length w.hosts) (length after.hosts) (host_number w c) (kept_call r body ∷ take (kept_beside era) (kept (host_number w c))) kept of
+    (omega (arith, count, before, stand.0)) (omega (arith, count, number))
+
+import_hosts : (w after : World) (new : Rows) (now : ℕ) (answer : Answered) → Step w (call.Import new) now after answer → length after.hosts ≡ length w.hosts
+import_hosts w after new now (answered.Imported n) step = ap (λ (v : World). length v.hosts) step.left ∙ ap length (hosts_with_rows w new)
+import_hosts w after new now (answered.Rpc reply) step = absurd step
+import_hosts w after new now (answered.Lapsed n) step = absurd step
+
+tick_hosts : (w after : World) (now : ℕ) (answer : Answered) → Step w call.Tick now after answer → length after.hosts ≡ length w.hosts
+tick_hosts w after now answer step =
+    sym (length-map after.hosts host_name)
+    ∙ ap (λ (f : Frame). length f.hosts) (step_leaves w after call.Tick now answer step) ∙ length-map w.hosts host_name
+
+as_many : (w after : World) (kept : ℕ → List Kept) → length after.hosts ≡ length w.hosts → AreOfHosts w kept → AreOfHosts after kept
+as_many w after kept same of host beyond = of host (omega (arith, same, beyond))
+
 -- ---- each message
 
 caller_of : (w after : World) (c : Caller) (r : Request) (now : ℕ) (answer : Answered) → Step w (call.Rpc c r) now after answer → IsCaller w c r
@@ -251,18 +309,24 @@ caller_of w after c r now (answered.Imported n) step = absurd step
 caller_of w after c r now (answered.Lapsed n) step = absurd step
 
 pub kept_by_number : KeptByNumber
-kept_by_number w after (Rpc request) (call.Rpc c r) now answer sound is step kept key =
-    let P : Request → Type 0 = λ q. calls_by_number after (numbered_after w (call.Rpc c r) (body_of answer (Rpc q)) kept) key
-    ≡ kept_after key (Rpc q) (body_of answer (Rpc q)) (calls_by_number w kept key) in
-    subst P is (call_kept w after c r now answer (caller_of w after c r now answer step) step (body_of answer (Rpc r)) kept key)
-kept_by_number w after (Rpc request) (call.Import new) now answer sound is step kept key = absurd is
-kept_by_number w after (Rpc request) call.Tick now answer sound is step kept key = absurd is
-kept_by_number w after (Import kind batch text read) (call.Import new) now answer sound is step kept key =
-    ap (kept_at kept) (import_kept w after new now answer sound step key)
-kept_by_number w after (Import kind batch text read) (call.Rpc c r) now answer sound is step kept key = absurd is
-kept_by_number w after (Import kind batch text read) call.Tick now answer sound is step kept key = absurd is
-kept_by_number w after Tick call.Tick now answer sound is step kept key = ap (kept_at kept) (tick_kept w after now answer step key)
-kept_by_number w after Tick (call.Rpc c r) now answer sound is step kept key = absurd is
-kept_by_number w after Tick (call.Import new) now answer sound is step kept key = absurd is
-kept_by_number w after (Read tells) c now answer sound is step kept key = absurd is
-kept_by_number w after (Refused fault) c now answer sound is step kept key = absurd is
+kept_by_number w after (Rpc request) (call.Rpc c r) now answer sound is step era kept of =
+    let P : Request → Type 0 = λ q. AreOfHosts after (numbered_after era w (call.Rpc c r) (body_of answer (Rpc q)) kept)
+    × ((key : Key) → calls_by_number after (numbered_after era w (call.Rpc c r) (body_of answer (Rpc q)) kept) key
+    ≡ kept_after era key (Rpc q) (body_of answer (Rpc q)) (calls_by_number w kept key)) in
+    let caller : IsCaller w c r = caller_of w after c r now answer step in
+    subst P is (
+      call_of_hosts era w after c r now answer caller step (body_of answer (Rpc r)) kept of,
+      call_kept era w after c r now answer caller step (body_of answer (Rpc r)) kept of,
+    )
+kept_by_number w after (Rpc request) (call.Import new) now answer sound is step era kept of = absurd is
+kept_by_number w after (Rpc request) call.Tick now answer sound is step era kept of = absurd is
+kept_by_number w after (Import kind batch text read) (call.Import new) now answer sound is step era kept of =
+    (as_many w after kept (import_hosts w after new now answer step) of, λ key. ap (kept_at kept) (import_kept w after new now answer sound step key))
+kept_by_number w after (Import kind batch text read) (call.Rpc c r) now answer sound is step era kept of = absurd is
+kept_by_number w after (Import kind batch text read) call.Tick now answer sound is step era kept of = absurd is
+kept_by_number w after Tick call.Tick now answer sound is step era kept of =
+    (as_many w after kept (tick_hosts w after now answer step) of, λ key. ap (kept_at kept) (tick_kept w after now answer step key))
+kept_by_number w after Tick (call.Rpc c r) now answer sound is step era kept of = absurd is
+kept_by_number w after Tick (call.Import new) now answer sound is step era kept of = absurd is
+kept_by_number w after (Read tells) c now answer sound is step era kept of = absurd is
+kept_by_number w after (Refused fault) c now answer sound is step era kept of = absurd is

@@ -113,7 +113,7 @@ commit_stands old new m answer past turns by none c =
             by.answers,
           ));
       world = refl;
-      calls = λ key. c.calls key ∙ ap (kept_after key m.said (body_of c.answered m.said)) (by.calls key);
+      calls = λ key. c.calls key ∙ ap (kept_after m.era key m.said (body_of c.answered m.said)) (by.calls key);
       batches = λ kind batch. c.batches kind batch ∙ ap (batch_after kind batch m.said (body_of c.answered m.said)) (by.batches kind batch);
     }
 

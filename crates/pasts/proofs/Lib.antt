@@ -7,6 +7,6 @@ pub mod Carried
 pub mod Beginnings
 pub mod Rising
 pub mod OneRun
-pub mod Stopping
 pub mod ByNumber
 pub mod Repeats
+pub mod Marks

@@ -1,40 +1,46 @@
--- What messages are told that come again, from the newest first-heard message of their key or name.
-use Rattle.std.proofs.Common.{◌≡◌, ℕ, ◌+◌, ◌<◌, ◌≤◌, List, [], ◌∷◌, ◌++◌, length, take, Bool, true, false, cond, nat_lt, refl, sym, ◌∙◌, ap, subst, inl, inr, arith}
-use Rattle.std.specs.Prelude.{◌&&◌, ◌||◌, ◌==◌, if◌then◌else◌, Option, Some, None, option_and_then, is_some, Result, Ok, Err}
+-- What messages are told that come again: calls beside those of their key that are kept, and imports beside the newest of their name.
+use Rattle.std.proofs.Common.{◌≡◌, ◌≢◌, ℕ, zero, suc, ◌+◌, ◌<◌, List, [], ◌∷◌, ◌++◌, length, take, Bool, true, false, cond, get_or, nat_lt, slice_get, refl, sym, ◌∙◌, ap, subst, inl, inr, arith}
+use Rattle.std.specs.Prelude.{◌&&◌, ◌||◌, ◌==◌, if◌then◌else◌, position, All, Contains, Option, Some, None, option_and_then, option_map, unwrap_or, is_some, Result, Ok, Err}
 use Rattle.std.specs.Option.{option_or}
 use Rattle.std.specs.Str.{bytes_eq}
-use Rattle.std.proofs.lemmas.Bool.Decides.{nat_tests}
+use Rattle.std.proofs.lemmas.Bool.{le-ltb, lt-ltb}
+use Rattle.std.proofs.lemmas.Option.{slice_get_read, slice_get_within, get_or_from_slice_get}
 use Rattle.std.proofs.lemmas.Slice.Eq.{bytes_eq-Decides}
-use Rattle.reply_register.specs.Calls.{heard}
+use Rattle.reply_register.specs.Calls.{greatest, has_number, heard, heard_at, is_above_all, IsFirstOf}
 use Rattle.reply_register.specs.Keys.{same_key}
 use Rattle.reply_register.specs.declared.kept.Heard.TheVariants as call
 use Rattle.reply_register.specs.declared.kept.Kept.{Kept}
 use Rattle.reply_register.specs.declared.key.Key.{Key}
+use Rattle.reply_register.proofs.Calls.{same_key-is}
+use Rattle.reply_register.proofs.Hearing.{fails, found_heard, nowhere_heard}
+use Rattle.reply_register.proofs.Numbers.{above_more, above_place, above_taken, greatest_first}
 use Rattle.rpc_records.specs.Spelling.{canonical_text}
 use Rattle.rpc_records.specs.declared.fault.Fault.{Fault}
 use Rattle.rpc_records.specs.declared.fault.Fault.TheVariants as fault
 use Rattle.rpc_records.specs.declared.request.Request.{Request}
-use Rattle.sched_book.specs.Imports.{Shelf}
+use Rattle.sched_book.specs.Imports.{Shelf, empty_shelf, shelf_of}
 use Rattle.sched_book.specs.Places.{place_where, account_place, known_host}
 use Rattle.sched_book.specs.declared.rows.Rows.{Rows}
 use Rattle.sched_book.specs.declared.settings.Settings.{Settings}
 use Rattle.sched_book.proofs.PlacesOf.{place_where-is, place_where-push}
-use Rattle.pasts.specs.Answers.{kept_beside_last, kept_call, kept_after, batch_after}
+use Rattle.stores.specs.Eras.{kept_beside}
+use Rattle.stores.specs.declared.batch.KeptBatch.{KeptBatch}
+use Rattle.stores.specs.declared.kind.Kind.{Kind}
+use Rattle.pasts.specs.Answers.{kept_call, kept_after, batch_after}
 use Rattle.pasts.specs.FirstHeard.{account_on, is_above, has_host_room, is_batch, is_first_heard, first_heard, keys_of, keys_said, names_host, rows_of, shelf_said, with_key}
 use Rattle.pasts.specs.Laws.{IsOfFirstHeard}
 use Rattle.pasts.specs.Leaves.{host_of_key}
 use Rattle.pasts.specs.Messages.{Said, Rpc, Import, Tick, Read, Refused, Message, key_of}
-use Rattle.pasts.specs.Repeats.{is_call_of, newest, AreToldBeside, CallsAreToldBesideTheLatest, BatchesCountOnce}
+use Rattle.pasts.specs.Repeats.{is_call_of, newest, kept_calls, IsCallOf, AreToldBeside, CallsAreToldBesideTheKept, BatchesCountOnce}
 use Rattle.pasts.specs.Runs.{Turn, turn_body, kept_of, batch_of}
-use Rattle.pasts.specs.Stands.{Heard, Past, Tables, Acts, Answers, Stands, messages_in, told_by}
+use Rattle.pasts.specs.Stands.{Heard, Past, Tables, Acts, Answers, messages_in, told_by}
 use Rattle.pasts.specs.Told.{told_heard, told_beside, told_number, told_account, told_import}
 use Rattle.pasts.specs.declared.answer.Answer.TheVariants.{Good, Refusal}
-use Rattle.pasts.specs.declared.batch.KeptBatch.{KeptBatch}
-use Rattle.pasts.specs.declared.kind.Kind.{Kind}
-use Rattle.pasts.proofs.Carried.{rows_are_of_first_heard}
+use Rattle.pasts.proofs.Carried.{IsRunOf, run_of, rows_are_of_first_heard}
 use Rattle.pasts.proofs.HostKeys.{keys_after, with_key-is}
 use Rattle.pasts.proofs.Places.{place-more}
 use Rattle.pasts.proofs.RunLeaves.{account-more}
+use Rattle.pasts.proofs.ToldNone.{above_run, call_rises}
 
 -- ---- down a past, to the newest first-heard message that passes
 
@@ -171,118 +177,275 @@ first_let_in s older r first = cases (account_on (rows_of older) r.authenticator
       names = zero_names (r.hostid == 0) (r.hostid == length keys + 1) (named None all);
     }
 
--- ---- the call that is kept of a key
+-- ---- the calls that are kept of a key
 
-record IsLatest (h : Heard) (r : Request) (turns : List Turn) (messages : List Message) : Type 0 where
+-- what is kept of a call that was heard so, and let in
+record IsKeptCall (shelf : Shelf) (keys : List Key) (key : Key) (h : Heard) (k : Kept) : Type 0 where
+  request : Request
+  says : h.message.said ≡ Rpc request
+  key_is : key_of request ≡ key
   body : List ℕ
-  rest : List Kept
-  kept : kept_of turns (key_of r) ≡ kept_call r body ∷ rest
+  kept : k ≡ kept_call request body
   answer : h.answer ≡ Good body
-  let_in : IsLetIn (rows_of messages) (keys_of messages) r
+  let_in : IsLetIn shelf keys request
 
-kept_after_other : (key : Key) (said : Said) (body : List ℕ) (kept : List Kept) → is_call_of key said ≡ false → kept_after key said body kept ≡ kept
-kept_after_other key (Rpc q) body kept other = ap (λ (b : Bool). if b then kept_call q body ∷ take kept_beside_last kept else kept) other
-kept_after_other key (Import kind batch text read) body kept other = refl
-kept_after_other key Tick body kept other = refl
-kept_after_other key (Read tells) body kept other = refl
-kept_after_other key (Refused fault) body kept other = refl
+-- each of the calls that were heard is kept, and each of these is above the later ones of the list
+abbrev AreKept : Shelf → List Key → Key → List Heard → List Kept → Type 0
+AreKept shelf keys key [] [] = Unit {0}
+AreKept shelf keys key [] (k ∷ ks) = ⊥
+AreKept shelf keys key (h ∷ hs) [] = ⊥
+AreKept shelf keys key (h ∷ hs) (k ∷ ks) = IsKeptCall shelf keys key h k × (is_above_all k.seqno ks ≡ true) × AreKept shelf keys key hs ks
 
-latest : (s : Settings) (past : Past) (turns : List Turn) (h : Heard) (r : Request) → Answers s past turns
-    → newest s (is_call_of (key_of r)) past ≡ Some h → h.message.said ≡ Rpc r → IsLatest h r turns (first_heard s (messages_in past))
-latest s past turns h r answers is says = down s (is_call_of (key_of r)) h (IsLatest h r) here later past turns answers is
+-- they are so after a message more
+kept_more : (shelf : Shelf) (keys : List Key) (key : Key) (said : Said) (h : Heard) (k : Kept) → IsKeptCall shelf keys key h k
+    → IsKeptCall (shelf_said said shelf) (keys_said said keys) key h k
+kept_more shelf keys key said h k was = record {
+  request = was.request;
+  says = was.says;
+  key_is = was.key_is;
+  body = was.body;
+  kept = was.kept;
+  answer = was.answer;
+  let_in = let_in_more shelf keys was.request said was.let_in;
+}
+
+are_more : (shelf : Shelf) (keys : List Key) (key : Key) (said : Said) (hs : List Heard) (ks : List Kept) → AreKept shelf keys key hs ks
+    → AreKept (shelf_said said shelf) (keys_said said keys) key hs ks
+are_more shelf keys key said [] [] are = tt
+are_more shelf keys key said [] (k ∷ ks) are = absurd are
+are_more shelf keys key said (h ∷ hs) [] are = absurd are
+are_more shelf keys key said (h ∷ hs) (k ∷ ks) are = (kept_more shelf keys key said h k are.0, are.1, are_more shelf keys key said hs ks are.2)
+
+-- and so are the first of them
+are_taken : (n : ℕ) (shelf : Shelf) (keys : List Key) (key : Key) (hs : List Heard) (ks : List Kept) → AreKept shelf keys key hs ks
+    → AreKept shelf keys key (take n hs) (take n ks)
+are_taken zero shelf keys key hs ks are = tt
+are_taken (suc n) shelf keys key [] [] are = tt
+are_taken (suc n) shelf keys key [] (k ∷ ks) are = absurd are
+are_taken (suc n) shelf keys key (h ∷ hs) [] are = absurd are
+are_taken (suc n) shelf keys key (h ∷ hs) (k ∷ ks) are = (are.0, above_taken n ks k.seqno are.1, are_taken n shelf keys key hs ks are.2)
+
+-- a message that acted is kept before the others where it is a call of the key
+acted_are : (s : Settings) (key : Key) (era : ℕ) (heard : List Message) (h : Heard) (body : List ℕ) (said : Said) (hs : List Heard) (ks : List Kept)
+    → h.message.said ≡ said → is_first_heard s heard said ≡ true → h.answer ≡ Good body
+    → ((seqno : ℕ) → is_above key seqno heard ≡ is_above_all seqno ks)
+    → AreKept (rows_of heard) (keys_of heard) key hs ks
+    → AreKept (shelf_said said (rows_of heard)) (keys_said said (keys_of heard)) key (if is_call_of key said then h ∷ take (kept_beside era) hs else hs)
+    (kept_after era key said body ks)
+acted_are s key era heard h body (Rpc r) hs ks says first answer above are = cases (same_key key (key_of r)) refl
   where
-    here : (turn : Turn) (older : List Turn) (heard : List Message) → is_first_heard s heard h.message.said ≡ true
-        → is_call_of (key_of r) h.message.said ≡ true → Acts s h turn older → IsLatest h r (turn ∷ older) (h.message ∷ heard)
-    here turn older heard first pass acts =
-        let said_is : turn.message.said ≡ Rpc r = ap (λ (m : Message). m.said) acts.message ∙ says in
-        let L : Said → Type 0 = λ said. IsLetIn (shelf_said said (rows_of heard)) (keys_said said (keys_of heard)) r in record {
-          body = turn_body turn;
-          rest = take kept_beside_last (kept_of older (key_of r));
-          kept = ap (λ said. kept_after (key_of r) said (turn_body turn) (kept_of older (key_of r))) said_is
-              ∙ ap (λ (b : Bool). if b then kept_call r (turn_body turn) ∷ take kept_beside_last (kept_of older (key_of r)) else kept_of older (key_of r)) (same_key-self (key_of r));
-          answer = acts.answer;
-          let_in = subst L (sym says) (first_let_in s heard r (ap (is_first_heard s heard) (sym says) ∙ first));
-        }
+    cases : (same : Bool) → same_key key (key_of r) ≡ same
+        → AreKept (rows_of heard) (with_key (key_of r) (keys_of heard)) key (if same then h ∷ take (kept_beside era) hs else hs)
+        (if same then kept_call r body ∷ take (kept_beside era) ks else ks)
+    cases true same =
+        let is : key ≡ key_of r = same_key-is key (key_of r) same in
+        let rises : is_above_all r.rpc_seqno ks ≡ true =
+        sym (above r.rpc_seqno) ∙ ap (λ k. is_above k r.rpc_seqno heard) is ∙ call_rises s r heard first in (
+          record {
+            request = r;
+            says = says;
+            key_is = sym is;
+            body = body;
+            kept = refl;
+            answer = answer;
+            let_in = first_let_in s heard r first;
+          },
+          above_taken (kept_beside era) ks r.rpc_seqno rises,
+          are_taken (kept_beside era) _ _ key hs ks (are_more (rows_of heard) (keys_of heard) key (Rpc r) hs ks are),
+        )
+    cases false other = are_more (rows_of heard) (keys_of heard) key (Rpc r) hs ks are
+acted_are s key era heard h body (Import kind batch text read) hs ks says first answer above are =
+    are_more (rows_of heard) (keys_of heard) key (Import kind batch text read) hs ks are
+acted_are s key era heard h body Tick hs ks says first answer above are = are
+acted_are s key era heard h body (Read tells) hs ks says first answer above are = are
+acted_are s key era heard h body (Refused fault) hs ks says first answer above are = are
 
-    later : (g : Heard) (turn : Turn) (older : List Turn) (heard : List Message) → is_call_of (key_of r) g.message.said ≡ false → Acts s g turn older
-        → IsLatest h r older heard → IsLatest h r (turn ∷ older) (g.message ∷ heard)
-    later g turn older heard other acts was = record {
-      body = was.body;
-      rest = was.rest;
-      kept = kept_after_other (key_of r) turn.message.said (turn_body turn) (kept_of older (key_of r))
-          (ap (λ (m : Message). is_call_of (key_of r) m.said) acts.message ∙ other) ∙ was.kept;
-      answer = was.answer;
-      let_in = let_in_more (rows_of heard) (keys_of heard) r g.message.said was.let_in;
-    }
+-- the calls that are kept by the past are those that the run keeps
+kept_are : (s : Settings) (key : Key) (past : Past) (turns : List Turn) → Answers s past turns
+    → AreKept (rows_of (first_heard s (messages_in past))) (keys_of (first_heard s (messages_in past))) key (kept_calls s key past) (kept_of turns key)
+kept_are s key [] turns none =
+    let P : List Turn → Type 0 = λ ts. AreKept empty_shelf [] key [] (kept_of ts key) in subst P (sym none) tt
+kept_are s key (h ∷ past) turns answers =
+    let heard : List Message = first_heard s (messages_in past) in
+    let said : Said = h.message.said in
+    elim answers [
+      | inl acts ↦
+          let turn : Turn = acts.1 in
+          let older : List Turn = acts.2 in
+          let run : IsRunOf s heard older = run_of s past older acts.5 in
+          let above : (seqno : ℕ) → is_above key seqno heard ≡ is_above_all seqno (kept_of older key) =
+          λ seqno. ap (is_above key seqno) (sym run.0) ∙ above_run s older run.1 key seqno in
+          let mine = acted_are s key h.message.era heard h (turn_body turn) said (kept_calls s key past) (kept_of older key) refl acts.0 acts.4.answer above
+          (kept_are s key past older acts.5) in
+          let M : Message → Type 0 = λ m. AreKept (shelf_said said (rows_of heard)) (keys_said said (keys_of heard)) key
+          (if is_call_of key said then h ∷ take (kept_beside h.message.era) (kept_calls s key past) else kept_calls s key past)
+          (kept_after m.era key m.said (turn_body turn) (kept_of older key)) in
+          let T : List Turn → Type 0 = λ ts. AreKept (rows_of (first_heard s (messages_in (h ∷ past)))) (keys_of (first_heard s (messages_in (h ∷ past)))) key
+          (kept_calls s key (h ∷ past)) (kept_of ts key) in
+          let L : Bool → Type 0 = λ b. AreKept (rows_of (if b then h.message ∷ heard else heard)) (keys_of (if b then h.message ∷ heard else heard)) key
+          (if b && is_call_of key said then h ∷ take (kept_beside h.message.era) (kept_calls s key past) else kept_calls s key past)
+          (kept_of (turn ∷ older) key) in
+          subst T (sym acts.3) (subst L (sym acts.0) (subst M (sym acts.4.message) mine))
+      | inr quiet ↦
+          let L : Bool → Type 0 = λ b. AreKept (rows_of (if b then h.message ∷ heard else heard)) (keys_of (if b then h.message ∷ heard else heard)) key
+          (if b && is_call_of key said then h ∷ take (kept_beside h.message.era) (kept_calls s key past) else kept_calls s key past)
+          (kept_of turns key) in
+          subst L (sym quiet.0) (kept_are s key past turns quiet.2)
+    ]
 
--- ---- what calls are told beside it
+-- ---- where a kept call stands in the list
 
-less_is : (a b : ℕ) → a < b → nat_lt a b ≡ true
-less_is a b less = grind (arith, nat_tests)
+-- the kept call of a place, which is the first of its number
+record IsKeptAt (shelf : Shelf) (keys : List Key) (key : Key) (h : Heard) (ks : List Kept) (place : ℕ) : Type 0 where
+  kept : Kept
+  is : IsKeptCall shelf keys key h kept
+  there : slice_get ks place ≡ Some kept
+  before : (i : ℕ) (d : Kept) → i < place → kept.seqno < (get_or ks i d).seqno
 
-not_less : (a b : ℕ) → b ≤ a → nat_lt a b ≡ false
-not_less a b most = grind (arith, nat_tests)
+found_at : (shelf : Shelf) (keys : List Key) (key : Key) (hs : List Heard) (ks : List Kept) (h : Heard) (place : ℕ) → AreKept shelf keys key hs ks
+    → slice_get hs place ≡ Some h → IsKeptAt shelf keys key h ks place
+found_at shelf keys key [] ks h place are there = absurd cc
+found_at shelf keys key (x ∷ hs) [] h place are there = absurd are
+found_at shelf keys key (x ∷ hs) (k ∷ ks) h zero are there =
+    let one : x ≡ h = cc in
+    let P : Heard → Type 0 = λ x. IsKeptCall shelf keys key x k in
+    record { kept = k; is = subst P one are.0; there = refl; before = λ i d less. absurd (omega (arith, less)) }
+found_at shelf keys key (x ∷ hs) (k ∷ ks) h (suc place) are there =
+    let rest : IsKeptAt shelf keys key h ks place = found_at shelf keys key hs ks h place are.2 there in
+    record { kept = rest.kept; is = rest.is; there = rest.there; before = before rest.kept rest.there rest.before }
+  where
+    before : (kept : Kept) → slice_get ks place ≡ Some kept → ((i : ℕ) (d : Kept) → i < place → kept.seqno < (get_or ks i d).seqno)
+        → (i : ℕ) (d : Kept) → i < suc place → kept.seqno < (get_or (k ∷ ks) i d).seqno
+    before kept at later zero d less = above_place ks k.seqno place kept are.1 at
+    before kept at later (suc i) d less = later i d (omega (arith, less))
 
-fails : (b : Bool) → (b ≡ true → ⊥) → b ≡ false
-fails true never = absurd (never refl)
-fails false never = refl
+found_among : (shelf : Shelf) (keys : List Key) (key : Key) (hs : List Heard) (ks : List Kept) (h : Heard) → AreKept shelf keys key hs ks
+    → (among : Contains hs h) → IsKeptAt shelf keys key h ks among.0
+found_among shelf keys key hs ks h are among =
+    found_at shelf keys key hs ks h among.0 are (slice_get_read hs (length hs) among.0 h refl among.1 (sym among.2))
 
-module _ (t : Tables) (past : Past) (stands : Stands t past) (h : Heard) (r : Request)
-    (was : IsLatest h r stands.0 (first_heard t.world.settings (messages_in past))) where
-  of : IsOfFirstHeard t.world (first_heard t.world.settings (messages_in past))
-  of = rows_are_of_first_heard t past stands
+-- a number that no heard call has is that of no kept one
+found_nowhere : (shelf : Shelf) (keys : List Key) (key : Key) (hs : List Heard) (ks : List Kept) (seqno : ℕ) → AreKept shelf keys key hs ks
+    → ((i : ℕ) (h : Heard) (r : Request) → slice_get hs i ≡ Some h → h.message.said ≡ Rpc r → seqno ≢ r.rpc_seqno)
+    → All (λ (k : Kept). k.seqno ≢ seqno) ks
+found_nowhere shelf keys key hs [] seqno are apart i d less = absurd (omega (arith, less))
+found_nowhere shelf keys key [] (k ∷ ks) seqno are apart i d less = absurd are
+found_nowhere shelf keys key (h ∷ hs) (k ∷ ks) seqno are apart zero d less =
+    λ same. apart 0 h are.0.request refl are.0.says (sym same ∙ ap (λ (k : Kept). k.seqno) are.0.kept)
+found_nowhere shelf keys key (h ∷ hs) (k ∷ ks) seqno are apart (suc i) d less =
+    found_nowhere shelf keys key hs ks seqno are.2 (λ j g r there says. apart (suc j) g r there says) i d (omega (arith, less))
+
+-- ---- what calls are told beside them
+
+module _ (t : Tables) (shelf : Shelf) (keys : List Key) (key : Key) (rows : shelf_of t.world ≡ shelf)
+    (host : host_of_key t.world key ≡ place_where (same_key key) keys) (h : Heard) (hs : List Heard) (k : Kept) (ks : List Kept)
+    (calls : t.calls key ≡ k ∷ ks) (are : AreKept shelf keys key (h ∷ hs) (k ∷ ks)) where
+  -- the number of the host of a call of the key that was let in
+  host_is : (r : Request) → key_of r ≡ key → (was : IsLetIn shelf keys r) → host_of_key t.world key ≡ Some was.number
+  host_is r mine was = host ∙ ap (λ k. place_where (same_key k) keys) (sym mine) ∙ was.place
 
   -- a call of the key, which tells no wrong number
-  beside : (q : Request) → key_of q ≡ key_of r → names_host q.hostid (Some was.let_in.number) ≡ true
-      → told_by t (Rpc q) ≡ told_heard true was.body (heard (Some (kept_call r was.body)) q.rpc_seqno (canonical_text q))
-  beside q same names =
-      let account : account_place t.world q.authenticator ≡ Some was.let_in.account =
-      ap (λ (k : Key). account_place t.world k.authenticator) same
-      ∙ ap (λ shelf. account_on shelf r.authenticator) of.rows ∙ was.let_in.stands in
-      let kept : t.calls (key_of q) ≡ kept_call r was.body ∷ was.rest = ap t.calls same ∙ stands.1.calls (key_of r) ∙ was.kept in
-      let number : known_host t.world was.let_in.account q.host.host_cpid ≡ Some was.let_in.number =
+  beside : (r : Request) → key_of r ≡ key → (was : IsLetIn shelf keys r) → (q : Request) → key_of q ≡ key → names_host q.hostid (Some was.number) ≡ true
+      → told_by t (Rpc q) ≡ told_heard true (k ∷ ks) (heard (k ∷ ks) q.rpc_seqno (canonical_text q))
+  beside r mine was q same names =
+      let account : account_place t.world q.authenticator ≡ Some was.account =
+      ap (λ (k : Key). account_place t.world k.authenticator) (same ∙ sym mine)
+      ∙ ap (λ shelf. account_on shelf r.authenticator) rows ∙ was.stands in
+      let number : known_host t.world was.account q.host.host_cpid ≡ Some was.number =
       ap (option_and_then (λ a. known_host t.world a q.host.host_cpid)) (sym account)
-      ∙ of.hosts (key_of q) ∙ ap (λ k. place_where (same_key k) (keys_of (first_heard t.world.settings (messages_in past)))) same ∙ was.let_in.place in
-      (λ i. told_account t.world (kept i) q (account i))
-      ∙ ap (told_number t.world (kept_call r was.body ∷ was.rest) q) number
-      ∙ ap (λ (b : Bool). if b then told_beside true (kept_call r was.body ∷ was.rest) q.rpc_seqno (canonical_text q) else Some (Refusal fault.BadHost)) names
+      ∙ ap (host_of_key t.world) same ∙ host_is r mine was in
+      (λ i. told_account t.world ((ap t.calls same ∙ calls) i) q (account i))
+      ∙ ap (told_number t.world (k ∷ ks) q) number
+      ∙ ap (λ (b : Bool). if b then told_beside true (k ∷ ks) q.rpc_seqno (canonical_text q) else Some (Refusal fault.BadHost)) names
 
-  -- the number that a call tells is judged beside the number of the key
-  number_is : (q : Request) → key_of q ≡ key_of r → names_host q.hostid (host_of_key t.world (key_of q)) ≡ true
-      → names_host q.hostid (Some was.let_in.number) ≡ true
-  number_is q same names =
-      ap (names_host q.hostid) (sym (of.hosts (key_of q)
-      ∙ ap (λ k. place_where (same_key k) (keys_of (first_heard t.world.settings (messages_in past)))) same ∙ was.let_in.place)) ∙ names
+  -- any call of the key
+  told_so : (q : Request) → IsCallOf t key q → told_by t (Rpc q) ≡ told_heard true (k ∷ ks) (heard (k ∷ ks) q.rpc_seqno (canonical_text q))
+  told_so q is =
+      beside are.0.request are.0.key_is are.0.let_in q is.0
+      (ap (names_host q.hostid) (sym (host_is are.0.request are.0.key_is are.0.let_in)) ∙ is.1)
 
-  -- by three tests: of a greater number, of a lower one, and of the text
-  tested : (q : Request) (more less text : Bool) → nat_lt r.rpc_seqno q.rpc_seqno ≡ more → nat_lt q.rpc_seqno r.rpc_seqno ≡ less
-      → bytes_eq (canonical_text r) (canonical_text q) ≡ text
-      → told_heard true was.body (heard (Some (kept_call r was.body)) q.rpc_seqno (canonical_text q))
-      ≡ told_heard true was.body (if more then call.Fresh
-      else (if less then call.Stale r.rpc_seqno else (if text then call.Repeat else call.Reused r.rpc_seqno)))
-  tested q more less text first second third =
-      λ i. told_heard true was.body (if first i then call.Fresh
-      else (if second i then call.Stale r.rpc_seqno else (if third i then call.Repeat else call.Reused r.rpc_seqno)))
+  -- a kept call is the first of its number
+  first_of_number : (g : Heard) (place seqno : ℕ) (at : IsKeptAt shelf keys key g (k ∷ ks) place) → at.is.request.rpc_seqno ≡ seqno
+      → IsFirstOf (k ∷ ks) seqno place at.kept
+  first_of_number g place seqno at equal =
+      let number : at.kept.seqno ≡ seqno = ap (λ (k : Kept). k.seqno) at.is.kept ∙ equal in record {
+        there = at.there;
+        number = number;
+        before = λ i d less same. omega (arith, at.before i d less, number, same);
+      }
 
-  told_beside_latest : AreToldBeside t h r
-  told_beside_latest = record {
-    repeat = beside r refl was.let_in.names
-        ∙ tested r false false true (not_less r.rpc_seqno r.rpc_seqno (omega arith)) (not_less r.rpc_seqno r.rpc_seqno (omega arith))
-        ((bytes_eq-Decides (canonical_text r) (canonical_text r)).1 refl)
-        ∙ ap Some (sym was.answer);
-    reused = λ q same names equal other. beside q same (number_is q same names)
-        ∙ tested q false false false (not_less r.rpc_seqno q.rpc_seqno (omega (arith, equal))) (not_less q.rpc_seqno r.rpc_seqno (omega (arith, equal)))
-        (fails (bytes_eq (canonical_text r) (canonical_text q)) (λ alike. other (sym ((bytes_eq-Decides (canonical_text r) (canonical_text q)).0 alike))));
-    stale = λ q same names less. beside q same (number_is q same names)
-        ∙ tested q false true (bytes_eq (canonical_text r) (canonical_text q)) (not_less r.rpc_seqno q.rpc_seqno (omega (arith, less)))
-        (less_is q.rpc_seqno r.rpc_seqno less) refl;
-    fresh = λ q same names more. beside q same (number_is q same names)
-        ∙ tested q true (nat_lt q.rpc_seqno r.rpc_seqno) (bytes_eq (canonical_text r) (canonical_text q)) (less_is r.rpc_seqno q.rpc_seqno more) refl refl;
-  }
+  repeat_told : (g : Heard) (place : ℕ) (at : IsKeptAt shelf keys key g (k ∷ ks) place) → told_by t (Rpc at.is.request) ≡ Some g.answer
+  repeat_told g place at =
+      let r : Request = at.is.request in
+      beside r at.is.key_is at.is.let_in r at.is.key_is at.is.let_in.names
+      ∙ ap (told_heard true (k ∷ ks))
+      (found_heard (k ∷ ks) r.rpc_seqno place (canonical_text r) at.kept (first_of_number g place r.rpc_seqno at refl)
+      ∙ ap (λ (b : Bool). if b then call.Repeat place else call.Reused (greatest (k ∷ ks)))
+      ((bytes_eq-Decides at.kept.text (canonical_text r)).1 (ap (λ (k : Kept). k.text) at.is.kept)))
+      ∙ ap (λ o. Some (Good (unwrap_or (option_map (λ (k : Kept). k.reply) o) []))) at.there
+      ∙ ap (λ (k : Kept). Some (Good k.reply)) at.is.kept
+      ∙ ap Some (sym at.is.answer)
 
-pub calls_are_told_beside_the_latest : CallsAreToldBesideTheLatest
-calls_are_told_beside_the_latest t past h r stands is says =
-    told_beside_latest t past stands h r (latest t.world.settings past stands.0 h r stands.1.answers is says)
+  reused_told : (g : Heard) (place : ℕ) (at : IsKeptAt shelf keys key g (k ∷ ks) place) (q : Request) → IsCallOf t key q
+      → q.rpc_seqno ≡ at.is.request.rpc_seqno → canonical_text q ≢ canonical_text at.is.request
+      → told_by t (Rpc q) ≡ Some (Refusal (fault.Reused (greatest (k ∷ ks))))
+  reused_told g place at q is equal other =
+      told_so q is
+      ∙ ap (told_heard true (k ∷ ks))
+      (found_heard (k ∷ ks) q.rpc_seqno place (canonical_text q) at.kept (first_of_number g place q.rpc_seqno at (sym equal))
+      ∙ ap (λ (b : Bool). if b then call.Repeat place else call.Reused (greatest (k ∷ ks)))
+      (fails (bytes_eq at.kept.text (canonical_text q))
+      (λ alike. other (sym ((bytes_eq-Decides at.kept.text (canonical_text q)).0 alike) ∙ ap (λ (k : Kept). k.text) at.is.kept))))
+
+  -- a heard call says one request
+  one_request : (g : Heard) (place : ℕ) (at : IsKeptAt shelf keys key g (k ∷ ks) place) (r : Request) → g.message.said ≡ Rpc r → at.is.request ≡ r
+  one_request g place at r says = let same : Rpc at.is.request ≡ Rpc r = sym at.is.says ∙ says in cc
+
+  told_beside_kept : (last : ℕ) → k.seqno ≡ last → AreToldBeside t key (h ∷ hs) last
+  told_beside_kept last is_last =
+      let most : greatest (k ∷ ks) ≡ last = greatest_first k ks are.1 ∙ is_last in record {
+        repeat = λ g r was.
+            let at = found_among shelf keys key (h ∷ hs) (k ∷ ks) g are was.0 in
+            let P : Request → Type 0 = λ r. told_by t (Rpc r) ≡ Some g.answer in
+            subst P (one_request g was.0.0 at r was.1) (repeat_told g was.0.0 at);
+        reused = λ g r q was is equal other.
+            let at = found_among shelf keys key (h ∷ hs) (k ∷ ks) g are was.0 in
+            let one : at.is.request ≡ r = one_request g was.0.0 at r was.1 in
+            reused_told g was.0.0 at q is (equal ∙ ap (λ (r : Request). r.rpc_seqno) (sym one)) (λ alike. other (alike ∙ ap canonical_text one))
+            ∙ ap (λ n. Some (Refusal (fault.Reused n))) most;
+        stale = λ q is less apart.
+            told_so q is
+            ∙ ap (told_heard true (k ∷ ks))
+            (nowhere_heard (k ∷ ks) q.rpc_seqno (canonical_text q)
+            (found_nowhere shelf keys key (h ∷ hs) (k ∷ ks) q.rpc_seqno are
+            (λ i g r there says. apart g r ((i, slice_get_within (h ∷ hs) i g there, get_or_from_slice_get (h ∷ hs) i g g there), says)))
+            (ap (λ b. b && is_above_all q.rpc_seqno ks) (le-ltb k.seqno q.rpc_seqno (omega (arith, is_last, less)))))
+            ∙ ap (λ n. Some (Refusal (fault.Stale n))) most;
+        fresh = λ q is more.
+            let less : nat_lt k.seqno q.rpc_seqno ≡ true = lt-ltb k.seqno q.rpc_seqno (omega (arith, is_last, more)) in
+            told_so q is
+            ∙ ap (λ (b : Bool). told_heard true (k ∷ ks) (if b then call.Fresh
+            else heard_at (k ∷ ks) (canonical_text q) (position (has_number q.rpc_seqno) (k ∷ ks))))
+            (λ i. less i && above_more ks k.seqno q.rpc_seqno less are.1 i);
+      }
+
+pub calls_are_told_beside_the_kept : CallsAreToldBesideTheKept
+calls_are_told_beside_the_kept t past h older r stands is says =
+    let s : Settings = t.world.settings in
+    let messages : List Message = first_heard s (messages_in past) in
+    let P : List Heard → Type 0 = λ hs. AreKept (rows_of messages) (keys_of messages) (key_of r) hs (kept_of stands.0 (key_of r)) in
+    cases (kept_of stands.0 (key_of r)) (stands.1.calls (key_of r)) (subst P is (kept_are s (key_of r) past stands.0 stands.1.answers))
+  where
+    cases : (ks : List Kept) → t.calls (key_of r) ≡ ks
+        → AreKept (rows_of (first_heard t.world.settings (messages_in past))) (keys_of (first_heard t.world.settings (messages_in past))) (key_of r) (h ∷ older) ks
+        → AreToldBeside t (key_of r) (h ∷ older) r.rpc_seqno
+    cases [] calls are = absurd are
+    cases (k ∷ ks) calls are =
+        let of : IsOfFirstHeard t.world (first_heard t.world.settings (messages_in past)) = rows_are_of_first_heard t past stands in
+        let one : Rpc are.0.request ≡ Rpc r = sym are.0.says ∙ says in
+        let request : are.0.request ≡ r = cc in
+        told_beside_kept t _ _ (key_of r) of.rows (of.hosts (key_of r)) h older k ks calls are r.rpc_seqno
+        (ap (λ (k : Kept). k.seqno) are.0.kept ∙ ap (λ (r : Request). r.rpc_seqno) request)
 
 -- ---- batches
 

@@ -78,7 +78,7 @@ settings_with_rows w (rows.Apps xs) = refl
 settings_with_rows w (rows.Versions xs) = refl
 settings_with_rows w (rows.Workunits xs) = refl
 
-hosts_with_rows : (w : World) (new : Rows) → (with_rows w new).hosts ≡ w.hosts
+pub hosts_with_rows : (w : World) (new : Rows) → (with_rows w new).hosts ≡ w.hosts
 hosts_with_rows w (rows.Accounts xs) = refl
 hosts_with_rows w (rows.Apps xs) = refl
 hosts_with_rows w (rows.Versions xs) = refl

@@ -1,13 +1,14 @@
 -- After the messages of a run, a message is first heard just where the run's world and what it kept tell it nothing.
-use Rattle.std.proofs.Common.{◌≡◌, ℕ, List, [], ◌∷◌, take, length, Bool, true, false, refl, sym, ◌∙◌, ap, arith, nat_lt}
-use Rattle.std.specs.Prelude.{◌&&◌, ◌||◌, not, if◌then◌else◌, Option, Some, None, option_map, option_and_then, is_none, is_some, Ok, Err}
+use Rattle.std.proofs.Common.{◌≡◌, ℕ, List, [], ◌∷◌, take, length, Bool, true, false, refl, sym, ◌∙◌, ap, nat_lt}
+use Rattle.std.specs.Prelude.{◌&&◌, ◌||◌, not, if◌then◌else◌, position, Option, Some, None, option_map, option_and_then, is_none, is_some, Ok, Err}
 use Rattle.std.specs.Str.{bytes_eq}
-use Rattle.std.proofs.lemmas.Bool.Decides.{nat_tests}
+use Rattle.reply_register.specs.Calls.{greatest, has_number, heard_at, is_above_all, text_at}
 use Rattle.reply_register.specs.Keys.{same_key}
-use Rattle.reply_register.specs.declared.kept.Heard.TheVariants.{Fresh, Repeat, Reused, Stale}
+use Rattle.reply_register.specs.declared.kept.Heard.TheVariants.{Fresh, Repeat, Reused}
 use Rattle.reply_register.specs.declared.kept.Kept.{Kept}
 use Rattle.reply_register.specs.declared.key.Key.{Key}
 use Rattle.reply_register.proofs.Calls.{same_key-is}
+use Rattle.reply_register.proofs.Numbers.{above_more, above_taken}
 use Rattle.rpc_records.specs.Spelling.{canonical_text}
 use Rattle.rpc_records.specs.declared.fault.Fault.{Fault}
 use Rattle.rpc_records.specs.declared.request.Request.{Request}
@@ -16,7 +17,8 @@ use Rattle.sched_book.specs.Places.{place_where, account_place, known_host}
 use Rattle.sched_book.specs.declared.rows.Rows.{Rows}
 use Rattle.sched_book.specs.declared.settings.Settings.{Settings}
 use Rattle.sched_book.specs.declared.world.World.{World}
-use Rattle.pasts.specs.Answers.{kept_beside_last, kept_call, kept_after, batch_after}
+use Rattle.stores.specs.Eras.{kept_beside}
+use Rattle.pasts.specs.Answers.{kept_call, kept_after, batch_after}
 use Rattle.pasts.specs.FirstHeard.{account_on, above_said, has_batch, has_host_room, is_above, is_batch, is_first_call, is_first_heard, keys_of, names_host, rows_of}
 use Rattle.pasts.specs.Leaves.{host_of_key}
 use Rattle.pasts.specs.Messages.{Said, Rpc, Import, Tick, Read, Refused, Message, key_of}
@@ -24,31 +26,26 @@ use Rattle.pasts.specs.Runs.{Turn, turn_body, world_of, messages_of, kept_of, ba
 use Rattle.pasts.specs.Told.{told_fresh, told_heard, told_beside, told_account, told_import, told}
 use Rattle.pasts.specs.declared.answer.Answer.{Answer}
 use Rattle.pasts.specs.declared.answer.Answer.TheVariants.{Refusal}
-use Rattle.pasts.specs.declared.batch.KeptBatch.{KeptBatch}
-use Rattle.pasts.specs.declared.kind.Kind.{Kind}
+use Rattle.stores.specs.declared.batch.KeptBatch.{KeptBatch}
+use Rattle.stores.specs.declared.kind.Kind.{Kind}
 use Rattle.pasts.proofs.HostKeys.{host_of_key-place, host_count}
 use Rattle.pasts.proofs.RunLeaves.{Leaves, IsRun, run_leaves}
 
 -- ---- kept calls
 
-abbrev above_kept : List Kept → ℕ → Bool
-above_kept [] seqno = true
-above_kept (last ∷ older) seqno = nat_lt last.seqno seqno
-
-above_more : (kept : List Kept) (a b : ℕ) → nat_lt a b ≡ true → above_kept kept a ≡ true → above_kept kept b ≡ true
-above_more [] a b less above = refl
-above_more (last ∷ older) a b less above = grind (arith, nat_tests)
-
-last_decides : (a b : Bool) → (a ≡ true → b ≡ true) → (a && b) ≡ a
-last_decides true b so = so refl
-last_decides false b so = refl
+both_alike : (a b c : Bool) → (a ≡ true → b ≡ true) → (a ≡ true → c ≡ true) → (a && b) ≡ (a && c)
+both_alike true b c left right = left refl ∙ sym (right refl)
+both_alike false b c left right = refl
 
 -- above the newest of the key's calls is above each of them
-above_call : (same : Bool) (kept : List Kept) (newest : Kept) (seqno : ℕ) → (same ≡ true → above_kept kept newest.seqno ≡ true)
-    → ((if same then nat_lt newest.seqno seqno else true) && above_kept kept seqno)
-    ≡ above_kept (if same then newest ∷ take kept_beside_last kept else kept) seqno
-above_call false kept newest seqno rises = refl
-above_call true kept newest seqno rises = last_decides _ _ (λ less. above_more kept newest.seqno seqno less (rises refl))
+above_call : (same : Bool) (era : ℕ) (kept : List Kept) (newest : Kept) (seqno : ℕ) → (same ≡ true → is_above_all newest.seqno kept ≡ true)
+    → ((if same then nat_lt newest.seqno seqno else true) && is_above_all seqno kept)
+    ≡ is_above_all seqno (if same then newest ∷ take (kept_beside era) kept else kept)
+above_call false era kept newest seqno rises = refl
+above_call true era kept newest seqno rises =
+    both_alike (nat_lt newest.seqno seqno) (is_above_all seqno kept) (is_above_all seqno (take (kept_beside era) kept))
+    (λ less. above_more kept newest.seqno seqno less (rises refl))
+    (λ less. above_taken (kept_beside era) kept seqno (above_more kept newest.seqno seqno less (rises refl)))
 
 is_third : (a b c d : Bool) → (a && b && c && d) ≡ true → c ≡ true
 is_third a b true d all = refl
@@ -64,24 +61,25 @@ call_rises s request older first =
     is_third (is_some (account_on (rows_of older) request.authenticator)) (names_host request.hostid number)
     (is_above (key_of request) request.rpc_seqno older) (has_host_room s.max_hosts number (length (keys_of older))) first
 
-above_step : (s : Settings) (said : Said) (body : List ℕ) (older : List Message) (kept : Key → List Kept) → is_first_heard s older said ≡ true
-    → ((key : Key) (seqno : ℕ) → is_above key seqno older ≡ above_kept (kept key) seqno)
-    → (key : Key) (seqno : ℕ) → (above_said key seqno said && is_above key seqno older) ≡ above_kept (kept_after key said body (kept key)) seqno
-above_step s (Rpc request) body older kept first above key seqno =
+above_step : (s : Settings) (era : ℕ) (said : Said) (body : List ℕ) (older : List Message) (kept : Key → List Kept) → is_first_heard s older said ≡ true
+    → ((key : Key) (seqno : ℕ) → is_above key seqno older ≡ is_above_all seqno (kept key))
+    → (key : Key) (seqno : ℕ) → (above_said key seqno said && is_above key seqno older) ≡ is_above_all seqno (kept_after era key said body (kept key))
+above_step s era (Rpc request) body older kept first above key seqno =
     ap (λ rest. (if same_key key (key_of request) then nat_lt request.rpc_seqno seqno else true) && rest) (above key seqno)
-    ∙ above_call (same_key key (key_of request)) (kept key) (kept_call request body) seqno
+    ∙ above_call (same_key key (key_of request)) era (kept key) (kept_call request body) seqno
     (λ same. sym (above key request.rpc_seqno)
     ∙ ap (λ k. is_above k request.rpc_seqno older) (same_key-is key (key_of request) same) ∙ call_rises s request older first)
-above_step s (Import kind batch text read) body older kept first above key seqno = above key seqno
-above_step s Tick body older kept first above key seqno = above key seqno
-above_step s (Read tells) body older kept first above key seqno = above key seqno
-above_step s (Refused fault) body older kept first above key seqno = above key seqno
+above_step s era (Import kind batch text read) body older kept first above key seqno = above key seqno
+above_step s era Tick body older kept first above key seqno = above key seqno
+above_step s era (Read tells) body older kept first above key seqno = above key seqno
+above_step s era (Refused fault) body older kept first above key seqno = above key seqno
 
-above_run : (s : Settings) (turns : List Turn) → IsRun s turns
-    → (key : Key) (seqno : ℕ) → is_above key seqno (messages_of turns) ≡ above_kept (kept_of turns key) seqno
+-- a number is above the first-heard calls of a key just where it is above those that are kept
+pub above_run : (s : Settings) (turns : List Turn) → IsRun s turns
+    → (key : Key) (seqno : ℕ) → is_above key seqno (messages_of turns) ≡ is_above_all seqno (kept_of turns key)
 above_run s [] run = λ key seqno. refl
 above_run s (turn ∷ older) run =
-    above_step s turn.message.said (turn_body turn) (messages_of older) (kept_of older) run.0 (above_run s older run.2)
+    above_step s turn.message.era turn.message.said (turn_body turn) (messages_of older) (kept_of older) run.0 (above_run s older run.2)
 
 -- ---- kept batches
 
@@ -107,17 +105,18 @@ fresh_none : (room : Bool) → is_none (told_fresh room) ≡ room
 fresh_none true = refl
 fresh_none false = refl
 
-heard_none : (room less more repeats : Bool) (reply : List ℕ) (last : ℕ)
-    → is_none (told_heard room reply (if less then Fresh else (if more then Stale last else (if repeats then Repeat else Reused last)))) ≡ (less && room)
-heard_none room true more repeats reply last = fresh_none room
-heard_none room false true repeats reply last = refl
-heard_none room false false true reply last = refl
-heard_none room false false false reply last = refl
+heard_none : (room above : Bool) (kept : List Kept) (text : List ℕ) (place : Option ℕ)
+    → is_none (told_heard room kept (if above then Fresh else heard_at kept text place)) ≡ (above && room)
+heard_none room true kept text place = fresh_none room
+heard_none room false kept text None = refl
+heard_none room false kept text (Some place) = cases (bytes_eq (text_at kept place) text)
+  where
+    cases : (same : Bool) → is_none (told_heard room kept (if same then Repeat place else Reused (greatest kept))) ≡ false
+    cases true = refl
+    cases false = refl
 
-beside_none : (room : Bool) (kept : List Kept) (seqno : ℕ) (text : List ℕ) → is_none (told_beside room kept seqno text) ≡ (above_kept kept seqno && room)
-beside_none room [] seqno text = fresh_none room
-beside_none room (last ∷ older) seqno text =
-    heard_none room (nat_lt last.seqno seqno) (nat_lt seqno last.seqno) (bytes_eq last.text text) last.reply last.seqno
+pub beside_none : (room : Bool) (kept : List Kept) (seqno : ℕ) (text : List ℕ) → is_none (told_beside room kept seqno text) ≡ (is_above_all seqno kept && room)
+beside_none room kept seqno text = heard_none room (is_above_all seqno kept) kept text (position (has_number seqno) kept)
 
 number_cases : (names above room : Bool) (beside : Option Answer) (x : Answer) → is_none beside ≡ (above && room)
     → (names && above && room) ≡ is_none (if names then beside else Some x)
@@ -125,16 +124,16 @@ number_cases true above room beside x same = sym same
 number_cases false above room beside x same = refl
 
 call_told : (w : World) (kept : List Kept) (r : Request) (account number : Option ℕ) (above : Bool) (count : ℕ)
-    → ((a : ℕ) → account ≡ Some a → number ≡ known_host w a r.host.host_cpid) → above ≡ above_kept kept r.rpc_seqno → count ≡ length w.hosts
+    → ((a : ℕ) → account ≡ Some a → number ≡ known_host w a r.host.host_cpid) → above ≡ is_above_all r.rpc_seqno kept → count ≡ length w.hosts
     → is_first_call w.settings r account number above count ≡ is_none (told_account w kept r account)
 call_told w kept r None number above count is above_is count_is = refl
 call_told w kept r (Some a) number above count is above_is count_is =
     let known : Option ℕ = known_host w a r.host.host_cpid in
     let here : is_first_call w.settings r (Some a) number above count
-    ≡ is_first_call w.settings r (Some a) known (above_kept kept r.rpc_seqno) (length w.hosts) =
+    ≡ is_first_call w.settings r (Some a) known (is_above_all r.rpc_seqno kept) (length w.hosts) =
     λ i. is_first_call w.settings r (Some a) (is a refl i) (above_is i) (count_is i) in
     here
-    ∙ number_cases (names_host r.hostid known) (above_kept kept r.rpc_seqno) (has_host_room w.settings.max_hosts known (length w.hosts))
+    ∙ number_cases (names_host r.hostid known) (is_above_all r.rpc_seqno kept) (has_host_room w.settings.max_hosts known (length w.hosts))
     (told_beside (has_host_room w.settings.max_hosts known (length w.hosts)) kept r.rpc_seqno (canonical_text r)) _
     (beside_none (has_host_room w.settings.max_hosts known (length w.hosts)) kept r.rpc_seqno (canonical_text r))
 

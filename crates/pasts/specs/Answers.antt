@@ -11,11 +11,12 @@ use Rattle.rpc_records.specs.Spelling.{whole, canonical_text}
 use Rattle.rpc_records.specs.declared.request.Request.{Request}
 use Rattle.sched_book.specs.declared.machine.Answered.{Answered}
 use Rattle.sched_book.specs.declared.machine.Answered.TheVariants as answered
+use Rattle.stores.specs.Eras.{kept_beside}
 use Rattle.pasts.specs.FirstHeard.{is_batch}
-use Rattle.pasts.specs.Kinds.{kind_name}
+use Rattle.stores.specs.Kinds.{kind_name}
 use Rattle.pasts.specs.Messages.{Said, Rpc, Import, key_of}
-use Rattle.pasts.specs.declared.batch.KeptBatch.{KeptBatch}
-use Rattle.pasts.specs.declared.kind.Kind.{Kind}
+use Rattle.stores.specs.declared.batch.KeptBatch.{KeptBatch}
+use Rattle.stores.specs.declared.kind.Kind.{Kind}
 
 -- the answer to an import: its batch, its kind and how many rows it brought
 abbrev pub imported_json : List ℕ → List ℕ → ℕ → Data
@@ -42,17 +43,13 @@ body_of (answered.Lapsed count) said = lapsed_text count
 body_of (answered.Imported count) (Import kind batch text read) = imported_text (kind_name kind) batch count
 body_of (answered.Imported count) said = []
 
--- how many calls of a key are kept beside its last
-abbrev pub kept_beside_last : ℕ
-kept_beside_last = 0
-
 abbrev pub kept_call : Request → List ℕ → Kept
 kept_call request reply = record { seqno = request.rpc_seqno; text = canonical_text request; reply = reply }
 
--- what is kept of a key after a first-heard message with this body, the last call first
-abbrev pub kept_after : Key → Said → List ℕ → List Kept → List Kept
-kept_after key (Rpc request) body older = if same_key key (key_of request) then kept_call request body ∷ take kept_beside_last older else older
-kept_after key said body older = older
+-- what is kept of a key after a first-heard message of an era with this body, the last call first
+abbrev pub kept_after : ℕ → Key → Said → List ℕ → List Kept → List Kept
+kept_after era key (Rpc request) body older = if same_key key (key_of request) then kept_call request body ∷ take (kept_beside era) older else older
+kept_after era key said body older = older
 
 -- what is kept of a batch
 abbrev pub batch_after : Kind → List ℕ → Said → List ℕ → Option KeptBatch → Option KeptBatch

@@ -1,5 +1,5 @@
 -- Calls that are kept by the number of their host. (This project's own: tables keep them so.)
-use Rattle.std.specs.Prelude.{◌≡◌, ℕ, ◌==◌, if◌then◌else◌, List, [], ◌∷◌, take, Option, Some, None}
+use Rattle.std.specs.Prelude.{◌≡◌, ℕ, ◌<◌, List, [], length, Option, Some, None}
 use Rattle.reply_register.specs.declared.kept.Kept.{Kept}
 use Rattle.reply_register.specs.declared.key.Key.{Key}
 use Rattle.sched_book.specs.Sound.{Sound}
@@ -8,34 +8,37 @@ use Rattle.sched_book.specs.declared.machine.Answered.{Answered}
 use Rattle.sched_book.specs.declared.machine.Call.{Call}
 use Rattle.sched_book.specs.declared.machine.Call.TheVariants as call
 use Rattle.sched_book.specs.declared.world.World.{World}
-use Rattle.pasts.specs.Answers.{body_of, kept_beside_last, kept_call, kept_after}
+use Rattle.stores.specs.Held.{Calls, put_call}
+use Rattle.pasts.specs.Answers.{body_of, kept_call, kept_after}
 use Rattle.pasts.specs.Leaves.{host_of_key}
 use Rattle.pasts.specs.Messages.{Said}
 use Rattle.pasts.specs.Runs.{SaysCall}
 
 -- what is kept at a number, and nothing where there is none
-abbrev pub kept_at : (ℕ → List Kept) → Option ℕ → List Kept
+abbrev pub kept_at : Calls → Option ℕ → List Kept
 kept_at kept None = []
 kept_at kept (Some number) = kept number
 
 -- what is kept of a key
-abbrev pub calls_by_number : World → (ℕ → List Kept) → Key → List Kept
+abbrev pub calls_by_number : World → Calls → Key → List Kept
 calls_by_number w kept key = kept_at kept (host_of_key w key)
 
--- the calls with these at a number
-abbrev pub put_at : ℕ → List Kept → (ℕ → List Kept) → ℕ → List Kept
-put_at number calls kept n = if number == n then calls else kept n
+-- calls are kept of hosts that stand, and of no others
+abbrev pub AreOfHosts : World → Calls → Type 0
+AreOfHosts w kept = (host : ℕ) → length w.hosts < host → kept host ≡ []
 
 -- a call with this body is put before what is kept of its host
-abbrev pub numbered_after : World → Call → List ℕ → (ℕ → List Kept) → ℕ → List Kept
-numbered_after w (call.Rpc c r) body kept = put_at (host_number w c) (kept_call r body ∷ take kept_beside_last (kept_at kept c.host)) kept
-numbered_after w (call.Import new) body kept = kept
-numbered_after w call.Tick body kept = kept
+abbrev pub numbered_after : ℕ → World → Call → List ℕ → Calls → Calls
+numbered_after era w (call.Rpc c r) body kept = put_call era (host_number w c) (kept_call r body) kept
+numbered_after era w (call.Import new) body kept = kept
+numbered_after era w call.Tick body kept = kept
 
--- after a step what is kept by number is what is kept by key
+-- after a step what is kept by number is what is kept by key, and is kept of hosts that stand
 abbrev pub KeptByNumber : Type 0
 KeptByNumber =
     (w after : World) (said : Said) (c : Call) (now : ℕ) (answered : Answered) → Sound w → SaysCall said c → Step w c now after answered
-    → (kept : ℕ → List Kept) (key : Key)
-    → calls_by_number after (numbered_after w c (body_of answered said) kept) key
-    ≡ kept_after key said (body_of answered said) (calls_by_number w kept key)
+    → (era : ℕ) (kept : Calls) → AreOfHosts w kept
+    → AreOfHosts after (numbered_after era w c (body_of answered said) kept)
+    × ((key : Key)
+    → calls_by_number after (numbered_after era w c (body_of answered said) kept) key
+    ≡ kept_after era key said (body_of answered said) (calls_by_number w kept key))

@@ -11,9 +11,9 @@ use Rattle.sched_book.specs.Imports.{Shelf, empty_shelf, shelved, fault_of_rows}
 use Rattle.sched_book.specs.Places.{place_where}
 use Rattle.sched_book.specs.declared.rows.Account.{Account}
 use Rattle.sched_book.specs.declared.settings.Settings.{Settings}
-use Rattle.pasts.specs.Kinds.{same_kind}
+use Rattle.stores.specs.Kinds.{same_kind}
 use Rattle.pasts.specs.Messages.{Said, Rpc, Import, Tick, Read, Refused, Message, key_of}
-use Rattle.pasts.specs.declared.kind.Kind.{Kind}
+use Rattle.stores.specs.declared.kind.Kind.{Kind}
 
 -- the rows of these imports, the oldest first
 abbrev pub shelf_said : Said → Shelf → Shelf

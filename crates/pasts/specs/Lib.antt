@@ -1,4 +1,3 @@
-pub mod Kinds
 pub mod Messages
 pub mod FirstHeard
 pub mod Answers
@@ -8,6 +7,6 @@ pub mod Stands
 pub mod Leaves
 pub mod Laws
 pub mod Many
-pub mod Stops
 pub mod ByNumber
 pub mod Repeats
+pub mod Marks

@@ -6,8 +6,9 @@ use Rattle.rpc_records.specs.declared.fault.Fault.{Fault}
 use Rattle.rpc_records.specs.declared.request.Request.{Request}
 use Rattle.sched_book.specs.declared.rows.Rows.{Rows}
 use Rattle.sched_book.specs.declared.world.World.{World}
+use Rattle.stores.specs.Eras.{this_era}
 use Rattle.pasts.specs.declared.answer.Answer.{Answer}
-use Rattle.pasts.specs.declared.kind.Kind.{Kind}
+use Rattle.stores.specs.declared.kind.Kind.{Kind}
 
 -- A call of a host; an import with its bytes, and the rows that they say or their first fault; a tick; a read of what stands; or a
 -- message that is refused for its bytes alone.
@@ -18,10 +19,15 @@ pub data Said : Type 0 where
   Read : (tells : World → Answer) → Said
   Refused : (fault : Fault) → Said
 
--- A message and its moment.
+-- A message, its moment, and the era in which it came.
 pub record Message : Type 0 where
   pub now : ℕ
   pub said : Said
+  pub era : ℕ
+
+-- a message to this program
+abbrev pub heard_now : ℕ → Said → Message
+heard_now now said = record { now = now; said = said; era = this_era }
 
 -- who calls: a host of an account
 abbrev pub key_of : Request → Key

@@ -1,6 +1,7 @@
 -- What a message is told that comes again, or says something of its kind: in terms of the past alone. (This profile's; that a lost reply
 -- is asked for again is BOINC's.)
-use Rattle.std.specs.Prelude.{◌≡◌, ◌≢◌, ℕ, ◌<◌, Bool, true, false, ◌&&◌, if◌then◌else◌, List, [], ◌∷◌, Option, Some, None, Result}
+use Rattle.std.specs.Prelude.{◌≡◌, ◌≢◌, ℕ, ◌<◌, ◌≤◌, Bool, true, false, ◌&&◌, if◌then◌else◌, List, [], ◌∷◌, ◌++◌, take, Contains, Option, Some, None, Result}
+use Rattle.std.specs.List.{AllByRecursion}
 use Rattle.reply_register.specs.Keys.{same_key}
 use Rattle.reply_register.specs.declared.key.Key.{Key}
 use Rattle.rpc_records.specs.Spelling.{canonical_text}
@@ -9,12 +10,13 @@ use Rattle.rpc_records.specs.declared.fault.Fault.TheVariants as fault
 use Rattle.rpc_records.specs.declared.request.Request.{Request}
 use Rattle.sched_book.specs.declared.rows.Rows.{Rows}
 use Rattle.sched_book.specs.declared.settings.Settings.{Settings}
+use Rattle.stores.specs.Eras.{kept_beside}
 use Rattle.pasts.specs.FirstHeard.{names_host, is_batch, is_first_heard, first_heard}
 use Rattle.pasts.specs.Leaves.{host_of_key}
 use Rattle.pasts.specs.Messages.{Said, Rpc, Import, key_of}
 use Rattle.pasts.specs.Stands.{Heard, Past, Tables, Stands, messages_in, told_by}
 use Rattle.pasts.specs.declared.answer.Answer.TheVariants.{Refusal}
-use Rattle.pasts.specs.declared.kind.Kind.{Kind}
+use Rattle.stores.specs.declared.kind.Kind.{Kind}
 
 -- a call of this key
 abbrev pub is_call_of : Key → Said → Bool
@@ -27,21 +29,51 @@ newest s passes [] = None
 newest s passes (h ∷ past) =
     if is_first_heard s (first_heard s (messages_in past)) h.message.said && passes h.message.said then Some h else newest s passes past
 
--- What a key's calls are told after its call r was heard and answered so: the same call its very answer, the same number with another
--- text and a lower number a refusal, and a greater number nothing, since it is first heard. Each tells the number of its host, or none.
-pub record AreToldBeside (t : Tables) (h : Heard) (r : Request) : Type 0 where
-  pub repeat : told_by t (Rpc r) ≡ Some h.answer
-  pub reused : (q : Request) → key_of q ≡ key_of r → names_host q.hostid (host_of_key t.world (key_of q)) ≡ true → q.rpc_seqno ≡ r.rpc_seqno
-      → canonical_text q ≢ canonical_text r → told_by t (Rpc q) ≡ Some (Refusal (fault.Reused r.rpc_seqno))
-  pub stale : (q : Request) → key_of q ≡ key_of r → names_host q.hostid (host_of_key t.world (key_of q)) ≡ true → q.rpc_seqno < r.rpc_seqno
-      → told_by t (Rpc q) ≡ Some (Refusal (fault.Stale r.rpc_seqno))
-  pub fresh : (q : Request) → key_of q ≡ key_of r → names_host q.hostid (host_of_key t.world (key_of q)) ≡ true → r.rpc_seqno < q.rpc_seqno
-      → told_by t (Rpc q) ≡ None
+-- the message of this, after this past, is a first-heard call of the key
+abbrev pub is_first_of : Settings → Key → Past → Heard → Bool
+is_first_of s key past h = is_first_heard s (first_heard s (messages_in past)) h.message.said && is_call_of key h.message.said
 
-abbrev pub CallsAreToldBesideTheLatest : Type 0
-CallsAreToldBesideTheLatest =
-    (t : Tables) (past : Past) (h : Heard) (r : Request) → Stands t past → newest t.world.settings (is_call_of (key_of r)) past ≡ Some h
-    → h.message.said ≡ Rpc r → AreToldBeside t h r
+-- all first-heard calls of a key, the newest first
+abbrev pub calls_heard : Settings → Key → Past → List Heard
+calls_heard s key [] = []
+calls_heard s key (h ∷ past) = if is_first_of s key past h then h ∷ calls_heard s key past else calls_heard s key past
+
+-- those of them that are kept: at each one that comes, it and the latest of those that were kept
+abbrev pub kept_calls : Settings → Key → Past → List Heard
+kept_calls s key [] = []
+kept_calls s key (h ∷ past) = if is_first_of s key past h then h ∷ take (kept_beside h.message.era) (kept_calls s key past) else kept_calls s key past
+
+-- Where all messages are of later eras than the first, the kept calls are the latest four; where those of the first era come before, the
+-- latest four counted from the last call of that era on.
+abbrev pub KeptAreTheLatestFour : Type 0
+KeptAreTheLatestFour =
+    (s : Settings) (key : Key) (newer older : Past)
+    → AllByRecursion (λ h. 1 ≤ h.message.era) newer → AllByRecursion (λ h. h.message.era ≡ 0) older
+    → (since : List Heard) × (calls_heard s key (newer ++ older) ≡ since ++ calls_heard s key older)
+    × (kept_calls s key (newer ++ older) ≡ take 4 (since ++ take 1 (calls_heard s key older)))
+
+-- a call of this key, which tells the number of its host or none
+abbrev pub IsCallOf : Tables → Key → Request → Type 0
+IsCallOf t key q = (key_of q ≡ key) × (names_host q.hostid (host_of_key t.world key) ≡ true)
+
+-- this call was heard so
+abbrev pub IsHeardAs : List Heard → Heard → Request → Type 0
+IsHeardAs kept h r = Contains kept h × (h.message.said ≡ Rpc r)
+
+-- What a key's calls are told whose kept calls are these, the last one of this number: one of the kept calls again its very answer; another
+-- text of its number, and any other number below the last one, a refusal; and a greater number nothing, since it is first heard.
+pub record AreToldBeside (t : Tables) (key : Key) (kept : List Heard) (last : ℕ) : Type 0 where
+  pub repeat : (h : Heard) (r : Request) → IsHeardAs kept h r → told_by t (Rpc r) ≡ Some h.answer
+  pub reused : (h : Heard) (r q : Request) → IsHeardAs kept h r → IsCallOf t key q → q.rpc_seqno ≡ r.rpc_seqno
+      → canonical_text q ≢ canonical_text r → told_by t (Rpc q) ≡ Some (Refusal (fault.Reused last))
+  pub stale : (q : Request) → IsCallOf t key q → q.rpc_seqno < last
+      → ((h : Heard) (r : Request) → IsHeardAs kept h r → q.rpc_seqno ≢ r.rpc_seqno) → told_by t (Rpc q) ≡ Some (Refusal (fault.Stale last))
+  pub fresh : (q : Request) → IsCallOf t key q → last < q.rpc_seqno → told_by t (Rpc q) ≡ None
+
+abbrev pub CallsAreToldBesideTheKept : Type 0
+CallsAreToldBesideTheKept =
+    (t : Tables) (past : Past) (h : Heard) (older : List Heard) (r : Request) → Stands t past
+    → kept_calls t.world.settings (key_of r) past ≡ h ∷ older → h.message.said ≡ Rpc r → AreToldBeside t (key_of r) (h ∷ older) r.rpc_seqno
 
 -- What an import is told whose name was heard and answered so: the same bytes its very answer, and other bytes a refusal.
 pub record IsBatchTold (t : Tables) (h : Heard) (kind : Kind) (batch text : List ℕ) : Type 0 where

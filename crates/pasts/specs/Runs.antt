@@ -13,8 +13,8 @@ use Rattle.sched_book.specs.declared.settings.Settings.{Settings}
 use Rattle.sched_book.specs.declared.world.World.{World}
 use Rattle.pasts.specs.Answers.{body_of, kept_after, batch_after}
 use Rattle.pasts.specs.Messages.{Said, Rpc, Import, Tick, Message}
-use Rattle.pasts.specs.declared.batch.KeptBatch.{KeptBatch}
-use Rattle.pasts.specs.declared.kind.Kind.{Kind}
+use Rattle.stores.specs.declared.batch.KeptBatch.{KeptBatch}
+use Rattle.stores.specs.declared.kind.Kind.{Kind}
 
 -- a message says this call of the machine; who calls is for the step to say
 abbrev pub SaysCall : Said → Call → Type 0
@@ -56,7 +56,7 @@ pub record IsTurn (s : Settings) (turn : Turn) (older : List Turn) : Type 0 wher
 -- what is kept of a key: its last calls in the run, the last one first
 abbrev pub kept_of : List Turn → Key → List Kept
 kept_of [] key = []
-kept_of (turn ∷ older) key = kept_after key turn.message.said (turn_body turn) (kept_of older key)
+kept_of (turn ∷ older) key = kept_after turn.message.era key turn.message.said (turn_body turn) (kept_of older key)
 
 -- and of a batch
 abbrev pub batch_of : List Turn → Kind → List ℕ → Option KeptBatch

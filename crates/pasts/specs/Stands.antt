@@ -15,8 +15,8 @@ use Rattle.pasts.specs.Runs.{Turn, SaysCall, IsInLimits, IsTurn, turn_body, worl
 use Rattle.pasts.specs.Told.{told}
 use Rattle.pasts.specs.declared.answer.Answer.{Answer}
 use Rattle.pasts.specs.declared.answer.Answer.TheVariants.{Good}
-use Rattle.pasts.specs.declared.batch.KeptBatch.{KeptBatch}
-use Rattle.pasts.specs.declared.kind.Kind.{Kind}
+use Rattle.stores.specs.declared.batch.KeptBatch.{KeptBatch}
+use Rattle.stores.specs.declared.kind.Kind.{Kind}
 
 -- A message with its answer. A past has the newest first. A message that was lost, or found no memory, changed nothing and is not in it.
 pub record Heard : Type 0 where
@@ -90,7 +90,7 @@ pub record Commits (old : Tables) (m : Message) (answer : Answer) (new : Tables)
   pub limits : IsInLimits call m.now
   pub step : Step old.world call m.now new.world answered
   pub answer_is : answer ≡ Good (body_of answered m.said)
-  pub calls : (key : Key) → new.calls key ≡ kept_after key m.said (body_of answered m.said) (old.calls key)
+  pub calls : (key : Key) → new.calls key ≡ kept_after m.era key m.said (body_of answered m.said) (old.calls key)
   pub batches : (kind : Kind) (batch : List ℕ) → new.batches kind batch ≡ batch_after kind batch m.said (body_of answered m.said) (old.batches kind batch)
 
 -- one that is told something changes nothing

@@ -1,8 +1,8 @@
 -- The answers that change nothing: from the world, the kept calls and the kept batches, with no look at the messages before. (The
 -- refusals and their order are this profile's.)
-use Rattle.std.specs.Prelude.{ℕ, Bool, if◌then◌else◌, List, [], ◌∷◌, length, Option, Some, None, option_map, Result, Ok, Err}
+use Rattle.std.specs.Prelude.{ℕ, Bool, if◌then◌else◌, List, length, Option, Some, None, option_map, Result, Ok, Err}
 use Rattle.std.specs.Str.{bytes_eq}
-use Rattle.reply_register.specs.Calls.{heard}
+use Rattle.reply_register.specs.Calls.{heard, reply_at}
 use Rattle.reply_register.specs.declared.kept.Heard.{Heard}
 use Rattle.reply_register.specs.declared.kept.Heard.TheVariants as call
 use Rattle.reply_register.specs.declared.kept.Kept.{Kept}
@@ -19,24 +19,23 @@ use Rattle.pasts.specs.FirstHeard.{names_host, has_host_room}
 use Rattle.pasts.specs.Messages.{Said, Rpc, Import, Tick, Read, Refused, key_of}
 use Rattle.pasts.specs.declared.answer.Answer.{Answer}
 use Rattle.pasts.specs.declared.answer.Answer.TheVariants.{Good, Refusal}
-use Rattle.pasts.specs.declared.batch.KeptBatch.{KeptBatch}
-use Rattle.pasts.specs.declared.kind.Kind.{Kind}
+use Rattle.stores.specs.declared.batch.KeptBatch.{KeptBatch}
+use Rattle.stores.specs.declared.kind.Kind.{Kind}
 
 -- a fresh call is told nothing where there is room for its host
 abbrev pub told_fresh : Bool → Option Answer
 told_fresh room = if room then None else Some (Refusal fault.HostsFull)
 
--- a repeat gets the kept reply again, its very bytes
-abbrev pub told_heard : Bool → List ℕ → Heard → Option Answer
-told_heard room reply call.Fresh = told_fresh room
-told_heard room reply call.Repeat = Some (Good reply)
-told_heard room reply (call.Reused last) = Some (Refusal (fault.Reused last))
-told_heard room reply (call.Stale last) = Some (Refusal (fault.Stale last))
+-- a repeat gets the reply of its kept call again, its very bytes
+abbrev pub told_heard : Bool → List Kept → Heard → Option Answer
+told_heard room kept call.Fresh = told_fresh room
+told_heard room kept (call.Repeat place) = Some (Good (reply_at kept place))
+told_heard room kept (call.Reused last) = Some (Refusal (fault.Reused last))
+told_heard room kept (call.Stale last) = Some (Refusal (fault.Stale last))
 
--- a call of this number and canonical text beside the kept calls of its key, of which the last one decides
+-- a call of this number and canonical text beside the kept calls of its key
 abbrev pub told_beside : Bool → List Kept → ℕ → List ℕ → Option Answer
-told_beside room [] seqno text = told_fresh room
-told_beside room (last ∷ older) seqno text = told_heard room last.reply (heard (Some last) seqno text)
+told_beside room kept seqno text = told_heard room kept (heard kept seqno text)
 
 -- a call of an account that stands, whose host has this number or none
 abbrev pub told_number : World → List Kept → Request → Option ℕ → Option Answer

@@ -3,8 +3,8 @@
 ghost use Rattle.pasts.specs.ByNumber.{KeptByNumber};
 ghost use Rattle.pasts.specs.Laws.{NewTablesStand, StandsCarried, StandsCarriedByAll, FirstHeardIsToldNothing, RunsTheFirstHeard, RowsAreOfFirstHeard, FirstHeardBegins, NumbersRise, IsOneRun, ServesByOneRun};
 ghost use Rattle.pasts.specs.Leaves.{StepLeavesTheRest};
-ghost use Rattle.pasts.specs.Repeats.{CallsAreToldBesideTheLatest, BatchesCountOnce};
-ghost use Rattle.pasts.specs.Stops.{StopsStand, ImagesGoOn};
+ghost use Rattle.pasts.specs.Marks.{NewPastsAreInEra, ErasGoOn, UpgradesLeadOn, NewTablesHaveOneEra, KeptSinceTheFirstMark};
+ghost use Rattle.pasts.specs.Repeats.{KeptAreTheLatestFour, CallsAreToldBesideTheKept, BatchesCountOnce};
 
 /// New tables stand for the empty past.
 pub fn new_tables_stand()
@@ -64,10 +64,16 @@ pub fn numbers_rise()
     ensures { NumbersRise }
 {}
 
-/// A key's latest first-heard call is answered by its very answer again; another call of its number and one of a lower
-/// number are refused, and one of a greater number is first heard.
-pub fn calls_are_told_beside_the_latest()
-    ensures { CallsAreToldBesideTheLatest }
+/// What is kept of a key is its latest four first-heard calls, of which those of the first era are counted from the last
+/// one on.
+pub fn kept_are_the_latest_four()
+    ensures { KeptAreTheLatestFour }
+{}
+
+/// Each kept call of a key is answered by its very answer again; another call of its number and any other that is not
+/// above the last one are refused, and one of a greater number is first heard.
+pub fn calls_are_told_beside_the_kept()
+    ensures { CallsAreToldBesideTheKept }
 {}
 
 /// A batch that was heard is answered by its very answer again, and other bytes under its name are refused.
@@ -75,17 +81,32 @@ pub fn batches_count_once()
     ensures { BatchesCountOnce }
 {}
 
-/// What a stop may leave stands for the past, or for the past and one open message.
-pub fn stops_stand()
-    ensures { StopsStand }
-{}
-
-/// What a stop may leave goes on to be so over an answer that changes nothing, and over a message more that is open.
-pub fn images_go_on()
-    ensures { ImagesGoOn }
-{}
-
-/// Calls that are kept by the number of their host are kept by key.
+/// Calls that are kept by the number of their host are kept by key, and of no number beyond the hosts.
 pub fn calls_are_kept_by_number()
     ensures { KeptByNumber }
+{}
+
+/// The empty past is in any era, by the marks of new tables.
+pub fn new_pasts_are_in_era()
+    ensures { NewPastsAreInEra }
+{}
+
+/// A past stays in its era with one message more of that era.
+pub fn eras_go_on()
+    ensures { ErasGoOn }
+{}
+
+/// An upgrade leads to the next era, and no message of the past changes its own.
+pub fn upgrades_lead_on()
+    ensures { UpgradesLeadOn }
+{}
+
+/// By the marks of new tables all messages are of one era.
+pub fn new_tables_have_one_era()
+    ensures { NewTablesHaveOneEra }
+{}
+
+/// What is kept of a key since the first upgrade is its latest four calls, counted from its last call before that on.
+pub fn kept_since_the_first_mark()
+    ensures { KeptSinceTheFirstMark }
 {}

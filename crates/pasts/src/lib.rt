@@ -6,10 +6,6 @@
 #![tactic(auto)]
 
 mod answer;
-mod batch;
-mod kind;
 pub mod laws;
 
 pub use answer::Answer;
-pub use batch::KeptBatch;
-pub use kind::Kind;

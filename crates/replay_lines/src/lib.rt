@@ -10,12 +10,12 @@ mod line;
 
 use http_responses::Media;
 pub use line::{Line, line_of};
-use message_engine::Store;
 use sched_server::{Answer, Service};
 use serde_json::Value;
 use std::alloc::{AllocError, Global};
 use std::io::{BufRead, ErrorKind, Read, Write};
 use std::{fmt, io};
+use stores::Store;
 
 /// The most lines of a replay.
 pub const MOST_LINES: u32 = 1_000_000;

@@ -1,6 +1,6 @@
 -- What the map of an ordered list of entries has at a key.
 use Rattle.std.proofs.Common.{◌≡◌, ◌≢◌, ℕ, List, [], ◌∷◌, Bool, true, false, cond, refl, sym, ◌∙◌, ap}
-use Rattle.std.specs.Prelude.{◌&&◌, if◌then◌else◌, Option, Some}
+use Rattle.std.specs.Prelude.{◌&&◌, if◌then◌else◌, Option, Some, unwrap_or}
 use Rattle.std.specs.Str.{bytes_eq}
 use Rattle.std.specs.BTreeMap.{is_at}
 use Rattle.std.specs.Cmp.{IsTotalOrder, eq_by_cmp_equiv}
@@ -17,6 +17,7 @@ use Rattle.std.proofs.lemmas.Map.Text.{is_eq-slice_cmp}
 use Rattle.std.proofs.lemmas.Map.Views.{tells_apart}
 use Rattle.reply_register.specs.declared.kept.Kept.{Kept}
 use Rattle.reply_register.specs.declared.key.Key.{Key}
+use Rattle.reply_register.specs.Keeping.{calls_of}
 use Rattle.reply_register.specs.Keys.{key_cmp, same_key}
 
 -- keys that compare alike are one
@@ -44,19 +45,19 @@ eq_by_cmp-keys a b =
 pub same_key-is : (a b : Key) → same_key a b ≡ true → a ≡ b
 same_key-is a b same = tells_apart exact_keys a b (eq_by_cmp-keys a b ∙ same)
 
-abbrev call_at : List (Key × Kept) → Key → Option Kept
+abbrev call_at : List (Key × List Kept) → Key → Option (List Kept)
 call_at entries key = lookup (is_at (key_cmp key)) entries
 
-find_call : (entries : List (Key × Kept)) (key : Key) → find key_cmp key entries ≡ call_at entries key
+find_call : (entries : List (Key × List Kept)) (key : Key) → find key_cmp key entries ≡ call_at entries key
 find_call [] key = refl
 find_call (e ∷ entries) key = ap (cond (is_at (key_cmp key) e.0) (Some e.1)) (find_call entries key)
 
 -- what the map that the entries make has at a key
-pub get_call : (entries : List (Key × Kept)) (key : Key) → map.get (map.from_entries {R = key_cmp} entries) key ≡ call_at entries key
+pub get_call : (entries : List (Key × List Kept)) (key : Key) → map.get (map.from_entries {R = key_cmp} entries) key ≡ call_at entries key
 get_call entries key = get-from_entries keys_total entries key ∙ find_call entries key
 
 -- entries that differ at one key make maps that differ there
-pub one_kept : (entries after : List (Key × Kept)) (key : Key) (kept : Kept)
+pub one_kept : (entries after : List (Key × List Kept)) (key : Key) (kept : List Kept)
     → ((q : Key) → call_at after q ≡ cond (is_at (key_cmp key) q) (Some kept) (call_at entries q))
     → map.from_entries {R = key_cmp} after ≡ map.insert (map.from_entries entries) key kept
 one_kept entries after key kept differs =
@@ -66,7 +67,7 @@ one_kept entries after key kept differs =
     ∙ sym (get-insert keys_total (map.from_entries entries) key kept q ∙ ap (cond (is_at (key_cmp q) key) (Some kept)) (get_call entries q)))
 
 -- what is kept of each key after a call of one
-pub get_kept : (calls : map.FinMap key_cmp Kept) (key : Key) (kept : Kept) (asked : Key)
+pub get_kept : (calls : map.FinMap key_cmp (List Kept)) (key : Key) (kept : List Kept) (asked : Key)
     → map.get (map.insert calls key kept) asked ≡ (if same_key asked key then Some kept else map.get calls asked)
 get_kept calls key kept asked =
     get-insert keys_total calls key kept asked ∙ ap (λ level. cond level (Some kept) (map.get calls asked)) (eq_by_cmp-keys asked key)
@@ -75,8 +76,14 @@ unless : {X : Type 0} (test : Bool) (x y : X) → (test ≡ true → ⊥) → co
 unless true x y never = absurd (never refl)
 unless false x y never = refl
 
-pub get_other : (calls : map.FinMap key_cmp Kept) (key other : Key) (kept : Kept) → other ≢ key
+pub get_other : (calls : map.FinMap key_cmp (List Kept)) (key other : Key) (kept : List Kept) → other ≢ key
     → map.get (map.insert calls key kept) other ≡ map.get calls other
 get_other calls key other kept apart =
     get-insert keys_total calls key kept other
     ∙ unless (eq_by_cmp key_cmp other key) (Some kept) (map.get calls other) (λ level. apart (tells_apart exact_keys other key level))
+
+-- what a look-up of the entries finds is what is kept of the key
+pub found_call : (entries : List (Key × List Kept)) (key : Key) (found : Option (List Kept)) (calls : map.FinMap key_cmp (List Kept))
+    → found ≡ call_at entries key → map.from_entries entries ≡ calls → unwrap_or found [] ≡ calls_of calls key
+found_call entries key found calls is view =
+    ap (λ o. unwrap_or o []) (is ∙ sym (get_call entries key) ∙ ap (λ calls. map.get calls key) view)

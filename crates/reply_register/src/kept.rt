@@ -1,6 +1,5 @@
-ghost use Rattle.std.specs.Prelude.{◌≡◌, ◌≢◌, ◌<◌, IfSome, IfNone};
-ghost use Rattle.std.specs.Option.{option_copied};
-ghost use Rattle.reply_register.specs.Calls.{heard};
+ghost use Rattle.std.specs.Prelude.{◌≡◌, ◌<◌, length, position, Some};
+ghost use Rattle.reply_register.specs.Calls.{greatest, has_number, heard, heard_at, is_above_all, IsHeardAs};
 
 use texts::Text;
 
@@ -15,44 +14,68 @@ pub struct Kept {
     pub reply: Text,
 }
 
-/// What a call is beside the kept call of its key.
+/// What a call is beside the kept calls of its key.
 #[derive(Clone, Copy, Debug, PartialEq, Eq)]
 pub enum Heard {
-    /// Not heard before: the key has no kept call, or one of a lower number.
+    /// Not heard before: its number is above that of each kept call.
     Fresh,
-    /// The kept call again.
-    Repeat,
-    /// The kept call, of this number, said something else.
+    /// The kept call at this place again.
+    Repeat(usize),
+    /// A kept call of its number said something else; the greatest number that is kept is this one.
     Reused(u32),
-    /// The kept call has a greater number, this one.
+    /// No kept call has its number, and the greatest one, this, is above it.
     Stale(u32),
 }
 
-/// What the call of this number and canonical text is beside the kept call of its key.
-pub fn classify(kept: Option<&Kept>, seqno: u32, text: &str) -> Heard
-    ensures heard { result ≡ heard (option_copied kept.entry) seqno text.now }
+/// What the call of this number and canonical text is beside the kept calls of its key, which may be in any order.
+#[tactic(auto, using(crate::proofs::Hearing::heard_as))]
+pub fn classify(kept: &[Kept], seqno: u32, text: &str) -> Heard
+    ensures heard { result ≡ heard kept.now seqno text.now }
 
     // The same, case by case.
-    ensures none { IfNone kept.entry (result ≡ Heard.Fresh) }
-    ensures greater { IfSome kept.entry (λ k. k.now.seqno < seqno → result ≡ Heard.Fresh) }
-    ensures repeat { IfSome kept.entry (λ k.
-        seqno ≡ k.now.seqno → text.now ≡ k.now.text → result ≡ Heard.Repeat) }
-    ensures reused { IfSome kept.entry (λ k.
-        seqno ≡ k.now.seqno → text.now ≢ k.now.text → result ≡ Heard.Reused seqno) }
-    ensures stale { IfSome kept.entry (λ k. seqno < k.now.seqno → result ≡ Heard.Stale k.now.seqno) }
+    ensures cases { IsHeardAs kept.now seqno text.now result }
 {
-    let Some(kept) = kept else {
-        return Heard::Fresh;
-    };
-    if seqno > kept.seqno {
+    if is_above_all(kept, seqno) {
         return Heard::Fresh;
     }
-    if seqno < kept.seqno {
-        return Heard::Stale(kept.seqno);
+    match place_of(kept, seqno) {
+        None => Heard::Stale(greatest(kept)),
+        Some(place) => same_number(kept, place, text),
     }
-    if kept.text.is(text) {
-        Heard::Repeat
+}
+
+/// What a call of the number of the kept call at this place is, by its text.
+fn same_number(kept: &[Kept], place: usize, text: &str) -> Heard
+    requires { place < length kept.now }
+    ensures { result ≡ heard_at kept.now text.now (Some place) }
+{
+    if kept[place].text.is(text) {
+        Heard::Repeat(place)
     } else {
-        Heard::Reused(kept.seqno)
+        Heard::Reused(greatest(kept))
     }
+}
+
+fn is_above_all(kept: &[Kept], seqno: u32) -> bool
+    ensures { result ≡ is_above_all seqno kept.now }
+{
+    kept.iter().all(|call| call.seqno < seqno)
+}
+
+/// The place of the first kept call of this number.
+fn place_of(kept: &[Kept], seqno: u32) -> Option<usize>
+    ensures { result ≡ position (has_number seqno) kept.now }
+{
+    kept.iter().position(|call| call.seqno == seqno)
+}
+
+/// The greatest number of these calls, 0 where there is none.
+fn greatest(kept: &[Kept]) -> u32
+    ensures { result ≡ greatest kept.now }
+{
+    let mut most = 0;
+    for call in kept {
+        most = most.max(call.seqno);
+    }
+    most
 }

@@ -1,12 +1,24 @@
 //! Laws of the register, which do no work.
+ghost use Rattle.reply_register.specs.Calls.{GreatestIsGreatest};
+ghost use Rattle.reply_register.specs.Keeping.{KeepsTheLatest};
 ghost use Rattle.reply_register.specs.Keys.{KeepsAtOneKey, KeepsOtherKeys};
 
-/// After a call of one key is kept, that key has it, and each other has what it had.
+/// After calls of one key are kept, that key has them, and each other has what it had.
 pub fn keeps_at_one_key()
     ensures { KeepsAtOneKey }
 {}
 
-/// To keep a call of one key leaves what is kept of every other.
+/// To keep calls of one key leaves what is kept of every other.
 pub fn keeps_other_keys()
     ensures { KeepsOtherKeys }
+{}
+
+/// Of kept calls with falling numbers, and one above all of them, the new one and the latest three are kept.
+pub fn keeps_the_latest()
+    ensures { KeepsTheLatest }
+{}
+
+/// The greatest number of some calls is that of one of them, and none has a greater one.
+pub fn greatest_is_greatest()
+    ensures { GreatestIsGreatest }
 {}

@@ -1,28 +1,31 @@
-ghost use Rattle.std.specs.Prelude.{◌≡◌, OnOk, OnErr};
+ghost use Rattle.std.specs.Prelude.{◌≡◌, List, OnOk, OnErr};
 ghost use Rattle.std.specs.FinMap as map;
-ghost use Rattle.std.specs.Option.{option_copied};
+ghost use Rattle.reply_register.specs.Keeping.{calls_of, IsKeptWith};
+ghost use Rattle.reply_register.specs.declared.kept.Kept.{Kept};
 
+use crate::keeping::kept_with;
 use crate::kept::Kept;
 use crate::key::Key;
 use std::alloc::Global;
 use std::collections::BTreeMap;
 use std::marker::Model;
-use texts::Memory;
+use texts::{Listed, Memory};
 
-/// The last kept call of each key, which contracts see as a finite map from keys to kept calls.
+/// The kept calls of each key, which contracts see as a finite map from keys to lists of kept calls, the last one first.
 #[derive(Drop)]
 pub struct Register {
-    calls: BTreeMap<Key, Kept>,
+    calls: BTreeMap<Key, Listed<Kept>>,
 }
 
 impl Model for Register {
     ghost use Rattle.std.specs.FinMap as map;
-    ghost use Rattle.reply_register.specs.Keys.{key_cmp, coded_key, coded_kept};
+    ghost use Rattle.std.specs.Prelude.{List};
+    ghost use Rattle.reply_register.specs.Keys.{key_cmp, coded_key, coded_calls};
     ghost use Rattle.reply_register.specs.declared.kept.Kept.{Kept};
 
-    ghost Value = { map.FinMap key_cmp Kept };
+    ghost Value = { map.FinMap key_cmp (List Kept) };
 
-    ghost coded = { map.code coded_key coded_kept };
+    ghost coded = { map.code coded_key coded_calls };
 
     ghost view = { λ register. map.from_entries register.calls.entries };
 }
@@ -37,19 +40,24 @@ impl Register {
         }
     }
 
-    /// The kept call of this key, where there is one.
-    pub fn find(&self, key: &Key) -> Option<&Kept>
-        ensures { option_copied result ≡ map.get self.now key.now }
+    /// The kept calls of this key, none where it is unknown.
+    pub fn find(&self, key: &Key) -> &[Kept]
+        ensures { result.now ≡ calls_of self.now key.now }
     {
-        self.calls.get(key)
+        match self.calls.get(key) {
+            None => &[],
+            Some(calls) => calls.as_slice(),
+        }
     }
 
-    /// Keeps this call of this key in place of an earlier one. Every other key's stays.
-    pub fn keep(&mut self, key: Key, kept: Kept) -> Result<(), Memory>
-        ensures ok { OnOk result (self.new ≡ map.insert self.old key kept) }
+    /// Keeps this call of this key before its others: where there are four, over the one of the least number. Every other
+    /// key's stay.
+    pub fn keep(&mut self, alloc: Global, key: Key, kept: Kept) -> Result<(), Memory>
+        ensures ok { OnOk result ((calls : List Kept) × IsKeptWith kept (calls_of self.old key) calls × (self.new ≡ map.insert self.old key calls)) }
         ensures err { OnErr result (self.new ≡ self.old) }
     {
-        self.calls.insert(key, kept)?;
+        let calls = kept_with(alloc, kept, self.find(&key))?;
+        self.calls.insert(key, calls)?;
         Ok(())
     }
 }

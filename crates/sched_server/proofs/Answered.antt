@@ -8,12 +8,12 @@ use Rattle.http_messages.specs.declared.message.Message.{Message}
 use Rattle.rpc_records.specs.declared.fault.Fault.{Fault}
 use Rattle.sched_book.specs.declared.desk.Unavailable.{Unavailable}
 use Rattle.sched_book.specs.declared.rows.Rows.{Rows}
-use Rattle.sched_book.specs.declared.world.World.{World}
-use Rattle.pasts.specs.Messages.{Said, Import}
+use Rattle.stores.specs.Held.{Held}
+use Rattle.pasts.specs.Messages.{Said, Import, heard_now}
 use Rattle.pasts.specs.declared.answer.Answer.{Answer}
-use Rattle.pasts.specs.declared.kind.Kind.{Kind}
+use Rattle.stores.specs.declared.kind.Kind.{Kind}
 use Rattle.message_engine.specs.Imports.{Reads}
-use Rattle.message_engine.specs.Stores.{Calls, Batches, ServesIn}
+use Rattle.message_engine.specs.Stores.{ServesIn}
 use Rattle.sched_server.specs.Meanings.{Says}
 
 -- a message of a known form says what that form says
@@ -21,12 +21,12 @@ pub says_so : (m form : Message) (said : Said) → m ≡ form → Says (message_
 says_so m form said is says = let P : Message → Type 0 = λ x. Says (message_seen x) said in subst P (sym is) says
 
 -- and is served as that
-pub known_serves : (m form : Message) (said : Said) (now : ℕ) (w w' : World) (calls calls' : Calls) (batches batches' : Batches)
+pub known_serves : (m form : Message) (said : Said) (now : ℕ) (old new : Held)
     (r : Result Answer Unavailable) → m ≡ form → Says (message_seen form) said
-    → IfOk r (λ a. ServesIn (record { now = now; said = said }) a w calls batches w' calls' batches')
-    → IfOk r (λ a. (s : Said) × Says (message_seen m) s × ServesIn (record { now = now; said = s }) a w calls batches w' calls' batches')
-known_serves m form said now w w' calls calls' batches batches' (Ok a) is says serves = (said, says_so m form said is says, serves)
-known_serves m form said now w w' calls calls' batches batches' (Err e) is says serves = tt
+    → IfOk r (λ a. ServesIn (heard_now now said) a old new)
+    → IfOk r (λ a. (s : Said) × Says (message_seen m) s × ServesIn (heard_now now s) a old new)
+known_serves m form said now old new (Ok a) is says serves = (said, says_so m form said is says, serves)
+known_serves m form said now old new (Err e) is says serves = tt
 
 -- what holds at every moment holds at this one
 pub at_moment : (P : ℕ → Answer → Type 0) (now : ℕ) (r : Result Answer Unavailable) → IfOk r (λ a. (t : ℕ) → P t a) → IfOk r (P now)
@@ -41,11 +41,11 @@ import_says m form kind batch text read is asks_for reads =
     subst P (sym (ap message_seen is ∙ asks_for)) (read, reads, refl)
 
 -- and is served as that
-pub import_serves : (m form : Message) (kind : Kind) (batch text : List ℕ) (now : ℕ) (w w' : World) (calls calls' : Calls) (batches batches' : Batches)
+pub import_serves : (m form : Message) (kind : Kind) (batch text : List ℕ) (now : ℕ) (old new : Held)
     (r : Result Answer Unavailable) → m ≡ form → message_seen form ≡ asks.import kind batch text
     → IfOk r (λ a. (read : Result Rows Fault) × Reads kind text read
-    × ServesIn (record { now = now; said = Import kind batch text read }) a w calls batches w' calls' batches')
-    → IfOk r (λ a. (s : Said) × Says (message_seen m) s × ServesIn (record { now = now; said = s }) a w calls batches w' calls' batches')
-import_serves m form kind batch text now w w' calls calls' batches batches' (Ok a) is asks_for serves =
+    × ServesIn (heard_now now (Import kind batch text read)) a old new)
+    → IfOk r (λ a. (s : Said) × Says (message_seen m) s × ServesIn (heard_now now s) a old new)
+import_serves m form kind batch text now old new (Ok a) is asks_for serves =
     (Import kind batch text serves.0, import_says m form kind batch text serves.0 is asks_for serves.1, serves.2)
-import_serves m form kind batch text now w w' calls calls' batches batches' (Err e) is asks_for serves = tt
+import_serves m form kind batch text now old new (Err e) is asks_for serves = tt

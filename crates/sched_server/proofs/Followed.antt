@@ -1,58 +1,12 @@
--- A store that handles an arrival stands for what came before, and that arrival; and so on, one after the other.
+-- Arrivals that were handled one after the other.
 use Rattle.std.proofs.Common.{◌≡◌, ℕ, zero, suc, ◌+◌, ◌<◌, ◌≤◌, List, [], ◌∷◌, ◌++◌, length, take, drop, get_or, refl, sym, ◌∙◌, ap, subst, arith}
-use Rattle.std.specs.Prelude.{Option, Result, IfOk, OnErr}
 use Rattle.std.proofs.lemmas.List.{take_more, length-take-le, length-append, take-append-drop}
-use Rattle.http_messages.specs.Deciding.{Asked}
-use Rattle.http_messages.specs.Meaning.{Means}
 use Rattle.http_responses.specs.declared.answer.Answer.{Answer}
-use Rattle.http_responses.specs.declared.answer.Answer.TheVariants as answer
-use Rattle.http_responses.specs.declared.method.Method.{Method}
-use Rattle.sched_book.specs.Sound.{Sound}
-use Rattle.sched_book.specs.declared.desk.Unavailable.{Unavailable}
-use Rattle.sched_book.specs.declared.world.World.{World}
-use Rattle.pasts.specs.Messages.{Said}
-use Rattle.pasts.specs.Stands.{then_heard}
-use Rattle.pasts.specs.declared.answer.Answer as told
-use Rattle.pasts.proofs.Carried.{stands_same, stands_is_carried}
-use Rattle.message_engine.specs.Stores.{Calls, Batches, IsLeft, ServesIn}
-use Rattle.sched_server.specs.Answering.{Responds}
-use Rattle.sched_server.specs.Arrivals.{Came, StandsFor, followed}
+use Rattle.stores.specs.Acting.{Parts}
+use Rattle.stores.specs.Held.{Held}
+use Rattle.sched_server.specs.Arrivals.{Came, StoreStandsFor, followed}
 use Rattle.sched_server.specs.Handled.{HandledAs}
-use Rattle.sched_server.specs.Meanings.{Says, allowed_by}
 use Rattle.sched_server.specs.declared.arrival.Arrival.{Arrival}
-use Rattle.sched_server.proofs.Handled.{handled}
-
--- an arrival that was handled so
-pub handled_stands : (key bytes : List ℕ) (now : ℕ) (w w' : World) (calls calls' : Calls) (batches batches' : Batches) (a : Answer)
-    → HandledAs key bytes now a w calls batches w' calls' batches'
-    → (before : List Came) → StandsFor key w calls batches before
-    → StandsFor key w' calls' batches' (record { arrival = record { now = now; bytes = bytes }; answer = a } ∷ before)
-handled_stands key bytes now w w' calls calls' batches batches' answer.Unavailable same before st =
-    let left = same st.sound in record {
-      past = st.past;
-      tells = st.tells;
-      stands = (st.stands.0, stands_same _ _ st.past st.stands.0 left st.stands.1);
-      sound = subst Sound (sym left.world) st.sound;
-    }
-handled_stands key bytes now w w' calls calls' batches batches' (answer.Response response) done before st =
-    let served = done.serves st.sound in record {
-      past = then_heard st.past (record { now = now; said = done.said }) done.told;
-      tells = (record { asked = done.asked; means = done.means; says = done.says; moment = refl; response = done.response }, st.tells);
-      stands = stands_is_carried _ _ (record { now = now; said = done.said }) done.told served.serves st.past st.stands;
-      sound = served.sound;
-    }
-
--- one whose meaning was served and whose answer says what was told
-pub answered_stands : (key bytes : List ℕ) (now : ℕ) (asked : Asked) (allowed : Option Method) (w w' : World) (calls calls' : Calls)
-    (batches batches' : Batches) (r : Result told.Answer Unavailable) (a : Answer) → Means key bytes asked → allowed ≡ allowed_by asked
-    → IfOk r (λ t. (said : Said) × Says asked said × ServesIn (record { now = now; said = said }) t w calls batches w' calls' batches')
-    → OnErr r (IsLeft w calls batches w' calls' batches')
-    → Responds allowed r a
-    → (before : List Came) → StandsFor key w calls batches before
-    → StandsFor key w' calls' batches' (record { arrival = record { now = now; bytes = bytes }; answer = a } ∷ before)
-answered_stands key bytes now asked allowed w w' calls calls' batches batches' r a means allows serves left responds =
-    handled_stands key bytes now w w' calls calls' batches batches' a
-    (handled key bytes now asked allowed w w' calls calls' batches batches' r a means allows serves left responds)
 
 -- ---- many arrivals
 
@@ -127,18 +81,20 @@ holds_so_far P before arrivals i answers a x less is count holds =
     )) holds
 
 -- with the key and the bytes under other names
-pub handled_as : (old key read bytes : List ℕ) (now : ℕ) (w w' : World) (calls calls' : Calls) (batches batches' : Batches) (a : Answer)
-    → key ≡ old → read ≡ bytes → HandledAs key read now a w calls batches w' calls' batches' → HandledAs old bytes now a w calls batches w' calls' batches'
-handled_as old key read bytes now w w' calls calls' batches batches' a same is done =
-    let P : List ℕ → Type 0 = λ k. HandledAs k read now a w calls batches w' calls' batches' in
-    let Q : List ℕ → Type 0 = λ b. HandledAs old b now a w calls batches w' calls' batches' in
+pub handled_as : (old_key key read bytes : List ℕ) (now : ℕ) (old new : Held) (a : Answer)
+    → key ≡ old_key → read ≡ bytes → HandledAs key read now a old new → HandledAs old_key bytes now a old new
+handled_as old_key key read bytes now old new a same is done =
+    let P : List ℕ → Type 0 = λ k. HandledAs k read now a old new in
+    let Q : List ℕ → Type 0 = λ b. HandledAs old_key b now a old new in
     subst Q is (subst P same done)
 
--- an arrival that was handled by the same key stands behind those before
-pub handled_on : (old key read bytes : List ℕ) (now : ℕ) (w w' : World) (calls calls' : Calls) (batches batches' : Batches) (a : Answer)
-    → key ≡ old → read ≡ bytes → HandledAs key read now a w calls batches w' calls' batches'
-    → (before : List Came) → StandsFor old w calls batches before
-    → StandsFor old w' calls' batches' (record { arrival = record { now = now; bytes = bytes }; answer = a } ∷ before)
-handled_on old key read bytes now w w' calls calls' batches batches' a same is done before st =
-    handled_stands old bytes now w w' calls calls' batches batches' a
-    (handled_as old key read bytes now w w' calls calls' batches batches' a same is done) before st
+-- and so with what a store stands for
+pub stands_on : {S : Type 0} (store : Parts S) (old_key key read bytes : List ℕ) (now : ℕ) (a : Answer) (old new : S) → key ≡ old_key → read ≡ bytes
+    → ((marks : List ℕ) (before : List Came) → StoreStandsFor store key marks before old → store.clean new
+    → StoreStandsFor store key marks (record { arrival = record { now = now; bytes = read }; answer = a } ∷ before) new)
+    → (marks : List ℕ) (before : List Came) → StoreStandsFor store old_key marks before old → store.clean new
+    → StoreStandsFor store old_key marks (record { arrival = record { now = now; bytes = bytes }; answer = a } ∷ before) new
+stands_on store old_key key read bytes now a old new same is stands =
+    let P : List ℕ → List ℕ → Type 0 = λ k b. (marks : List ℕ) (before : List Came) → StoreStandsFor store k marks before old → store.clean new
+    → StoreStandsFor store k marks (record { arrival = record { now = now; bytes = b }; answer = a } ∷ before) new in
+    subst (λ b. P old_key b) is (subst (λ k. P k read) same stands)

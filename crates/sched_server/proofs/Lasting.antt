@@ -1,19 +1,25 @@
 -- What holds through each run of the machine holds of what stands before and after messages of bytes.
-use Rattle.std.proofs.Common.{◌≡◌, ℕ, List, [], ◌∷◌, ◌++◌, refl, sym, ◌∙◌, subst}
+use Rattle.std.proofs.Common.{◌≡◌, ◌⊎◌, ℕ, List, [], ◌∷◌, ◌++◌, Some, refl, ◌∙◌, ap, subst, inl, inr}
 use Rattle.http_responses.specs.declared.answer.Answer.{Answer}
 use Rattle.http_responses.specs.declared.answer.Answer.TheVariants as answer
-use Rattle.sched_book.specs.Sound.{Sound}
+use Rattle.sched_book.specs.Step.{deadline_at}
+use Rattle.sched_book.specs.declared.instance.Owner.{Owner}
+use Rattle.sched_book.specs.declared.instance.Place.{Place}
 use Rattle.sched_book.specs.declared.world.World.{World}
+use Rattle.stores.specs.Held.{Held}
 use Rattle.pasts.specs.Many.{ServesAll}
-use Rattle.pasts.specs.Messages.{Message}
+use Rattle.pasts.specs.Messages.{Message, heard_now}
 use Rattle.pasts.specs.Stands.{Heard, Tables, Same, Serves}
 use Rattle.pasts.specs.declared.answer.Answer as told
 use Rattle.past_laws.specs.Laws as past
 use Rattle.past_laws.proofs.Calls as calls_of_pasts
-use Rattle.message_engine.specs.Stores.{Calls, Batches, tables_by}
+use Rattle.past_laws.proofs.Calls.{same_host}
+use Rattle.past_laws.proofs.Holds.{owners_stay}
+use Rattle.sched_machine.specs.Runs.{owner_at, OwnersStay}
+use Rattle.message_engine.specs.Stores.{tables_by, IsSoundStore}
 use Rattle.sched_server.specs.Arrivals.{Came, StandsFor, HandledInTurn}
 use Rattle.sched_server.specs.Handled.{HandledAs}
-use Rattle.sched_server.specs.Laws.{HoldsOfWhatStands, HoldsAtAMessage, HoldsOverMessages, Lasts, DeadlinesMoveByResendsAlone, NoHeldJobDropsFromSight}
+use Rattle.sched_server.specs.Laws.{HoldsOfWhatStands, HoldsAtAMessage, HoldsOverMessages, Lasts, IsSentAgainAt, DeadlinesMoveByResendsAlone, DeadlinesMoveByResendsOverMessages, NoHeldJobDropsFromSight}
 
 -- ---- many messages
 
@@ -39,67 +45,92 @@ all_then old mid new [] m a same serves = (new, subst (λ t. Serves t m a new) (
 all_then old mid new (h ∷ more) m a all serves = (all.0, all.1, all_then all.0 mid new more m a all.2 serves)
 
 -- some messages were served, and what stands then is sound
-Served : Tables → World → Calls → Batches → Type 0
-Served old w calls batches = (more : List Heard) × ServesAll old more (tables_by w calls batches) × Sound w
+Served : Tables → Held → Type 0
+Served first held = (more : List Heard) × ServesAll first more (tables_by held) × IsSoundStore held
 
-served_next : (key bytes : List ℕ) (now : ℕ) (a : Answer) (old : Tables) (w w' : World) (calls calls' : Calls) (batches batches' : Batches)
-    → Served old w calls batches → HandledAs key bytes now a w calls batches w' calls' batches' → Served old w' calls' batches'
+served_next : (key bytes : List ℕ) (now : ℕ) (a : Answer) (first : Tables) (old new : Held) → Served first old → HandledAs key bytes now a old new → Served first new
 unfolding Served
-served_next key bytes now answer.Unavailable old w w' calls calls' batches batches' served same =
+served_next key bytes now answer.Unavailable first old new served same =
     let left = same served.2 in (
       served.0,
-      all_same old (tables_by w calls batches) (tables_by w' calls' batches') served.0 left served.1,
-      subst Sound (sym left.world) served.2,
+      all_same first (tables_by old) (tables_by new) served.0 left.0 served.1,
+      left.1,
     )
-served_next key bytes now (answer.Response r) old w w' calls calls' batches batches' served done =
+served_next key bytes now (answer.Response r) first old new served done =
     let serves = done.serves served.2 in
-    let m : Message = record { now = now; said = done.said } in (
+    let m : Message = heard_now now done.said in (
       served.0 ++ record { message = m; answer = done.told } ∷ [],
-      all_then old (tables_by w calls batches) (tables_by w' calls' batches') served.0 m done.told served.1 serves.serves,
+      all_then first (tables_by old) (tables_by new) served.0 m done.told served.1 serves.serves,
       serves.sound,
     )
 
-served_in_turn : (key : List ℕ) (came : List Came) (w w' : World) (calls calls' : Calls) (batches batches' : Batches) → Sound w
-    → HandledInTurn key came w calls batches w' calls' batches' → Served (tables_by w calls batches) w' calls' batches'
+served_in_turn : (key : List ℕ) (came : List Came) (old new : Held) → IsSoundStore old → HandledInTurn key came old new → Served (tables_by old) new
 unfolding Served
-served_in_turn key [] w w' calls calls' batches batches' sound same = ([], same, subst Sound (sym same.world) sound)
-served_in_turn key (c ∷ earlier) w w' calls calls' batches batches' sound done =
-    served_next key c.arrival.bytes c.arrival.now c.answer (tables_by w calls batches) done.0 w' done.1 calls' done.2 batches'
-    (served_in_turn key earlier w done.0 calls done.1 batches done.2 sound done.3) done.4
+served_in_turn key [] old new sound same = let left = same sound in ([], left.0, left.1)
+served_in_turn key (c ∷ earlier) old new sound done =
+    served_next key c.arrival.bytes c.arrival.now c.answer (tables_by old) done.0 new (served_in_turn key earlier old done.0 sound done.1) done.2
 
 -- ---- the laws
 
-have_stood : (key : List ℕ) (w : World) (calls : Calls) (batches : Batches) (before : List Came) → StandsFor key w calls batches before
-    → past.HaveStood (tables_by w calls batches)
-have_stood key w calls batches before st = record { settings = st.sound.rows.settings; past = st.past; stands = st.stands }
+have_stood : (key : List ℕ) (old : Held) (marks : List ℕ) (before : List Came) → StandsFor key old marks before
+    → past.HaveStood (tables_by old)
+have_stood key old marks before st = record { settings = st.sound.world.rows.settings; past = st.past; stands = st.stands }
 
 pub of_what_stands : (P : World → Type 0) → past.HoldsWhereTablesStand P → HoldsOfWhatStands P
-of_what_stands P law key w calls batches before st = law (tables_by w calls batches) (have_stood key w calls batches before st)
+of_what_stands P law key old marks before st = law (tables_by old) (have_stood key old marks before st)
 
 at_a_message : (R : World → World → Type 0) → past.HoldsOfMessages R → HoldsAtAMessage R
-at_a_message R law key bytes now w w' calls calls' batches batches' answer.Unavailable before st same =
-    law.1 (tables_by w calls batches) (tables_by w calls batches) (tables_by w' calls' batches') [] []
-    (have_stood key w calls batches before st) (itself (tables_by w calls batches)) (same st.sound)
-at_a_message R law key bytes now w w' calls calls' batches batches' (answer.Response r) before st done =
-    law.0 (tables_by w calls batches) (tables_by w' calls' batches') (record { now = now; said = done.said }) done.told
-    (have_stood key w calls batches before st) (done.serves st.sound).serves
+at_a_message R law key bytes now old new answer.Unavailable marks before st same =
+    law.1 (tables_by old) (tables_by old) (tables_by new) [] []
+    (have_stood key old marks before st) (itself (tables_by old)) (same st.sound).0
+at_a_message R law key bytes now old new (answer.Response r) marks before st done =
+    law.0 (tables_by old) (tables_by new) (heard_now now done.said) done.told
+    (have_stood key old marks before st) (done.serves st.sound).serves
 
 over_messages : (R : World → World → Type 0) → past.HoldsOfMessages R → HoldsOverMessages R
 unfolding Served
-over_messages R law key w w' calls calls' batches batches' came before st done =
-    let served = served_in_turn key came w w' calls calls' batches batches' st.sound done in
-    law.1 (tables_by w calls batches) (tables_by w calls batches) (tables_by w' calls' batches') [] served.0
-    (have_stood key w calls batches before st) (itself (tables_by w calls batches)) served.1
+over_messages R law key old new marks came before st done =
+    let served = served_in_turn key came old new st.sound done in
+    law.1 (tables_by old) (tables_by old) (tables_by new) [] served.0
+    (have_stood key old marks before st) (itself (tables_by old)) served.1
 
 pub lasts : (R : World → World → Type 0) → past.HoldsOfMessages R → Lasts R
 lasts R law = (at_a_message R law, over_messages R law)
 
 pub deadlines_move_by_resends_alone : DeadlinesMoveByResendsAlone
-deadlines_move_by_resends_alone key bytes now r w w' calls calls' batches batches' before st h p o owned =
-    calls_of_pasts.deadlines_move_by_resends_alone (tables_by w calls batches) (tables_by w' calls' batches')
-    (record { now = now; said = h.said }) h.told (h.serves st.sound).serves p o owned
+deadlines_move_by_resends_alone key bytes now r old new marks before st h p o owned =
+    calls_of_pasts.deadlines_move_by_resends_alone (tables_by old) (tables_by new)
+    (heard_now now h.said) h.told (h.serves st.sound).serves p o owned
+
+-- one message of many
+at_one : (key bytes : List ℕ) (now : ℕ) (a : Answer) (old new : Held) → IsSoundStore old → (done : HandledAs key bytes now a old new)
+    → (p : Place) (o : Owner) → owner_at old.world p ≡ Some o
+    → (deadline_at new.world p ≡ deadline_at old.world p) ⊎ IsSentAgainAt key bytes now a old new done p o
+at_one key bytes now answer.Unavailable old new sound same p o owned = inl (ap (λ w. deadline_at w p) (same sound).0.world)
+at_one key bytes now (answer.Response r) old new sound done p o owned =
+    calls_of_pasts.deadlines_move_by_resends_alone (tables_by old) (tables_by new)
+    (heard_now now done.said) done.told (done.serves sound).serves p o owned
+
+at_the_host : (key bytes : List ℕ) (now : ℕ) (a : Answer) (old new : Held) (done : HandledAs key bytes now a old new) (p : Place) (n o : Owner) → n.host ≡ o.host
+    → IsSentAgainAt key bytes now a old new done p n → IsSentAgainAt key bytes now a old new done p o
+at_the_host key bytes now answer.Unavailable old new done p n o same again = again
+at_the_host key bytes now (answer.Response r) old new done p n o same again = same_host old.world (heard_now now done.said) p n o same again
+
+pub deadlines_move_by_resends_over_messages : DeadlinesMoveByResendsOverMessages
+unfolding Served
+deadlines_move_by_resends_over_messages key old new marks [] before st all p o owned = inl (ap (λ w. deadline_at w p) (all st.sound).0.world)
+deadlines_move_by_resends_over_messages key old new marks (c ∷ earlier) before st all p o owned =
+    let sound = (served_in_turn key earlier old all.0 st.sound all.1).2 in
+    let next = over_messages OwnersStay owners_stay key old all.0 marks earlier before st all.1 p o owned in
+    elim (deadlines_move_by_resends_over_messages key old all.0 marks earlier before st all.1 p o owned) [
+      | inr again ↦ inr (inr again)
+      | inl stays ↦ elim (at_one key c.arrival.bytes c.arrival.now c.answer all.0 new sound all.2 p next.0 next.1) [
+        | inl later ↦ inl (later ∙ stays)
+        | inr again ↦ inr (inl (at_the_host key c.arrival.bytes c.arrival.now c.answer all.0 new all.2 p next.0 o next.2 again))
+      ]
+    ]
 
 pub no_held_job_drops_from_sight : NoHeldJobDropsFromSight
-no_held_job_drops_from_sight key bytes now r w w' calls calls' batches batches' before st h request names says first resends lists =
-    calls_of_pasts.no_held_job_drops_from_sight (tables_by w calls batches) (tables_by w' calls' batches')
-    (record { now = now; said = h.said }) h.told request names (have_stood key w calls batches before st) says first (h.serves st.sound).serves resends lists
+no_held_job_drops_from_sight key bytes now r old new marks before st h request names says first resends lists =
+    calls_of_pasts.no_held_job_drops_from_sight (tables_by old) (tables_by new)
+    (heard_now now h.said) h.told request names (have_stood key old marks before st) says first (h.serves st.sound).serves resends lists

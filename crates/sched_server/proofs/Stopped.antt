@@ -1,32 +1,103 @@
--- What a stop leaves behind a message, and at rest.
-use Rattle.std.proofs.Common.{◌⊎◌, ℕ, List, sym, subst, inl, inr}
+-- What a stop leaves of a store stands for what came, or for that and one message in doubt.
+use Rattle.std.proofs.Common.{ℕ, List, ◌∷◌, refl, inl, inr}
+use Rattle.http_responses.specs.declared.answer.Answer.{Answer}
 use Rattle.http_responses.specs.declared.answer.Answer.TheVariants as answer
 use Rattle.sched_book.specs.Sound.{Sound}
-use Rattle.sched_book.specs.declared.world.World.{World}
-use Rattle.pasts.proofs.Carried.{stands_same}
-use Rattle.message_engine.specs.Stores.{Calls, Batches, IsLeft}
-use Rattle.sched_server.specs.Arrivals.{Came, StandsFor, StandsAtAStop}
-use Rattle.sched_server.specs.Handled.{IsHandled}
-use Rattle.sched_server.proofs.Followed.{handled_stands}
-use Rattle.sched_server.proofs.Told.{left_same}
+use Rattle.stores.specs.Acting.{Parts, Acts}
+use Rattle.stores.specs.Eras.{this_era}
+use Rattle.stores.specs.Held.{Held, IsLeft}
+use Rattle.stores.proofs.ReadsAct.{left_back}
+use Rattle.pasts.specs.Messages.{heard_now}
+use Rattle.pasts.specs.Stands.{then_heard}
+use Rattle.pasts.proofs.Carried.{stands_same, stands_is_carried}
+use Rattle.pasts.proofs.Marks.{eras_go_on}
+use Rattle.message_engine.proofs.EntriesKept.{left_same, left_sound}
+use Rattle.sched_server.specs.Arrivals.{Came, StandsFor, StandsAtAStop, StoreStandsFor}
+use Rattle.sched_server.specs.Handled.{is_answered, HandledAs, IsHandled}
+use Rattle.sched_server.specs.Laws.{HandledStands, WhatIsLeftStands, ReopenedStands}
+use Rattle.sched_server.specs.declared.arrival.Arrival.{Arrival}
 
 -- what is left as it was stands as it stood
-pub left_stands : (key : List ℕ) (w w' : World) (calls calls' : Calls) (batches batches' : Batches) (before : List Came)
-    → IsLeft w calls batches w' calls' batches' → StandsFor key w calls batches before → StandsFor key w' calls' batches' before
-left_stands key w w' calls calls' batches batches' before left st = record {
+pub left_stands : (key : List ℕ) (old new : Held) (marks : List ℕ) (before : List Came) → IsLeft old new → StandsFor key old marks before → StandsFor key new marks before
+left_stands key old new marks before left st = record {
   past = st.past;
   tells = st.tells;
-  stands = (st.stands.0, stands_same _ _ st.past st.stands.0 (left_same w w' calls calls' batches batches' left) st.stands.1);
-  sound = subst Sound (sym left.world_is) st.sound;
+  in_era = st.in_era;
+  stands = (st.stands.0, stands_same _ _ st.past st.stands.0 (left_same old new left) st.stands.1);
+  sound = left_sound old new left st.sound;
 }
 
--- what was left before, or what the message leaves
-pub stands_at_a_stop : (key bytes : List ℕ) (now : ℕ) (w w' : World) (calls calls' : Calls) (batches batches' : Batches) (before : List Came)
-    (Left Honest Kept : Type 0) → Left ⊎ (Honest × (Kept → IsHandled key bytes now w calls batches w' calls' batches'))
-    → (Left → IsLeft w calls batches w' calls' batches') → Kept → StandsFor key w calls batches before
-    → StandsAtAStop key w' calls' batches' (record { now = now; bytes = bytes }) before
-stands_at_a_stop key bytes now w w' calls calls' batches batches' before Left Honest Kept (inl left) settled kept st =
-    inl (left_stands key w w' calls calls' batches batches' before (settled left) st)
-stands_at_a_stop key bytes now w w' calls calls' batches batches' before Left Honest Kept (inr ahead) settled kept st =
-    let done = ahead.1 kept in
-    inr (done.0, handled_stands key bytes now w w' calls calls' batches batches' (answer.Response done.0) done.1 before st)
+-- what holds a message that was handled stands for it and what came before
+pub handled_stands_for : (key bytes : List ℕ) (now : ℕ) (old new : Held) (a : Answer) → HandledAs key bytes now a old new
+    → (marks : List ℕ) (before : List Came) → StandsFor key old marks before
+    → StandsFor key new marks (record { arrival = record { now = now; bytes = bytes }; answer = a } ∷ before)
+handled_stands_for key bytes now old new answer.Unavailable same marks before st =
+    let left = same st.sound in record {
+      past = st.past;
+      tells = st.tells;
+      in_era = st.in_era;
+      stands = (st.stands.0, stands_same _ _ st.past st.stands.0 left.0 st.stands.1);
+      sound = left.1;
+    }
+handled_stands_for key bytes now old new (answer.Response response) done marks before st =
+    let served = done.serves st.sound in record {
+      past = then_heard st.past (heard_now now done.said) done.told;
+      tells = (record { asked = done.asked; means = done.means; says = done.says; moment = refl; response = done.response }, st.tells);
+      in_era = eras_go_on this_era marks st.past (heard_now now done.said) done.told st.in_era refl;
+      stands = stands_is_carried _ _ (heard_now now done.said) done.told served.serves st.past st.stands;
+      sound = served.sound;
+    }
+
+-- what stood before an unavailable answer stands behind it, and what was in doubt stays so
+unavailable_later : (key : List ℕ) (h : Held) (arrival : Arrival) (marks : List ℕ) (before : List Came) → StandsAtAStop key h marks before
+    → StandsAtAStop key h marks (record { arrival = arrival; answer = answer.Unavailable } ∷ before)
+unavailable_later key h arrival marks before (inl st) =
+    inl (record { past = st.past; tells = st.tells; in_era = st.in_era; stands = st.stands; sound = st.sound })
+unavailable_later key h arrival marks before (inr (doubted, doubt, r, st)) =
+    inr (doubted, (refl, inr doubt), r, record { past = st.past; tells = st.tells; in_era = st.in_era; stands = st.stands; sound = st.sound })
+
+module _ {S : Type 0} (store : Parts S)
+    (settled : (s : S) → store.honest s → store.well_kept s → Sound (store.holds s).world → (h : Held) → store.may_leave s h → IsLeft (store.holds s) h) where
+  pub what_is_left_stands : WhatIsLeftStands store
+  what_is_left_stands s honest kept key marks before st h may = left_stands key (store.holds s) h marks before (settled s honest kept st.sound.world h may) st
+
+  pub reopened_stands : ReopenedStands store
+  reopened_stands s honest kept h left key marks before st =
+      let here = left_stands key h (store.holds s) marks before (left_back (store.holds s) h left) st in record {
+        held = λ _. (kept, here);
+        left = λ g may. inl (what_is_left_stands s honest kept key marks before here g may);
+      }
+
+  -- what is left behind an answer
+  left_behind : (key bytes : List ℕ) (now : ℕ) (a : Answer) (old new : S) → Acts store (is_answered a) (IsHandled key bytes now (store.holds old)) old new
+      → (marks : List ℕ) (before : List Came) → StoreStandsFor store key marks before old → store.clean new
+      → (store.honest new → StandsFor key (store.holds new) marks (record { arrival = record { now = now; bytes = bytes }; answer = a } ∷ before))
+      → (h : Held) → store.may_leave new h → StandsAtAStop key h marks (record { arrival = record { now = now; bytes = bytes }; answer = a } ∷ before)
+  left_behind key bytes now answer.Unavailable old new acts marks before st clean here h may = elim (acts.left h may) [
+    | inl earlier ↦ unavailable_later key h (record { now = now; bytes = bytes }) marks before (st.left h earlier)
+    | inr ahead ↦
+        let stood = st.held ahead.0 in
+        let done = ahead.1 stood.0 in
+        let there = handled_stands_for key bytes now (store.holds old) h (answer.Response done.0) done.1 marks before stood.1 in
+        inr (
+          record { now = now; bytes = bytes },
+          (refl, inl refl),
+          done.0,
+          record { past = there.past; tells = there.tells; in_era = there.in_era; stands = there.stands; sound = there.sound },
+        )
+  ]
+  left_behind key bytes now (answer.Response r) old new acts marks before st clean here h may =
+      let honest = acts.is_open clean refl in
+      let stood = here honest in
+      let kept = acts.stays_kept honest (st.held (acts.was_honest honest)).0 in
+      inl (what_is_left_stands new honest kept key marks _ stood h may)
+
+  pub handled_stands : HandledStands store
+  handled_stands key bytes now a old new acts exact marks before st clean =
+      let here : store.honest new → StandsFor key (store.holds new) marks (record { arrival = record { now = now; bytes = bytes }; answer = a } ∷ before) =
+      λ honest.
+      let stood = st.held (acts.was_honest honest) in
+      handled_stands_for key bytes now (store.holds old) (store.holds new) a (exact honest stood.0) marks before stood.1 in record {
+        held = λ honest. (acts.stays_kept honest (st.held (acts.was_honest honest)).0, here honest);
+        left = left_behind key bytes now a old new acts marks before st clean here;
+      }

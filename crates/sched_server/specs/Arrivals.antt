@@ -5,12 +5,14 @@ use Rattle.http_messages.specs.Meaning.{Means}
 use Rattle.http_responses.specs.declared.answer.Answer.{Answer}
 use Rattle.http_responses.specs.declared.answer.Answer.TheVariants as answer
 use Rattle.http_responses.specs.declared.response.Response.{Response}
-use Rattle.sched_book.specs.Sound.{Sound}
-use Rattle.sched_book.specs.declared.world.World.{World}
-use Rattle.pasts.specs.Stands.{Heard, Past, Same, Stands}
-use Rattle.message_engine.specs.Stores.{Calls, Batches, tables_by}
-use Rattle.sched_server.specs.Handled.{response_to, HandledAs}
-use Rattle.sched_server.specs.Meanings.{Says, allowed_by}
+use Rattle.stores.specs.Acting.{Parts}
+use Rattle.stores.specs.Eras.{this_era}
+use Rattle.stores.specs.Held.{Held}
+use Rattle.pasts.specs.Marks.{IsInEra}
+use Rattle.pasts.specs.Stands.{Heard, Past, Stands}
+use Rattle.message_engine.specs.Stores.{tables_by, IsSoundStore}
+use Rattle.sched_server.specs.Handled.{response_to, HandledAs, StaysSound}
+use Rattle.sched_server.specs.Meanings.{SaysIn, allowed_by}
 use Rattle.sched_server.specs.declared.arrival.Arrival.{Arrival}
 
 -- An arrival, the bytes of a message at a moment, and its answer.
@@ -31,12 +33,12 @@ abbrev pub answered : List Came → List Answered
 answered [] = []
 answered (c ∷ before) = with_answer c.arrival c.answer (answered before)
 
--- What was heard is what the bytes of an arrival mean, at its moment, and the response says what it was told. (An operator's message has
--- this key.)
+-- What was heard is what the bytes of an arrival mean in its era, at its moment, and the response says what it was told. (An operator's
+-- message has this key.)
 pub record IsHeard (key : List ℕ) (a : Answered) (h : Heard) : Type 0 where
   pub asked : Asked
   pub means : Means key a.arrival.bytes asked
-  pub says : Says asked h.message.said
+  pub says : SaysIn h.message.era asked h.message.said
   pub moment : h.message.now ≡ a.arrival.now
   pub response : a.response ≡ response_to (allowed_by asked) h.answer
 
@@ -47,12 +49,34 @@ Tells key (a ∷ before) (h ∷ past) = IsHeard key a h × Tells key before past
 Tells key [] (h ∷ past) = ⊥
 Tells key (a ∷ before) [] = ⊥
 
--- A store stands for what came: for a past that says it, and its world is sound.
-pub record StandsFor (key : List ℕ) (w : World) (calls : Calls) (batches : Batches) (before : List Came) : Type 0 where
+-- What is held in an era stands for what came, by the marks of the upgrades: for a past that says it and is in that era; and it is sound.
+pub record StandsIn (era : ℕ) (key : List ℕ) (held : Held) (marks : List ℕ) (before : List Came) : Type 0 where
   pub past : Past
   pub tells : Tells key (answered before) past
-  pub stands : Stands (tables_by w calls batches) past
-  pub sound : Sound w
+  pub in_era : IsInEra era marks past
+  pub stands : Stands (tables_by held) past
+  pub sound : IsSoundStore held
+
+-- what this program holds does
+abbrev pub StandsFor : List ℕ → Held → List ℕ → List Came → Type 0
+StandsFor = StandsIn this_era
+
+-- A message is in doubt where its answer was unavailable, and no later one was answered otherwise: a fault may have come when it was in.
+abbrev pub IsInDoubt : Arrival → List Came → Type 0
+IsInDoubt arrival [] = ⊥
+IsInDoubt arrival (c ∷ before) = (c.answer ≡ answer.Unavailable) × ((c.arrival ≡ arrival) ⊎ IsInDoubt arrival before)
+
+-- What a stop leaves stands for what came, or for that and one message in doubt, with a response that nobody read.
+abbrev pub StandsAtAStop : List ℕ → Held → List ℕ → List Came → Type 0
+StandsAtAStop key held marks before =
+    StandsFor key held marks before
+    ⊎ ((arrival : Arrival) × IsInDoubt arrival before × (r : Response) × StandsFor key held marks (record { arrival = arrival; answer = answer.Response r } ∷ before))
+
+-- A store stands for what came, by the marks of the upgrades: while it is open it is well kept, and what it holds stands for that; and so does
+-- what a stop may leave, whether a fault has shut it or not, but for one message in doubt.
+pub record StoreStandsFor {S : Type 0} (store : Parts S) (key marks : List ℕ) (before : List Came) (s : S) : Type 0 where
+  pub held : store.honest s → store.well_kept s × StandsFor key (store.holds s) marks before
+  pub left : (h : Held) → store.may_leave s h → StandsAtAStop key h marks before
 
 -- what came before, and then these arrivals with their answers, as far as both go
 abbrev pub followed : List Came → List Arrival → List Answer → List Came
@@ -61,14 +85,15 @@ followed before (a ∷ arrivals) [] = before
 followed before (a ∷ arrivals) (answer ∷ answers) = followed (record { arrival = a; answer = answer } ∷ before) arrivals answers
 
 -- these, the newest first, were handled one after the other
-abbrev pub HandledInTurn : List ℕ → List Came → World → Calls → Batches → World → Calls → Batches → Type 0
-HandledInTurn key [] w calls batches w' calls' batches' = Same (tables_by w' calls' batches') (tables_by w calls batches)
-HandledInTurn key (c ∷ earlier) w calls batches w' calls' batches' =
-    (u : World) × (d : Calls) × (b : Batches) × HandledInTurn key earlier w calls batches u d b
-    × HandledAs key c.arrival.bytes c.arrival.now c.answer u d b w' calls' batches'
+abbrev pub HandledInTurn : List ℕ → List Came → Held → Held → Type 0
+HandledInTurn key [] old new = StaysSound old new
+HandledInTurn key (c ∷ earlier) old new =
+    (mid : Held) × HandledInTurn key earlier old mid × HandledAs key c.arrival.bytes c.arrival.now c.answer mid new
 
--- A stop leaves what stands for what came before, or for that and this arrival, with a response that nobody read.
-abbrev pub StandsAtAStop : List ℕ → World → Calls → Batches → Arrival → List Came → Type 0
-StandsAtAStop key w calls batches arrival before =
-    StandsFor key w calls batches before
-    ⊎ ((r : Response) × StandsFor key w calls batches (record { arrival = arrival; answer = answer.Response r } ∷ before))
+-- The first of these arrivals acted one after the other, with answers of which this is said.
+pub record ActInTurn {S : Type 0} (store : Parts S) (key : List ℕ) (arrivals : List Arrival) (Given : List Answer → Type 0) (old new : S) : Type 0 where
+  pub answers : List Answer
+  pub given : Given answers
+  pub handled : store.honest new → store.well_kept old → HandledInTurn key (followed [] arrivals answers) (store.holds old) (store.holds new)
+  pub stands : (marks : List ℕ) (before : List Came) → StoreStandsFor store key marks before old → store.clean new
+      → StoreStandsFor store key marks (followed before arrivals answers) new

@@ -1,6 +1,6 @@
 -- What one message of bytes does to a store, and the response that answers it. (The forms of responses are RFC 9112's; the rest is
 -- this profile's.)
-use Rattle.std.specs.Prelude.{◌≡◌, ℕ, List, Option, Some, None}
+use Rattle.std.specs.Prelude.{◌≡◌, ℕ, Bool, true, false, List, Option, Some, None}
 use Rattle.http_messages.specs.Deciding.{Asked}
 use Rattle.http_messages.specs.Meaning.{Means}
 use Rattle.http_responses.specs.Responses.{good_response, statement_response, refusal_response, wrong_method_response}
@@ -9,13 +9,12 @@ use Rattle.http_responses.specs.declared.answer.Answer.TheVariants as answer
 use Rattle.http_responses.specs.declared.method.Method.{Method}
 use Rattle.http_responses.specs.declared.response.Response.{Response}
 use Rattle.rpc_records.specs.declared.fault.Fault.{Fault}
-use Rattle.sched_book.specs.Sound.{Sound}
-use Rattle.sched_book.specs.declared.world.World.{World}
-use Rattle.pasts.specs.Messages.{Said}
+use Rattle.stores.specs.Held.{Held}
+use Rattle.pasts.specs.Messages.{Said, heard_now}
 use Rattle.pasts.specs.Stands.{Same}
 use Rattle.pasts.specs.declared.answer.Answer as told
 use Rattle.pasts.specs.declared.answer.Answer.TheVariants as tells
-use Rattle.message_engine.specs.Stores.{Calls, Batches, tables_by, ServesIn}
+use Rattle.message_engine.specs.Stores.{tables_by, IsSoundStore, ServesIn}
 use Rattle.sched_server.specs.Meanings.{Says, allowed_by}
 
 -- the response that refuses; of a wrong method it tells the one that the route takes
@@ -30,21 +29,29 @@ response_to allowed (tells.Statement text) = statement_response text
 response_to allowed (tells.Refusal fault) = refusal_to allowed fault
 
 -- A message means what it asks for; that says something to the scheduler, which is served; and the response says what was told.
-pub record Handles (key bytes : List ℕ) (now : ℕ) (r : Response) (w : World) (calls : Calls) (batches : Batches)
-    (w' : World) (calls' : Calls) (batches' : Batches) : Type 0 where
+pub record Handles (key bytes : List ℕ) (now : ℕ) (r : Response) (old new : Held) : Type 0 where
   pub asked : Asked
   pub said : Said
   pub told : told.Answer
   pub means : Means key bytes asked
   pub says : Says asked said
-  pub serves : ServesIn (record { now = now; said = said }) told w calls batches w' calls' batches'
+  pub serves : ServesIn (heard_now now said) told old new
   pub response : r ≡ response_to (allowed_by asked) told
 
+-- a sound store says what it said, and is still sound
+abbrev pub StaysSound : Held → Held → Type 0
+StaysSound old new = IsSoundStore old → Same (tables_by new) (tables_by old) × IsSoundStore new
+
+-- an answer that tells something
+abbrev pub is_answered : Answer → Bool
+is_answered answer.Unavailable = false
+is_answered (answer.Response r) = true
+
 -- Where the answer is unavailable nothing was changed, and any other answer is the response of the message.
-abbrev pub HandledAs : List ℕ → List ℕ → ℕ → Answer → World → Calls → Batches → World → Calls → Batches → Type 0
-HandledAs key bytes now answer.Unavailable w calls batches w' calls' batches' = Sound w → Same (tables_by w' calls' batches') (tables_by w calls batches)
-HandledAs key bytes now (answer.Response r) w calls batches w' calls' batches' = Handles key bytes now r w calls batches w' calls' batches'
+abbrev pub HandledAs : List ℕ → List ℕ → ℕ → Answer → Held → Held → Type 0
+HandledAs key bytes now answer.Unavailable old new = StaysSound old new
+HandledAs key bytes now (answer.Response r) old new = Handles key bytes now r old new
 
 -- it was handled, with some response, which nobody may have read
-abbrev pub IsHandled : List ℕ → List ℕ → ℕ → World → Calls → Batches → World → Calls → Batches → Type 0
-IsHandled key bytes now w calls batches w' calls' batches' = (r : Response) × Handles key bytes now r w calls batches w' calls' batches'
+abbrev pub IsHandled : List ℕ → List ℕ → ℕ → Held → Held → Type 0
+IsHandled key bytes now old new = (r : Response) × Handles key bytes now r old new

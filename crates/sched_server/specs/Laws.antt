@@ -1,52 +1,77 @@
 -- What ties the promises together, and the laws of every run, of what stands before and after messages of bytes. (This project's own:
 -- BOINC's rules are in the machine's step.)
-use Rattle.std.specs.Prelude.{◌≡◌, ◌⊎◌, ℕ, true, List, [], ◌∷◌, Some, None}
+use Rattle.std.specs.Prelude.{◌≡◌, ◌⊎◌, ℕ, suc, true, List, [], ◌∷◌, ◌++◌, length, Some, None}
 use Rattle.http_responses.specs.declared.answer.Answer.{Answer}
+use Rattle.http_responses.specs.declared.answer.Answer.TheVariants as answer
 use Rattle.http_responses.specs.declared.response.Response.{Response}
 use Rattle.rpc_records.specs.declared.request.Request.{Request}
+use Rattle.sched_book.specs.Limits.{AreSettingsInLimits}
 use Rattle.sched_book.specs.Step.{deadline_at}
 use Rattle.sched_book.specs.declared.instance.Owner.{Owner}
 use Rattle.sched_book.specs.declared.instance.Place.{Place}
+use Rattle.sched_book.specs.declared.settings.Settings.{Settings}
 use Rattle.sched_book.specs.declared.world.World.{World}
 use Rattle.sched_machine.specs.Runs.{owner_at}
-use Rattle.pasts.specs.Messages.{Rpc}
+use Rattle.pasts.specs.Messages.{Rpc, heard_now}
 use Rattle.pasts.specs.Stands.{told_by}
 use Rattle.past_laws.specs.Laws.{IsSentAgainBy, IsInSight}
-use Rattle.message_engine.specs.Stores.{Calls, Batches, tables_by, StandsForNothing}
-use Rattle.sched_server.specs.Arrivals.{Came, StandsFor, HandledInTurn}
-use Rattle.sched_server.specs.Handled.{Handles, HandledAs}
+use Rattle.stores.specs.Acting.{Parts, Acts}
+use Rattle.stores.specs.Eras.{this_era, new_marks}
+use Rattle.stores.specs.Held.{Held, IsLeft, IsNew}
+use Rattle.message_engine.specs.Stores.{tables_by}
+use Rattle.sched_server.specs.Arrivals.{Came, answered, StandsFor, StandsIn, StoreStandsFor, HandledInTurn}
+use Rattle.sched_server.specs.Handled.{is_answered, Handles, HandledAs, IsHandled}
 
--- a store that stands for nothing stands for no bytes either, whatever the operator's key
-abbrev pub NewStoresStand : Type 0
-NewStoresStand =
-    (key : List ℕ) (w : World) (calls : Calls) (batches : Batches)
-    → StandsForNothing w calls batches → StandsFor key w calls batches []
+-- a store in which nothing stands stands for no arrivals, whatever the operator's key, by the marks of new tables
+abbrev pub NewStoresStand : {S : Type 0} → Parts S → Type 0
+NewStoresStand {S} store =
+    (s : S) (settings : Settings) → store.honest s → store.well_kept s → IsNew settings (store.holds s) → AreSettingsInLimits settings
+    → (key : List ℕ) → StoreStandsFor store key (new_marks this_era) [] s
 
--- where a message is handled so, the store stands for what came before and for that message
-abbrev pub HandledStands : Type 0
-HandledStands =
-    (key bytes : List ℕ) (now : ℕ) (w w' : World) (calls calls' : Calls) (batches batches' : Batches) (a : Answer)
-    → HandledAs key bytes now a w calls batches w' calls' batches'
-    → (before : List Came) → StandsFor key w calls batches before
-    → StandsFor key w' calls' batches' (record { arrival = record { now = now; bytes = bytes }; answer = a } ∷ before)
+-- a store that handled a message so stands for what came before and for that message
+abbrev pub HandledStands : {S : Type 0} → Parts S → Type 0
+HandledStands {S} store =
+    (key bytes : List ℕ) (now : ℕ) (a : Answer) (old new : S) → Acts store (is_answered a) (IsHandled key bytes now (store.holds old)) old new
+    → (store.honest new → store.well_kept old → HandledAs key bytes now a (store.holds old) (store.holds new))
+    → (marks : List ℕ) (before : List Came) → StoreStandsFor store key marks before old → store.clean new
+    → StoreStandsFor store key marks (record { arrival = record { now = now; bytes = bytes }; answer = a } ∷ before) new
+
+-- at rest, what a stop leaves of a store stands for what the store stands for
+abbrev pub WhatIsLeftStands : {S : Type 0} → Parts S → Type 0
+WhatIsLeftStands {S} store =
+    (s : S) → store.honest s → store.well_kept s → (key marks : List ℕ) (before : List Came) → StandsFor key (store.holds s) marks before
+    → (h : Held) → store.may_leave s h → StandsFor key h marks before
+
+-- a store that holds what a stop left stands for what that stood for
+abbrev pub ReopenedStands : {S : Type 0} → Parts S → Type 0
+ReopenedStands {S} store =
+    (s : S) → store.honest s → store.well_kept s → (h : Held) → IsLeft (store.holds s) h → (key marks : List ℕ) (before : List Came)
+    → StandsFor key h marks before → StoreStandsFor store key marks before s
+
+-- What stands for what came in an era stands for it in the next where an upgrade leaves it as it is, with the number of what was answered as
+-- the mark.
+abbrev pub UpgradedStands : Type 0
+UpgradedStands =
+    (era : ℕ) (key : List ℕ) (old new : Held) (marks : List ℕ) (before : List Came) → IsLeft old new → StandsIn era key old marks before
+    → StandsIn (suc era) key new (marks ++ length (answered before) ∷ []) before
 
 -- ---- the laws of every run
 
 -- P holds of what stands
 abbrev pub HoldsOfWhatStands : (World → Type 0) → Type 0
-HoldsOfWhatStands P = (key : List ℕ) (w : World) (calls : Calls) (batches : Batches) (before : List Came) → StandsFor key w calls batches before → P w
+HoldsOfWhatStands P = (key : List ℕ) (held : Held) (marks : List ℕ) (before : List Came) → StandsFor key held marks before → P held.world
 
 -- R holds between what stands before a message and after it
 abbrev pub HoldsAtAMessage : (World → World → Type 0) → Type 0
 HoldsAtAMessage R =
-    (key bytes : List ℕ) (now : ℕ) (w w' : World) (calls calls' : Calls) (batches batches' : Batches) (a : Answer) (before : List Came)
-    → StandsFor key w calls batches before → HandledAs key bytes now a w calls batches w' calls' batches' → R w w'
+    (key bytes : List ℕ) (now : ℕ) (old new : Held) (a : Answer) (marks : List ℕ) (before : List Came)
+    → StandsFor key old marks before → HandledAs key bytes now a old new → R old.world new.world
 
 -- and between what stands before many and after them
 abbrev pub HoldsOverMessages : (World → World → Type 0) → Type 0
 HoldsOverMessages R =
-    (key : List ℕ) (w w' : World) (calls calls' : Calls) (batches batches' : Batches) (came before : List Came)
-    → StandsFor key w calls batches before → HandledInTurn key came w calls batches w' calls' batches' → R w w'
+    (key : List ℕ) (old new : Held) (marks : List ℕ) (came before : List Came)
+    → StandsFor key old marks before → HandledInTurn key came old new → R old.world new.world
 
 abbrev pub Lasts : (World → World → Type 0) → Type 0
 Lasts R = HoldsAtAMessage R × HoldsOverMessages R
@@ -54,15 +79,33 @@ Lasts R = HoldsAtAMessage R × HoldsOverMessages R
 -- A deadline stays, or the message is a call of the instance's host, which has it sent again.
 abbrev pub DeadlinesMoveByResendsAlone : Type 0
 DeadlinesMoveByResendsAlone =
-    (key bytes : List ℕ) (now : ℕ) (r : Response) (w w' : World) (calls calls' : Calls) (batches batches' : Batches) (before : List Came)
-    → StandsFor key w calls batches before → (h : Handles key bytes now r w calls batches w' calls' batches')
-    → (p : Place) (o : Owner) → owner_at w p ≡ Some o
-    → (deadline_at w' p ≡ deadline_at w p) ⊎ IsSentAgainBy w (record { now = now; said = h.said }) p o
+    (key bytes : List ℕ) (now : ℕ) (r : Response) (old new : Held) (marks : List ℕ) (before : List Came)
+    → StandsFor key old marks before → (h : Handles key bytes now r old new)
+    → (p : Place) (o : Owner) → owner_at old.world p ≡ Some o
+    → (deadline_at new.world p ≡ deadline_at old.world p) ⊎ IsSentAgainBy old.world (heard_now now h.said) p o
+
+-- this message is a call of the instance's host, which has it sent again
+abbrev pub IsSentAgainAt : (key bytes : List ℕ) (now : ℕ) (a : Answer) (old new : Held) → HandledAs key bytes now a old new → Place → Owner → Type 0
+IsSentAgainAt key bytes now answer.Unavailable old new done p o = ⊥
+IsSentAgainAt key bytes now (answer.Response r) old new done p o = IsSentAgainBy old.world (heard_now now done.said) p o
+
+-- some message of these, which were handled in turn, is
+abbrev pub IsSentAgainAmong : (key : List ℕ) (came : List Came) (old new : Held) → HandledInTurn key came old new → Place → Owner → Type 0
+IsSentAgainAmong key [] old new all p o = ⊥
+IsSentAgainAmong key (c ∷ earlier) old new all p o =
+    IsSentAgainAt key c.arrival.bytes c.arrival.now c.answer all.0 new all.2 p o ⊎ IsSentAgainAmong key earlier old all.0 all.1 p o
+
+-- Over many messages a deadline stays, or a call of the instance's host among them has it sent again.
+abbrev pub DeadlinesMoveByResendsOverMessages : Type 0
+DeadlinesMoveByResendsOverMessages =
+    (key : List ℕ) (old new : Held) (marks : List ℕ) (came before : List Came) → StandsFor key old marks before → (all : HandledInTurn key came old new)
+    → (p : Place) (o : Owner) → owner_at old.world p ≡ Some o
+    → (deadline_at new.world p ≡ deadline_at old.world p) ⊎ IsSentAgainAmong key came old new all p o
 
 -- A first-heard call that lists what its client has, where lost jobs are sent again: its host holds just what is listed or named.
 abbrev pub NoHeldJobDropsFromSight : Type 0
 NoHeldJobDropsFromSight =
-    (key bytes : List ℕ) (now : ℕ) (r : Response) (w w' : World) (calls calls' : Calls) (batches batches' : Batches) (before : List Came)
-    → StandsFor key w calls batches before → (h : Handles key bytes now r w calls batches w' calls' batches')
-    → (request : Request) (names : List (List ℕ)) → h.said ≡ Rpc request → told_by (tables_by w calls batches) h.said ≡ None
-    → w.settings.resend_lost_results ≡ true → request.other_results ≡ Some names → IsInSight w w' request names h.told
+    (key bytes : List ℕ) (now : ℕ) (r : Response) (old new : Held) (marks : List ℕ) (before : List Came)
+    → StandsFor key old marks before → (h : Handles key bytes now r old new)
+    → (request : Request) (names : List (List ℕ)) → h.said ≡ Rpc request → told_by (tables_by old) h.said ≡ None
+    → old.world.settings.resend_lost_results ≡ true → request.other_results ≡ Some names → IsInSight old.world new.world request names h.told

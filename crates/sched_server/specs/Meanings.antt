@@ -1,5 +1,5 @@
 -- What a message that asks for something says to the scheduler. (The scheduler_request is BOINC's; the rest is this profile's.)
-use Rattle.std.specs.Prelude.{◌≡◌, Option, Some, None, Result, Ok, Err}
+use Rattle.std.specs.Prelude.{◌≡◌, ℕ, Option, Some, None, Result, Ok, Err}
 use Rattle.http_messages.specs.Deciding.{Asked}
 use Rattle.http_messages.specs.Deciding as asks
 use Rattle.http_responses.specs.declared.method.Method.{Method}
@@ -8,8 +8,9 @@ use Rattle.rpc_records.specs.declared.fault.Fault.{Fault}
 use Rattle.rpc_records.specs.declared.fault.Fault.TheVariants as fault
 use Rattle.rpc_records.specs.declared.request.Request.{Request}
 use Rattle.sched_book.specs.declared.rows.Rows.{Rows}
+use Rattle.stores.specs.Eras.{this_era}
 use Rattle.pasts.specs.Messages.{Said, Rpc, Import, Tick, Read, Refused}
-use Rattle.message_engine.specs.Imports.{Reads}
+use Rattle.message_engine.specs.Imports.{ReadsIn}
 use Rattle.sched_server.specs.Statements.{told_of_host}
 
 -- a body means a request, or it has a fault
@@ -17,14 +18,19 @@ abbrev pub said_by : Result Request Fault → Said
 said_by (Ok request) = Rpc request
 said_by (Err fault) = Refused fault
 
--- A call says the request that its body means, or its fault; an import says what its text reads as; a statement is a read of what stands.
+-- A call says the request that its body means, or its fault; an import says what its text reads as by the formats of the era in which it
+-- came; a statement is a read of what stands.
+abbrev pub SaysIn : ℕ → Asked → Said → Type 0
+SaysIn era (asks.call body) said = said ≡ said_by (meaning body)
+SaysIn era (asks.import kind batch text) said = (read : Result Rows Fault) × ReadsIn era kind text read × (said ≡ Import kind batch text read)
+SaysIn era asks.tick said = said ≡ Tick
+SaysIn era (asks.statement host) said = said ≡ Read (told_of_host host)
+SaysIn era (asks.wrong_method allowed) said = said ≡ Refused fault.WrongMethod
+SaysIn era (asks.refused f) said = said ≡ Refused f
+
+-- to this program
 abbrev pub Says : Asked → Said → Type 0
-Says (asks.call body) said = said ≡ said_by (meaning body)
-Says (asks.import kind batch text) said = (read : Result Rows Fault) × Reads kind text read × (said ≡ Import kind batch text read)
-Says asks.tick said = said ≡ Tick
-Says (asks.statement host) said = said ≡ Read (told_of_host host)
-Says (asks.wrong_method allowed) said = said ≡ Refused fault.WrongMethod
-Says (asks.refused f) said = said ≡ Refused f
+Says = SaysIn this_era
 
 -- the method that the route takes, of a message with another
 abbrev pub allowed_by : Asked → Option Method

@@ -1,15 +1,13 @@
 //! What a message is told, and the response that says it.
 
-ghost use Rattle.std.specs.Prelude.{◌≡◌, IfOk, OnErr, Result};
+ghost use Rattle.std.specs.Prelude.{◌≡◌, is_ok, IfOk, OnErr};
 ghost use Rattle.rpc_records.specs.Reading.{meaning};
-ghost use Rattle.rpc_records.specs.declared.fault.Fault.{Fault};
 ghost use Rattle.sched_book.specs.Trusted.{Trusted};
-ghost use Rattle.sched_book.specs.declared.rows.Rows.{Rows};
-ghost use Rattle.pasts.specs.Messages.{Said, Import};
+ghost use Rattle.stores.specs.Acting.{ActsWhole};
+ghost use Rattle.pasts.specs.Messages.{Said, heard_now};
 ghost use Rattle.http_messages.specs.Meaning.{message_seen};
-ghost use Rattle.message_engine.specs.Imports.{Reads};
-ghost use Rattle.message_engine.specs.Stops.{AtAStop};
-ghost use Rattle.message_engine.specs.Stores.{ServesIn, IsServed, IsLeft};
+ghost use Rattle.message_engine.specs.Imports.{IsImportServed, ServesImport};
+ghost use Rattle.message_engine.specs.Stores.{ServesIn, IsServed};
 ghost use Rattle.sched_server.specs.Answering.{IsRefusal, Responds};
 ghost use Rattle.sched_server.specs.Handled.{refusal_to, response_to};
 ghost use Rattle.sched_server.specs.Meanings.{Says, said_by, allowed_by};
@@ -17,11 +15,12 @@ ghost use Rattle.sched_server.specs.Meanings.{Says, said_by, allowed_by};
 use crate::statements::statement;
 use http_messages::Message;
 use http_responses::{Answer, Method, Response};
-use message_engine::{Store, call, import, tick};
-use pasts::{Answer as Told, Kind};
+use message_engine::{call, import, tick};
+use pasts::Answer as Told;
 use rpc_records::{Fault, decode_request};
 use sched_book::{Moment, Unavailable};
 use std::alloc::Global;
+use stores::{Kind, Store, confirmed};
 use texts::{Memory, Text};
 
 /// Answers the call that the body of a scheduler_request says; one that says none is refused.
@@ -31,20 +30,14 @@ fn call_in_body<S: Store>(
     body: &[u8],
     now: Moment,
 ) -> Result<Told, Unavailable>
-    ensures honest { S.honest store.new → S.honest store.old }
-    ensures kept { Trusted S.Units store.old store.new (S.well_kept store.new) }
+    ensures acts { ActsWhole S.Store (is_ok result) (IsServed (heard_now now (said_by (meaning body.now))) (S.holds store.old)) store.old store.new }
     ensures exact { Trusted S.Units store.old store.new (IfOk result (λ answer.
-        ServesIn (record { now = now; said = said_by (meaning body.now) }) answer
-        (S.world store.old) (S.calls store.old) (S.batches store.old) (S.world store.new) (S.calls store.new) (S.batches store.new))) }
-    ensures err { Trusted S.Units store.old store.new (OnErr result (
-        IsLeft (S.world store.old) (S.calls store.old) (S.batches store.old) (S.world store.new) (S.calls store.new) (S.batches store.new))) }
-    ensures stop { AtAStop S.Units S.may_leave store.old store.new (λ w calls batches.
-        IsServed (record { now = now; said = said_by (meaning body.now) }) (S.world store.old) (S.calls store.old) (S.batches store.old) w calls batches) }
+        ServesIn (heard_now now (said_by (meaning body.now))) answer (S.holds store.old) (S.holds store.new))) }
 {
     match decode_request(alloc, body) {
         Ok(request) => call(alloc, store, request, now),
         Err(Fault::Unavailable) => Err(Unavailable),
-        Err(fault) => Ok(Told::Refusal(fault)),
+        Err(fault) => confirmed(store, Told::Refusal(fault)),
     }
 }
 
@@ -57,17 +50,9 @@ fn import_batch<S: Store>(
     text: &[u8],
     now: Moment,
 ) -> Result<Told, Unavailable>
-    ensures honest { S.honest store.new → S.honest store.old }
-    ensures kept { Trusted S.Units store.old store.new (S.well_kept store.new) }
+    ensures acts { ActsWhole S.Store (is_ok result) (IsImportServed now kind batch.now text.now (S.holds store.old)) store.old store.new }
     ensures exact { Trusted S.Units store.old store.new (IfOk result (λ answer.
-        (read : Result Rows Fault) × Reads kind text.now read ×
-        ServesIn (record { now = now; said = Import kind batch.now text.now read }) answer
-        (S.world store.old) (S.calls store.old) (S.batches store.old) (S.world store.new) (S.calls store.new) (S.batches store.new))) }
-    ensures err { Trusted S.Units store.old store.new (OnErr result (
-        IsLeft (S.world store.old) (S.calls store.old) (S.batches store.old) (S.world store.new) (S.calls store.new) (S.batches store.new))) }
-    ensures stop { AtAStop S.Units S.may_leave store.old store.new (λ w calls batches.
-        (read : Result Rows Fault) × Reads kind text.now read ×
-        IsServed (record { now = now; said = Import kind batch.now text.now read }) (S.world store.old) (S.calls store.old) (S.batches store.old) w calls batches) }
+        ServesImport now kind batch.now text.now answer (S.holds store.old) (S.holds store.new))) }
 {
     let name = Text::copied(alloc, batch)?;
     import(alloc, store, kind, &name, text, now)
@@ -80,24 +65,18 @@ pub(crate) fn answer<S: Store>(
     now: Moment,
     message: Message<'_>,
 ) -> Result<Told, Unavailable>
-    ensures honest { S.honest store.new → S.honest store.old }
-    ensures kept { Trusted S.Units store.old store.new (S.well_kept store.new) }
+    ensures acts { ActsWhole S.Store (is_ok result) (λ h.
+        (said : Said) × Says (message_seen message.entry) said × IsServed (heard_now now said) (S.holds store.old) h) store.old store.new }
     ensures exact { Trusted S.Units store.old store.new (IfOk result (λ told.
-        (said : Said) × Says (message_seen message.entry) said × ServesIn (record { now = now; said = said }) told
-        (S.world store.old) (S.calls store.old) (S.batches store.old) (S.world store.new) (S.calls store.new) (S.batches store.new))) }
-    ensures err { Trusted S.Units store.old store.new (OnErr result (
-        IsLeft (S.world store.old) (S.calls store.old) (S.batches store.old) (S.world store.new) (S.calls store.new) (S.batches store.new))) }
-    ensures stop { AtAStop S.Units S.may_leave store.old store.new (λ w calls batches.
-        (said : Said) × Says (message_seen message.entry) said ×
-        IsServed (record { now = now; said = said }) (S.world store.old) (S.calls store.old) (S.batches store.old) w calls batches) }
+        (said : Said) × Says (message_seen message.entry) said × ServesIn (heard_now now said) told (S.holds store.old) (S.holds store.new))) }
 {
     match message {
         Message::Call(body) => call_in_body(alloc, store, body, now),
         Message::Import { kind, batch, text } => import_batch(alloc, store, kind, batch, text, now),
         Message::Tick => tick(alloc, store, now),
         Message::Statement(host) => statement(alloc, store, host),
-        Message::WrongMethod(_) => Ok(Told::Refusal(Fault::WrongMethod)),
-        Message::Refused(fault) => Ok(Told::Refusal(fault)),
+        Message::WrongMethod(_) => confirmed(store, Told::Refusal(Fault::WrongMethod)),
+        Message::Refused(fault) => confirmed(store, Told::Refusal(fault)),
     }
 }
 

@@ -1,16 +1,14 @@
 //! A message, from its bytes to those of its answer.
 
-ghost use Rattle.std.specs.Prelude.{◌≡◌, ◌∷◌, true, false, IfOk, IfErr, List, ℕ};
+ghost use Rattle.std.specs.Prelude.{◌≡◌, ℕ, ◌∷◌, true, false, Ok, IfOk, IfErr, List};
 ghost use Rattle.http_messages.specs.Deciding.{Asked};
 ghost use Rattle.http_messages.specs.Meaning.{Means, IsSettled, Awaits, message_seen};
 ghost use Rattle.http_responses.specs.Answers.{answer_bytes};
 ghost use Rattle.http_responses.specs.declared.answer.Answer as given;
 ghost use Rattle.sched_book.specs.Trusted.{Trusted};
-ghost use Rattle.sched_book.specs.declared.world.World.{World};
-ghost use Rattle.message_engine.specs.Stops.{AtAStop};
-ghost use Rattle.message_engine.specs.Stores.{Calls, Batches};
-ghost use Rattle.sched_server.specs.Arrivals.{Came, StandsFor, StandsAtAStop};
-ghost use Rattle.sched_server.specs.Handled.{HandledAs, IsHandled};
+ghost use Rattle.stores.specs.Acting.{Acts};
+ghost use Rattle.sched_server.specs.Arrivals.{Came, StoreStandsFor};
+ghost use Rattle.sched_server.specs.Handled.{is_answered, HandledAs, IsHandled};
 ghost use Rattle.sched_server.specs.Views.{store_of, key_of};
 
 use crate::answers::{allowed_by, answer, respond};
@@ -18,9 +16,10 @@ use crate::service::Service;
 use http_messages::{Heard, hear, new_router};
 use http_responses::Answer;
 use http_serving::Handler;
-use message_engine::Store;
 use sched_book::Moment;
 use std::alloc::Global;
+use stores::Store;
+use texts::Memory;
 
 impl<S: Store + Drop> Service<S> {
     /// The service over a store, with the operator's key of its settings.
@@ -74,32 +73,36 @@ impl<S> Service<S> {
 }
 
 impl<S: Store> Service<S> {
+    /// Whether no fault of the disk has shut the store. One that is shut answers nothing more, until it is opened again.
+    ///
+    /// # Errors
+    ///
+    /// [`Memory`] where that can't be found out.
+    pub fn is_open(&mut self) -> Result<bool, Memory>
+        ensures reads { S.reads (store_of self.old) (store_of self.new) }
+        ensures open { S.clean (store_of self.new) → result ≡ Ok true → S.honest (store_of self.new) }
+        ensures key { key_of self.new ≡ key_of self.old }
+    {
+        self.store.is_open()
+    }
+
     /// Does what a message of these bytes asks for, at this moment, and answers it.
     ///
     /// A call that is first heard is a step of the job machine and is kept with its reply; an import that is not kept and
     /// has no fault adds its rows and is kept with its answer; a tick is a step of the machine; a statement is a read of
     /// what stands. Anything else changes nothing, and a repeat gets the very bytes of the kept answer. Behind a commit
-    /// the answer asks for no memory: what is unavailable has changed nothing.
+    /// the answer asks for no memory: what is unavailable has changed nothing, unless a fault of the disk has shut the
+    /// store. From then on all is unavailable, until the tables are opened again.
     ///
-    /// A stop at any moment leaves what stands for all that came before, or for that and this message, whose answer nobody
-    /// read: it is answered again by the same bytes.
+    /// A stop at any moment leaves what stands for all that was answered, or for that and one message more, whose answer
+    /// was unavailable or nobody read: it is answered again by the same bytes.
     pub fn handle(&mut self, alloc: Global, now: Moment, bytes: &[u8]) -> Answer
-        ensures honest { S.honest (store_of self.new) → S.honest (store_of self.old) }
-        ensures kept { Trusted S.Units (store_of self.old) (store_of self.new) (S.well_kept (store_of self.new)) }
+        ensures acts { Acts S.Store (is_answered result) (IsHandled (key_of self.old) bytes.now now (S.holds (store_of self.old))) (store_of self.old) (store_of self.new) }
         ensures key { key_of self.new ≡ key_of self.old }
-        ensures exact { Trusted S.Units (store_of self.old) (store_of self.new) (HandledAs (key_of self.old) bytes.now now result
-            (S.world (store_of self.old)) (S.calls (store_of self.old)) (S.batches (store_of self.old))
-            (S.world (store_of self.new)) (S.calls (store_of self.new)) (S.batches (store_of self.new))) }
-        ensures stands { Trusted S.Units (store_of self.old) (store_of self.new) ((before : List Came)
-            → StandsFor (key_of self.old) (S.world (store_of self.old)) (S.calls (store_of self.old)) (S.batches (store_of self.old)) before
-            → StandsFor (key_of self.old) (S.world (store_of self.new)) (S.calls (store_of self.new)) (S.batches (store_of self.new))
-            (record { arrival = record { now = now; bytes = bytes.now }; answer = result } ∷ before)) }
-        ensures left { AtAStop S.Units S.may_leave (store_of self.old) (store_of self.new) (IsHandled (key_of self.old) bytes.now now
-            (S.world (store_of self.old)) (S.calls (store_of self.old)) (S.batches (store_of self.old))) }
-        ensures stop { S.honest (store_of self.old) → S.well_kept (store_of self.old) → (before : List Came)
-            → StandsFor (key_of self.old) (S.world (store_of self.old)) (S.calls (store_of self.old)) (S.batches (store_of self.old)) before
-            → (w : World) (calls : Calls) (batches : Batches) → S.may_leave (store_of self.new) w calls batches
-            → StandsAtAStop (key_of self.old) w calls batches (record { now = now; bytes = bytes.now }) before }
+        ensures exact { Trusted S.Units (store_of self.old) (store_of self.new) (
+            HandledAs (key_of self.old) bytes.now now result (S.holds (store_of self.old)) (S.holds (store_of self.new))) }
+        ensures stands { (marks : List ℕ) (before : List Came) → StoreStandsFor S.Store (key_of self.old) marks before (store_of self.old) → S.clean (store_of self.new)
+            → StoreStandsFor S.Store (key_of self.old) marks (record { arrival = record { now = now; bytes = bytes.now }; answer = result } ∷ before) (store_of self.new) }
     {
         let message = self.heard(bytes).message;
         let allowed = allowed_by(&message);
@@ -114,14 +117,9 @@ impl<S: Store> Handler for Service<S> {
     ghost wanting = { λ service bytes. Awaits (key_of service) bytes };
 
     ghost handles = { λ old now bytes text new. (answer : given.Answer) × (text ≡ answer_bytes answer)
-        × (S.honest (store_of new) → S.honest (store_of old))
-        × Trusted S.Units (store_of old) (store_of new) (S.well_kept (store_of new))
+        × Acts S.Store (is_answered answer) (IsHandled (key_of old) bytes now (S.holds (store_of old))) (store_of old) (store_of new)
         × (key_of new ≡ key_of old)
-        × Trusted S.Units (store_of old) (store_of new) (HandledAs (key_of old) bytes now answer
-        (S.world (store_of old)) (S.calls (store_of old)) (S.batches (store_of old))
-        (S.world (store_of new)) (S.calls (store_of new)) (S.batches (store_of new)))
-        × AtAStop S.Units S.may_leave (store_of old) (store_of new) (IsHandled (key_of old) bytes now
-        (S.world (store_of old)) (S.calls (store_of old)) (S.batches (store_of old))) };
+        × Trusted S.Units (store_of old) (store_of new) (HandledAs (key_of old) bytes now answer (S.holds (store_of old)) (S.holds (store_of new))) };
 
     fn is_settled(&self, bytes: &[u8]) -> bool {
         self.heard(bytes).is_settled

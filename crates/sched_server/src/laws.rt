@@ -1,31 +1,36 @@
 //! Laws of the definitions. Each function does nothing; its contract is the law.
 
-ghost use Rattle.std.specs.Prelude.{List, ℕ};
-ghost use Rattle.sched_book.specs.declared.world.World.{World};
+ghost use Rattle.sched_machine.specs.Bounds.{IsCreditBounded};
 ghost use Rattle.sched_machine.specs.Decisions.{CanonicalsStay, VerdictsStay, StatusesStay, CreditsStay, CreditsAddUp};
 ghost use Rattle.sched_machine.specs.Runs.{OwnersStay, ReportsStay, LapsesStay, OneForEachUser};
-ghost use Rattle.message_engine.specs.Stores.{Calls, Batches};
-ghost use Rattle.sched_server.specs.Arrivals.{Came, StandsFor};
-ghost use Rattle.sched_server.specs.Laws.{NewStoresStand, HandledStands, HoldsOfWhatStands, Lasts, DeadlinesMoveByResendsAlone, NoHeldJobDropsFromSight};
+ghost use Rattle.sched_server.specs.Laws.{NewStoresStand, HandledStands, WhatIsLeftStands, ReopenedStands, UpgradedStands, HoldsOfWhatStands, Lasts, DeadlinesMoveByResendsAlone, DeadlinesMoveByResendsOverMessages, NoHeldJobDropsFromSight};
 
-use message_engine::Store;
+use stores::Store;
 
 /// A new store, of which nothing was heard, stands for the empty past of bytes.
-pub fn new_stores_stand()
-    ensures { NewStoresStand }
+pub fn new_stores_stand<S: Store>()
+    ensures { NewStoresStand S.Store }
 {}
 
 /// A store that handles a message goes on to stand for all that came: so [`http_serving::serve_one`] carries the theorem
 /// over a reader and a writer too, with the bytes that it read as the message, also where its answer is lost.
-pub fn handled_stands()
-    ensures { HandledStands }
+pub fn handled_stands<S: Store>()
+    ensures { HandledStands S.Store }
 {}
 
 /// At rest, what a stop leaves of a store stands for all that came, as the store does: every answered message is in.
 pub fn what_is_left_stands<S: Store>()
-    ensures { (store : S) → S.honest store → S.well_kept store → (key : List ℕ) (before : List Came)
-        → StandsFor key (S.world store) (S.calls store) (S.batches store) before
-        → (w : World) (calls : Calls) (batches : Batches) → S.may_leave store w calls batches → StandsFor key w calls batches before }
+    ensures { WhatIsLeftStands S.Store }
+{}
+
+/// A store that is opened again, and holds what a stop left, stands for what that stood for.
+pub fn reopened_stands<S: Store>()
+    ensures { ReopenedStands S.Store }
+{}
+
+/// What an upgrade of the tables leaves as it was stands in the next era for all that it stood for.
+pub fn upgraded_stands()
+    ensures { UpgradedStands }
 {}
 
 /// Whatever messages come, an instance that was given to a host stays that host's, with its moment of sending.
@@ -36,6 +41,11 @@ pub fn owners_stay()
 /// A deadline moves only where a call of the instance's host has it sent again.
 pub fn deadlines_move_by_resends_alone()
     ensures { DeadlinesMoveByResendsAlone }
+{}
+
+/// So it is over many messages: a deadline stays, or some call of the instance's host among them has it sent again.
+pub fn deadlines_move_by_resends_over_messages()
+    ensures { DeadlinesMoveByResendsOverMessages }
 {}
 
 /// What was reported of an instance stays.
@@ -71,6 +81,11 @@ pub fn credits_never_fall()
 /// The hosts together, and the users together, have the credit of all valid results, each once.
 pub fn credits_add_up()
     ensures { HoldsOfWhatStands CreditsAddUp }
+{}
+
+/// All credit together is at most 2 x 10^15 millicredits, so that of each host and each user is.
+pub fn credit_is_bounded()
+    ensures { HoldsOfWhatStands IsCreditBounded }
 {}
 
 /// No workunit has two instances that were given to hosts of one user.

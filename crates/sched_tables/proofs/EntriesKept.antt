@@ -6,11 +6,11 @@ use Rattle.std.proofs.lemmas.Bool.{eq-eqb, eqb-true}
 use Rattle.std.proofs.lemmas.Slice.Eq.{bytes_eq-Decides}
 use Rattle.sqlite.specs.Effect.{Database}
 use Rattle.sqlite.specs.State.{State}
-use Rattle.message_engine.specs.Stores.{calls_with, batches_with, IsCommitted}
-use Rattle.message_engine.specs.declared.entry.Entry.{Entry}
-use Rattle.message_engine.specs.declared.entry.Entry.TheVariants as entry
-use Rattle.pasts.specs.Kinds.{kind_name}
-use Rattle.pasts.specs.declared.kind.Kind.{Kind}
+use Rattle.stores.specs.Held.{calls_with, batches_with, IsCommitted}
+use Rattle.stores.specs.declared.entry.Entry.{Entry}
+use Rattle.stores.specs.declared.entry.Entry.TheVariants as entry
+use Rattle.stores.specs.Kinds.{kind_name}
+use Rattle.stores.specs.declared.kind.Kind.{Kind}
 use Rattle.reply_register.specs.declared.kept.Kept.{Kept}
 use Rattle.sched_book.specs.Delta.{applied_one, applied}
 use Rattle.sched_book.specs.declared.delta.Change.TheVariants as change
@@ -27,6 +27,7 @@ use Rattle.sched_tables.specs.Commits.{LastCalls, Imports, Keeps, LeadsTo, Makes
 use Rattle.sched_tables.specs.Entries.{row_of, last_calls_with, imports_with, kept_batch, calls_of, batches_of}
 use Rattle.sched_tables.specs.Held.{AreWellKept, AreBeside}
 use Rattle.sched_tables.specs.Remembering.{AreRemembered}
+use Rattle.sched_tables.specs.Views.{held_in}
 use Rattle.sched_tables.specs.declared.remembered.Remembered.{Remembered}
 use Rattle.table_worlds.specs.Readable.{IsReadable}
 use Rattle.table_worlds.specs.StoredWorld.{world_in}
@@ -172,7 +173,7 @@ module _ (old new : State) (w : World) (cs : List Change) (e : Entry) (row : Opt
     readable = subst IsReadable (sym world_then) made.readable;
   }
 
-  pub committed : IsCommitted cs e w (calls_of old.now.trees) (batches_of old.now.trees) (world_in new.now.trees) (calls_of new.now.trees) (batches_of new.now.trees)
+  pub committed : IsCommitted cs e (record { world = w; calls = calls_of old.now.trees; batches = batches_of old.now.trees }) (held_in new.now.trees)
   committed = record {
     world_is = world_then;
     calls_are = calls_then old.now new.now w cs e row row_is kept.holds made.leads;

@@ -4,3 +4,4 @@ pub mod NewTables
 pub mod Opened
 pub mod Stops
 pub mod Told
+mod Memory

@@ -1,5 +1,9 @@
 -- New tables hold the world in which nothing stands, and keep nothing.
-use Rattle.std.proofs.Common.{◌≡◌, List, [], None, false, subst, sym, ap, ◌∙◌}
+use Rattle.std.proofs.Common.{◌≡◌, List, [], None, false, option_map, option_to_list, subst, sym, ap, ◌∙◌}
+use Rattle.stores.specs.Held.{IsNew}
+use Rattle.stores.specs.Kinds.{kind_name}
+use Rattle.sched_tables.specs.Entries.{kept_batch}
+use Rattle.sched_tables.specs.Views.{held_in}
 use Rattle.std.proofs.lemmas.List.Elements.{All-nil}
 use Rattle.sqlite.specs.Effect.{Database}
 use Rattle.sqlite.specs.State.{State}
@@ -14,7 +18,7 @@ use Rattle.table_meaning.specs.Worlds.{HoldWorld}
 use Rattle.table_worlds.specs.RowsOf.{setting_rows}
 use Rattle.table_worlds.proofs.NewWorld.{new_world}
 use Rattle.sched_book.specs.declared.world.World.{World}
-use Rattle.sched_tables.specs.Held.{AreWellKept, AreBeside, KeepNothing}
+use Rattle.sched_tables.specs.Held.{AreWellKept, AreBeside}
 use Rattle.sched_tables.specs.Remembering.{AreRemembered}
 use Rattle.sched_tables.specs.declared.remembered.Remembered.{Remembered}
 use Rattle.table_meaning.specs.Kept.{calls_in, batches_in}
@@ -47,5 +51,9 @@ module _ (s : Settings) (st : State) (rests : st.now ≡ st.committed) (just : H
   pub new_beside : (settings : Settings) (apps : List App) (read : Remembered) → settings ≡ s → apps ≡ [] → ((w : World) → AreRemembered w read) → AreBeside (world_in st.now.trees) settings apps read
   new_beside settings apps read same none nothing = record { settings_are = same ∙ sym (ap (λ w. w.settings) new_world_is); apps_are = none ∙ sym (ap (λ w. w.apps) new_world_is); rows_are = nothing _ }
 
-  pub new_nothing : KeepNothing st
-  new_nothing = record { calls = calls_back st.now (empty_world s) (λ _. None) (λ _ _. None) held; batches = batches_back st.now (empty_world s) (λ _. None) (λ _ _. None) held }
+  pub new_held : IsNew s (held_in st.now.trees)
+  new_held = record {
+    world_is = new_world_is;
+    calls_are = λ host. ap option_to_list (calls_back st.now (empty_world s) (λ _. None) (λ _ _. None) held host);
+    batches_are = λ kind batch. ap (option_map kept_batch) (batches_back st.now (empty_world s) (λ _. None) (λ _ _. None) held (kind_name kind) batch);
+  }

@@ -3,10 +3,9 @@ use Rattle.std.proofs.Common.{◌≡◌, ◌⊎◌, IsTrue, List, Option, ap, �
 use Rattle.sqlite.specs.Effect.{Database}
 use Rattle.sqlite.specs.State.{State, HasCleanDisk, Survives}
 use Rattle.sqlite_trees.specs.Tree.{Trees}
-use Rattle.message_engine.specs.Stores.{Calls, Batches, IsCommitted}
-use Rattle.message_engine.specs.declared.entry.Entry.{Entry}
+use Rattle.stores.specs.Held.{Held, IsKeptSoundly}
+use Rattle.stores.specs.declared.entry.Entry.{Entry}
 use Rattle.sched_book.specs.Delta.{applied}
-use Rattle.sched_book.specs.Sound.{Sound}
 use Rattle.sched_book.specs.declared.delta.Change.{Change}
 use Rattle.sched_book.specs.declared.world.World.{World}
 use Rattle.table_meaning.specs.declared.rows.StoredRow.{StoredRow}
@@ -19,20 +18,20 @@ use Rattle.sched_tables.proofs.EntriesKept.{now_held, calls_then, batches_then}
 
 -- During a commit, a stop leaves what it could leave before, or the whole of the commit, and this only where the
 -- connection was open.
-pub found_is_ahead : (old new : State) (w w' : World) (cs : List Change) (e : Entry) (row : Option StoredRow) (calls : Calls) (batches : Batches) (Kept : Type 0) → (Kept → AreWellKept old w) → row ≡ row_of e
-    → Survives old new (λ trees. IsTrue old.is_open × (Kept → (db : Database) × Makes w cs row old.now db × (trees ≡ db.trees))) → MayBeFound new w' calls batches
-    → MayBeFound old w' calls batches ⊎ (IsHonest old × (Kept → Sound (applied w cs) → IsCommitted cs e w (calls_of old.now.trees) (batches_of old.now.trees) w' calls batches))
-found_is_ahead old new w w' cs e row calls batches Kept well row_is survives found =
+pub found_is_ahead : (old new : State) (w : World) (held : Held) (cs : List Change) (e : Entry) (row : Option StoredRow) (Kept : Type 0) → (Kept → AreWellKept old w) → row ≡ row_of e
+    → Survives old new (λ trees. IsTrue old.is_open × (Kept → (db : Database) × Makes w cs row old.now db × (trees ≡ db.trees))) → MayBeFound new held
+    → MayBeFound old held ⊎ (IsHonest old × (Kept → IsKeptSoundly cs e (record { world = w; calls = calls_of old.now.trees; batches = batches_of old.now.trees }) held))
+found_is_ahead old new w held cs e row Kept well row_is survives found =
     let clean : HasCleanDisk old = omega (arith, survives.clean, found.clean) in
     elim (survives.crash found.clean found.trees found.left) [
-      | inl before ↦ inl (found_before old new w' calls batches found clean before)
+      | inl before ↦ inl (found_before old new held found clean before)
       | inr ahead ↦ inr (
         (clean, ahead.0),
-        λ kept sound.
+        λ kept fits sound.
             let made = ahead.1 kept in
             let holds = (well kept).holds in
             record {
-              world_is = read_as_held found.trees made.0 (applied w cs) w' _ _ made.2 sound (now_held old.now made.0 w cs e row row_is holds made.1.leads) found.read;
+              world_is = read_as_held found.trees made.0 (applied w cs) held.world _ _ made.2 sound (now_held old.now made.0 w cs e row row_is holds made.1.leads) found.read;
               calls_are = λ host. found.calls_are host ∙ ap (λ (t : Trees). calls_of t host) made.2 ∙ calls_then old.now made.0 w cs e row row_is holds made.1.leads host;
               batches_are = λ kind batch. found.batches_are kind batch ∙ ap (λ (t : Trees). batches_of t kind batch) made.2 ∙ batches_then old.now made.0 w cs e row row_is holds made.1.leads kind batch;
             },

@@ -2,11 +2,11 @@
 use Rattle.std.specs.Prelude.{◌&&◌, ◌==◌, if◌then◌else◌, Option, Some, None, option_map, option_to_list}
 use Rattle.std.specs.Str.{bytes_eq}
 use Rattle.sqlite_trees.specs.Tree.{Trees}
-use Rattle.message_engine.specs.Stores.{Calls, Batches}
-use Rattle.message_engine.specs.declared.entry.Entry.{Entry}
-use Rattle.message_engine.specs.declared.entry.Entry.TheVariants as entry
-use Rattle.pasts.specs.Kinds.{kind_name}
-use Rattle.pasts.specs.declared.batch.KeptBatch.{KeptBatch}
+use Rattle.stores.specs.Held.{Calls, Batches}
+use Rattle.stores.specs.declared.entry.Entry.{Entry}
+use Rattle.stores.specs.declared.entry.Entry.TheVariants as entry
+use Rattle.stores.specs.Kinds.{kind_name}
+use Rattle.stores.specs.declared.batch.KeptBatch.{KeptBatch}
 use Rattle.table_meaning.specs.declared.rows.StoredRow.{StoredRow}
 use Rattle.table_meaning.specs.declared.rows.StoredRow.TheVariants as stored
 use Rattle.table_meaning.specs.Worlds.{BatchText}

@@ -1,6 +1,8 @@
 -- When tables stand for a world.
-use Rattle.std.specs.Prelude.{◌≡◌, ℕ, false, List, None, IsTrue}
+use Rattle.std.specs.Prelude.{◌≡◌, false, List, IsTrue}
 use Rattle.sqlite.specs.State.{State, HasCleanDisk}
+use Rattle.sqlite_trees.specs.View.{doubt}
+use Rattle.sqlite_trees.specs.declared.store.Store as store
 use Rattle.sched_book.specs.declared.rows.App.{App}
 use Rattle.sched_book.specs.declared.settings.Settings.{Settings}
 use Rattle.sched_book.specs.declared.world.World.{World}
@@ -10,7 +12,7 @@ use Rattle.table_worlds.specs.Readable.{IsReadable}
 use Rattle.sched_tables.specs.Remembering.{AreRemembered}
 use Rattle.sched_tables.specs.declared.remembered.Remembered.{Remembered}
 
--- the disk returned what was written, and the connection is open
+-- the disk returned what was written, and no fault of it has shut the connection
 abbrev pub IsHonest : State → Type 0
 IsHonest s = HasCleanDisk s × IsTrue s.is_open
 
@@ -27,7 +29,6 @@ pub record AreBeside (w : World) (settings : Settings) (apps : List App) (read :
   pub apps_are : apps ≡ w.apps
   pub rows_are : AreRemembered w read
 
--- no call and no import is kept
-pub record KeepNothing (s : State) : Type 0 where
-  pub calls : (host : ℕ) → calls_in s.now.trees host ≡ None
-  pub batches : (kind name : List ℕ) → batches_in s.now.trees kind name ≡ None
+-- The store below tables never fails: no fault of it is counted, and it is clean.
+abbrev pub NeverFails : {S : Type 0} → store.Ghosts S → Type 0
+NeverFails {S} g = (s : S) → (g.faults s ≡ 0) × (doubt (g.view s).is_clean ≡ 0)

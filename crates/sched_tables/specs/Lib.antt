@@ -6,3 +6,4 @@ pub mod Remembering
 pub mod Stops
 pub mod StopLaws
 pub mod Views
+pub mod Laws

@@ -1,7 +1,9 @@
 -- What a read leaves of tables: proved from their definitions alone.
-use Rattle.std.proofs.Common.{◌≡◌, false, List, sym, ap, subst, ◌∙◌, arith}
+use Rattle.std.proofs.Common.{◌≡◌, ℕ, false, List, sym, ap, subst, ◌∙◌, inl, inr, arith}
 use Rattle.sqlite.specs.Effect.{Database}
-use Rattle.sqlite.specs.State.{State}
+use Rattle.sqlite.specs.State.{State, HasCleanDisk, Survives}
+use Rattle.sqlite_disk.specs.Disk.{MoreFaults}
+use Rattle.sqlite_trees.specs.Tree.{Trees}
 use Rattle.sched_book.specs.declared.rows.App.{App}
 use Rattle.sched_book.specs.declared.settings.Settings.{Settings}
 use Rattle.table_meaning.specs.Kept.{calls_in, batches_in}
@@ -9,6 +11,9 @@ use Rattle.table_meaning.specs.Reads.{Reads}
 use Rattle.table_meaning.specs.Worlds.{HoldWorld}
 use Rattle.table_worlds.specs.Readable.{IsReadable}
 use Rattle.table_worlds.specs.StoredWorld.{world_in}
+use Rattle.stores.specs.Held.{IsLeft}
+use Rattle.sched_tables.specs.Entries.{calls_of, batches_of}
+use Rattle.sched_tables.specs.Views.{held_in}
 use Rattle.sched_tables.specs.Held.{IsHonest, AreWellKept, AreBeside}
 use Rattle.sched_tables.specs.Remembering.{AreRemembered}
 use Rattle.sched_tables.specs.declared.remembered.Remembered.{Remembered}
@@ -64,6 +69,19 @@ module _ (old new : State) (reads : Reads old new) (honest : IsHonest new) (kept
 pub was_honest : (old new : State) → Reads old new → IsHonest new → IsHonest old
 was_honest old new reads honest = (omega (arith, reads.survives.clean, honest.0), reads.was_open honest.0 honest.1)
 
+-- and what was clean to the end
+pub was_clean : (old new : State) → Reads old new → HasCleanDisk new → HasCleanDisk old
+was_clean old new reads clean = omega (arith, reads.survives.clean, clean)
+
+-- they hold what they held
+pub reads_hold : (old new : State) → Reads old new → IsHonest new → AreWellKept old (world_in old.now.trees) → IsLeft (held_in old.now.trees) (held_in new.now.trees)
+reads_hold old new reads honest kept =
+    let shown = stays_shown old new reads honest kept in record {
+      world_is = ap (λ (db : Database). world_in db.trees) shown;
+      calls_are = λ host. ap (λ (db : Database). calls_of db.trees host) shown;
+      batches_are = λ kind batch. ap (λ (db : Database). batches_of db.trees kind batch) shown;
+    }
+
 -- well kept tables stay so, where what was read is the world's
 pub stays_both : (old new : State) → Reads old new → IsHonest new → (settings settings' : Settings) (apps apps' : List App) (read read' : Remembered) → settings' ≡ settings → apps' ≡ apps → AreRemembered (world_in old.now.trees) read'
     → AreWellKept old (world_in old.now.trees) × AreBeside (world_in old.now.trees) settings apps read → AreWellKept new (world_in new.now.trees) × AreBeside (world_in new.now.trees) settings' apps' read'
@@ -73,3 +91,13 @@ stays_both old new reads honest settings settings' apps apps' read read' same al
 -- what was read later is the world's before
 pub rows_before : (old new : State) → Reads old new → IsHonest new → AreWellKept old (world_in old.now.trees) → (read : Remembered) → AreRemembered (world_in new.now.trees) read → AreRemembered (world_in old.now.trees) read
 rows_before old new reads honest kept read rows = subst (λ w. AreRemembered w read) (stays_same old new reads honest kept) rows
+
+-- a store below them that never fails is never shut
+pub never_shut : (old new : State) (Commits : Trees → Type 0) → old.faults ≡ 0 → new.faults ≡ 0 → HasCleanDisk new → Survives old new Commits → IsHonest old → IsHonest new
+never_shut old new Commits none none_later clean survives honest = elim (survives.closes clean honest.1) [
+  | inl is_open ↦ (clean, is_open)
+  | inr more ↦ absurd (no_more old.faults new.faults none none_later more)
+]
+  where
+    no_more : (before later : ℕ) → before ≡ 0 → later ≡ 0 → MoreFaults before later → ⊥
+    no_more before later first second more = grind (arith)

@@ -1,11 +1,14 @@
 -- What tables are seen as: the state of their connection, and the world that their rows tell.
 use Rattle.std.specs.Prelude.{◌≡◌}
+use Rattle.sqlite_trees.specs.Tree.{Trees}
 use Rattle.sqlite_trees.specs.declared.store.Store.{Ghosts}
 use Rattle.sqlite.specs.Held.{state}
 use Rattle.sqlite.specs.State.{State}
 use Rattle.sched_book.specs.declared.world.World.{World}
 use Rattle.table_worlds.specs.StoredWorld.{world_in}
 use Rattle.table_meaning.specs.Reads.{Reads}
+use Rattle.stores.specs.Held.{Held}
+use Rattle.sched_tables.specs.Entries.{calls_of, batches_of}
 use Rattle.sched_tables.specs.Held.{IsHonest, AreWellKept, AreBeside}
 use Rattle.sched_tables.specs.Remembering.{AreRemembered}
 use Rattle.sched_tables.specs.declared.tables.Tables.{Tables}
@@ -15,6 +18,13 @@ state_of store t = state store t.conn
 
 abbrev pub world_of : {S : Type 0} → Ghosts S → Tables S → World
 world_of store t = world_in (state_of store t).now.trees
+
+-- all that they hold
+abbrev pub held_in : Trees → Held
+held_in trees = record { world = world_in trees; calls = calls_of trees; batches = batches_of trees }
+
+abbrev pub held_of : {S : Type 0} → Ghosts S → Tables S → Held
+held_of store t = held_in (state_of store t).now.trees
 
 -- they are well kept, and what is kept beside them is their world's
 abbrev pub AreKept : {S : Type 0} → Ghosts S → Tables S → Type 0

@@ -1,7 +1,7 @@
 //! Changes of the world and what is kept of a message, put into the tables at once.
 
 ghost use Rattle.std.specs.Prelude.{◌≡◌, false, IsTrue, IfOk, OnOk, OnErr};
-ghost use Rattle.sqlite.specs.State.{Survives};
+ghost use Rattle.sqlite.specs.State.{HasCleanDisk, Survives};
 ghost use Rattle.sched_tables.specs.Commits.{ArePut, Makes, apps_with as apps_then};
 ghost use Rattle.sched_tables.specs.Entries.{row_of as row_put};
 ghost use Rattle.sched_book.specs.declared.world.World.{World};
@@ -11,10 +11,10 @@ ghost use Rattle.sched_tables.specs.Views.{state_of, world_of, AreKept};
 ghost use Rattle.table_meaning.specs.Reads.{Reads};
 
 use crate::tables::Tables;
-use message_engine::Entry;
 use sched_book::{App, Change, Delta, Unavailable, copy_of};
 use sqlite::Alter;
 use std::alloc::Global;
+use stores::Entry;
 use table_changes::rows_of_changes;
 use table_meaning::rows::{StoredBatch, StoredCall, StoredRow};
 use table_rows::put_rows;
@@ -68,12 +68,13 @@ impl<S: Alter> Tables<S> {
         Ok(rows)
     }
 
-    /// Makes these changes and keeps what the entry tells, in one transaction: where it is unavailable, neither is done. It
-    /// puts the rows that the changes touch, and looks at no others. What was read before is forgotten, so that each later
-    /// look-up sees the rows that were put. A stop at any moment leaves what a stop could leave before, or the whole, and
-    /// this only where the connection was open.
+    /// Makes these changes and keeps what the entry tells, in one transaction: where it is unavailable, neither is done, unless
+    /// a fault has shut the connection. Where it is good, the connection is open. It puts the rows that the changes touch, and
+    /// looks at no others. What was read before is forgotten, so that each later look-up sees the rows that were put. A stop
+    /// at any moment leaves what a stop could leave before, or the whole, and this only where the connection was open.
     pub fn commit(&mut self, delta: &Delta, entry: &Entry) -> Result<(), Unavailable>
         ensures honest { IsHonest (state_of S.Store self.new) → IsHonest (state_of S.Store self.old) }
+        ensures open { HasCleanDisk (state_of S.Store self.new) → OnOk result (IsTrue (state_of S.Store self.new).is_open) }
         ensures idle { (state_of S.Store self.old).in_transaction ≡ false → (state_of S.Store self.new).in_transaction ≡ false }
         ensures settings { self.new.settings ≡ self.old.settings }
         ensures forgets { (w : World) → AreRemembered w self.new.remembered }

@@ -4,11 +4,13 @@
 mod committing;
 mod desk;
 mod keeping;
+pub mod laws;
 mod opening;
 mod reading;
 mod remembered;
 mod store;
 mod tables;
 
+pub use stores::Entry;
 pub use table_rows::OpenFault;
 pub use tables::Tables;

@@ -1,26 +1,28 @@
 //! The tables are a store: a desk that keeps calls and imports, with one commit for all that a message changes.
 
 use crate::tables::Tables;
-use message_engine::{Entry, Store};
-use pasts::{KeptBatch, Kind};
 use reply_register::Kept;
 use sched_book::{Delta, Unavailable};
-use sqlite::Alter;
-use std::alloc::Global;
-use texts::Listed;
+use sqlite::{Alter, Error, ErrorCode};
+use std::alloc::{AllocError, Global};
+use stores::{Entry, KeptBatch, Kind, Store};
+use table_rows::test_open;
+use texts::{Listed, Memory};
 
 impl<S: Alter> Store for Tables<S> {
-    ghost use Rattle.std.proofs.Common.{ap};
-    ghost use Rattle.sqlite.specs.Effect.{Database};
-    ghost use Rattle.sched_tables.specs.Entries.{calls_of, batches_of};
-    ghost use Rattle.sched_tables.specs.ReadLaws.{stays_shown};
+    ghost use Rattle.std.specs.Prelude.{refl};
+    ghost use Rattle.sqlite.specs.State.{HasCleanDisk};
+    ghost use Rattle.sched_tables.specs.Held.{NeverFails};
+    ghost use Rattle.sched_tables.specs.ReadLaws.{was_clean, never_shut, reads_hold};
     ghost use Rattle.sched_tables.specs.Stops.{MayBeFound};
     ghost use Rattle.sched_tables.specs.StopLaws.{stays_found, found_is_committed};
-    ghost use Rattle.sched_tables.specs.Views.{state_of};
+    ghost use Rattle.sched_tables.specs.Views.{state_of, held_of};
 
-    ghost calls = { λ t. calls_of (state_of S.Store t).now.trees };
+    ghost holds = { held_of S.Store };
 
-    ghost batches = { λ t. batches_of (state_of S.Store t).now.trees };
+    ghost clean = { λ t. HasCleanDisk (state_of S.Store t) };
+
+    ghost lasting = { NeverFails S.Store };
 
     ghost may_leave = { λ t. MayBeFound (state_of S.Store t) };
 
@@ -40,15 +42,29 @@ impl<S: Alter> Store for Tables<S> {
         self.import_kept(alloc, kind.name(), batch)
     }
 
+    fn is_open(&mut self) -> Result<bool, Memory> {
+        match test_open(&mut self.conn) {
+            Ok(()) => Ok(true),
+            Err(Error::SqliteFailure(ErrorCode::OutOfMemory)) => Err(AllocError),
+            Err(_) => Ok(false),
+        }
+    }
+
     fn commit(&mut self, delta: &Delta, entry: &Entry) -> Result<(), Unavailable> {
         Tables::commit(self, delta, entry)
     }
 
-    ghost stays_calls = { λ a b h k l host. ap (λ (db : Database). calls_of db.trees host) (stays_shown _ _ h.0 k l.0) };
+    ghost world_held = { λ a. refl };
 
-    ghost stays_batches = { λ a b h k l kind batch. ap (λ (db : Database). batches_of db.trees kind batch) (stays_shown _ _ h.0 k l.0) };
+    ghost is_clean = { λ a h. h.0 };
 
-    ghost stays_left = { λ a b h w kept imports found. stays_found _ _ w kept imports h.0.survives found };
+    ghost stays_clean = { λ a b h k. was_clean _ _ h.0 k };
 
-    ghost settled = { λ a h k l w kept imports found. found_is_committed _ _ w kept imports k.0 l (λ trees left. S.settled _ trees h.1 left) found };
+    ghost stays_open = { λ a b l h k. never_shut _ _ _ (l a.conn.store).0 (l b.conn.store).0 (l b.conn.store).1 h.0.survives k };
+
+    ghost stays_held = { λ a b h k l. reads_hold _ _ h.0 k l.0 };
+
+    ghost stays_left = { λ a b h held found. stays_found _ _ held h.0.survives found };
+
+    ghost settled = { λ a h k l held found. found_is_committed _ _ held k.0 l (λ trees left. S.settled _ trees h.1 left) found };
 }

@@ -2,7 +2,7 @@
 use Rattle.std.proofs.Common.{◌≡◌, ℕ, pos, Bool, true, false, ◌&&◌, List, [], ◌∷◌, length, Some, refl, sym, ap, ap₂, ◌∙◌, true≢false}
 use Rattle.std.specs.Prelude.{◌==◌}
 use Rattle.std.specs.List.{AllByRecursion, list_any, range_with_len}
-use Rattle.std.proofs.lemmas.Bool.{and_parts, or_from, eqb-true}
+use Rattle.std.proofs.lemmas.Bool.{and_parts, and_from, or_from, eqb-true, eq-eqb}
 use Rattle.std.proofs.lemmas.Bool.Decides.{Decides-int_eq}
 use Rattle.sqlite_value.specs.declared.value.Value.{Value}
 use Rattle.sqlite_value.specs.declared.value.Value.TheVariants.{Null, Int, Real, Text, Blob}
@@ -18,9 +18,9 @@ use Rattle.sqlite_typed.proofs.TestLemmas.{at_ints, at_texts, same_bytes, bytes_
 use Rattle.table_meaning.specs.declared.tables.TableName.{TableName}
 use Rattle.table_meaning.specs.declared.tables.TableName.TheVariants.{Setting, Account, App, Version, Unit, Host, Instance, Kept, Batch}
 use Rattle.table_meaning.specs.declared.rows.StoredRow.{StoredRow}
-use Rattle.table_meaning.specs.Rows.{tree_of, RowKey, setting_key, account_key, app_key, version_key, unit_key, host_key, instance_key, kept_key, batch_key, table_at, key_columns, key_of, same_key}
+use Rattle.table_meaning.specs.Rows.{tree_of, key_places, RowKey, setting_key, account_key, app_key, version_key, unit_key, host_key, instance_key, kept_key, batch_key, table_at, key_columns, key_of, same_key}
 use Rattle.table_meaning.specs.Holding.{Contents, with_row, with_rows}
-use Rattle.table_meaning.proofs.LookUps.{same_table}
+use Rattle.table_meaning.proofs.EachTable.{same_table}
 
 -- ---- columns of keys: numbers and texts
 
@@ -69,17 +69,6 @@ same_columns (v ∷ v' ∷ []) [] p q h = absurd (true≢false (sym q))
 same_columns (v ∷ []) (u ∷ u' ∷ u'' ∷ more) p q h = absurd (true≢false (sym q))
 same_columns (v ∷ v' ∷ []) (u ∷ u' ∷ u'' ∷ more) p q h = absurd (true≢false (sym q))
 
-columns_of_keys : (key : RowKey) → is_key_row (key_columns key) ≡ true
-columns_of_keys (setting_key name) = refl
-columns_of_keys (account_key id) = refl
-columns_of_keys (app_key id) = refl
-columns_of_keys (version_key id) = refl
-columns_of_keys (unit_key id) = refl
-columns_of_keys (host_key id) = refl
-columns_of_keys (instance_key unit num) = refl
-columns_of_keys (kept_key id) = refl
-columns_of_keys (batch_key kind name) = refl
-
 -- ---- a key from its table and columns
 
 abbrev number_in : Value → ℕ
@@ -97,42 +86,39 @@ key_from Instance cols = instance_key (number_in (column cols 0)) (number_in (co
 key_from Kept cols = kept_key (number_in (column cols 0))
 key_from Batch cols = batch_key (bytes_of (column cols 0)) (bytes_of (column cols 1))
 
-key_back : (key : RowKey) → key_from (table_at key) (key_columns key) ≡ key
-key_back (setting_key name) = refl
-key_back (account_key id) = refl
-key_back (app_key id) = refl
-key_back (version_key id) = refl
-key_back (unit_key id) = refl
-key_back (host_key id) = refl
-key_back (instance_key unit num) = refl
-key_back (kept_key id) = refl
-key_back (batch_key kind name) = refl
+-- what is found of each key by computing: the form of its columns, that it is told by them, and how many there are
+pub key_is : (key : RowKey) → (is_key_row (key_columns key) ≡ true) × (key_from (table_at key) (key_columns key) ≡ key) × (length (key_places (table_at key)) ≡ length (key_columns key))
+key_is (setting_key name) = (refl, refl, refl)
+key_is (account_key id) = (refl, refl, refl)
+key_is (app_key id) = (refl, refl, refl)
+key_is (version_key id) = (refl, refl, refl)
+key_is (unit_key id) = (refl, refl, refl)
+key_is (host_key id) = (refl, refl, refl)
+key_is (instance_key unit num) = (refl, refl, refl)
+key_is (kept_key id) = (refl, refl, refl)
+key_is (batch_key kind name) = (refl, refl, refl)
 
 pub one_key : (a b : RowKey) → same_key a b ≡ true → a ≡ b
 one_key a b h =
     let parts = and_parts (tree_of (table_at a) == tree_of (table_at b)) _ h in
     let table = same_table (table_at a) (table_at b) (eqb-true _ _ parts.0) in
-    let columns = same_columns (key_columns b) (key_columns a) (columns_of_keys b) (columns_of_keys a) parts.1 in
-    sym (key_back a) ∙ ap₂ key_from table (sym columns) ∙ key_back b
+    let columns = same_columns (key_columns b) (key_columns a) (key_is b).0 (key_is a).0 parts.1 in
+    sym (key_is a).1 ∙ ap₂ key_from table (sym columns) ∙ (key_is b).1
 
 -- every key is itself
-equal_ints : (n : ℕ) → equal Binary (Int (pos n)) (Int (pos n)) ≡ true
-equal_ints n = at_ints false Eq (pos n) (pos n) ∙ (Decides-int_eq (pos n) (pos n)).1 refl
+cell_itself : (v : Value) → is_cell v ≡ true → equal Binary v v ≡ true
+cell_itself (Int n) h = at_ints false Eq n n ∙ (Decides-int_eq n n).1 refl
+cell_itself (Text t) h = at_texts false Eq t t ∙ bytes_eq_refl t
+cell_itself _ h = absurd (true≢false (sym h))
 
-equal_texts : (t : List ℕ) → equal Binary (Text t) (Text t) ≡ true
-equal_texts t = at_texts false Eq t t ∙ bytes_eq_refl t
+columns_themselves : (xs : Row) → is_key_row xs ≡ true → agree plain (range_with_len 0 (length xs)) xs (range_with_len 0 (length xs)) xs ≡ true
+unfolding first_key
+columns_themselves (v ∷ []) h = and_from _ _ (cell_itself v h) refl
+columns_themselves (v ∷ u ∷ []) h = let cells = and_parts (is_cell v) (is_cell u) h in and_from _ _ (cell_itself v cells.0) (and_from _ _ (cell_itself u cells.1) refl)
+columns_themselves _ h = absurd (true≢false (sym h))
 
 pub key_itself : (key : RowKey) → same_key key key ≡ true
-unfolding first_key
-key_itself (setting_key name) = ap (λ b. b && true) (equal_texts name)
-key_itself (account_key id) = ap (λ b. b && true) (equal_ints id)
-key_itself (app_key id) = ap (λ b. b && true) (equal_ints id)
-key_itself (version_key id) = ap (λ b. b && true) (equal_ints id)
-key_itself (unit_key id) = ap (λ b. b && true) (equal_ints id)
-key_itself (host_key id) = ap (λ b. b && true) (equal_ints id)
-key_itself (instance_key unit num) = ap₂ (λ b c. b && (c && true)) (equal_ints unit) (equal_ints num)
-key_itself (kept_key id) = ap (λ b. b && true) (equal_ints id)
-key_itself (batch_key kind name) = ap₂ (λ b c. b && (c && true)) (equal_texts kind) (equal_texts name)
+key_itself key = and_from _ _ (eq-eqb (tree_of (table_at key)) _ refl) (columns_themselves (key_columns key) (key_is key).0)
 
 -- ---- what is held after rows are put
 

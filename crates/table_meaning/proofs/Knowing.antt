@@ -1,7 +1,7 @@
 -- Tables of the known schema that obey it are known ones, once the numbers of their rows rise.
-use Rattle.std.proofs.Common.{◌≡◌, ℕ, Bool, true, false, not, ◌&&◌, List, [], ◌∷◌, refl, sym, ap₂, subst, ◌∙◌, inl, inr, Ordering, Less, Equal, Greater, is_eq, int_eq}
-use Rattle.std.specs.List.{AllByRecursion}
-use Rattle.std.proofs.lemmas.Bool.{both_ways, false_from_ne_true, not-true, and_from}
+use Rattle.std.proofs.Common.{◌≡◌, ℕ, Bool, true, false, not, ◌&&◌, List, [], ◌∷◌, map, take, length, slice_get, get_or, Some, refl, sym, ap₂, subst, ◌∙◌, Ordering, Less, Equal, Greater, is_eq, int_eq}
+use Rattle.std.specs.List.{AllByRecursion, range_with_len}
+use Rattle.std.proofs.lemmas.Bool.{both_ways, false_from_ne_true, and_from}
 use Rattle.sqlite_value.specs.declared.value.Value.TheVariants.{Int}
 use Rattle.sqlite_value.specs.declared.keys.Collation.TheVariants.{Binary}
 use Rattle.sqlite_value.specs.Order.{Row, value_cmp}
@@ -13,27 +13,28 @@ use Rattle.sqlite_trees.specs.View.{View, IsShaped, IsOrdered}
 use Rattle.sqlite_trees.specs.Objects.{catalog_tree, IsListed}
 use Rattle.sqlite_trees.specs.declared.store.Shape.{Shape}
 use Rattle.sqlite_catalog.specs.Listing.{Lists, IsSound}
+use Rattle.sqlite_catalog.proofs.AlterLemmas.{keys_are_unique}
 use Rattle.sqlite_catalog.proofs.LayoutLemmas.{objects_rise}
 use Rattle.sqlite_catalog.proofs.ReadLemmas.{shaped_of}
 use Rattle.sqlite_schema.specs.declared.schema.Schema.{Schema}
 use Rattle.sqlite_sql.specs.declared.ops.CompareOp.TheVariants.{Eq, Ne}
-use Rattle.sqlite_schema.specs.declared.schema.Constraint.TheVariants.{Unique}
 use Rattle.sqlite_schema.specs.declared.schema.Table.{Table}
-use Rattle.sqlite_schema.specs.declared.schema.Index.{Index}
-use Rattle.sqlite_schema.specs.Rules.{agree, equal, differ, clashes, guards, passes, Keeps, Obeys}
+use Rattle.sqlite_schema.specs.Rules.{agree, equal, differ, clashes}
 use Rattle.sqlite_rules.specs.Edit.{id_in}
 use Rattle.sqlite_rules.specs.Lists.{Has}
-use Rattle.sqlite_rules.proofs.ListLemmas.{all_has, some_from, test_has}
+use Rattle.sqlite_rules.proofs.ListLemmas.{all_has, has_got, some_from}
 use Rattle.sqlite_rules.proofs.TableLemmas.{int_is}
 use Rattle.sqlite_rules.proofs.PlaceLemmas.{tied_same}
 use Rattle.sqlite_keyed.proofs.ListLemmas.{all_weaker}
 use Rattle.sqlite_typed.proofs.TestLemmas.{at_ints, last_term}
 use Rattle.sqlite.specs.Effect.{Database, IsDatabase}
 use Rattle.table_meaning.specs.declared.tables.TableName.{TableName}
-use Rattle.table_meaning.specs.declared.tables.TableName.TheVariants.{Setting, Account, App, Version, Unit, Host, Instance, Kept, Batch}
-use Rattle.table_meaning.specs.Schema.{stored_schema, setting_table, instance_table, batch_table}
-use Rattle.table_meaning.specs.Rows.{tree_of, key_places}
+use Rattle.table_meaning.specs.Layouts.{Key, numbered, by_first, layout_of, places_by, key_width}
+use Rattle.table_meaning.specs.Schema.{in_row, uniques_with, stored_schema, table_by, place_of}
+use Rattle.table_meaning.specs.Rows.{tree_of}
 use Rattle.table_meaning.specs.Holding.{AreApart, AreKnown}
+use Rattle.table_meaning.proofs.ByComputing.{computed}
+use Rattle.table_meaning.proofs.EachTable.{of_each}
 
 equal_is : (o : Ordering) → is_eq o ≡ true → o ≡ Equal
 equal_is Less h = absurd (cc)
@@ -72,30 +73,28 @@ module _ (rows : List Row) (shaped : IsShaped TableTree rows) (a b : Row) (is_a 
 numbered_apart : (rows : List Row) → IsShaped TableTree rows → AreApart (0 ∷ []) rows
 numbered_apart rows shaped a b is_a is_b = same_number rows shaped a b is_a is_b
 
-unique_apart : (places : List ℕ) (rows : List Row) → IsShaped TableTree rows → AllByRecursion (λ row. clashes plain places rows row ≡ false) rows → AreApart places rows
-unique_apart places rows shaped none a b is_a is_b = no_clash rows shaped a b is_a is_b places (all_has _ rows b none is_b)
-
--- what the index of a table's key says of its rows
-by_index : (db : Trees) (t : Table) (index : Index) → Has stored_schema.indexes index → AllByRecursion (λ row. passes Unique stored_schema db t row ≡ true) (db t.tree)
-    → AllByRecursion (λ row. (guards index t && clashes index.order index.columns (db t.tree) row) ≡ false) (db t.tree)
-by_index db t index has keeps =
-    all_weaker _ _ (λ row h. not-true _ (test_has (λ i. not (guards i t && clashes i.order i.columns (db t.tree) row)) stored_schema.indexes index h has)) (db t.tree) keeps
+-- The key of a table tells its rows apart: as their number, or as the first of what UNIQUE and PRIMARY KEY keep apart.
+apart_by : (key : Key) (count : ℕ) (others : List (List ℕ)) (rows : List Row) → IsShaped TableTree rows
+    → ((ps : List ℕ) (row : Row) → slice_get (uniques_with key (take (key_width key) (places_by key count)) others) 0 ≡ Some ps → Has rows row → clashes plain ps rows row ≡ false)
+    → AreApart (take (key_width key) (places_by key count)) rows
+apart_by numbered count others rows shaped unique a b is_a is_b same = same_number rows shaped a b is_a is_b same
+apart_by (by_first n) count others rows shaped unique a b is_a is_b same = no_clash rows shaped a b is_a is_b (take n (range_with_len 1 count)) (unique _ b refl is_b) same
 
 pub known_from : (db : Database) → db.schema ≡ stored_schema → IsDatabase db → ((t : TableName) → IsShaped TableTree (db.trees (tree_of t))) → AreKnown db
-known_from db schema sound ordered =
-    let keeps = (subst (λ s. Obeys s db.trees) schema sound.obeys).rules Unique in
-    record { schema = schema; ordered = ordered; apart = λ t. apart t keeps }
+known_from db schema sound ordered = record {
+  schema = schema;
+  ordered = ordered;
+  apart = λ t. let l = layout_of t in apart_by l.key (length l.columns) (map (in_row l) l.uniques) (db.trees l.tree) (ordered t) (unique t);
+}
   where
-    apart : (t : TableName) → Keeps Unique stored_schema db.trees → AreApart (key_places t) (db.trees (tree_of t))
-    apart Setting keeps = unique_apart (1 ∷ []) (db.trees 0) (ordered Setting) (by_index db.trees setting_table _ (inl refl) keeps.0)
-    apart Account keeps = numbered_apart (db.trees 2) (ordered Account)
-    apart App keeps = numbered_apart (db.trees 4) (ordered App)
-    apart Version keeps = numbered_apart (db.trees 6) (ordered Version)
-    apart Unit keeps = numbered_apart (db.trees 8) (ordered Unit)
-    apart Host keeps = numbered_apart (db.trees 10) (ordered Host)
-    apart Instance keeps = unique_apart (1 ∷ 2 ∷ []) (db.trees 12) (ordered Instance) (by_index db.trees instance_table _ (inr (inr (inr (inr (inr (inr (inl refl))))))) keeps.1.1.1.1.1.1.0)
-    apart Kept keeps = numbered_apart (db.trees 14) (ordered Kept)
-    apart Batch keeps = unique_apart (1 ∷ 2 ∷ []) (db.trees 15) (ordered Batch) (by_index db.trees batch_table _ (inr (inr (inr (inr (inr (inr (inr (inl refl)))))))) keeps.1.1.1.1.1.1.1.1.0)
+    orders_are : (uniques : List (List ℕ)) → get_or (map (λ _. plain) uniques) 0 plain ≡ plain
+    orders_are [] = refl
+    orders_are (u ∷ uniques) = refl
+
+    unique : (t : TableName) (ps : List ℕ) (row : Row) → slice_get (table_by t).uniques 0 ≡ Some ps → Has (db.trees (tree_of t)) row → clashes plain ps (db.trees (tree_of t)) row ≡ false
+    unique t ps row first has =
+        let listed : Has db.schema.tables (table_by t) = subst (λ s. Has s.tables (table_by t)) (sym schema) (has_got stored_schema.tables (place_of t) (table_by t) (computed t).listed) in
+        subst (λ order. clashes order ps (db.trees (tree_of t)) row ≡ false) (orders_are (table_by t).uniques) (keys_are_unique db.schema db.trees (table_by t) 0 ps row sound listed first has)
 
 -- ---- a store keeps the numbers of each table's rows rising
 
@@ -109,15 +108,4 @@ tables_rise v schema trees same order listed sound =
     (all_weaker _ (λ (t : Table). IsShaped TableTree (v.trees t.tree)) (λ t h. subst (λ (s : Shape). IsShaped s (v.trees t.tree)) h.0 (order t.tree)) schema.tables shaped.tables)
 
 pub each_rises : (db : Database) → db.schema ≡ stored_schema → AllByRecursion (λ t. IsShaped TableTree (db.trees t.tree)) db.schema.tables → (t : TableName) → IsShaped TableTree (db.trees (tree_of t))
-each_rises db schema all = each (subst (λ s. AllByRecursion (λ t. IsShaped TableTree (db.trees t.tree)) s.tables) schema all)
-  where
-    each : AllByRecursion (λ t. IsShaped TableTree (db.trees t.tree)) stored_schema.tables → (t : TableName) → IsShaped TableTree (db.trees (tree_of t))
-    each h Setting = h.0
-    each h Account = h.1.0
-    each h App = h.1.1.0
-    each h Version = h.1.1.1.0
-    each h Unit = h.1.1.1.1.0
-    each h Host = h.1.1.1.1.1.0
-    each h Instance = h.1.1.1.1.1.1.0
-    each h Kept = h.1.1.1.1.1.1.1.0
-    each h Batch = h.1.1.1.1.1.1.1.1.0
+each_rises db schema all = of_each (λ t. IsShaped TableTree (db.trees t.tree)) (subst (λ s. AllByRecursion (λ t. IsShaped TableTree (db.trees t.tree)) s.tables) schema all)

@@ -1,6 +1,8 @@
-pub mod Binding
+pub mod ByComputing
 pub mod ByKey
+pub mod Columns
 pub mod Definitions
+pub mod EachTable
 pub mod FormatLemmas
 pub mod Keys
 pub mod Knowing
@@ -18,10 +20,10 @@ pub mod PlacesTexts
 pub mod PlacesWithin
 pub mod PutFacts
 pub mod PutRows
-pub mod PutTexts
 pub mod Putting
-pub mod ReadTexts
 pub mod Reading
 pub mod RowsHeld
 pub mod Statements
 pub mod StepLemmas
+pub mod Typed
+pub mod TypedRows

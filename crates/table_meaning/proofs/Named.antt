@@ -10,7 +10,7 @@ use Rattle.table_meaning.specs.Rows.{places_of, whole}
 use Rattle.table_meaning.specs.Formats.{columns_in}
 use Rattle.table_meaning.specs.ByKey.{key_tests}
 use Rattle.table_meaning.specs.Listings.{account_text, unit_named_text, host_known_text, hosts_text, versions_text, has_text, is_first, is_of_user, is_host_known, is_version_for}
-use Rattle.table_meaning.proofs.ReadTexts.{names_of}
+use Rattle.table_meaning.proofs.ByComputing.{names_of}
 use Rattle.table_meaning.proofs.Listings.{IsListed, Lists, ListsFirst, listed_by, first_listed_by}
 
 -- ---- the first row of a name

@@ -24,15 +24,14 @@ use Rattle.sqlite_keyed.proofs.KeyedLemmas.{same_int}
 use Rattle.sqlite_typed.proofs.TestLemmas.{at_ints}
 use Rattle.sqlite.specs.Effect.{Database}
 use Rattle.table_meaning.specs.declared.tables.TableName.TheVariants.{Instance}
-use Rattle.table_meaning.specs.declared.rows.SettingValue.{SettingValue}
-use Rattle.table_meaning.specs.declared.rows.SettingValue.TheVariants.{Number, Word}
 use Rattle.table_meaning.specs.declared.rows.StoredRow.{StoredRow}
-use Rattle.table_meaning.specs.declared.rows.StoredRow.TheVariants as stored
-use Rattle.table_meaning.specs.Rows.{shown, whole, setting_value, columns_of, instance_key, has_key}
+use Rattle.table_meaning.specs.Rows.{shown, whole, columns_of, instance_key, has_key}
 use Rattle.table_meaning.specs.Holding.{Contents, Hold}
 use Rattle.table_meaning.specs.Places.{instance_at, place_row, IsBefore, AreAllPlaces, shows_passing, places_where, compares}
 use Rattle.table_meaning.proofs.Listings.{map-filter_map}
 use Rattle.table_meaning.proofs.PlacesLists.{one_found, same_members, has_given, given_by, ascending-filter_map, filter-filter_map, shown_for_each}
+use Rattle.table_meaning.proofs.Typed.{is_real, no_reals}
+use Rattle.table_meaning.proofs.TypedRows.{typed}
 
 -- ---- numbers in columns
 
@@ -48,34 +47,14 @@ whole_is (Real x) is = absurd (true≢false (sym is))
 whole_is (Text t) is = absurd (true≢false (sym is))
 whole_is (Blob b) is = absurd (true≢false (sym is))
 
--- the first two columns of each row are numbers or texts
-abbrev is_plain : Value → Bool
-is_plain (Int n) = true
-is_plain (Text t) = true
-is_plain _ = false
-
-same_number : (v : Value) (n : ℕ) → is_plain v ≡ true → equal Binary v (whole n) ≡ true → v ≡ whole n
+-- what equals a number is it, unless it is a float
+same_number : (v : Value) (n : ℕ) → is_real v ≡ false → equal Binary v (whole n) ≡ true → v ≡ whole n
 unfolding value_cmp binary
-same_number (Int m) n cell same = ap Int (same_int m (pos n) (sym (at_ints false Eq m (pos n)) ∙ same))
-same_number (Text t) n cell same = absurd (true≢false (sym same))
-same_number Null n cell same = absurd (true≢false (sym cell))
-same_number (Real x) n cell same = absurd (true≢false (sym cell))
-same_number (Blob b) n cell same = absurd (true≢false (sym cell))
-
-plain_setting : (v : SettingValue) → is_plain (setting_value v) ≡ true
-plain_setting (Number n) = refl
-plain_setting (Word w) = refl
-
-plain_columns : (s : StoredRow) → (is_plain (column (columns_of s) 0) ≡ true) × (is_plain (column (columns_of s) 1) ≡ true)
-plain_columns (stored.Setting r) = (refl, plain_setting r.value)
-plain_columns (stored.Account r) = (refl, refl)
-plain_columns (stored.App r) = (refl, refl)
-plain_columns (stored.Version r) = (refl, refl)
-plain_columns (stored.Unit r) = (refl, refl)
-plain_columns (stored.Host r) = (refl, refl)
-plain_columns (stored.Instance r) = (refl, refl)
-plain_columns (stored.Kept r) = (refl, refl)
-plain_columns (stored.Batch r) = (refl, refl)
+same_number (Int m) n other same = ap Int (same_int m (pos n) (sym (at_ints false Eq m (pos n)) ∙ same))
+same_number (Text t) n other same = absurd (true≢false (sym same))
+same_number Null n other same = absurd (true≢false (sym same))
+same_number (Blob b) n other same = absurd (true≢false (sym same))
+same_number (Real x) n other same = absurd (true≢false other)
 
 -- ---- rows with a place
 
@@ -121,8 +100,8 @@ module _ (db : Database) (contents : Contents) (holds : Hold db contents) (place
           let second = and_parts _ _ first.1 in
           record {
             here = has.0;
-            unit = same_number (column r 1) p.unit (ap (λ (c : Row). is_plain (column c 0)) shows ∙ (plain_columns row).0) first.0;
-            number = same_number (column r 2) p.number (ap (λ (c : Row). is_plain (column c 1)) shows ∙ (plain_columns row).1) second.0;
+            unit = same_number (column r 1) p.unit (ap (λ (c : Row). is_real (column c 0)) shows ∙ no_reals _ (columns_of row) (typed row) 0) first.0;
+            number = same_number (column r 2) p.number (ap (λ (c : Row). is_real (column c 1)) shows ∙ no_reals _ (columns_of row) (typed row) 1) second.0;
             row = row;
             stands = some;
             shows = shows;

@@ -13,7 +13,7 @@ use Rattle.table_meaning.specs.declared.tables.TableName.TheVariants.{Instance}
 use Rattle.table_meaning.specs.Schema.{stored_schema}
 use Rattle.table_meaning.specs.Rows.{places_of}
 use Rattle.table_meaning.specs.Places.{by_place, instance_query, within_text, held_text, owned_text, queued_text, sent_text, due_text, within_terms, held_terms, owned_terms, queued_terms, sent_terms, due_terms}
-use Rattle.table_meaning.proofs.ReadTexts.{names_of}
+use Rattle.table_meaning.proofs.ByComputing.{names_of}
 
 -- no limit, and one of so many rows
 abbrev pub all : Term

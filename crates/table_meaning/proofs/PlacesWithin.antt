@@ -97,14 +97,7 @@ same_instance i row same = turn row (sym (ap is_instance same) ∙ shows_instanc
   where
     turn : (s : StoredRow) → is_instance (columns_of s) ≡ true → columns_of (stored.Instance i) ≡ columns_of s → stored.Instance i ≡ s
     turn (stored.Instance j) is e = ap stored.Instance (sym (instance_back i) ∙ ap instance_in e ∙ instance_back j)
-    turn (stored.Setting r) is e = absurd (true≢false (sym is))
-    turn (stored.Account r) is e = absurd (true≢false (sym is))
-    turn (stored.App r) is e = absurd (true≢false (sym is))
-    turn (stored.Version r) is e = absurd (true≢false (sym is))
-    turn (stored.Unit r) is e = absurd (true≢false (sym is))
-    turn (stored.Host r) is e = absurd (true≢false (sym is))
-    turn (stored.Kept r) is e = absurd (true≢false (sym is))
-    turn (stored.Batch r) is e = absurd (true≢false (sym is))
+    turn _ is e = absurd (true≢false (sym is))
 
 abbrev head_or : {X : Type 0} → X → List X → X
 head_or d [] = d

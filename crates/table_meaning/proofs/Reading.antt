@@ -1,10 +1,11 @@
 -- A read of a whole table shows its rows in the order of its tree.
-use Rattle.std.proofs.Common.{◌≡◌, ℕ, ℤ, Bool, true, List, [], ◌∷◌, map, map-id, drop, filter, find, slice_get, Option, Some, None, option_map, refl, sym, ap, ap₂, subst, ◌∙◌, Less}
-use Rattle.std.specs.List.{AllByRecursion, list_all}
+use Rattle.std.proofs.Common.{◌≡◌, ℕ, ◌+◌, ℤ, Bool, true, ◌&&◌, List, [], ◌∷◌, map, map-id, drop, filter, find, length, slice_get, Option, Some, None, option_map, refl, sym, ap, ap₂, subst, ◌∙◌, Less}
+use Rattle.std.specs.List.{AllByRecursion, list_all, range_with_len}
+use Rattle.std.proofs.lemmas.List.{length-map}
 use Rattle.std.proofs.lemmas.Option.{slice_get-map}
-use Rattle.sqlite_value.specs.declared.value.Value.TheVariants.{Null, Int, Text}
+use Rattle.sqlite_value.specs.declared.value.Value.TheVariants.{Null, Int}
 use Rattle.sqlite_value.specs.Order.{Row, column, value_cmp}
-use Rattle.sqlite_value.specs.Keys.{first_key}
+use Rattle.sqlite_value.specs.Keys.{plain, first_key}
 use Rattle.sqlite_value.proofs.OrderLemmas.{value_cmp-Int}
 use Rattle.sqlite_trees.specs.declared.store.Shape.TheVariants.{Table as TableTree}
 use Rattle.sqlite_trees.specs.Tree.{Trees, rowid, IsTable}
@@ -13,6 +14,8 @@ use Rattle.sqlite_sql.specs.Term.{Term, col, holds}
 use Rattle.sqlite_sql.specs.Program.{overlay}
 use Rattle.sqlite_sql.specs.Query.{Query, IsAnswer}
 use Rattle.sqlite_schema.specs.declared.command.Command.TheVariants.{Select}
+use Rattle.sqlite_schema.specs.Rules.{agree, equal}
+use Rattle.sqlite_value.specs.declared.keys.Collation.TheVariants.{Binary}
 use Rattle.sqlite_rules.specs.Edit.{id_in}
 use Rattle.sqlite_rules.proofs.TableLemmas.{int_is}
 use Rattle.sqlite_keyed.specs.Keyed.{IsKeyedBy}
@@ -23,16 +26,18 @@ use Rattle.sqlite_typed.proofs.TestLemmas.{last_key}
 use Rattle.sqlite.specs.State.{State, Shown}
 use Rattle.sqlite.proofs.Callers.{reads_as}
 use Rattle.table_meaning.specs.declared.tables.TableName.{TableName}
-use Rattle.table_meaning.specs.declared.tables.TableName.TheVariants.{Setting, Account, App, Version, Unit, Host, Instance, Kept, Batch}
+use Rattle.table_meaning.specs.declared.tables.TableName.TheVariants.{Unit}
 use Rattle.table_meaning.specs.Schema.{stored_schema}
-use Rattle.table_meaning.specs.Texts.{read_text}
-use Rattle.table_meaning.specs.Rows.{tree_of, places_of, key_places, shown, rows_in, whole, RowKey, unit_key, host_key, instance_key, kept_key, batch_key, table_at, has_key, look_up}
+use Rattle.table_meaning.specs.Texts.{read_text, key_text}
+use Rattle.table_meaning.specs.Rows.{tree_of, places_of, key_places, shown, rows_in, whole, RowKey, unit_key, table_at, key_columns, has_key, look_up}
 use Rattle.table_meaning.specs.Reads.{read_query}
-use Rattle.table_meaning.specs.ByKey.{kept_text, batch_text, unit_text, host_text, instance_text, status_text, status_in, key_tests, key_query}
+use Rattle.table_meaning.specs.ByKey.{status_text, status_in, key_tests, key_query}
 use Rattle.table_meaning.specs.Formats.{columns_in}
 use Rattle.table_meaning.specs.Holding.{AreKnown}
-use Rattle.table_meaning.proofs.ReadTexts.{names_of, each_is_read}
-use Rattle.table_meaning.proofs.ByKey.{IsReadByKey, kept_is_read, batch_is_read, unit_is_read, host_is_read, instance_is_read, status_is_read}
+use Rattle.table_meaning.proofs.ByComputing.{names_of, computed}
+use Rattle.table_meaning.proofs.ByKey.{status_is_read}
+use Rattle.table_meaning.proofs.FormatLemmas.{whole_row as whole_columns}
+use Rattle.table_meaning.proofs.Keys.{key_is}
 
 -- a row of a tree as its number and its columns
 abbrev pub Numbered : Type 0
@@ -72,19 +77,11 @@ module _ (db : Trees) (tree : ℕ) (terms : List Term) (places : List ℕ) (para
       sym (map-id rows) ∙ found ∙ sym (map-map show as_row (filter (λ n. p (as_row n)) xs)) ∙ ap (map show) (sym (filter-map p as_row xs)) ∙ sym (ap (λ l. map show (filter p l)) is)
 
 pub own_rows : (t : TableName) (db : Trees) → overlay db [] (tree_of t) ≡ db (tree_of t)
-own_rows Setting db = refl
-own_rows Account db = refl
-own_rows App db = refl
-own_rows Version db = refl
-own_rows Unit db = refl
-own_rows Host db = refl
-own_rows Instance db = refl
-own_rows Kept db = refl
-own_rows Batch db = refl
+own_rows t = (computed t).own
 
 pub shown_rows : (t : TableName) (old new : State) → AreKnown old.now → (rows : List Row) → Shown (read_text t) [] old new rows → rows ≡ rows_in old.now.trees t
 shown_rows t old new known rows h =
-    let meaning = each_is_read t in
+    let meaning = (computed t).reads in
     let read = reads_as (read_text t) [] old new stored_schema known.schema (Select (record { lets = []; body = read_query (tree_of t) (places_of t) }) (names_of t)) meaning.0 meaning.1 meaning.2 rows h in
     passing_rows old.now.trees (tree_of t) [] (places_of t) [] (λ _. true) (own_rows t old.now.trees) (known.ordered t) (λ _. refl) rows (read.answer Null) ∙ ap (map (shown t)) (unfiltered (old.now.trees (tree_of t)) refl)
 
@@ -102,39 +99,28 @@ kept_same : (show same : Row → Row) → ((r : Row) → same (show r) ≡ show 
 kept_same show same is None = refl
 kept_same show same is (Some r) = ap Some (is r)
 
--- all columns of what a text shows first are those of the row at a key
-abbrev pub ShowsAt : List ℕ → Row → ℕ → RowKey → Type 1
-ShowsAt text params count key = (old new : State) → AreKnown old.now → (rows : List Row) → Shown text params old new rows → option_map (λ r. columns_in r count) (slice_get rows 0) ≡ look_up old.now.trees key
+-- all columns of what the text shows first are those of the row at the key
+abbrev pub ShowsAt : RowKey → Type 1
+ShowsAt key =
+    (old new : State) → AreKnown old.now → (rows : List Row) → Shown (key_text (table_at key)) (key_columns key) old new rows
+    → option_map (λ r. columns_in r (length (places_of (table_at key)))) (slice_get rows 0) ≡ look_up old.now.trees key
 
--- the text, given the key as parameters, shows all columns of the row that stands there
-module _ (key : RowKey) (text : List ℕ) (params : Row) (count : ℕ) (meaning : IsReadByKey (table_at key) text) (tests : (n : Numbered) → list_all (holds (params ∷ as_row n ∷ [])) (key_tests 0 (key_places (table_at key))) ≡ has_key key (as_row n))
-    (same : (r : Row) → columns_in (shown (table_at key) r) count ≡ shown (table_at key) r) where
-  row_shown_at : ShowsAt text params count key
-  row_shown_at old new known rows h =
-      let t = table_at key in
-      let read = reads_as text params old new stored_schema known.schema _ meaning.0 meaning.1 meaning.2 rows h in
-      let found = key_rows old.now.trees (tree_of t) (key_places t) (places_of t) params (has_key key) (own_rows t old.now.trees) (known.ordered t) tests rows (read.answer Null) in
-      ap (option_map (λ r. columns_in r count)) found ∙ kept_same _ (λ r. columns_in r count) same _
-
-pub kept_shown_at : (host : ℕ) → ShowsAt kept_text (whole host ∷ []) 4 (kept_key host)
+-- the terms that ask for a key are SQL's comparison of its columns
+tests_key : (places : List ℕ) (slot : ℕ) (params row : Row) → list_all (holds (params ∷ row ∷ [])) (key_tests slot places) ≡ agree plain places row (range_with_len slot (length places)) params
 unfolding first_key
-kept_shown_at host = row_shown_at (kept_key host) kept_text (whole host ∷ []) 4 kept_is_read (λ n. refl) (λ r. refl)
+tests_key [] slot params row = refl
+tests_key (place ∷ places) slot params row = ap (λ b. equal Binary (column row place) (column params slot) && b) (tests_key places (slot + 1) params row)
 
-pub batch_shown_at : (kind name : List ℕ) → ShowsAt batch_text (Text kind ∷ Text name ∷ []) 4 (batch_key kind name)
-unfolding first_key
-batch_shown_at kind name = row_shown_at (batch_key kind name) batch_text (Text kind ∷ Text name ∷ []) 4 batch_is_read (λ n. refl) (λ r. refl)
-
-pub unit_shown_at : (unit : ℕ) → ShowsAt unit_text (whole unit ∷ []) 14 (unit_key unit)
-unfolding first_key
-unit_shown_at unit = row_shown_at (unit_key unit) unit_text (whole unit ∷ []) 14 unit_is_read (λ n. refl) (λ r. refl)
-
-pub host_shown_at : (host : ℕ) → ShowsAt host_text (whole host ∷ []) 10 (host_key host)
-unfolding first_key
-host_shown_at host = row_shown_at (host_key host) host_text (whole host ∷ []) 10 host_is_read (λ n. refl) (λ r. refl)
-
-pub instance_shown_at : (unit number : ℕ) → ShowsAt instance_text (whole unit ∷ whole number ∷ []) 10 (instance_key unit number)
-unfolding first_key
-instance_shown_at unit number = row_shown_at (instance_key unit number) instance_text (whole unit ∷ whole number ∷ []) 10 instance_is_read (λ n. refl) (λ r. refl)
+-- given the key as parameters, the text of its table shows all columns of the row that stands there
+pub row_shown_at : (key : RowKey) → ShowsAt key
+row_shown_at key old new known rows h =
+    let t = table_at key in
+    let count = length (places_of t) in
+    let meaning = (computed t).reads_key in
+    let read = reads_as (key_text t) (key_columns key) old new stored_schema known.schema _ meaning.0 meaning.1 meaning.2 rows h in
+    let tests = λ (n : Numbered). tests_key (key_places t) 0 (key_columns key) (as_row n) ∙ ap (λ width. agree plain (key_places t) (as_row n) (range_with_len 0 width) (key_columns key)) (key_is key).2 in
+    let found = key_rows old.now.trees (tree_of t) (key_places t) (places_of t) (key_columns key) (has_key key) (own_rows t old.now.trees) (known.ordered t) tests rows (read.answer Null) in
+    ap (option_map (λ r. columns_in r count)) found ∙ kept_same _ (λ r. columns_in r count) (λ r. whole_columns (shown t r) count (length-map (places_of t) (column r))) _
 
 -- ---- some of its columns
 
@@ -148,5 +134,5 @@ pub status_shown_at : (unit : ℕ) (old new : State) → AreKnown old.now → (r
 unfolding first_key
 status_shown_at unit old new known rows h =
     let read = reads_as status_text (whole unit ∷ []) old new stored_schema known.schema _ status_is_read.0 status_is_read.1 status_is_read.2 rows h in
-    let found = key_rows old.now.trees 8 (0 ∷ []) (14 ∷ []) (whole unit ∷ []) (has_key (unit_key unit)) refl (known.ordered Unit) (λ n. refl) rows (read.answer Null) in
+    let found = key_rows old.now.trees (tree_of Unit) (key_places Unit) (14 ∷ []) (whole unit ∷ []) (has_key (unit_key unit)) refl (known.ordered Unit) (λ n. refl) rows (read.answer Null) in
     ap (option_map (λ r. column r 0)) found ∙ picked _ _ (λ r. column r 0) status_in (λ r. refl) _

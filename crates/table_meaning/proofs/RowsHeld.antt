@@ -1,19 +1,19 @@
 -- What stands at a key, where a table was read as typed rows.
-use Rattle.std.proofs.Common.{◌≡◌, ◌⊎◌, ℕ, Bool, true, false, ◌&&◌, cond, List, [], ◌∷◌, map, find, take, Option, Some, None, option_map, refl, sym, ap, subst, ◌∙◌, inl, inr, true≢false}
-use Rattle.std.specs.Prelude.{◌==◌, if◌then◌else◌, unwrap_or}
+use Rattle.std.proofs.Common.{◌≡◌, ◌⊎◌, Bool, true, false, ◌&&◌, cond, List, [], ◌∷◌, map, find, Option, Some, None, option_map, refl, sym, ap, subst, ◌∙◌, inl, inr, true≢false}
+use Rattle.std.specs.Prelude.{unwrap_or}
 use Rattle.std.proofs.lemmas.Bool.{eq-eqb}
 use Rattle.std.proofs.lemmas.Option.{none-some}
-use Rattle.sqlite_value.specs.Order.{Row, column}
+use Rattle.sqlite_value.specs.Order.{Row}
 use Rattle.sqlite_value.specs.Keys.{plain}
 use Rattle.sqlite_trees.specs.Tree.{Trees}
 use Rattle.sqlite_schema.specs.Rules.{agree}
 use Rattle.sqlite_rules.specs.Lists.{Has}
 use Rattle.table_meaning.specs.declared.tables.TableName.{TableName}
 use Rattle.table_meaning.specs.declared.rows.StoredRow.{StoredRow}
-use Rattle.table_meaning.specs.declared.rows.StoredRow.TheVariants.{Setting, Account, App, Version, Unit, Host, Instance, Kept, Batch}
 use Rattle.table_meaning.specs.Rows.{tree_of, key_places, shown, rows_in, columns_of, RowKey, table_at, key_columns, key_of, slots_of, has_key, same_key, look_up}
 use Rattle.table_meaning.proofs.PutRows.{agree_from}
 use Rattle.table_meaning.proofs.Keys.{one_key, key_itself}
+use Rattle.table_meaning.proofs.TypedRows.{row_key_shown}
 
 -- ---- lists
 
@@ -37,27 +37,13 @@ source f [] y has = absurd has
 source f (x ∷ xs) y (inl same) = (x, inl refl, same)
 source f (x ∷ xs) y (inr later) = let more = source f xs y later in (more.0, inr more.1, more.2)
 
--- ---- a row shows its key first
-
-key_shown : (s : StoredRow) (raw : Row) → shown (table_at (key_of s)) raw ≡ columns_of s
-    → map (column raw) (key_places (table_at (key_of s))) ≡ map (column (key_columns (key_of s))) (slots_of (key_of s))
-key_shown (Setting r) raw is = ap (take 1) is
-key_shown (Account r) raw is = ap (take 1) is
-key_shown (App r) raw is = ap (take 1) is
-key_shown (Version r) raw is = ap (take 1) is
-key_shown (Unit r) raw is = ap (take 1) is
-key_shown (Host r) raw is = ap (take 1) is
-key_shown (Instance r) raw is = ap (take 2) is
-key_shown (Kept r) raw is = ap (take 1) is
-key_shown (Batch r) raw is = ap (take 2) is
+-- ---- what stands at a key
 
 pub has_key_is : (s : StoredRow) (raw : Row) (key : RowKey) → shown (table_at (key_of s)) raw ≡ columns_of s → table_at key ≡ table_at (key_of s) → has_key key raw ≡ same_key key (key_of s)
 has_key_is s raw key is same =
     ap (λ t. agree plain (key_places t) raw (slots_of key) (key_columns key)) same
-    ∙ agree_from plain (key_places (table_at (key_of s))) (slots_of (key_of s)) (slots_of key) raw (key_columns (key_of s)) (key_columns key) (key_shown s raw is)
+    ∙ agree_from plain (key_places (table_at (key_of s))) (slots_of (key_of s)) (slots_of key) raw (key_columns (key_of s)) (key_columns key) (row_key_shown s raw is)
     ∙ sym (ap (λ b. b && agree plain (slots_of (key_of s)) (key_columns (key_of s)) (slots_of key) (key_columns key)) (eq-eqb (tree_of (table_at key)) (tree_of (table_at (key_of s))) (ap tree_of same)))
-
--- ---- what stands at a key
 
 module _ (trees : Trees) (t : TableName) (rows : List StoredRow) (read : map columns_of rows ≡ rows_in trees t) (of_table : (r : StoredRow) → Has rows r → table_at (key_of r) ≡ t) where
   -- a row of the tree is one that was read, and the other way round

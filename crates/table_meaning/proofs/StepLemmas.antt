@@ -19,18 +19,18 @@ use Rattle.sqlite.specs.Held.{Held, state}
 use Rattle.sqlite.specs.State.{State, HasCleanDisk, IsUnchanged, IsRolledBack, KeepsCommit, Survives, Writes, Executes, ExecutesInside, Fails, IsNotRun, FailsToQuery, FailsToShow, Shown, ShowsRows, IsTooLate, mode_of}
 use Rattle.sqlite.proofs.Callers.{runs_as, survives_begin}
 use Rattle.sqlite.proofs.StateLemmas.{survives_then}
-use Rattle.table_meaning.specs.declared.tables.TableName.{TableName}
-use Rattle.table_meaning.specs.declared.tables.TableName.TheVariants.{Setting, Account, App, Version, Unit, Host, Instance, Kept, Batch}
+use Rattle.table_meaning.specs.declared.tables.TableName.TheVariants.{Instance}
 use Rattle.table_meaning.specs.declared.rows.StoredRow.{StoredRow}
-use Rattle.table_meaning.specs.Schema.{no_schema, stored_schema, instance_table}
+use Rattle.table_meaning.specs.Schema.{no_schema, stored_schema, table_by, place_of}
 use Rattle.table_meaning.specs.Texts.{Made, made_table, made_index, definitions, definition_texts, put_text}
 use Rattle.table_meaning.specs.Making.{with_made, MakeInTurn, IsLeft}
-use Rattle.table_meaning.specs.Rows.{tree_of, columns_of}
+use Rattle.table_meaning.specs.Rows.{table_of, columns_of}
 use Rattle.table_meaning.specs.Holding.{Contents, Hold, with_row, with_rows}
 use Rattle.table_meaning.specs.Reads.{Reads}
 use Rattle.table_meaning.specs.Steps.{Moves, AreNew}
 use Rattle.table_meaning.proofs.Definitions.{definitions_make, definitions_whole}
-use Rattle.table_meaning.proofs.Putting.{table_of}
+use Rattle.table_meaning.proofs.EachTable.{of_each}
+use Rattle.table_meaning.proofs.TypedRows.{typed}
 use Rattle.table_meaning.proofs.PutFacts.{facts}
 use Rattle.table_meaning.proofs.LookUps.{hold_put}
 
@@ -48,7 +48,7 @@ moved_more a b c rows row first one =
     record { inside = one.inside; puts = λ contents holds. subst (Hold c.now) (sym (rows_and_one contents rows row)) (one.puts (with_rows contents rows) (first.puts contents holds)) }
 
 pub row_moved : (row : StoredRow) (old new : State) (count : ℕ) → ExecutesInside 0 (put_text (table_of row)) (columns_of row) old new (Ok count) → Moves old new (row ∷ [])
-row_moved row old new count h = record { inside = h.1.mode; puts = λ contents holds. hold_put row (facts row) old new holds.known count h.0 contents holds }
+row_moved row old new count h = record { inside = h.1.mode; puts = λ contents holds. hold_put row (facts _ _ (typed row)) old new holds.known count h.0 contents holds }
 
 -- ---- nothing is committed on the way
 
@@ -177,10 +177,10 @@ table_more text table more old after new left it counts =
     subst (IsLeft more) (sym now) (left_with old after text (made_table table) more left schema empty)
 
 index_more : (text : List ℕ) (index : Index) (more : List (List ℕ × Made)) (old new : Database) → IsLeft ((text, made_index index) ∷ more) old
-    → CreatesIndex old.schema instance_table text old.trees new.schema new.trees → IsLeft more new
+    → CreatesIndex old.schema (table_by Instance) text old.trees new.schema new.trees → IsLeft more new
 index_more text index more old new left it =
     let index_is = same_value (sym it.defined ∙ left.makes.0.2) in
-    left_with old new text (made_index index) more left (it.is ∙ ap (indexed old.schema instance_table) index_is) (still_empty old.schema.tables old.trees new.trees left.empty it.rows)
+    left_with old new text (made_index index) more left (it.is ∙ ap (indexed old.schema (table_by Instance)) index_is) (still_empty old.schema.tables old.trees new.trees left.empty it.rows)
 
 pub made_more : (text : List ℕ) (made : Made) (more : List (List ℕ × Made)) (old new : State) (count : ℕ) → IsLeft ((text, made) ∷ more) old.now → Executes text [] old new (Ok count) → IsLeft more new.now
 made_more text (made_table table) more old new count left h =
@@ -190,10 +190,10 @@ made_more text (made_table table) more old new count left h =
     let now : new.now ≡ all.0 = ap (λ (p : Tally × Database). p.1) (same_value all.2) in
     table_more text table more old.now first.0 new.now left first.1 (subst (λ d. MakesSequence first.0 (Ok d)) (sym now) first.2)
 made_more text (made_index index) more old new count left h =
-    let w = subst (λ t. Writes old new None (CreateIndex 6) t [] count) left.makes.1 (runs_as text [] old new old.now.schema refl (CreateIndex 6) left.makes.0.0 left.makes.2 count h) in
+    let w = subst (λ t. Writes old new None (CreateIndex (place_of Instance)) t [] count) left.makes.1 (runs_as text [] old new old.now.schema refl (CreateIndex (place_of Instance)) left.makes.0.0 left.makes.2 count h) in
     let all = went (subst (λ o. AtPlace (λ table. Defines (mode_of old) (MakesIndex text old.now table)) o (Ok (w.tally, new.now))) left.makes.0.1 w.changed) in
     let now : new.now ≡ all.0 = ap (λ (p : Tally × Database). p.1) (same_value all.2) in
-    index_more text index more old.now new.now left (subst (λ d. CreatesIndex old.now.schema instance_table text old.now.trees d.schema d.trees) (sym now) all.1)
+    index_more text index more old.now new.now left (subst (λ d. CreatesIndex old.now.schema (table_by Instance) text old.now.trees d.schema d.trees) (sym now) all.1)
 
 pub none_made : (db : Database) → db.schema ≡ no_schema → IsLeft definitions db
 none_made db none = record {
@@ -218,15 +218,4 @@ defined_more at text old new count within is left h =
 pub all_made : (db : Database) → IsLeft [] db → AreNew db
 all_made db left =
     let empty = subst (λ s. AllByRecursion (λ t. db.trees t.tree ≡ []) s.tables) left.whole left.empty in
-    record { schema = left.whole; empty = λ t. none_in t empty }
-  where
-    none_in : (t : TableName) → AllByRecursion (λ t'. db.trees t'.tree ≡ []) stored_schema.tables → db.trees (tree_of t) ≡ []
-    none_in Setting all = all.0
-    none_in Account all = all.1.0
-    none_in App all = all.1.1.0
-    none_in Version all = all.1.1.1.0
-    none_in Unit all = all.1.1.1.1.0
-    none_in Host all = all.1.1.1.1.1.0
-    none_in Instance all = all.1.1.1.1.1.1.0
-    none_in Kept all = all.1.1.1.1.1.1.1.0
-    none_in Batch all = all.1.1.1.1.1.1.1.1.0
+    record { schema = left.whole; empty = of_each (λ t. db.trees t.tree ≡ []) empty }

@@ -2,6 +2,8 @@ pub mod ByKey
 pub mod Formats
 pub mod Holding
 pub mod Kept
+pub mod Kinds
+pub mod Layouts
 pub mod Listings
 pub mod Making
 pub mod Places

@@ -10,18 +10,21 @@ use Rattle.sqlite.specs.Does.{lacks_sequence}
 use Rattle.sqlite.specs.Given.{IsPlain}
 use Rattle.sqlite.specs.Listing.{understood}
 use Rattle.sqlite.proofs.Callers.{command_of, statement_of}
-use Rattle.table_meaning.specs.Schema.{instance_table, stored_schema}
+use Rattle.table_meaning.specs.declared.tables.TableName.TheVariants.{Instance}
+use Rattle.table_meaning.specs.Schema.{table_by, place_of, stored_schema}
 use Rattle.table_meaning.specs.Texts.{Made, made_table, made_index}
 
 abbrev pub with_made : Schema → Made → Schema
 with_made schema (made_table table) = created schema table
-with_made schema (made_index index) = indexed schema instance_table index
+with_made schema (made_index index) = indexed schema (table_by Instance) index
 
 -- at this schema the text makes just that
 abbrev pub Makes : Schema → List ℕ → Made → Type 0
 Makes schema text (made_table table) =
     (command_of (understood schema text) ≡ CreateTable) × (table_defined_by text ≡ Ok (record table { tree = 0 })) × (lacks_sequence (created schema table) ≡ false)
-Makes schema text (made_index index) = (command_of (understood schema text) ≡ CreateIndex 6) × (slice_get schema.tables 6 ≡ Some instance_table) × (index_defined_by instance_table text ≡ Ok (record index { tree = 0 }))
+Makes schema text (made_index index) =
+    (command_of (understood schema text) ≡ CreateIndex (place_of Instance)) × (slice_get schema.tables (place_of Instance) ≡ Some (table_by Instance))
+    × (index_defined_by (table_by Instance) text ≡ Ok (record index { tree = 0 }))
 
 -- each in turn, at the schema that those before it made
 abbrev pub MakeInTurn : Schema → List (List ℕ × Made) → Type 0

@@ -14,42 +14,19 @@ use Rattle.table_meaning.specs.declared.rows.SettingValue.{SettingValue}
 use Rattle.table_meaning.specs.declared.rows.SettingValue.TheVariants.{Number, Word}
 use Rattle.table_meaning.specs.declared.rows.StoredRow.{StoredRow}
 use Rattle.table_meaning.specs.declared.rows.StoredRow.TheVariants.{Setting, Account, App, Version, Unit, Host, Instance, Kept, Batch}
+use Rattle.table_meaning.specs.Layouts.{layout_of, places_in, of_key}
 
 -- the tree of a table's rows
 abbrev pub tree_of : TableName → ℕ
-tree_of table.Setting = 0
-tree_of table.Account = 2
-tree_of table.App = 4
-tree_of table.Version = 6
-tree_of table.Unit = 8
-tree_of table.Host = 10
-tree_of table.Instance = 12
-tree_of table.Kept = 14
-tree_of table.Batch = 15
+tree_of t = (layout_of t).tree
 
 -- Where a row of the tree has the columns, in order. At place 0 it has its number, which is the first column of most tables.
 abbrev pub places_of : TableName → List ℕ
-places_of table.Setting = 1 ∷ 2 ∷ []
-places_of table.Account = 0 ∷ 2 ∷ 3 ∷ []
-places_of table.App = 0 ∷ 2 ∷ 3 ∷ []
-places_of table.Version = 0 ∷ 2 ∷ 3 ∷ 4 ∷ []
-places_of table.Unit = 0 ∷ 2 ∷ 3 ∷ 4 ∷ 5 ∷ 6 ∷ 7 ∷ 8 ∷ 9 ∷ 10 ∷ 11 ∷ 12 ∷ 13 ∷ 14 ∷ []
-places_of table.Host = 0 ∷ 2 ∷ 3 ∷ 4 ∷ 5 ∷ 6 ∷ 7 ∷ 8 ∷ 9 ∷ 10 ∷ []
-places_of table.Instance = 1 ∷ 2 ∷ 3 ∷ 4 ∷ 5 ∷ 6 ∷ 7 ∷ 8 ∷ 9 ∷ 10 ∷ []
-places_of table.Kept = 0 ∷ 2 ∷ 3 ∷ 4 ∷ []
-places_of table.Batch = 1 ∷ 2 ∷ 3 ∷ 4 ∷ []
+places_of t = places_in (layout_of t)
 
 -- where it has its key
 abbrev pub key_places : TableName → List ℕ
-key_places table.Setting = 1 ∷ []
-key_places table.Account = 0 ∷ []
-key_places table.App = 0 ∷ []
-key_places table.Version = 0 ∷ []
-key_places table.Unit = 0 ∷ []
-key_places table.Host = 0 ∷ []
-key_places table.Instance = 1 ∷ 2 ∷ []
-key_places table.Kept = 0 ∷ []
-key_places table.Batch = 1 ∷ 2 ∷ []
+key_places t = of_key (layout_of t) (places_of t)
 
 -- the columns that a row of the tree shows
 abbrev pub shown : TableName → Row → Row
@@ -67,17 +44,6 @@ whole n = Int (pos n)
 abbrev pub setting_value : SettingValue → Value
 setting_value (Number n) = whole n
 setting_value (Word w) = Text w
-
-abbrev pub table_of : StoredRow → TableName
-table_of (Setting s) = table.Setting
-table_of (Account a) = table.Account
-table_of (App a) = table.App
-table_of (Version v) = table.Version
-table_of (Unit u) = table.Unit
-table_of (Host h) = table.Host
-table_of (Instance i) = table.Instance
-table_of (Kept k) = table.Kept
-table_of (Batch b) = table.Batch
 
 abbrev pub columns_of : StoredRow → Row
 columns_of (Setting s) = Text s.name ∷ setting_value s.value ∷ []
@@ -164,6 +130,9 @@ key_of (Host h) = host_key h.id
 key_of (Instance i) = instance_key i.unit_id i.num
 key_of (Kept k) = kept_key k.host_id
 key_of (Batch b) = batch_key b.kind b.name
+
+abbrev pub table_of : StoredRow → TableName
+table_of row = table_at (key_of row)
 
 abbrev pub slots_of : RowKey → List ℕ
 slots_of key = range_with_len 0 (length (key_columns key))

@@ -1,157 +1,155 @@
--- The nine tables of the stored format, their automatic indexes and four indexes. Columns, keys and references are those of the CREATE texts.
-use Rattle.std.specs.Prelude.{ℕ, ◌+◌, Bool, true, false, List, [], ◌∷◌, ◌++◌, map, codes, Option, Some, None}
+-- The schema of the stored tables as SQL has it, by their layouts. A schema is the front of one list of tables and indexes; what is new stands behind all that is there.
+use Rattle.std.specs.Prelude.{ℕ, ◌+◌, Bool, true, false, not, ◌&&◌, ◌||◌, ◌==◌, if◌then◌else◌, List, [], ◌∷◌, map, take, zip, filter_map, flat_map, codes, slice_index, Some, None, option_map}
+use Rattle.std.specs.List.{enumerate_from, position_or_len}
 use Rattle.sqlite_value.specs.declared.value.Value.TheVariants.{Null}
 use Rattle.sqlite_value.specs.declared.keys.Collation.TheVariants.{Binary}
 use Rattle.sqlite_value.specs.Keys.{plain}
-use Rattle.sqlite_schema.specs.declared.schema.Kind.{Kind}
-use Rattle.sqlite_schema.specs.declared.schema.Kind.TheVariants.{Integer, Text, Blob, Any}
+use Rattle.sqlite_schema.specs.declared.schema.Kind.{Kind as SqlKind}
+use Rattle.sqlite_schema.specs.declared.schema.Kind.TheVariants as sql
 use Rattle.sqlite_schema.specs.declared.schema.Action.TheVariants.{NoAction}
-use Rattle.sqlite_schema.specs.declared.schema.Column.{Column}
+use Rattle.sqlite_schema.specs.declared.schema.Column.{Column as SqlColumn}
 use Rattle.sqlite_schema.specs.declared.schema.Reference.{Reference}
 use Rattle.sqlite_schema.specs.declared.schema.Table.{Table}
 use Rattle.sqlite_schema.specs.declared.schema.Index.{Index}
 use Rattle.sqlite_schema.specs.declared.schema.Schema.{Schema}
 use Rattle.sqlite_catalog.specs.Change.{automatics}
+use Rattle.table_meaning.specs.declared.tables.TableName.{TableName}
+use Rattle.table_meaning.specs.declared.tables.TableName.TheVariants.{Setting, Account, App, Version, Unit, Host, Instance, Kept, Batch}
+use Rattle.table_meaning.specs.Kinds.{Kind, number, integer, words, flag, octets, optional, either}
+use Rattle.table_meaning.specs.Layouts.{Column, Key, numbered, by_first, Layout, layout_of, places_in, of_key}
 
-abbrev column_as : Bool → List ℕ → Kind → Column
-column_as not_null name kind = record { name = name; kind = kind; is_strict = true; not_null = not_null; default = Null; collation = Binary }
+-- ---- a table
 
--- a column that may be NULL, and one that may not
-abbrev optional : List ℕ → Kind → Column
-optional = column_as false
+abbrev pub type_of : Kind → SqlKind
+type_of number = sql.Integer
+type_of integer = sql.Integer
+type_of words = sql.Text
+type_of flag = sql.Integer
+type_of octets = sql.Blob
+type_of (optional kind) = type_of kind
+type_of (either first other) = sql.Any
 
-abbrev needed : List ℕ → Kind → Column
-needed = column_as true
+abbrev has_null : Kind → Bool
+has_null (optional kind) = true
+has_null _ = false
 
--- the column at a place refers to the key of another table
-abbrev refers : ℕ → List ℕ → Reference
-refers place parent = record { columns = place ∷ []; parent = parent; parent_columns = []; on_delete = NoAction; on_update = NoAction; is_deferred = false }
+abbrev pub is_by_number : Key → Bool
+is_by_number numbered = true
+is_by_number (by_first n) = false
 
-abbrev table : List ℕ → ℕ → List Column → Option ℕ → List ℕ → List (List ℕ) → List Reference → Table
-table name tree columns key primary uniques references = record {
-  name = name;
-  tree = tree;
-  columns = columns;
-  key = key;
-  primary = primary;
-  uniques = uniques;
-  orders = map (λ _. plain) uniques;
-  checks = [];
-  references = references;
-  computed = [];
-  stamps = record { places = []; terms = []; formats = [] };
-  is_counted = false;
-}
+-- The column at a place among the columns is NOT NULL. The number of a row is not called so, since it is never NULL.
+abbrev pub is_needed : Key → ℕ → Kind → Bool
+is_needed key at kind = not (has_null kind || (is_by_number key && (at == 0)))
 
--- a table whose first column, id or host_id, is its INTEGER PRIMARY KEY
-abbrev by_number : List ℕ → ℕ → List ℕ → List Column → List (List ℕ) → List Reference → Table
-by_number name tree number columns = table name tree (optional number Integer ∷ columns) (Some 0) (0 ∷ [])
+abbrev pub sql_column : Key → ℕ → Column → SqlColumn
+sql_column key at c = record { name = c.name; kind = type_of c.kind; is_strict = true; not_null = is_needed key at c.kind; default = Null; collation = Binary }
 
--- a table whose rows have a number of their own beside its columns, and whose key is its first columns
-abbrev by_columns : List ℕ → ℕ → List Column → List ℕ → List Reference → Table
-by_columns name tree columns primary = table name tree columns None primary (primary ∷ [])
+abbrev pub sql_columns : Key → List Column → List SqlColumn
+sql_columns key columns = map (λ p. sql_column key p.0 p.1) (enumerate_from 0 columns)
 
-abbrev pub setting_table : Table
-setting_table = by_columns (codes "setting") 0 (needed (codes "name") Text ∷ needed (codes "value") Any ∷ []) (1 ∷ []) []
+abbrev reference_at : ℕ → TableName → Reference
+reference_at place parent = record { columns = place ∷ []; parent = (layout_of parent).name; parent_columns = []; on_delete = NoAction; on_update = NoAction; is_deferred = false }
 
-abbrev pub account_table : Table
-account_table = by_number (codes "account") 2 (codes "id") (needed (codes "auth") Text ∷ needed (codes "name") Text ∷ []) ((2 ∷ []) ∷ []) []
+-- places among the columns as places in a row of the tree
+abbrev pub in_row : Layout → List ℕ → List ℕ
+in_row l = map (slice_index (places_in l))
 
-abbrev pub app_table : Table
-app_table = by_number (codes "app") 4 (codes "id") (needed (codes "name") Text ∷ optional (codes "agreement") Integer ∷ []) ((2 ∷ []) ∷ []) []
+-- a key that is not the number of the row comes first among what tells rows apart
+abbrev pub uniques_with : Key → List ℕ → List (List ℕ) → List (List ℕ)
+uniques_with numbered key others = others
+uniques_with (by_first n) key others = key ∷ others
 
-abbrev pub version_table : Table
-version_table =
-    by_number (codes "version") 6 (codes "id") (needed (codes "app_id") Integer ∷ needed (codes "platform") Text ∷ needed (codes "num") Integer ∷ []) ((2 ∷ 3 ∷ 4 ∷ []) ∷ []) (refers 2 (codes "app") ∷ [])
+abbrev pub sql_table : Layout → Table
+sql_table l =
+    let key = of_key l (places_in l) in
+    let uniques = uniques_with l.key key (map (in_row l) l.uniques) in
+    record {
+      name = l.name;
+      tree = l.tree;
+      columns = sql_columns l.key l.columns;
+      key = if is_by_number l.key then Some 0 else None;
+      primary = key;
+      uniques = uniques;
+      orders = map (λ _. plain) uniques;
+      checks = [];
+      references = filter_map (λ p. option_map (reference_at p.0) p.1.parent) (zip (places_in l) l.columns);
+      computed = [];
+      stamps = record { places = []; terms = []; formats = [] };
+      is_counted = false;
+    }
 
-abbrev pub unit_table : Table
-unit_table =
-    by_number (codes "unit") 8 (codes "id")
-    (needed (codes "name") Text
-    ∷ needed (codes "app_id") Integer
-    ∷ needed (codes "min_quorum") Integer
-    ∷ needed (codes "target_nresults") Integer
-    ∷ needed (codes "max_error_results") Integer
-    ∷ needed (codes "max_total_results") Integer
-    ∷ needed (codes "max_success_results") Integer
-    ∷ needed (codes "delay_bound") Integer
-    ∷ needed (codes "rsc_fpops_est") Integer
-    ∷ needed (codes "rsc_memory_bound") Integer
-    ∷ needed (codes "rsc_disk_bound") Integer
-    ∷ needed (codes "credit") Integer
-    ∷ needed (codes "status") Integer
-    ∷ []) ((2 ∷ []) ∷ []) (refers 3 (codes "app") ∷ [])
+abbrev pub table_by : TableName → Table
+table_by t = sql_table (layout_of t)
 
-abbrev pub host_table : Table
-host_table =
-    by_number (codes "host") 10 (codes "id")
-    (needed (codes "account_id") Integer
-    ∷ needed (codes "cpid") Text
-    ∷ needed (codes "platforms") Text
-    ∷ needed (codes "fpops") Integer
-    ∷ needed (codes "memory") Integer
-    ∷ needed (codes "disk") Integer
-    ∷ needed (codes "quota") Integer
-    ∷ needed (codes "held") Integer
-    ∷ needed (codes "credit") Integer
-    ∷ []) ((2 ∷ 3 ∷ []) ∷ []) (refers 2 (codes "account") ∷ [])
+-- ---- an index over the instances
 
-abbrev pub instance_table : Table
-instance_table =
-    by_columns (codes "instance") 12
-    (needed (codes "unit_id") Integer
-    ∷ needed (codes "num") Integer
-    ∷ optional (codes "host_id") Integer
-    ∷ optional (codes "sent") Integer
-    ∷ optional (codes "deadline") Integer
-    ∷ needed (codes "lapse") Integer
-    ∷ optional (codes "outcome") Integer
-    ∷ optional (codes "output") Text
-    ∷ optional (codes "place") Integer
-    ∷ needed (codes "queued") Integer
-    ∷ []) (1 ∷ 2 ∷ []) (refers 1 (codes "unit") ∷ refers 3 (codes "host") ∷ [])
+pub record Indexing : Type 0 where
+  pub name : List ℕ
+  pub tree : ℕ
+  -- places among the columns of an instance
+  pub columns : List ℕ
 
-abbrev pub kept_table : Table
-kept_table =
-    by_number (codes "kept") 14 (codes "host_id") (needed (codes "seqno") Integer ∷ needed (codes "text") Text ∷ needed (codes "reply") Text ∷ []) [] (refers 0 (codes "host") ∷ [])
+abbrev pub index_by : Indexing → Index
+index_by i = record { name = i.name; tree = i.tree; table = (layout_of Instance).tree; columns = in_row (layout_of Instance) i.columns; order = plain; is_unique = false }
 
-abbrev pub batch_table : Table
-batch_table =
-    by_columns (codes "batch") 15 (needed (codes "kind") Text ∷ needed (codes "name") Text ∷ needed (codes "text") Blob ∷ needed (codes "answer") Text ∷ []) (1 ∷ 2 ∷ []) []
+-- ---- the schemas
 
--- an index over the instances
-abbrev instance_index : List ℕ → ℕ → List ℕ → Index
-instance_index name tree columns = record { name = name; tree = tree; table = 12; columns = columns; order = plain; is_unique = false }
+pub data Part : Type 0 where
+  a_table : TableName → Part
+  an_index : Indexing → Part
 
--- the waiting instances by place; those of a host by place, and by the moment of sending; all by deadline
-abbrev pub instance_queue : Index
-instance_queue = instance_index (codes "instance_queue") 17 (10 ∷ 1 ∷ 2 ∷ [])
+-- in the order in which they came
+abbrev pub parts : List Part
+parts =
+    a_table Setting
+    ∷ a_table Account
+    ∷ a_table App
+    ∷ a_table Version
+    ∷ a_table Unit
+    ∷ a_table Host
+    ∷ a_table Instance
+    ∷ a_table Kept
+    ∷ a_table Batch
+    -- the waiting instances by place
+    ∷ an_index (record { name = codes "instance_queue"; tree = 17; columns = 9 ∷ 0 ∷ 1 ∷ [] })
+    -- those of a host by place, and by the moment of sending
+    ∷ an_index (record { name = codes "instance_owner"; tree = 18; columns = 2 ∷ 0 ∷ 1 ∷ [] })
+    ∷ an_index (record { name = codes "instance_sent"; tree = 19; columns = 2 ∷ 3 ∷ [] })
+    ∷ an_index (record { name = codes "instance_deadline"; tree = 20; columns = 4 ∷ [] })
+    ∷ []
 
-abbrev pub instance_owner : Index
-instance_owner = instance_index (codes "instance_owner") 18 (3 ∷ 1 ∷ 2 ∷ [])
+-- how many of them each schema has, by its number; there is none of number 0
+abbrev sizes : List ℕ
+sizes = 0 ∷ 13 ∷ []
 
-abbrev pub instance_sent : Index
-instance_sent = instance_index (codes "instance_sent") 19 (3 ∷ 4 ∷ [])
+abbrev pub parts_at : ℕ → List Part
+parts_at schema = take (slice_index sizes schema) parts
 
-abbrev pub instance_deadline : Index
-instance_deadline = instance_index (codes "instance_deadline") 20 (5 ∷ [])
+-- the number of the schema that is worked on
+abbrev pub newest : ℕ
+newest = 1
 
--- the indexes that UNIQUE and PRIMARY KEY make, each in the tree behind its table's
-abbrev automatic_indexes : Table → List Index
-automatic_indexes t = automatics t 0 (t.tree + 1) t.uniques
+abbrev tables_in : Part → List TableName
+tables_in (a_table t) = t ∷ []
+tables_in (an_index i) = []
 
-abbrev pub stored_tables : List Table
-stored_tables = setting_table ∷ account_table ∷ app_table ∷ version_table ∷ unit_table ∷ host_table ∷ instance_table ∷ kept_table ∷ batch_table ∷ []
+-- with those that PRIMARY KEY and UNIQUE make, each in the tree behind its table's
+abbrev indexes_in : Part → List Index
+indexes_in (a_table t) = automatics (table_by t) 0 ((layout_of t).tree + 1) (table_by t).uniques
+indexes_in (an_index i) = index_by i ∷ []
+
+abbrev pub tables_at : ℕ → List TableName
+tables_at schema = flat_map tables_in (parts_at schema)
+
+abbrev pub schema_at : ℕ → Schema
+schema_at schema = record { tables = map table_by (tables_at schema); indexes = flat_map indexes_in (parts_at schema); views = [] }
 
 abbrev pub stored_schema : Schema
-stored_schema = record {
-  tables = stored_tables;
-  indexes =
-      automatic_indexes setting_table ++ automatic_indexes account_table ++ automatic_indexes app_table ++ automatic_indexes version_table ++ automatic_indexes unit_table
-      ++ automatic_indexes host_table ++ automatic_indexes instance_table ++ automatic_indexes batch_table
-      ++ instance_queue ∷ instance_owner ∷ instance_sent ∷ instance_deadline ∷ [];
-  views = [];
-}
+stored_schema = schema_at newest
 
 abbrev pub no_schema : Schema
 no_schema = record { tables = []; indexes = []; views = [] }
+
+-- where a table stands among those of the schema
+abbrev pub place_of : TableName → ℕ
+place_of t = position_or_len (λ other. (layout_of other).tree == (layout_of t).tree) (tables_at newest)

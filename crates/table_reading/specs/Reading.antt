@@ -5,7 +5,7 @@ use Rattle.sqlite.specs.State.{State, HasCleanDisk}
 use Rattle.sqlite_rules.specs.Lists.{Has}
 use Rattle.sqlite_trees.specs.Tree.{Trees}
 use Rattle.texts.specs.Words.{is_word}
-use Rattle.pasts.specs.Kinds.{kind_of}
+use Rattle.stores.specs.Kinds.{kind_of}
 use Rattle.sched_book.specs.Places.{host_at}
 use Rattle.sched_book.specs.Sound.{Sound}
 use Rattle.sched_book.specs.declared.world.World.{World}

@@ -5,8 +5,8 @@ ghost use Rattle.table_meaning.specs.declared.rows.StoredRow.TheVariants as stor
 ghost use Rattle.table_reading.specs.Reading.{is_call, is_import};
 
 use crate::rows::Reading;
-use pasts::Kind;
 use sched_book::World;
+use stores::Kind;
 use table_meaning::rows::{StoredBatch, StoredCall};
 use texts::is_word;
 

@@ -5,3 +5,4 @@ pub mod PlainSchema
 pub mod Quiet
 pub mod Reopening
 pub mod Visited
+mod Unrun

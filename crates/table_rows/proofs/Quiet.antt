@@ -22,15 +22,17 @@ IsQuiet (Err e) = ⊤
 
 pub are_quiet : (t : TableName) → IsQuiet (first (read_text t))
 unfolding everything
-are_quiet Setting = λ schema base. refl
-are_quiet Account = λ schema base. refl
-are_quiet App = λ schema base. refl
-are_quiet Version = λ schema base. refl
-are_quiet Unit = λ schema base. refl
-are_quiet Host = λ schema base. refl
-are_quiet Instance = λ schema base. refl
-are_quiet Kept = λ schema base. refl
-are_quiet Batch = λ schema base. refl
+are_quiet t = elim t as (λ t. IsQuiet (first (read_text t))) [
+  | Setting ↦ λ schema base. refl
+  | Account ↦ λ schema base. refl
+  | App ↦ λ schema base. refl
+  | Version ↦ λ schema base. refl
+  | Unit ↦ λ schema base. refl
+  | Host ↦ λ schema base. refl
+  | Instance ↦ λ schema base. refl
+  | Kept ↦ λ schema base. refl
+  | Batch ↦ λ schema base. refl
+]
 
 quiet_plan : (schema : Schema) (p : Parsed) → IsQuiet (Ok p) → ¬ Returns (and_then (planned schema p) (λ plan. Ok (with_command p plan)))
 unfolding planned meaning

@@ -22,7 +22,7 @@ use Rattle.table_meaning.specs.Texts.{read_text}
 use Rattle.table_meaning.specs.Rows.{tree_of, places_of, shown, rows_in, table_of, columns_of}
 use Rattle.table_meaning.specs.Reads.{read_query, Reads}
 use Rattle.table_meaning.specs.Holding.{AreKnown}
-use Rattle.table_meaning.proofs.ReadTexts.{names_of, each_is_read}
+use Rattle.table_meaning.proofs.ByComputing.{names_of, computed}
 use Rattle.table_meaning.proofs.Reading.{passing_rows, own_rows, shown_rows}
 use Rattle.table_rows.specs.Visits.{VisitsAll, RefusesRow}
 use Rattle.table_rows.proofs.Quiet.{never_returns}
@@ -31,7 +31,7 @@ use Rattle.table_rows.proofs.Quiet.{never_returns}
 
 pub given_first : (t : TableName) (s : State) → AreKnown s.now → (rows : List Row) → Begins (read_text t) [] s rows → (later : List Row) × (rows ++ later ≡ rows_in s.now.trees t)
 given_first t s known rows h =
-    let meaning = each_is_read t in
+    let meaning = (computed t).reads in
     let start = begins_as (read_text t) [] s s stored_schema known.schema (Select (record { lets = []; body = read_query (tree_of t) (places_of t) }) (names_of t)) meaning.0 meaning.1 meaning.2 rows h in (
       start.1.0,
       passing_rows s.now.trees (tree_of t) [] (places_of t) [] (λ _. true) (own_rows t s.now.trees) (known.ordered t) (λ _. refl) (rows ++ start.1.0) (start.1.1 Null) ∙ ap (map (shown t)) (unfiltered (s.now.trees (tree_of t)) refl),

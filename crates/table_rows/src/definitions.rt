@@ -94,6 +94,7 @@ pub fn create<S: Alter>(
     rows: &[StoredRow],
 ) -> Result<(), OpenFault>
     ensures was_open { HasCleanDisk (state S.Store conn.new) → IsTrue (state S.Store conn.new).is_open → IsTrue (state S.Store conn.old).is_open }
+    ensures open { HasCleanDisk (state S.Store conn.new) → OnOk result (IsTrue (state S.Store conn.new).is_open) }
     ensures idle { OnOk result ((state S.Store conn.new).in_transaction ≡ false) }
     ensures made { HasCleanDisk (state S.Store conn.new) → OnOk result (HoldJust (state S.Store conn.new).committed rows.now) }
     ensures rest { HasCleanDisk (state S.Store conn.new) → OnOk result ((state S.Store conn.new).now ≡ (state S.Store conn.new).committed) }

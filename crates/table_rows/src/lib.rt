@@ -2,6 +2,7 @@
 #![tactic(auto)]
 
 pub mod alike;
+pub mod connection;
 pub mod definitions;
 pub mod fields;
 pub mod keyed;
@@ -15,6 +16,7 @@ pub mod typed;
 pub mod values;
 pub mod visiting;
 
+pub use connection::test_open;
 pub use definitions::create;
 pub use keyed::{batch_of, host_of, instance_of, kept_of, status_of, unit_of};
 pub use listing::{credits_of_user, hosts_of_user, version_numbers};

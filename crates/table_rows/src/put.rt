@@ -7,6 +7,7 @@ ghost use Rattle.table_meaning.specs.Texts.{put_text as sql_put};
 ghost use Rattle.table_meaning.specs.Rows.{table_at, key_of};
 ghost use Rattle.table_meaning.specs.Steps.{PutsRows, Moves};
 
+use crate::connection::test_open;
 use crate::values::values_of;
 use sqlite::{Alter, Connection, Error, ErrorCode, Transaction};
 use std::alloc::Global;
@@ -77,14 +78,16 @@ pub(crate) fn put_each<S: Alter>(
     Ok(())
 }
 
-/// Puts each of the rows at its key, in order: all of them or none. Where there is no row, nothing is written. A stop at any
-/// moment leaves what a stop could leave before, or all the rows, and these only where the connection was open.
+/// Puts each of the rows at its key, in order: all of them or none. Where there is no row, nothing is written. It is good
+/// only where no fault has shut the connection. A stop at any moment leaves what a stop could leave before, or all the
+/// rows, and these only where the connection was open.
 pub fn put_rows<S: Alter>(
     alloc: Global,
     conn: &mut Connection<S>,
     rows: &[StoredRow],
 ) -> Result<(), Error>
     ensures was_open { HasCleanDisk (state S.Store conn.new) → IsTrue (state S.Store conn.new).is_open → IsTrue (state S.Store conn.old).is_open }
+    ensures open { HasCleanDisk (state S.Store conn.new) → OnOk result (IsTrue (state S.Store conn.new).is_open) }
     ensures idle { (state S.Store conn.old).in_transaction ≡ false → (state S.Store conn.new).in_transaction ≡ false }
     ensures both { HasCleanDisk (state S.Store conn.new) → IsTrue (state S.Store conn.new).is_open → OnOk result (PutsRows (state S.Store conn.old).now (state S.Store conn.new).committed rows.now) }
     ensures rest { HasCleanDisk (state S.Store conn.new) → IsTrue (state S.Store conn.new).is_open → OnOk result ((state S.Store conn.new).now ≡ (state S.Store conn.new).committed) }
@@ -97,7 +100,7 @@ pub fn put_rows<S: Alter>(
         return Err(Error::SqliteFailure(ErrorCode::TransactionState));
     }
     if rows.is_empty() {
-        return Ok(());
+        return test_open(conn);
     }
     let mut tx = conn.transaction();
     put_each(alloc, &mut tx, rows)?;

@@ -4,14 +4,14 @@ use super::{Broken, CALL_START, PROJECT, REPLY, new_store, replayed_by, service_
 use command_line::{Order, OrderFault, order_of};
 use commands::serve_on;
 use http_serving::{FromRead, FromWrite, IoFault, serve_one};
-use message_engine::Store;
 use replay_lines::line_of;
 use sched_server::Service;
 use std::alloc::Global;
 use std::io;
 use std::io::{ErrorKind, Read, Write};
-use std::net::{TcpListener, TcpStream};
+use std::net::{Shutdown, TcpListener, TcpStream};
 use std::test::Fail;
+use stores::Store;
 use texts::Memory;
 
 /// A message, and the status and the body of its answer.
@@ -305,27 +305,51 @@ fn answers_to_their_last_byte(rt: HostRuntime) -> Result<(), Fail> {
     Ok(())
 }
 
-/// What a socket gets that asks a service for its ninth host.
+/// What a socket gets that says this to a service and then ends its side. (A connection lingers until its client does.)
 fn answer_on_a_socket<S: Store>(
     rt: &HostRuntime,
     service: &mut Service<S>,
+    said: &[u8],
 ) -> Result<String, Fail> {
     let listener = TcpListener::bind(rt, ("127.0.0.1", 0u16))?;
     let mut stream = TcpStream::connect(rt, listener.local_addr()?)?;
-    stream.write_all(READS_NINTH.as_bytes())?;
-    serve_on(rt, service, &listener, 1);
+    stream.write_all(said)?;
+    stream.shutdown(Shutdown::Write)?;
+    serve_on(rt, service, &listener, 1)
+        .ok()
+        .ok_or("the store is shut")?;
     Ok(io::read_to_string(rt.alloc(), stream)?)
 }
 
 /// The same of a store.
-fn answer_over_a_store<S: Store + Drop>(rt: &HostRuntime, store: S) -> Result<String, Fail> {
-    answer_on_a_socket(rt, &mut service_over(rt.alloc(), store)?)
+fn answer_over_a_store<S: Store + Drop>(
+    rt: &HostRuntime,
+    store: S,
+    said: &[u8],
+) -> Result<String, Fail> {
+    answer_on_a_socket(rt, &mut service_over(rt.alloc(), store)?, said)
 }
 
 #[test]
 fn a_socket_is_served(rt: HostRuntime) -> Result<(), Fail> {
-    let answer = answer_over_a_store(&rt, new_store(rt.alloc())?)?;
+    let store = new_store(rt.alloc())?;
+    let answer = answer_over_a_store(&rt, store, READS_NINTH.as_bytes())?;
     assert_eq!(rt; answer.as_str(), NINTH_IS_NONE);
+    Ok(())
+}
+
+/// A call whose body is too large, and of which the first bytes were sent.
+fn too_large_call(alloc: Global) -> Result<Vec<u8>, Fail> {
+    let mut said = b"POST /scheduler HTTP/1.1\r\ncontent-length: 300000\r\n\r\n".to_vec(alloc)?;
+    said.extend(vec![in alloc; b'x'; 50_000]?)?;
+    Ok(said)
+}
+
+#[test]
+fn a_refusal_arrives_though_a_body_is_on_its_way(rt: HostRuntime) -> Result<(), Fail> {
+    let said = too_large_call(rt.alloc())?;
+    let answer = answer_over_a_store(&rt, new_store(rt.alloc())?, &said)?;
+    assert!(rt; tells(rt.alloc(), answer.as_bytes(), 413, TOO_LARGE)?);
     Ok(())
 }
 

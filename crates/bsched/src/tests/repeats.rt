@@ -4,7 +4,6 @@ use super::rows::{NEXT, lines_of, name_of};
 use super::stored::{Seen, is_seen_in_file};
 use super::{PROJECT, service_over};
 use commands::default_settings;
-use message_engine::Store;
 use replay_lines::line_of;
 use sched_book::Settings;
 use sched_server::{Answer, Arrival, Service};
@@ -12,6 +11,7 @@ use sched_tables::Tables;
 use sqlite::{Alter, Connection};
 use std::alloc::Global;
 use std::test::Fail;
+use stores::Store;
 
 /// What arrives by these lines, each twice.
 fn arrivals_of(alloc: Global, key: &str, lines: &str) -> Result<Vec<Arrival>, Fail> {

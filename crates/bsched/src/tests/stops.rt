@@ -8,14 +8,18 @@ use super::repeats::push_arrival;
 use super::rows::{NEXT, lines_of};
 use super::stored::with_lines;
 use super::{PROJECT, lapses, service_over};
+use commands::{Failure, serve_on};
 use http_responses::Answer;
-use message_engine::Store;
 use sched_server::{Arrival, Service};
 use sched_tables::Tables;
 use sqlite::{Alter, Connection, FileStore, Options};
 use sqlite_disk::{Crash, Disk, Files, Fuse, Memory};
 use std::alloc::Global;
+use std::io;
+use std::io::Write;
+use std::net::{Shutdown, TcpListener, TcpStream};
 use std::test::Fail;
+use stores::Store;
 
 /// What the two files of a database hold.
 #[derive(Drop)]
@@ -140,20 +144,24 @@ fn arrivals(alloc: Global) -> Result<Vec<Arrival>, Fail> {
     Ok(arrivals)
 }
 
-/// The answers to the arrivals up to the first that is unavailable. (It has no clause, so that the proof of a test does not
-/// carry what many messages do.)
+/// The answers to the arrivals up to the first that is unavailable; it fails where a store that a fault has shut gives another
+/// behind it. (It has no clause, so that the proof of a test does not carry what many messages do.)
 fn answered<S: Store>(
     alloc: Global,
     service: &mut Service<S>,
     arrivals: &[Arrival],
 ) -> Result<Vec<Answer>, Fail> {
     let mut answers = Vec::new(alloc);
+    let mut was_lost = false;
     for arrival in arrivals {
-        let answer = service.handle(alloc, arrival.now, arrival.bytes.as_slice());
-        if matches!(answer, Answer::Unavailable) {
+        if was_lost && service.is_open()? {
             break;
         }
-        answers.push(answer)?;
+        match service.handle(alloc, arrival.now, arrival.bytes.as_slice()) {
+            Answer::Unavailable => was_lost = true,
+            _ if was_lost => return Err(Fail::new("an answer of a store that was shut")),
+            answer => answers.push(answer)?,
+        }
     }
     Ok(answers)
 }
@@ -325,5 +333,98 @@ fn a_stop_of_the_log_at_each_call_loses_nothing(rt: HostRuntime) -> Result<(), F
 fn a_stop_of_the_database_file_at_each_call_loses_nothing(rt: HostRuntime) -> Result<(), Fail> {
     let stops = stops_survived(rt.alloc(), false)?;
     assert!(rt; stops.is_some_and(|stops| stops > 10), "{stops:?}");
+    Ok(())
+}
+
+/// How serving one connection of two over a store ends that sent a message each, and what the first one's client gets.
+fn served_on_a_socket<S: Store>(
+    rt: &HostRuntime,
+    service: &mut Service<S>,
+    message: &[u8],
+) -> Result<(Result<(), Failure>, String), Fail> {
+    let listener = TcpListener::bind(rt, ("127.0.0.1", 0u16))?;
+    let mut first = TcpStream::connect(rt, listener.local_addr()?)?;
+    first.write_all(message)?;
+    first.shutdown(Shutdown::Write)?;
+    let mut second = TcpStream::connect(rt, listener.local_addr()?)?;
+    second.write_all(message)?;
+    second.shutdown(Shutdown::Write)?;
+    let ended = serve_on(rt, service, &listener, 2);
+    Ok((ended, io::read_to_string(rt.alloc(), first)?))
+}
+
+/// The same over a store.
+fn served_by<S: Store + Drop>(
+    rt: &HostRuntime,
+    store: S,
+    message: &[u8],
+) -> Result<(Result<(), Failure>, String), Fail> {
+    served_on_a_socket(rt, &mut service_over(rt.alloc(), store)?, message)
+}
+
+/// The same over the tables of a database; nothing where they are not opened.
+fn served_over_tables<S: Alter + Drop>(
+    rt: &HostRuntime,
+    conn: Connection<S>,
+    message: &[u8],
+) -> Result<Option<(Result<(), Failure>, String)>, Fail> {
+    let Ok(tables) = Tables::open(rt.alloc(), conn) else {
+        return Ok(None);
+    };
+    Ok(Some(served_by(rt, tables, message)?))
+}
+
+/// The same over files of which the log fails behind so many calls.
+fn served_over_a_fuse(
+    rt: &HostRuntime,
+    image: &Image,
+    calls: u64,
+    message: &[u8],
+) -> Result<Option<(Result<(), Failure>, String)>, Fail> {
+    let fuses = Fuses {
+        log: calls,
+        db: u64::MAX,
+    };
+    match connected(rt.alloc(), image, fuses)? {
+        Ok(conn) => served_over_tables(rt, conn, message),
+        Err(_) => Ok(None),
+    }
+}
+
+/// Whether serving ended as it does where a fault shut the store, behind an answer that says so.
+fn ended_by_a_fault(alloc: Global, ended: Failure, answer: &str) -> Result<bool, Fail> {
+    let line = format!(in alloc; "{ended}")?;
+    Ok(ended.status() == 2 && line.as_str() == "unavailable" && answer.starts_with("HTTP/1.1 503 "))
+}
+
+/// Whether serving over a log that fails behind each of its calls in turn ends by a fault where it ends, and does so at least once.
+/// (A log that fails before a commit's last byte leaves the store open: then serving goes on.)
+fn ends_by_faults(rt: &HostRuntime) -> Result<bool, Fail> {
+    let image = created(rt.alloc())?;
+    let arrivals = arrivals(rt.alloc())?;
+    let message = arrivals.first().ok_or("nothing arrives")?.bytes.as_slice();
+    let mut was_shut = false;
+    for calls in 0..MOST_CALLS {
+        match served_over_a_fuse(rt, &image, calls, message)? {
+            None => {}
+            Some((Ok(()), answer)) => {
+                if answer.as_str().starts_with("HTTP/1.1 200 ") {
+                    return Ok(was_shut);
+                }
+            }
+            Some((Err(ended), answer)) => {
+                if !ended_by_a_fault(rt.alloc(), ended, answer.as_str())? {
+                    return Ok(false);
+                }
+                was_shut = true;
+            }
+        }
+    }
+    Ok(false)
+}
+
+#[test]
+fn a_fault_that_shuts_the_store_ends_serving(rt: HostRuntime) -> Result<(), Fail> {
+    assert!(rt; ends_by_faults(&rt)?);
     Ok(())
 }

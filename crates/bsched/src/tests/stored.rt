@@ -3,7 +3,6 @@
 use super::repeats::{is_answered_again_in, settings};
 use super::{CALL_START, PROJECT, replayed, replayed_by, replayed_over, service_over};
 use commands::{Failure, Visit, default_settings, visit_file};
-use message_engine::Store;
 use replay_lines::Ended;
 use sched_server::Service;
 use sched_tables::{OpenFault, Tables};
@@ -12,6 +11,7 @@ use sqlite::{Alter, Connection, Error, MemStore};
 use std::alloc::Global;
 use std::str;
 use std::test::Fail;
+use stores::Store;
 
 /// The rows of two workunits: for one a single result is enough.
 const WORKUNITS: &str =

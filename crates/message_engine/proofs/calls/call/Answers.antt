@@ -1,52 +1,78 @@
-use Rattle.std.proofs.Common.{Err, ap}
-use Rattle.message_engine.proofs.CallsServed.{account_serves, number_serves, named_serves, named_ahead, left_before}
-use Rattle.message_engine.proofs.Stopped.{stop_on}
+use Rattle.std.proofs.Common.{Err, ap, sym, subst, true≢false}
+use Rattle.std.specs.Prelude.{false, is_ok, IfOk}
+use Rattle.rpc_records.specs.declared.fault.Fault.TheVariants as fault
+use Rattle.stores.specs.Acting.{parts_of}
+use Rattle.stores.proofs.Results.{given, only}
+use Rattle.stores.proofs.ReadsAct.{acts_on, reads_act, said_on}
+use Rattle.pasts.specs.declared.answer.Answer.TheVariants.{Refusal}
+use Rattle.message_engine.specs.Calls.{IsNamed, IsCallServed, ServesCall}
+use Rattle.message_engine.proofs.CallsServed.{account_serves, number_serves}
 use Rattle.message_engine.proofs.calls.call.Goals as goal
+
+pub returns-in-Ok-clause-acts : goal.returns-in-Ok-clause-acts
+returns-in-Ok-clause-acts g c =
+    let reads = c.admit.ensures.reads in
+    let old = c.args.store.now in
+    acts_on (parts_of g.S.Units g.S.Store.holds g.S.Store.clean g.S.Store.lasting g.S.Store.may_leave) old c.admit.new.desk
+    (g.met.S.Store.stays_clean _ _ reads) (g.met.S.Units.stays_honest _ _ reads) (g.met.S.Units.stays_kept _ _ reads)
+    (λ lasting honest. g.met.S.Store.stays_open _ _ lasting reads honest) (g.met.S.Store.stays_held _ _ reads) (g.met.S.Store.stays_left _ _ reads)
+    (is_ok c.call_admitted.result) (λ held h. IsNamed held.world c.in-Ok.caller c.args.request → IsCallServed c.args.request c.args.now held h) _ c.call_admitted.new.store
+    (λ honest kept h ahead. ahead (subst (λ w. IsNamed w c.in-Ok.caller c.args.request) (sym (g.met.S.Store.world_held old)) (c.in-Ok.ensures.caller honest kept)))
+    c.call_admitted.ensures.acts
 
 pub returns-in-Ok-clause-exact : goal.returns-in-Ok-clause-exact
 returns-in-Ok-clause-exact g c = λ honest kept.
     let reads = c.admit.ensures.reads in
-    let honest_1 = c.call_admitted.ensures.honest honest in
+    let old = c.args.store.now in
+    let new = c.call_admitted.new.store in
+    let honest_1 = c.call_admitted.ensures.acts.acts.was_honest honest in
     let kept_1 = g.met.S.Units.stays_kept _ _ reads honest_1 kept in
-    named_serves _ _ _ _ _ _ _ _ _ c.in-Ok.caller c.args.request c.args.now c.call_admitted.result (g.met.S.Units.stays_same _ _ reads honest_1 kept)
-    (g.met.S.Store.stays_calls _ _ reads honest_1 kept) (g.met.S.Store.stays_batches _ _ reads honest_1 kept)
-    (c.in-Ok.ensures.caller honest_1 kept) (c.call_admitted.ensures.exact honest kept_1)
+    given c.call_admitted.result (IsNamed (g.S.Store.holds old).world c.in-Ok.caller c.args.request) (λ a. ServesCall c.args.request c.args.now a (g.S.Store.holds old) (g.S.Store.holds new))
+    (subst (λ w. IsNamed w c.in-Ok.caller c.args.request) (sym (g.met.S.Store.world_held old)) (c.in-Ok.ensures.caller honest_1 kept))
+    (said_on (parts_of g.S.Units g.S.Store.holds g.S.Store.clean g.S.Store.lasting g.S.Store.may_leave) old c.admit.new.desk
+    (g.met.S.Store.stays_clean _ _ reads) (g.met.S.Units.stays_honest _ _ reads) (g.met.S.Units.stays_kept _ _ reads)
+    (λ lasting honest. g.met.S.Store.stays_open _ _ lasting reads honest) (g.met.S.Store.stays_held _ _ reads) (g.met.S.Store.stays_left _ _ reads)
+    (λ held. IfOk c.call_admitted.result (λ a. IsNamed held.world c.in-Ok.caller c.args.request → ServesCall c.args.request c.args.now a held (g.S.Store.holds new)))
+    honest_1 kept (c.call_admitted.ensures.exact honest kept_1))
+
+pub returns-in-Err-BadAccount-clause-acts : goal.returns-in-Err-BadAccount-clause-acts
+returns-in-Err-BadAccount-clause-acts g c =
+    let reads = g.met.S.Units.reads_on _ _ _ c.admit.ensures.reads c.confirmed.ensures.reads in
+    reads_act (parts_of g.S.Units g.S.Store.holds g.S.Store.clean g.S.Store.lasting g.S.Store.may_leave) c.args.store.now c.confirmed.new.store
+    (g.met.S.Store.stays_clean _ _ reads) (g.met.S.Units.stays_honest _ _ reads) (g.met.S.Units.stays_kept _ _ reads)
+    (λ lasting honest. g.met.S.Store.stays_open _ _ lasting reads honest) (g.met.S.Store.stays_held _ _ reads) (g.met.S.Store.stays_left _ _ reads)
+    (is_ok c.confirmed.result) _ c.confirmed.ensures.open
 
 pub returns-in-Err-BadAccount-clause-exact : goal.returns-in-Err-BadAccount-clause-exact
 returns-in-Err-BadAccount-clause-exact g c = λ honest kept.
-    let reads = c.admit.ensures.reads in
-    account_serves _ _ _ _ _ _ c.args.request c.args.now (c.in-Err-BadAccount.ensures.bad_account honest kept (ap Err c.in-Err-BadAccount.field-0-is))
-    (record {
-      world_is = g.met.S.Units.stays_same _ _ reads honest kept;
-      calls_are = g.met.S.Store.stays_calls _ _ reads honest kept;
-      batches_are = g.met.S.Store.stays_batches _ _ reads honest kept;
-    })
+    let reads = g.met.S.Units.reads_on _ _ _ c.admit.ensures.reads c.confirmed.ensures.reads in
+    let old = c.args.store.now in
+    let new = c.confirmed.new.store in
+    only c.confirmed.result (Refusal fault.BadAccount) (λ a. ServesCall c.args.request c.args.now a (g.S.Store.holds old) (g.S.Store.holds new)) c.confirmed.ensures.answer
+    (account_serves (g.S.Store.holds old) (g.S.Store.holds new) _ (g.met.S.Store.world_held old) (g.met.S.Store.stays_held _ _ reads honest kept) c.args.request c.args.now
+    (c.in-Err-BadAccount.ensures.bad_account (g.met.S.Units.stays_honest _ _ c.confirmed.ensures.reads honest) kept (ap Err c.in-Err-BadAccount.field-0-is)))
+
+pub returns-in-Err-BadHost-clause-acts : goal.returns-in-Err-BadHost-clause-acts
+returns-in-Err-BadHost-clause-acts g c =
+    let reads = g.met.S.Units.reads_on _ _ _ c.admit.ensures.reads c.confirmed-in-Err-BadHost.ensures.reads in
+    reads_act (parts_of g.S.Units g.S.Store.holds g.S.Store.clean g.S.Store.lasting g.S.Store.may_leave) c.args.store.now c.confirmed-in-Err-BadHost.new.store
+    (g.met.S.Store.stays_clean _ _ reads) (g.met.S.Units.stays_honest _ _ reads) (g.met.S.Units.stays_kept _ _ reads)
+    (λ lasting honest. g.met.S.Store.stays_open _ _ lasting reads honest) (g.met.S.Store.stays_held _ _ reads) (g.met.S.Store.stays_left _ _ reads)
+    (is_ok c.confirmed-in-Err-BadHost.result) _ c.confirmed-in-Err-BadHost.ensures.open
 
 pub returns-in-Err-BadHost-clause-exact : goal.returns-in-Err-BadHost-clause-exact
 returns-in-Err-BadHost-clause-exact g c = λ honest kept.
-    let reads = c.admit.ensures.reads in
-    number_serves _ _ _ _ _ _ c.args.request c.args.now (c.in-Err-BadHost.ensures.bad_host honest kept (ap Err c.in-Err-BadHost.field-0-is))
-    (record {
-      world_is = g.met.S.Units.stays_same _ _ reads honest kept;
-      calls_are = g.met.S.Store.stays_calls _ _ reads honest kept;
-      batches_are = g.met.S.Store.stays_batches _ _ reads honest kept;
-    })
+    let reads = g.met.S.Units.reads_on _ _ _ c.admit.ensures.reads c.confirmed-in-Err-BadHost.ensures.reads in
+    let old = c.args.store.now in
+    let new = c.confirmed-in-Err-BadHost.new.store in
+    only c.confirmed-in-Err-BadHost.result (Refusal fault.BadHost) (λ a. ServesCall c.args.request c.args.now a (g.S.Store.holds old) (g.S.Store.holds new)) c.confirmed-in-Err-BadHost.ensures.answer
+    (number_serves (g.S.Store.holds old) (g.S.Store.holds new) _ (g.met.S.Store.world_held old) (g.met.S.Store.stays_held _ _ reads honest kept) c.args.request c.args.now
+    (c.in-Err-BadHost.ensures.bad_host (g.met.S.Units.stays_honest _ _ c.confirmed-in-Err-BadHost.ensures.reads honest) kept (ap Err c.in-Err-BadHost.field-0-is)))
 
-pub returns-in-Ok-clause-err : goal.returns-in-Ok-clause-err
-returns-in-Ok-clause-err g c = λ honest kept.
+pub returns-clause-acts : goal.returns-clause-acts
+returns-clause-acts g c =
     let reads = c.admit.ensures.reads in
-    let honest_1 = c.call_admitted.ensures.honest honest in
-    let kept_1 = g.met.S.Units.stays_kept _ _ reads honest_1 kept in
-    left_before _ _ _ _ _ _ _ _ _ c.call_admitted.result
-    (g.met.S.Units.stays_same _ _ reads honest_1 kept) (g.met.S.Store.stays_calls _ _ reads honest_1 kept) (g.met.S.Store.stays_batches _ _ reads honest_1 kept)
-    (c.call_admitted.ensures.err honest kept_1)
-
-pub returns-in-Ok-clause-stop : goal.returns-in-Ok-clause-stop
-returns-in-Ok-clause-stop g c =
-    let reads = c.admit.ensures.reads in
-    stop_on g.S.Units g.S.Store.may_leave c.args.store.now c.admit.new.desk c.call_admitted.new.store _ _
-    (g.met.S.Store.stays_left _ _ reads) (g.met.S.Units.stays_honest _ _ reads) (g.met.S.Units.stays_kept _ _ reads)
-    (λ honest kept w calls batches ahead. named_ahead _ _ w _ _ calls _ _ batches c.in-Ok.caller c.args.request c.args.now
-    (g.met.S.Units.stays_same _ _ reads honest kept) (g.met.S.Store.stays_calls _ _ reads honest kept) (g.met.S.Store.stays_batches _ _ reads honest kept)
-    (c.in-Ok.ensures.caller honest kept) ahead)
-    c.call_admitted.ensures.stop
+    reads_act (parts_of g.S.Units g.S.Store.holds g.S.Store.clean g.S.Store.lasting g.S.Store.may_leave) c.args.store.now c.admit.new.desk
+    (g.met.S.Store.stays_clean _ _ reads) (g.met.S.Units.stays_honest _ _ reads) (g.met.S.Units.stays_kept _ _ reads)
+    (λ lasting honest. g.met.S.Store.stays_open _ _ lasting reads honest) (g.met.S.Store.stays_held _ _ reads) (g.met.S.Store.stays_left _ _ reads)
+    false _ (λ clean good. absurd (true≢false (sym good)))

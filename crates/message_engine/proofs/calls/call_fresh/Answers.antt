@@ -1,59 +1,71 @@
-use Rattle.std.proofs.Common.{Err, ap, inl, rules}
-use Rattle.message_engine.proofs.CallsServed.{kept_serves, kept_ahead, full_serves, left_before}
-use Rattle.message_engine.proofs.Stopped.{stop_on}
+use Rattle.std.proofs.Common.{Err, ap, sym, true≢false, rules}
+use Rattle.std.specs.Prelude.{false, is_ok, OnOk}
+use Rattle.rpc_records.specs.Replies.{reply_text_of}
+use Rattle.rpc_records.specs.declared.fault.Fault.TheVariants as fault
+use Rattle.sched_book.specs.Delta.{Fits}
+use Rattle.stores.specs.Acting.{parts_of}
+use Rattle.stores.specs.Held.{IsCommitted, IsKeptSoundly}
+use Rattle.stores.specs.declared.entry.Entry.TheVariants as entry
+use Rattle.stores.proofs.Results.{only}
+use Rattle.stores.proofs.ReadsAct.{acts_on, reads_act, said_on}
+use Rattle.pasts.specs.declared.answer.Answer.TheVariants.{Refusal}
+use Rattle.message_engine.specs.Calls.{MayAct, ServesCall}
+use Rattle.message_engine.proofs.CallsServed.{kept_serves, kept_ahead, full_serves}
 use Rattle.message_engine.proofs.calls.call_fresh.Goals as goal
+
+pub returns-in-Ok-clause-acts : goal.returns-in-Ok-clause-acts
+returns-in-Ok-clause-acts g c =
+    let reads = c.call_step.ensures.reads in
+    let old = c.args.store.now in
+    let e = entry.Kept c.in-Ok.reply.hostid (record { seqno = c.args.request.rpc_seqno; text = c.args.text; reply = reply_text_of c.in-Ok.reply }) in
+    acts_on (parts_of g.S.Units g.S.Store.holds g.S.Store.clean g.S.Store.lasting g.S.Store.may_leave) old c.call_step.new.desk
+    (g.met.S.Store.stays_clean _ _ reads) (g.met.S.Units.stays_honest _ _ reads) (g.met.S.Units.stays_kept _ _ reads)
+    (λ lasting honest. g.met.S.Store.stays_open _ _ lasting reads honest) (g.met.S.Store.stays_held _ _ reads) (g.met.S.Store.stays_left _ _ reads)
+    (is_ok c.keep.result) (IsKeptSoundly c.in-Ok.delta e) _ c.keep.new.store
+    (λ honest kept h ahead. kept_ahead (g.S.Store.holds old) h _ (g.met.S.Store.world_held old) c.args.caller c.args.request c.args.now c.in-Ok.delta c.in-Ok.reply c.args.text
+    (search rules) c.requires.in_range c.requires.text
+    (record { step = c.in-Ok.ensures.step honest kept; sound = c.in-Ok.ensures.sound honest kept; fits = c.in-Ok.ensures.fits honest kept }) ahead)
+    c.keep.ensures.acts
 
 pub returns-in-Ok-clause-exact : goal.returns-in-Ok-clause-exact
 returns-in-Ok-clause-exact g c = λ honest kept.
     let reads = c.call_step.ensures.reads in
-    let honest_1 = c.keep.ensures.honest honest in
+    let old = c.args.store.now in
+    let e = entry.Kept c.in-Ok.reply.hostid (record { seqno = c.args.request.rpc_seqno; text = c.args.text; reply = reply_text_of c.in-Ok.reply }) in
+    let honest_1 = c.keep.ensures.acts.acts.was_honest honest in
     let kept_1 = g.met.S.Units.stays_kept _ _ reads honest_1 kept in
-    kept_serves _ _ _ _ _ _ _ _ _ c.args.caller c.args.request c.args.now c.in-Ok.delta c.in-Ok.reply c.args.text
-    (g.met.S.Units.stays_same _ _ reads honest_1 kept) (g.met.S.Store.stays_calls _ _ reads honest_1 kept) (g.met.S.Store.stays_batches _ _ reads honest_1 kept)
+    kept_serves (g.S.Store.holds old) (g.S.Store.holds c.keep.new.store) _ (g.met.S.Store.world_held old) c.args.caller c.args.request c.args.now c.in-Ok.delta c.in-Ok.reply c.args.text
     (search rules) c.requires.in_range c.requires.text
-    (c.in-Ok.ensures.step honest_1 kept) (c.in-Ok.ensures.sound honest_1 kept) (c.in-Ok.ensures.fits honest_1 kept)
-    c.keep.result c.keep.ensures.answer (c.keep.ensures.ok honest kept_1)
+    (record { step = c.in-Ok.ensures.step honest_1 kept; sound = c.in-Ok.ensures.sound honest_1 kept; fits = c.in-Ok.ensures.fits honest_1 kept })
+    c.keep.result c.keep.ensures.answer
+    (said_on (parts_of g.S.Units g.S.Store.holds g.S.Store.clean g.S.Store.lasting g.S.Store.may_leave) old c.call_step.new.desk
+    (g.met.S.Store.stays_clean _ _ reads) (g.met.S.Units.stays_honest _ _ reads) (g.met.S.Units.stays_kept _ _ reads)
+    (λ lasting honest. g.met.S.Store.stays_open _ _ lasting reads honest) (g.met.S.Store.stays_held _ _ reads) (g.met.S.Store.stays_left _ _ reads)
+    (λ held. OnOk c.keep.result (Fits held.world c.in-Ok.delta → IsCommitted c.in-Ok.delta e held (g.S.Store.holds c.keep.new.store)))
+    honest_1 kept (c.keep.ensures.made honest kept_1))
 
-pub returns-in-Ok-clause-err : goal.returns-in-Ok-clause-err
-returns-in-Ok-clause-err g c = λ honest kept.
-    let reads = c.call_step.ensures.reads in
-    let honest_1 = c.keep.ensures.honest honest in
-    let kept_1 = g.met.S.Units.stays_kept _ _ reads honest_1 kept in
-    left_before _ _ _ _ _ _ _ _ _ c.keep.result
-    (g.met.S.Units.stays_same _ _ reads honest_1 kept) (g.met.S.Store.stays_calls _ _ reads honest_1 kept) (g.met.S.Store.stays_batches _ _ reads honest_1 kept)
-    (c.keep.ensures.err honest kept_1)
+pub returns-in-Err-HostsFull-clause-acts : goal.returns-in-Err-HostsFull-clause-acts
+returns-in-Err-HostsFull-clause-acts g c =
+    let reads = g.met.S.Units.reads_on _ _ _ c.call_step.ensures.reads c.confirmed.ensures.reads in
+    reads_act (parts_of g.S.Units g.S.Store.holds g.S.Store.clean g.S.Store.lasting g.S.Store.may_leave) c.args.store.now c.confirmed.new.store
+    (g.met.S.Store.stays_clean _ _ reads) (g.met.S.Units.stays_honest _ _ reads) (g.met.S.Units.stays_kept _ _ reads)
+    (λ lasting honest. g.met.S.Store.stays_open _ _ lasting reads honest) (g.met.S.Store.stays_held _ _ reads) (g.met.S.Store.stays_left _ _ reads)
+    (is_ok c.confirmed.result) _ c.confirmed.ensures.open
 
 pub returns-in-Err-HostsFull-clause-exact : goal.returns-in-Err-HostsFull-clause-exact
 returns-in-Err-HostsFull-clause-exact g c = λ honest kept.
-    let reads = c.call_step.ensures.reads in
-    full_serves _ _ _ _ _ _ c.args.caller c.args.request c.args.now (c.in-Err-HostsFull.ensures.full honest kept (ap Err c.in-Err-HostsFull.field-0-is))
-    (record {
-      world_is = g.met.S.Units.stays_same _ _ reads honest kept;
-      calls_are = g.met.S.Store.stays_calls _ _ reads honest kept;
-      batches_are = g.met.S.Store.stays_batches _ _ reads honest kept;
-    })
+    let reads = g.met.S.Units.reads_on _ _ _ c.call_step.ensures.reads c.confirmed.ensures.reads in
+    let old = c.args.store.now in
+    let new = c.confirmed.new.store in
+    only c.confirmed.result (Refusal fault.HostsFull) (λ a. MayAct (g.S.Store.holds old) c.args.caller c.args.request → ServesCall c.args.request c.args.now a (g.S.Store.holds old) (g.S.Store.holds new))
+    c.confirmed.ensures.answer
+    (λ may. full_serves (g.S.Store.holds old) (g.S.Store.holds new) _ (g.met.S.Store.world_held old) (g.met.S.Store.stays_held _ _ reads honest kept) c.args.request c.args.now c.args.caller
+    (c.in-Err-HostsFull.ensures.full (g.met.S.Units.stays_honest _ _ c.confirmed.ensures.reads honest) kept (ap Err c.in-Err-HostsFull.field-0-is)) may)
 
-pub returns : goal.returns
-returns g c =
-    let reads = c.call_step.ensures.reads in record {
-      honest = λ honest. g.met.S.Units.stays_honest _ _ reads honest;
-      kept = λ honest kept. g.met.S.Units.stays_kept _ _ reads honest kept;
-      exact = λ honest kept. tt;
-      stop = λ w calls batches left. inl (g.met.S.Store.stays_left _ _ reads w calls batches left);
-      err = λ honest kept. record {
-        world_is = g.met.S.Units.stays_same _ _ reads honest kept;
-        calls_are = g.met.S.Store.stays_calls _ _ reads honest kept;
-        batches_are = g.met.S.Store.stays_batches _ _ reads honest kept;
-      };
-    }
-
-pub returns-in-Ok-clause-stop : goal.returns-in-Ok-clause-stop
-returns-in-Ok-clause-stop g c =
+pub returns-clause-acts : goal.returns-clause-acts
+returns-clause-acts g c =
     let reads = c.call_step.ensures.reads in
-    stop_on g.S.Units g.S.Store.may_leave c.args.store.now c.call_step.new.desk c.keep.new.store _ _
-    (g.met.S.Store.stays_left _ _ reads) (g.met.S.Units.stays_honest _ _ reads) (g.met.S.Units.stays_kept _ _ reads)
-    (λ honest kept w calls batches ahead. kept_ahead _ _ w _ _ calls _ _ batches c.args.caller c.args.request c.args.now c.in-Ok.delta c.in-Ok.reply c.args.text
-    (g.met.S.Units.stays_same _ _ reads honest kept) (g.met.S.Store.stays_calls _ _ reads honest kept) (g.met.S.Store.stays_batches _ _ reads honest kept)
-    (search rules) c.requires.in_range c.requires.text
-    (c.in-Ok.ensures.step honest kept) (c.in-Ok.ensures.sound honest kept) (c.in-Ok.ensures.fits honest kept) ahead)
-    c.keep.ensures.stop
+    reads_act (parts_of g.S.Units g.S.Store.holds g.S.Store.clean g.S.Store.lasting g.S.Store.may_leave) c.args.store.now c.call_step.new.desk
+    (g.met.S.Store.stays_clean _ _ reads) (g.met.S.Units.stays_honest _ _ reads) (g.met.S.Units.stays_kept _ _ reads)
+    (λ lasting honest. g.met.S.Store.stays_open _ _ lasting reads honest) (g.met.S.Store.stays_held _ _ reads) (g.met.S.Store.stays_left _ _ reads)
+    false _ (λ clean good. absurd (true≢false (sym good)))

@@ -1,40 +1,37 @@
 use Rattle.std.proofs.Common.{rules}
+use Rattle.std.specs.Prelude.{is_ok, OnOk}
+use Rattle.sched_book.specs.Delta.{Fits}
+use Rattle.stores.specs.Acting.{parts_of}
+use Rattle.stores.specs.Held.{IsCommitted, IsKeptSoundly}
+use Rattle.stores.specs.declared.entry.Entry.TheVariants as entry
+use Rattle.stores.proofs.ReadsAct.{acts_on, said_on}
 use Rattle.message_engine.proofs.TicksServed.{tick_done, tick_ahead}
-use Rattle.message_engine.proofs.Stopped.{stop_on}
 use Rattle.message_engine.proofs.ticks.tick.Goals as goal
+
+pub returns-clause-acts : goal.returns-clause-acts
+returns-clause-acts g c =
+    let reads = c.tick_step.ensures.reads in
+    let old = c.args.store.now in
+    acts_on (parts_of g.S.Units g.S.Store.holds g.S.Store.clean g.S.Store.lasting g.S.Store.may_leave) old c.tick_step.new.desk
+    (g.met.S.Store.stays_clean _ _ reads) (g.met.S.Units.stays_honest _ _ reads) (g.met.S.Units.stays_kept _ _ reads)
+    (λ lasting honest. g.met.S.Store.stays_open _ _ lasting reads honest) (g.met.S.Store.stays_held _ _ reads) (g.met.S.Store.stays_left _ _ reads)
+    (is_ok c.make_lapse.result) (IsKeptSoundly c.in_ok-delta.delta entry.Nothing) _ c.make_lapse.new.store
+    (λ honest kept h ahead. tick_ahead c.args.now c.in_ok-delta.count c.in_ok-delta.delta (g.S.Store.holds old) h _ (g.met.S.Store.world_held old) (search rules)
+    (record { step = λ sound _. c.in_ok-delta.ensures.step honest kept sound; sound = λ sound _. c.in_ok-delta.ensures.sound honest kept sound; fits = λ sound _. c.in_ok-delta.ensures.fits honest kept sound }) ahead)
+    c.make_lapse.ensures.acts
 
 pub returns-clause-exact : goal.returns-clause-exact
 returns-clause-exact g c = λ honest kept.
     let reads = c.tick_step.ensures.reads in
-    let honest_1 = c.make_lapse.ensures.honest honest in
+    let old = c.args.store.now in
+    let new = c.make_lapse.new.store in
+    let honest_1 = c.make_lapse.ensures.acts.acts.was_honest honest in
     let kept_1 = g.met.S.Units.stays_kept _ _ reads honest_1 kept in
-    tick_done c.args.now c.in_ok-delta.count c.in_ok-delta.delta
-    (g.S.Units.world c.args.store.now) (g.S.Units.world c.tick_step.new.desk) (g.S.Units.world c.make_lapse.new.store)
-    (g.S.Store.calls c.args.store.now) (g.S.Store.calls c.tick_step.new.desk) (g.S.Store.calls c.make_lapse.new.store)
-    (g.S.Store.batches c.args.store.now) (g.S.Store.batches c.tick_step.new.desk) (g.S.Store.batches c.make_lapse.new.store)
-    (search rules)
-    (record {
-      world_is = g.met.S.Units.stays_same _ _ reads honest_1 kept;
-      calls_are = g.met.S.Store.stays_calls _ _ reads honest_1 kept;
-      batches_are = g.met.S.Store.stays_batches _ _ reads honest_1 kept;
-    })
-    (c.in_ok-delta.ensures.step honest_1 kept) (c.in_ok-delta.ensures.sound honest_1 kept) (c.in_ok-delta.ensures.fits honest_1 kept)
-    c.make_lapse.result c.make_lapse.ensures.answer (c.make_lapse.ensures.ok honest kept_1)
-
-pub returns-clause-stop : goal.returns-clause-stop
-returns-clause-stop g c =
-    let reads = c.tick_step.ensures.reads in
-    stop_on g.S.Units g.S.Store.may_leave c.args.store.now c.tick_step.new.desk c.make_lapse.new.store _ _
-    (g.met.S.Store.stays_left _ _ reads) (g.met.S.Units.stays_honest _ _ reads) (g.met.S.Units.stays_kept _ _ reads)
-    (λ honest kept w calls batches ahead. tick_ahead c.args.now c.in_ok-delta.count c.in_ok-delta.delta
-    (g.S.Units.world c.args.store.now) (g.S.Units.world c.tick_step.new.desk) w
-    (g.S.Store.calls c.args.store.now) (g.S.Store.calls c.tick_step.new.desk) calls
-    (g.S.Store.batches c.args.store.now) (g.S.Store.batches c.tick_step.new.desk) batches
-    (search rules)
-    (record {
-      world_is = g.met.S.Units.stays_same _ _ reads honest kept;
-      calls_are = g.met.S.Store.stays_calls _ _ reads honest kept;
-      batches_are = g.met.S.Store.stays_batches _ _ reads honest kept;
-    })
-    (c.in_ok-delta.ensures.step honest kept) (c.in_ok-delta.ensures.sound honest kept) (c.in_ok-delta.ensures.fits honest kept) ahead)
-    c.make_lapse.ensures.stop
+    tick_done c.args.now c.in_ok-delta.count c.in_ok-delta.delta (g.S.Store.holds old) (g.S.Store.holds new) _ (g.met.S.Store.world_held old) (search rules)
+    (record { step = λ sound _. c.in_ok-delta.ensures.step honest_1 kept sound; sound = λ sound _. c.in_ok-delta.ensures.sound honest_1 kept sound; fits = λ sound _. c.in_ok-delta.ensures.fits honest_1 kept sound })
+    c.make_lapse.result c.make_lapse.ensures.answer
+    (said_on (parts_of g.S.Units g.S.Store.holds g.S.Store.clean g.S.Store.lasting g.S.Store.may_leave) old c.tick_step.new.desk
+    (g.met.S.Store.stays_clean _ _ reads) (g.met.S.Units.stays_honest _ _ reads) (g.met.S.Units.stays_kept _ _ reads)
+    (λ lasting honest. g.met.S.Store.stays_open _ _ lasting reads honest) (g.met.S.Store.stays_held _ _ reads) (g.met.S.Store.stays_left _ _ reads)
+    (λ held. OnOk c.make_lapse.result (Fits held.world c.in_ok-delta.delta → IsCommitted c.in_ok-delta.delta entry.Nothing held (g.S.Store.holds new)))
+    honest_1 kept (c.make_lapse.ensures.made honest kept_1))

@@ -1,5 +1,6 @@
-use Rattle.sched_server.proofs.Followed.{handled_stands}
+use Rattle.stores.specs.Acting.{parts_of}
+use Rattle.sched_server.proofs.Stopped.{handled_stands}
 use Rattle.sched_server.proofs.laws.handled_stands.Goals as goal
 
 pub returns : goal.returns
-returns c = handled_stands
+returns g c = handled_stands (parts_of g.S.Units g.S.Store.holds g.S.Store.clean g.S.Store.lasting g.S.Store.may_leave) g.met.S.Store.settled

@@ -2,10 +2,10 @@ use Rattle.std.proofs.Common.{◌≡◌, false, sym, ap, subst, ◌∙◌, rules
 use Rattle.std.proofs.lemmas.Bool.{both_ways}
 use Rattle.sqlite.specs.Held.{state}
 use Rattle.sqlite.specs.State.{HasCleanDisk}
-use Rattle.table_meaning.specs.Schema.{stored_schema}
+use Rattle.table_meaning.specs.Schema.{newest, stored_schema}
 use Rattle.table_meaning.proofs.Knowing.{known_from, each_rises}
 use Rattle.table_rows.specs.Plain.{IsPlain}
-use Rattle.table_rows.proofs.PlainSchema.{stored_is_plain}
+use Rattle.table_rows.proofs.PlainSchema.{each_is_plain}
 use Rattle.table_rows.proofs.Reopening.{one_refused}
 use Rattle.table_rows.proofs.opening.known.Goals as goal
 
@@ -15,7 +15,7 @@ returns-then-not-is_alike-clause-other g c = λ refused is clean schema.
     let now = c.in-Some.ensures.same clean_here in
     let same : c.schema.result.now ≡ c.in-Ok.wanted = c.schema.ensures.value ∙ ap (λ db. db.schema) now ∙ schema ∙ sym c.in-Ok.ensures in
     let differ : c.is_alike.result ≡ false = search rules in
-    both_ways _ differ (c.is_alike.ensures.1 (same, subst IsPlain (sym c.in-Ok.ensures) stored_is_plain))
+    both_ways _ differ (c.is_alike.ensures.1 (same, subst IsPlain (sym c.in-Ok.ensures) (each_is_plain newest)))
 
 pub returns-clause-known : goal.returns-clause-known
 returns-clause-known g c clean =

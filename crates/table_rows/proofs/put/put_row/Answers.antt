@@ -3,7 +3,7 @@ use Rattle.sqlite.specs.Values.{bound}
 use Rattle.sqlite.specs.Held.{state}
 use Rattle.sqlite.specs.State.{ExecutesInside}
 use Rattle.table_meaning.specs.Rows.{columns_of}
-use Rattle.table_meaning.proofs.Binding.{bound_as}
+use Rattle.table_meaning.proofs.TypedRows.{bound_as}
 use Rattle.table_meaning.proofs.StepLemmas.{row_moved}
 use Rattle.table_rows.proofs.put.put_row.Goals as goal
 

@@ -1,8 +1,12 @@
-use Rattle.std.proofs.Common.{◌∙◌, sym, ap}
-use Rattle.std.specs.FinMap as map
-use Rattle.reply_register.proofs.Calls.{get_call}
+use Rattle.std.proofs.Common.{◌∙◌}
+use Rattle.std.specs.Prelude.{Some, None}
+use Rattle.reply_register.proofs.Calls.{found_call}
 use Rattle.reply_register.proofs.register.Register.find.Goals as goal
 
-pub returns : goal.returns
-returns c =
-    c.get.ensures.value ∙ sym (get_call c.self.inside.calls.entries c.args.key.now) ∙ ap (λ calls. map.get calls c.args.key.now) c.self.view_is
+pub returns-in-None : goal.returns-in-None
+returns-in-None c = found_call c.self.inside.calls.entries c.args.key.now None c.args.self.now c.in-None.ensures.value c.self.view_is
+
+pub returns-in-Some : goal.returns-in-Some
+returns-in-Some c =
+    c.as_slice.ensures
+    ∙ found_call c.self.inside.calls.entries c.args.key.now (Some c.in-Some.calls.now) c.args.self.now c.in-Some.ensures.value c.self.view_is

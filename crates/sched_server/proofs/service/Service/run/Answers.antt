@@ -1,50 +1,47 @@
-use Rattle.std.proofs.Common.{◌∷◌, [], ◌++◌, List, length, ◌∙◌, ap}
+use Rattle.std.proofs.Common.{ℕ, ◌∷◌, [], ◌++◌, List, length, ◌∙◌, ap}
 use Rattle.std.proofs.lemmas.Result.{err_from_is_err_and}
-use Rattle.sched_server.specs.Arrivals.{Came, StandsFor, HandledInTurn}
+use Rattle.stores.specs.Acting.{parts_of}
+use Rattle.sched_server.specs.Arrivals.{Came, StoreStandsFor, HandledInTurn}
 use Rattle.sched_server.specs.Views.{store_of, key_of}
-use Rattle.sched_server.proofs.Followed.{one_more, holds_next, holds_so_far, handled_as, handled_on}
+use Rattle.sched_server.proofs.Followed.{one_more, holds_next, holds_so_far, handled_as, stands_on}
 use Rattle.sched_server.proofs.service.Service.run.Goals as goal
 
 pub loop-arrival-preserved : goal.loop-arrival-preserved
 loop-arrival-preserved g c =
     let kept = c.loop-arrival.invariant in
+    let first = c.args.self.now in
     let after = c.handle.new.self in
-    let P : List Came → Type 0 = λ came.
-    StandsFor (key_of c.args.self.now) (g.S.Units.world (store_of after)) (g.S.Store.calls (store_of after)) (g.S.Store.batches (store_of after)) came in
-    let before = c.args.self.now in
-    let Q : List Came → Type 0 = λ came.
-    HandledInTurn (key_of before) came (g.S.Units.world (store_of before)) (g.S.Store.calls (store_of before)) (g.S.Store.batches (store_of before))
-    (g.S.Units.world (store_of after)) (g.S.Store.calls (store_of after)) (g.S.Store.batches (store_of after)) in (
-      λ honest. kept.0 (c.handle.ensures.honest honest),
-      λ honest well. c.handle.ensures.kept honest (kept.1 (c.handle.ensures.honest honest) well),
+    let acts = c.handle.ensures.acts in
+    let P : List ℕ → List Came → Type 0 = λ marks came. StoreStandsFor (parts_of g.S.Units g.S.Store.holds g.S.Store.clean g.S.Store.lasting g.S.Store.may_leave) (key_of first) marks came (store_of after) in
+    let Q : List Came → Type 0 = λ came. HandledInTurn (key_of first) came (g.S.Store.holds (store_of first)) (g.S.Store.holds (store_of after)) in (
+      λ honest. kept.0 (acts.was_honest honest),
+      λ honest well. acts.stays_kept honest (kept.1 (acts.was_honest honest) well),
       c.handle.ensures.key ∙ kept.2,
       ap length c.in_ok-push.ensures.items ∙ one_more _ _ _ kept.3,
-      λ honest well before stands.
-          holds_next P before _ _ _ _ _ _ c.loop-arrival-test.true c.arrival-item.is kept.3 c.in_ok-push.ensures.items
-          (handled_on _ _ _ _ _ _ _ _ _ _ _ _ kept.2 c.as_slice.ensures
-          (c.handle.ensures.exact honest (kept.1 (c.handle.ensures.honest honest) well)) _ (kept.4 (c.handle.ensures.honest honest) well before stands)),
+      λ clean. kept.4 (acts.was_clean clean),
+      λ lasting honest. acts.lasts lasting (kept.5 lasting honest),
+      λ marks before st clean. holds_next (P marks) before _ _ _ _ _ _ c.loop-arrival-test.true c.arrival-item.is kept.3 c.in_ok-push.ensures.items (stands_on (parts_of g.S.Units g.S.Store.holds g.S.Store.clean g.S.Store.lasting g.S.Store.may_leave) (key_of first) _ _ _ _ _ _ _ kept.2 c.as_slice.ensures c.handle.ensures.stands marks _
+          (kept.6 marks before st (acts.was_clean clean)) clean),
       λ honest well.
-          holds_next Q [] _ _ _ _ _ _ c.loop-arrival-test.true c.arrival-item.is kept.3 c.in_ok-push.ensures.items (
-            _,
-            _,
-            _,
-            kept.5 (c.handle.ensures.honest honest) well,
-            handled_as _ _ _ _ _ _ _ _ _ _ _ _ kept.2 c.as_slice.ensures
-                (c.handle.ensures.exact honest (kept.1 (c.handle.ensures.honest honest) well)),
-          ),
+          holds_next Q [] _ _ _ _ _ _ c.loop-arrival-test.true c.arrival-item.is kept.3 c.in_ok-push.ensures.items
+          (_, kept.7 (acts.was_honest honest) well, handled_as (key_of first) _ _ _ _ _ _ _ kept.2 c.as_slice.ensures (c.handle.ensures.exact honest (kept.1 (acts.was_honest honest) well))),
     )
 
 -- the last arrival acted, and there was no room for its answer
-pub returns-in_err-push-clause-memory : goal.returns-in_err-push-clause-memory
-returns-in_err-push-clause-memory g c = λ honest well.
+pub returns-in_err-push-clause-acts : goal.returns-in_err-push-clause-acts
+returns-in_err-push-clause-acts g c =
     let kept = c.loop-arrival.invariant in
+    let first = c.args.self.now in
     let after = c.handle.new.self in
-    let P : List Came → Type 0 = λ came.
-    StandsFor (key_of c.args.self.now) (g.S.Units.world (store_of after)) (g.S.Store.calls (store_of after)) (g.S.Store.batches (store_of after)) came in
+    let acts = c.handle.ensures.acts in
+    let P : List ℕ → List Came → Type 0 = λ marks came. StoreStandsFor (parts_of g.S.Units g.S.Store.holds g.S.Store.clean g.S.Store.lasting g.S.Store.may_leave) (key_of first) marks came (store_of after) in
+    let Q : List Came → Type 0 = λ came. HandledInTurn (key_of first) came (g.S.Store.holds (store_of first)) (g.S.Store.holds (store_of after)) in
     let error = err_from_is_err_and c.from_residual.result c.from_residual.ensures.1 in
-    rw error.1 (λ before stands. (
-      c.loop-arrival.answers.items ++ c.handle.result ∷ [],
-      holds_so_far P before _ _ _ _ _ c.loop-arrival-test.true c.arrival-item.is kept.3
-          (handled_on _ _ _ _ _ _ _ _ _ _ _ _ kept.2 c.as_slice.ensures
-          (c.handle.ensures.exact honest (kept.1 (c.handle.ensures.honest honest) well)) _ (kept.4 (c.handle.ensures.honest honest) well before stands)),
-    ))
+    record {
+      answers = c.loop-arrival.answers.items ++ c.handle.result ∷ [];
+      given = rw error.1 tt;
+      handled = λ honest well.
+          holds_so_far Q [] _ _ _ _ _ c.loop-arrival-test.true c.arrival-item.is kept.3 (_, kept.7 (acts.was_honest honest) well, handled_as (key_of first) _ _ _ _ _ _ _ kept.2 c.as_slice.ensures (c.handle.ensures.exact honest (kept.1 (acts.was_honest honest) well)));
+      stands = λ marks before st clean. holds_so_far (P marks) before _ _ _ _ _ c.loop-arrival-test.true c.arrival-item.is kept.3 (stands_on (parts_of g.S.Units g.S.Store.holds g.S.Store.clean g.S.Store.lasting g.S.Store.may_leave) (key_of first) _ _ _ _ _ _ _ kept.2 c.as_slice.ensures c.handle.ensures.stands marks _
+          (kept.6 marks before st (acts.was_clean clean)) clean);
+    }

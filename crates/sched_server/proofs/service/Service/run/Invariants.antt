@@ -1,5 +1,6 @@
-use Rattle.std.proofs.Common.{◌≡◌, List, [], length, take}
-use Rattle.sched_server.specs.Arrivals.{Came, StandsFor, HandledInTurn, followed}
+use Rattle.std.proofs.Common.{◌≡◌, ℕ, List, [], length, take}
+use Rattle.stores.specs.Acting.{parts_of}
+use Rattle.sched_server.specs.Arrivals.{Came, StoreStandsFor, HandledInTurn, followed}
 use Rattle.sched_server.specs.Views.{store_of, key_of}
 use Rattle.sched_server.proofs.service.Service.run.Given as goal
 
@@ -10,11 +11,10 @@ invariant-loop-arrival g l =
     × (g.S.Units.honest (store_of l.self) → g.S.Units.well_kept (store_of l.fn.self) → g.S.Units.well_kept (store_of l.self))
     × (key_of l.self ≡ key_of l.fn.self)
     × (length l.answers.items ≡ l.arrival-index)
-    × (g.S.Units.honest (store_of l.self) → g.S.Units.well_kept (store_of l.fn.self) → (before : List Came)
-    → StandsFor (key_of l.fn.self) (g.S.Units.world (store_of l.fn.self)) (g.S.Store.calls (store_of l.fn.self)) (g.S.Store.batches (store_of l.fn.self)) before
-    → StandsFor (key_of l.fn.self) (g.S.Units.world (store_of l.self)) (g.S.Store.calls (store_of l.self)) (g.S.Store.batches (store_of l.self))
-    (followed before (take l.arrival-index l.arrivals) l.answers.items))
+    × (g.S.Store.clean (store_of l.self) → g.S.Store.clean (store_of l.fn.self))
+    × (g.S.Store.lasting → g.S.Units.honest (store_of l.fn.self) → g.S.Units.honest (store_of l.self))
+    × ((marks : List ℕ) (before : List Came) → StoreStandsFor (parts_of g.S.Units g.S.Store.holds g.S.Store.clean g.S.Store.lasting g.S.Store.may_leave) (key_of l.fn.self) marks before (store_of l.fn.self) → g.S.Store.clean (store_of l.self)
+    → StoreStandsFor (parts_of g.S.Units g.S.Store.holds g.S.Store.clean g.S.Store.lasting g.S.Store.may_leave) (key_of l.fn.self) marks
+    (followed before (take l.arrival-index l.arrivals) l.answers.items) (store_of l.self))
     × (g.S.Units.honest (store_of l.self) → g.S.Units.well_kept (store_of l.fn.self)
-    → HandledInTurn (key_of l.fn.self) (followed [] (take l.arrival-index l.arrivals) l.answers.items)
-    (g.S.Units.world (store_of l.fn.self)) (g.S.Store.calls (store_of l.fn.self)) (g.S.Store.batches (store_of l.fn.self))
-    (g.S.Units.world (store_of l.self)) (g.S.Store.calls (store_of l.self)) (g.S.Store.batches (store_of l.self)))
+    → HandledInTurn (key_of l.fn.self) (followed [] (take l.arrival-index l.arrivals) l.answers.items) (g.S.Store.holds (store_of l.fn.self)) (g.S.Store.holds (store_of l.self)))

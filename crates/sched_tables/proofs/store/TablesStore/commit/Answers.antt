@@ -1,16 +1,18 @@
-use Rattle.std.proofs.Common.{◌≡◌, refl, inl, inr, ap, ◌∙◌}
+use Rattle.std.proofs.Common.{◌≡◌, refl, inl, inr, ap, ◌∙◌, arith}
+use Rattle.std.specs.Prelude.{is_ok, IsTrue}
 use Rattle.sqlite.specs.Effect.{Database}
 use Rattle.sched_tables.specs.Commits.{Makes, apps_with}
 use Rattle.sched_tables.specs.Entries.{row_of, calls_of, batches_of}
-use Rattle.sched_tables.specs.ReadLaws.{left_world, left_kept, left_beside}
+use Rattle.sched_tables.specs.ReadLaws.{left_world, left_kept, left_beside, never_shut}
 use Rattle.sched_tables.specs.Views.{state_of, world_of, AreKept}
 use Rattle.sched_tables.proofs.EntriesKept.{kept_then, beside_then, committed}
+use Rattle.stores.proofs.Results.{on_ok, on_err}
 use Rattle.sched_tables.proofs.Leads.{all_ok, all_err, either_way}
 use Rattle.sched_tables.proofs.Stops.{found_is_ahead}
 use Rattle.sched_tables.proofs.store.TablesStore.commit.Goals as goal
 
-pub returns-clause-kept : goal.returns-clause-kept
-returns-clause-kept g c = λ honest kept.
+pub returns-clause-acts : goal.returns-clause-acts
+returns-clause-acts g c =
     let before = c.args.self.now in
     let after = c.commit.new.self in
     let old = state_of g.S.Store before in
@@ -18,21 +20,43 @@ returns-clause-kept g c = λ honest kept.
     let w = world_of g.S.Store before in
     let cs = c.args.delta.now in
     let row = row_of c.args.entry.now in
-    let idle = c.commit.ensures.idle kept.0.idle in
-    either_way c.commit.result (AreKept g.S.Store after) _ (AreKept g.S.Store after)
-    (all_ok c.commit.result (after.apps ≡ apps_with before.apps cs) (new.now ≡ new.committed) (Makes w cs row old.now new.now) (AreKept g.S.Store after)
-    c.commit.ensures.apps (c.commit.ensures.rests honest) (c.commit.ensures.made honest kept)
-    (λ apps rests made. (
-      kept_then old new w cs c.args.entry.now row refl kept.0 made rests idle,
-      beside_then old new w cs c.args.entry.now row refl kept.0 made after.settings before.apps after.apps before.remembered after.remembered
-          (record { settings_are = c.commit.ensures.settings ∙ kept.1.settings_are; apps_are = kept.1.apps_are; rows_are = kept.1.rows_are }) apps c.commit.ensures.forgets,
-    )))
-    (c.commit.ensures.left honest kept)
-    (λ all. all)
-    (λ left. (left_kept old new left.0 left.1 kept.0 idle, left_beside old new left.0 left.1 kept.0 before.settings after.settings before.apps after.apps before.remembered after.remembered c.commit.ensures.settings left.2 (c.commit.ensures.forgets _) kept.1))
+    record {
+      acts = record {
+        was_clean = λ clean. omega (arith, c.commit.ensures.crash.clean, clean);
+        was_honest = c.commit.ensures.honest;
+        is_open = λ clean good. (clean, on_ok c.commit.result (IsTrue new.is_open) (c.commit.ensures.open clean) good);
+        lasts = λ lasting honest.
+            never_shut old new _ (lasting before.conn.store).0 (lasting after.conn.store).0 (lasting after.conn.store).1 c.commit.ensures.crash honest;
+        stays_kept = λ honest kept.
+            let idle = c.commit.ensures.idle kept.0.idle in
+            either_way c.commit.result (AreKept g.S.Store after) _ (AreKept g.S.Store after)
+            (all_ok c.commit.result (after.apps ≡ apps_with before.apps cs) (new.now ≡ new.committed) (Makes w cs row old.now new.now) (AreKept g.S.Store after)
+            c.commit.ensures.apps (c.commit.ensures.rests honest) (c.commit.ensures.made honest kept)
+            (λ apps rests made. (
+              kept_then old new w cs c.args.entry.now row refl kept.0 made rests idle,
+              beside_then old new w cs c.args.entry.now row refl kept.0 made after.settings before.apps after.apps before.remembered after.remembered
+                  (record { settings_are = c.commit.ensures.settings ∙ kept.1.settings_are; apps_are = kept.1.apps_are; rows_are = kept.1.rows_are }) apps c.commit.ensures.forgets,
+            )))
+            (c.commit.ensures.left honest kept)
+            (λ all. all)
+            (λ left. (left_kept old new left.0 left.1 kept.0 idle, left_beside old new left.0 left.1 kept.0 before.settings after.settings before.apps after.apps before.remembered after.remembered c.commit.ensures.settings left.2 (c.commit.ensures.forgets _) kept.1));
+        left = λ h found.
+            elim (found_is_ahead old new w h cs c.args.entry.now row (AreKept g.S.Store before) (λ well. well.0) refl c.commit.ensures.crash found) [
+              | inl earlier ↦ inl earlier
+              | inr ahead ↦ inr ahead
+            ];
+      };
+      unchanged = λ honest kept bad.
+          let left = on_err c.commit.result _ (c.commit.ensures.left honest kept) bad in
+          record {
+            world_is = left_world old new left.0 left.1 kept.0;
+            calls_are = λ host. ap (λ (db : Database). calls_of db.trees host) left.0;
+            batches_are = λ kind batch. ap (λ (db : Database). batches_of db.trees kind batch) left.0;
+          };
+    }
 
-pub returns-clause-ok : goal.returns-clause-ok
-returns-clause-ok g c = λ honest kept.
+pub returns-clause-made : goal.returns-clause-made
+returns-clause-made g c = λ honest kept.
     let before = c.args.self.now in
     let after = c.commit.new.self in
     let old = state_of g.S.Store before in
@@ -43,22 +67,3 @@ returns-clause-ok g c = λ honest kept.
     all_ok c.commit.result (after.apps ≡ apps_with before.apps cs) (new.now ≡ new.committed) (Makes w cs row old.now new.now) _
     c.commit.ensures.apps (c.commit.ensures.rests honest) (c.commit.ensures.made honest kept)
     (λ apps rests made fits. committed old new w cs c.args.entry.now row refl kept.0 made)
-
-pub returns-clause-err : goal.returns-clause-err
-returns-clause-err g c = λ honest kept.
-    let old = state_of g.S.Store c.args.self.now in
-    let new = state_of g.S.Store c.commit.new.self in
-    all_err c.commit.result _ _ (c.commit.ensures.left honest kept)
-    (λ left. record {
-      world_is = left_world old new left.0 left.1 kept.0;
-      calls_are = λ host. ap (λ (db : Database). calls_of db.trees host) left.0;
-      batches_are = λ kind batch. ap (λ (db : Database). batches_of db.trees kind batch) left.0;
-    })
-
-pub returns-clause-stop : goal.returns-clause-stop
-returns-clause-stop g c = λ w kept imports found.
-    elim (found_is_ahead (state_of g.S.Store c.args.self.now) (state_of g.S.Store c.commit.new.self) (world_of g.S.Store c.args.self.now) w c.args.delta.now c.args.entry.now
-    (row_of c.args.entry.now) kept imports (AreKept g.S.Store c.args.self.now) (λ well. well.0) refl c.commit.ensures.crash found) [
-      | inl before ↦ inl before
-      | inr ahead ↦ inr (ahead.0, λ well fits sound. ahead.1 well sound)
-    ]

@@ -1,5 +1,0 @@
-use Rattle.pasts.proofs.Repeats.{calls_are_told_beside_the_latest}
-use Rattle.pasts.proofs.laws.calls_are_told_beside_the_latest.Goals as goal
-
-pub returns : goal.returns
-returns c = calls_are_told_beside_the_latest

@@ -1,0 +1,5 @@
+use Rattle.pasts.proofs.Marks.{eras_go_on}
+use Rattle.pasts.proofs.laws.eras_go_on.Goals as goal
+
+pub returns : goal.returns
+returns c = eras_go_on

@@ -1,0 +1,5 @@
+use Rattle.pasts.proofs.Marks.{kept_are_the_latest_four}
+use Rattle.pasts.proofs.laws.kept_are_the_latest_four.Goals as goal
+
+pub returns : goal.returns
+returns c = kept_are_the_latest_four

@@ -1,0 +1,14 @@
+-- What ties tables to what a stop left of them.
+use Rattle.std.specs.Prelude.{◌≡◌}
+use Rattle.sqlite_trees.specs.declared.store.Store.{Ghosts}
+use Rattle.sched_book.specs.Sound.{Sound}
+use Rattle.stores.specs.Held.{Held, IsLeft}
+use Rattle.sched_tables.specs.Stops.{MayBeFound}
+use Rattle.sched_tables.specs.Views.{state_of, world_of, held_of, AreKept}
+use Rattle.sched_tables.specs.declared.tables.Tables.{Tables}
+
+-- Tables that are opened over the rows that a stop left hold what was left.
+abbrev pub ReopenedHolds : {S R : Type 0} → Ghosts S → Ghosts R → Type 0
+ReopenedHolds {S} {R} before after =
+    (old : Tables S) (t : Tables R) → AreKept after t → Sound (world_of after t) → (h : Held) → (found : MayBeFound (state_of before old) h)
+    → found.trees ≡ (state_of after t).now.trees → IsLeft (held_of after t) h

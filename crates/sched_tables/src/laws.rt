@@ -1,0 +1,17 @@
+//! Laws of tables. Each function does nothing; its contract is the law.
+
+ghost use Rattle.sqlite.specs.Steps.{over_memory};
+ghost use Rattle.sched_tables.specs.Held.{NeverFails};
+ghost use Rattle.sched_tables.specs.Laws.{ReopenedHolds};
+
+use sqlite::Alter;
+
+/// Tables in memory have no disk that could fail. So they are never shut, and nothing is a premise of what they say.
+pub fn memory_never_fails()
+    ensures { NeverFails over_memory }
+{}
+
+/// Tables that are opened over the rows that a stop left hold what was left.
+pub fn reopened_holds<S: Alter, R: Alter>()
+    ensures { ReopenedHolds S.Store R.Store }
+{}

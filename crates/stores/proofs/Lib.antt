@@ -1,0 +1,2 @@
+pub mod ReadsAct
+pub mod Results

@@ -1,0 +1,108 @@
+-- A call that only read owes nothing more, and one that read before it acted owes what it owes from there on.
+use Rattle.std.proofs.Common.{◌≡◌, Bool, true, false, inl, inr, refl, sym, ◌∙◌, subst, true≢false}
+use Rattle.stores.specs.Acting.{Parts, Acts, ActsWhole}
+use Rattle.stores.specs.Held.{Held, IsLeft}
+
+-- what is left as it was is the same
+pub left_is : (old new : Held) → IsLeft old new → new ≡ old
+left_is old new left = λ i. record {
+  world = left.world_is i;
+  calls = λ host. left.calls_are host i;
+  batches = λ kind batch. left.batches_are kind batch i;
+}
+
+pub left_back : (old new : Held) → IsLeft old new → IsLeft new old
+left_back old new left = record {
+  world_is = sym left.world_is;
+  calls_are = λ host. sym (left.calls_are host);
+  batches_are = λ kind batch. sym (left.batches_are kind batch);
+}
+
+pub left_on : (old mid new : Held) → IsLeft old mid → IsLeft mid new → IsLeft old new
+left_on old mid new before left = record {
+  world_is = left.world_is ∙ before.world_is;
+  calls_are = λ host. left.calls_are host ∙ before.calls_are host;
+  batches_are = λ kind batch. left.batches_are kind batch ∙ before.batches_are kind batch;
+}
+
+-- What a store owes behind a read, as its laws say.
+module _ {S : Type 0} (store : Parts S) (old mid : S)
+    (was_clean : store.clean mid → store.clean old)
+    (was_honest : store.honest mid → store.honest old)
+    (stays_kept : store.honest mid → store.well_kept old → store.well_kept mid)
+    (stays_open : store.lasting → store.honest old → store.honest mid)
+    (stays_held : store.honest mid → store.well_kept old → IsLeft (store.holds old) (store.holds mid))
+    (stays_left : (h : Held) → store.may_leave mid h → store.may_leave old h) where
+  -- an answer that is only given where the store is open owes no more
+  pub reads_act : (good : Bool) (P : Held → Type 0) → (store.clean mid → good ≡ true → store.honest mid) → ActsWhole store good P old mid
+  reads_act good P is_open = record {
+    acts = record {
+      was_clean = was_clean;
+      was_honest = was_honest;
+      is_open = is_open;
+      lasts = stays_open;
+      stays_kept = stays_kept;
+      left = λ h may. inl (stays_left h may);
+    };
+    unchanged = λ honest kept bad. stays_held honest kept;
+  }
+
+  -- what is said of what was held at mid is said of what was held before
+  pub said_on : (P : Held → Type 0) → store.honest mid → store.well_kept old → P (store.holds mid) → P (store.holds old)
+  said_on P honest kept = subst P (left_is (store.holds old) (store.holds mid) (stays_held honest kept))
+
+  -- A call that acts behind the read acts on what stood before it: what Q says of what was held at mid, P says of what was held before.
+  pub acts_on : (good : Bool) (Q : Held → Held → Type 0) (P : Held → Type 0) (new : S)
+      → (store.honest mid → store.well_kept old → (h : Held) → Q (store.holds old) h → P h)
+      → ActsWhole store good (Q (store.holds mid)) mid new → ActsWhole store good P old new
+  acts_on good Q P new on whole = record {
+    acts = record {
+      was_clean = λ clean. was_clean (whole.acts.was_clean clean);
+      was_honest = λ honest. was_honest (whole.acts.was_honest honest);
+      is_open = whole.acts.is_open;
+      lasts = λ lasting honest. whole.acts.lasts lasting (stays_open lasting honest);
+      stays_kept = λ honest kept. whole.acts.stays_kept honest (stays_kept (whole.acts.was_honest honest) kept);
+      left = λ h may. elim (whole.acts.left h may) [
+        | inl before ↦ inl (stays_left h before)
+        | inr ahead ↦ inr (
+          was_honest ahead.0,
+          λ kept. on ahead.0 kept h (said_on (λ held. Q held h) ahead.0 kept (ahead.1 (stays_kept ahead.0 kept))),
+        )
+      ];
+    };
+    unchanged = λ honest kept bad.
+        left_on _ _ _ (stays_held (whole.acts.was_honest honest) kept)
+        (whole.unchanged honest (stays_kept (whole.acts.was_honest honest) kept) bad);
+  }
+
+-- a call that did nothing to the store, and gave no good answer
+pub idle_acts : {S : Type 0} (store : Parts S) (P : Held → Type 0) (old : S) → ActsWhole store false P old old
+idle_acts store P old = record {
+  acts = record {
+    was_clean = λ clean. clean;
+    was_honest = λ honest. honest;
+    is_open = λ clean good. absurd (true≢false (sym good));
+    lasts = λ lasting honest. honest;
+    stays_kept = λ honest kept. kept;
+    left = λ h may. inl may;
+  };
+  unchanged = λ honest kept bad. record { world_is = refl; calls_are = λ host. refl; batches_are = λ kind batch. refl };
+}
+
+-- What P says, Q says; and where the answer tells no more than before that it is good.
+pub acts_too : {S : Type 0} (store : Parts S) (good better : Bool) (P Q : Held → Type 0) (old new : S) → (better ≡ true → good ≡ true) → ((h : Held) → P h → Q h)
+    → Acts store good P old new → Acts store better Q old new
+acts_too store good better P Q old new tells on acts = record {
+  was_clean = acts.was_clean;
+  was_honest = acts.was_honest;
+  is_open = λ clean is. acts.is_open clean (tells is);
+  lasts = acts.lasts;
+  stays_kept = acts.stays_kept;
+  left = λ h may. elim (acts.left h may) [
+    | inl before ↦ inl before
+    | inr ahead ↦ inr (ahead.0, λ kept. on h (ahead.1 kept))
+  ];
+}
+
+pub whole_too : {S : Type 0} (store : Parts S) (good : Bool) (P Q : Held → Type 0) (old new : S) → ((h : Held) → P h → Q h) → ActsWhole store good P old new → ActsWhole store good Q old new
+whole_too store good P Q old new on whole = record { acts = acts_too store good good P Q old new (λ is. is) on whole.acts; unchanged = whole.unchanged }

@@ -1,0 +1,72 @@
+-- What a store holds, and what a commit makes of it. (This project's own.)
+use Rattle.std.specs.Prelude.{◌≡◌, ℕ, ◌&&◌, ◌==◌, if◌then◌else◌, List, [], ◌∷◌, take, Option, Some, None}
+use Rattle.std.specs.Str.{bytes_eq}
+use Rattle.reply_register.specs.declared.kept.Kept.{Kept}
+use Rattle.sched_book.specs.Delta.{applied, Fits}
+use Rattle.sched_book.specs.Sound.{Sound}
+use Rattle.sched_book.specs.Step.{empty_world}
+use Rattle.sched_book.specs.declared.delta.Change.{Change}
+use Rattle.sched_book.specs.declared.settings.Settings.{Settings}
+use Rattle.sched_book.specs.declared.world.World.{World}
+use Rattle.stores.specs.Eras.{kept_beside, this_era}
+use Rattle.stores.specs.Kinds.{same_kind}
+use Rattle.stores.specs.declared.batch.KeptBatch.{KeptBatch}
+use Rattle.stores.specs.declared.entry.Entry.{Entry}
+use Rattle.stores.specs.declared.entry.Entry.TheVariants as entry
+use Rattle.stores.specs.declared.kind.Kind.{Kind}
+
+-- calls that are kept by the number of their host, the last call first
+abbrev pub Calls : Type 0
+Calls = ℕ → List Kept
+
+-- imports that are kept by kind and name
+abbrev pub Batches : Type 0
+Batches = Kind → List ℕ → Option KeptBatch
+
+-- A store holds a world, and what it keeps of calls and of imports.
+pub record Held : Type 0 where
+  pub world : World
+  pub calls : Calls
+  pub batches : Batches
+
+-- the calls with these at a number
+abbrev pub put_at : ℕ → List Kept → Calls → Calls
+put_at number calls kept n = if number == n then calls else kept n
+
+-- the calls with this one before the latest of those that are kept at its host's number
+abbrev pub put_call : ℕ → ℕ → Kept → Calls → Calls
+put_call era host call kept = put_at host (call ∷ take (kept_beside era) (kept host)) kept
+
+-- what is kept of calls once an entry is put in
+abbrev pub calls_with : Entry → Calls → Calls
+calls_with (entry.Kept host kept) calls = put_call this_era host kept calls
+calls_with (entry.Batch kind batch kept) calls = calls
+calls_with entry.Nothing calls = calls
+
+-- and of imports
+abbrev pub batches_with : Entry → Batches → Batches
+batches_with (entry.Batch kind batch kept) batches k b = if same_kind kind k && bytes_eq batch b then Some kept else batches k b
+batches_with (entry.Kept host kept) batches k b = batches k b
+batches_with entry.Nothing batches k b = batches k b
+
+-- The changes are made and the entry is put in, and all else is as it was.
+pub record IsCommitted (delta : List Change) (e : Entry) (old new : Held) : Type 0 where
+  pub world_is : new.world ≡ applied old.world delta
+  pub calls_are : (host : ℕ) → new.calls host ≡ calls_with e old.calls host
+  pub batches_are : (kind : Kind) (batch : List ℕ) → new.batches kind batch ≡ batches_with e old.batches kind batch
+
+-- That is made of changes that fit, and leave a sound world.
+abbrev pub IsKeptSoundly : List Change → Entry → Held → Held → Type 0
+IsKeptSoundly delta e old new = Fits old.world delta → Sound (applied old.world delta) → IsCommitted delta e old new
+
+-- Nothing was changed.
+pub record IsLeft (old new : Held) : Type 0 where
+  pub world_is : new.world ≡ old.world
+  pub calls_are : (host : ℕ) → new.calls host ≡ old.calls host
+  pub batches_are : (kind : Kind) (batch : List ℕ) → new.batches kind batch ≡ old.batches kind batch
+
+-- Nothing stands but these settings, and nothing is kept.
+pub record IsNew (s : Settings) (held : Held) : Type 0 where
+  pub world_is : held.world ≡ empty_world s
+  pub calls_are : (host : ℕ) → held.calls host ≡ []
+  pub batches_are : (kind : Kind) (batch : List ℕ) → held.batches kind batch ≡ None

@@ -1,0 +1,4 @@
+pub mod Kinds
+pub mod Eras
+pub mod Held
+pub mod Acting

@@ -1,0 +1,55 @@
+-- How the columns of a row lie in its tree, by the key of the table, and the terms of the text that puts them.
+use Rattle.std.proofs.Common.{◌≡◌, ℕ, ◌+◌, ◌-◌, ℤ, List, ◌∷◌, map, drop, length, sym, ap, ◌∙◌}
+use Rattle.std.proofs.lemmas.List.{take-map}
+use Rattle.std.specs.Prelude.{⊤}
+use Rattle.std.specs.List.{range_with_len}
+use Rattle.sqlite_value.specs.declared.value.Value.TheVariants.{Null, Int}
+use Rattle.sqlite_value.specs.Order.{Row, column}
+use Rattle.sqlite_sql.specs.Term.{Term, lit, col}
+use Rattle.table_meaning.specs.declared.tables.TableName.{TableName}
+use Rattle.table_meaning.specs.Layouts.{Key, numbered, by_first, layout_of, of_key, key_width}
+use Rattle.table_meaning.specs.Rows.{places_of, key_places, shown}
+use Rattle.table_meaning.specs.Formats.{columns_in}
+
+abbrev pub key_by : TableName → Key
+key_by t = (layout_of t).key
+
+abbrev pub count_of : TableName → ℕ
+count_of t = length (layout_of t).columns
+
+-- the columns one by one, so that what is said of them computes whatever they are
+abbrev pub written_out : TableName → Row → Row
+written_out t c = columns_in c (count_of t)
+
+-- what the tree has of the columns behind the number of the row
+abbrev pub behind_by : Key → Row → Row
+behind_by numbered c = Null ∷ drop 1 c
+behind_by (by_first n) c = c
+
+-- The row has this number, where its number is a column.
+abbrev pub IsNumberedBy : Key → Row → ℤ → Type 0
+IsNumberedBy numbered c id = column c 0 ≡ Int id
+IsNumberedBy (by_first n) c id = ⊤
+
+-- the columns, with this number where it is one of them
+abbrev pub with_number : Key → ℤ → Row → Row
+with_number numbered id c = Int id ∷ drop 1 c
+with_number (by_first n) id c = c
+
+-- what is put: the number if it is a column, and else NULL, for which SQL takes a free one
+abbrev pub source_by : Key → Row → Row
+source_by numbered c = column c 0 ∷ behind_by numbered c
+source_by (by_first n) c = Null ∷ c
+
+-- the terms of the row that is put, and of the columns that DO UPDATE sets, where so many columns are the parameters
+abbrev pub put_terms : Key → ℕ → List Term
+put_terms numbered count = col 0 0 ∷ lit Null ∷ map (col 0) (range_with_len 1 (count - 1))
+put_terms (by_first n) count = lit Null ∷ map (col 0) (range_with_len 0 count)
+
+abbrev pub set_terms : Key → ℕ → List Term
+set_terms numbered count = lit Null ∷ map (col 0) (range_with_len (count + 3) (count - 1))
+set_terms (by_first n) count = map (col 0) (range_with_len (count + 2) count)
+
+-- what is shown of a row has its key first
+pub key_shown : (t : TableName) (raw c : Row) → shown t raw ≡ c → map (column raw) (key_places t) ≡ of_key (layout_of t) c
+key_shown t raw c is = sym (take-map (column raw) (key_width (key_by t)) (places_of t)) ∙ ap (of_key (layout_of t)) is

@@ -1,0 +1,144 @@
+-- The layouts of the stored tables. What differs between two tables stands here: a name, a tree, a key and columns. All else that is said of a table follows.
+use Rattle.std.specs.Prelude.{ℕ, List, [], ◌∷◌, map, take, drop, length, codes, Option, Some, None}
+use Rattle.std.specs.List.{range_with_len}
+use Prim.Native.String.{String}
+use Rattle.table_meaning.specs.declared.tables.TableName.{TableName}
+use Rattle.table_meaning.specs.declared.tables.TableName.TheVariants as table
+use Rattle.table_meaning.specs.Kinds.{Kind, number, integer, words, flag, octets, optional, either}
+
+pub record Column : Type 0 where
+  pub name : List ℕ
+  pub kind : Kind
+  -- the table whose key it names, where it names one
+  pub parent : Option TableName
+
+-- what tells the rows of a table apart
+pub data Key : Type 0 where
+  -- the first column, which is the number of the row in its tree
+  numbered : Key
+  -- so many first columns; the number of the row is none of its columns
+  by_first : ℕ → Key
+
+pub record Layout : Type 0 where
+  pub name : List ℕ
+  pub tree : ℕ
+  pub key : Key
+  pub columns : List Column
+  -- what tells them apart beside the key, each as places among the columns
+  pub uniques : List (List ℕ)
+
+-- ---- the tables
+
+abbrev has : String → Kind → Column
+has name kind = record { name = codes name; kind = kind; parent = None }
+
+abbrev refers_to : TableName → String → Kind → Column
+refers_to parent name kind = record { name = codes name; kind = kind; parent = Some parent }
+
+abbrev pub layout_of : TableName → Layout
+layout_of table.Setting = record { name = codes "setting"; tree = 0; key = by_first 1; columns = has "name" words ∷ has "value" (either number words) ∷ []; uniques = [] }
+layout_of table.Account = record { name = codes "account"; tree = 2; key = numbered; columns = has "id" number ∷ has "auth" words ∷ has "name" words ∷ []; uniques = (1 ∷ []) ∷ [] }
+layout_of table.App = record { name = codes "app"; tree = 4; key = numbered; columns = has "id" number ∷ has "name" words ∷ has "agreement" (optional number) ∷ []; uniques = (1 ∷ []) ∷ [] }
+layout_of table.Version = record {
+  name = codes "version";
+  tree = 6;
+  key = numbered;
+  columns = has "id" number ∷ refers_to table.App "app_id" number ∷ has "platform" words ∷ has "num" number ∷ [];
+  uniques = (1 ∷ 2 ∷ 3 ∷ []) ∷ [];
+}
+layout_of table.Unit = record {
+  name = codes "unit";
+  tree = 8;
+  key = numbered;
+  columns =
+      has "id" number
+      ∷ has "name" words
+      ∷ refers_to table.App "app_id" number
+      ∷ has "min_quorum" number
+      ∷ has "target_nresults" number
+      ∷ has "max_error_results" number
+      ∷ has "max_total_results" number
+      ∷ has "max_success_results" number
+      ∷ has "delay_bound" number
+      ∷ has "rsc_fpops_est" integer
+      ∷ has "rsc_memory_bound" integer
+      ∷ has "rsc_disk_bound" integer
+      ∷ has "credit" number
+      ∷ has "status" number
+      ∷ [];
+  uniques = (1 ∷ []) ∷ [];
+}
+layout_of table.Host = record {
+  name = codes "host";
+  tree = 10;
+  key = numbered;
+  columns =
+      has "id" number
+      ∷ refers_to table.Account "account_id" number
+      ∷ has "cpid" words
+      ∷ has "platforms" words
+      ∷ has "fpops" integer
+      ∷ has "memory" integer
+      ∷ has "disk" integer
+      ∷ has "quota" number
+      ∷ has "held" number
+      ∷ has "credit" integer
+      ∷ [];
+  uniques = (1 ∷ 2 ∷ []) ∷ [];
+}
+layout_of table.Instance = record {
+  name = codes "instance";
+  tree = 12;
+  key = by_first 2;
+  columns =
+      refers_to table.Unit "unit_id" number
+      ∷ has "num" number
+      ∷ refers_to table.Host "host_id" (optional number)
+      ∷ has "sent" (optional integer)
+      ∷ has "deadline" (optional integer)
+      ∷ has "lapse" number
+      ∷ has "outcome" (optional number)
+      ∷ has "output" (optional words)
+      ∷ has "place" (optional number)
+      ∷ has "queued" flag
+      ∷ [];
+  uniques = [];
+}
+layout_of table.Kept = record {
+  name = codes "kept";
+  tree = 14;
+  key = numbered;
+  columns = refers_to table.Host "host_id" number ∷ has "seqno" number ∷ has "text" words ∷ has "reply" words ∷ [];
+  uniques = [];
+}
+layout_of table.Batch = record { name = codes "batch"; tree = 15; key = by_first 2; columns = has "kind" words ∷ has "name" words ∷ has "text" octets ∷ has "answer" words ∷ []; uniques = [] }
+
+-- ---- its columns
+
+abbrev pub names : Layout → List (List ℕ)
+names l = map (λ c. c.name) l.columns
+
+abbrev pub kinds : Layout → List Kind
+kinds l = map (λ c. c.kind) l.columns
+
+-- Where a row of the tree has so many columns, in order. At place 0 it has its number; where that is the first column, it has NULL at place 1.
+abbrev pub places_by : Key → ℕ → List ℕ
+places_by numbered count = 0 ∷ drop 1 (range_with_len 1 count)
+places_by (by_first n) count = range_with_len 1 count
+
+abbrev pub places_in : Layout → List ℕ
+places_in l = places_by l.key (length l.columns)
+
+-- how many columns the key has
+abbrev pub key_width : Key → ℕ
+key_width numbered = 1
+key_width (by_first n) = n
+
+-- of one thing for each column, those for the key
+abbrev pub of_key : {X : Type 0} → Layout → List X → List X
+of_key l = take (key_width l.key)
+
+-- of one thing for each column, those for the columns that are not the number of the row
+abbrev pub behind_number : {X : Type 0} → Key → List X → List X
+behind_number numbered all = drop 1 all
+behind_number (by_first n) all = all
