@@ -1,10 +1,10 @@
 -- A call over a store: what it is told, and what acting on it does.
 use Rattle.std.proofs.Common.{◌≡◌, ℕ, ◌≤◌, ◌<◌, Bool, true, false, cond, nat_lt, List, length, Option, Some, None, Result, Ok, Err, refl, sym, ◌∙◌, ap, subst, arith}
-use Rattle.std.specs.Prelude.{option_and_then, IfOk, OnOk}
-use Rattle.std.proofs.lemmas.Bool.{lt-ltb}
+use Rattle.std.specs.Prelude.{is_none, option_and_then, IfOk, OnOk}
+use Rattle.std.proofs.lemmas.Bool.{and_parts, lt-ltb}
 use Rattle.std.proofs.lemmas.Bool.Decides.{nat_tests}
 use Rattle.std.proofs.lemmas.Option.{none-some}
-use Rattle.reply_register.specs.Calls.{heard, reply_at}
+use Rattle.reply_register.specs.Calls.{heard, is_above_all, reply_at}
 use Rattle.reply_register.specs.declared.kept.Heard.{Heard}
 use Rattle.reply_register.specs.declared.kept.Heard.TheVariants as heard
 use Rattle.reply_register.specs.declared.kept.Kept.{Kept}
@@ -15,7 +15,7 @@ use Rattle.rpc_records.specs.Spelling.{canonical_text}
 use Rattle.rpc_records.specs.declared.fault.Fault.TheVariants as fault
 use Rattle.rpc_records.specs.declared.reply.Reply.{Reply}
 use Rattle.rpc_records.specs.declared.request.Request.{Request}
-use Rattle.sched_book.specs.Delta.{applied, Fits}
+use Rattle.sched_book.specs.Delta.{applied}
 use Rattle.sched_book.specs.Places.{account_place, known_host}
 use Rattle.sched_book.specs.Sound.{Sound}
 use Rattle.sched_book.specs.Step.{RpcStep, host_number}
@@ -27,7 +27,7 @@ use Rattle.sched_book.specs.declared.world.World.{World}
 use Rattle.sched_machine.specs.Admission as admission
 use Rattle.sched_machine.specs.Calling.{IsAdmitted, IsFull}
 use Rattle.stores.specs.Eras.{this_era}
-use Rattle.stores.specs.Held.{Calls, Held, calls_with, IsCommitted, IsKeptSoundly, IsLeft}
+use Rattle.stores.specs.Held.{Calls, Held, calls_with, IsCommitted, IsKeptSoundly, IsLeft, IsNewest, MayBeCommitted}
 use Rattle.stores.specs.declared.entry.Entry.TheVariants as entry
 use Rattle.pasts.specs.Answers.{kept_after, kept_call}
 use Rattle.pasts.specs.ByNumber.{kept_at, calls_by_number, AreOfHosts}
@@ -38,8 +38,9 @@ use Rattle.sched_book.specs.Limits.{last_moment}
 use Rattle.pasts.specs.Told.{told_fresh, told_heard, told_beside, told_call, told_account, told_number}
 use Rattle.pasts.specs.declared.answer.Answer.{Answer}
 use Rattle.pasts.specs.declared.answer.Answer.TheVariants.{Good, Refusal}
-use Rattle.pasts.proofs.ByNumber.{kept_by_number}
-use Rattle.message_engine.specs.Calls.{IsNamed, told_caller, MayAct, ServesCall, IsCallServed}
+use Rattle.pasts.proofs.ByNumber.{at_number, kept_by_number}
+use Rattle.pasts.proofs.ToldNone.{beside_none}
+use Rattle.message_engine.specs.Calls.{IsNamed, told_caller, MayAct, ServesCall, IsCallServed, entry_of_call}
 use Rattle.message_engine.proofs.EntriesKept.{told_serves, step_serves, IsStep}
 
 -- ---- who calls
@@ -134,6 +135,18 @@ module _ (old new : Held) (w : World) (world_is : old.world ≡ w) (left : IsLef
 
 -- ---- a call that acts
 
+-- a call that is told nothing beside the kept ones is above them
+above_kept : (kept : List Kept) (seqno : ℕ) (text : List ℕ) → told_beside true kept seqno text ≡ None → is_above_all seqno kept ≡ true
+above_kept kept seqno text none =
+    (and_parts (is_above_all seqno kept) true (sym (beside_none true kept seqno text) ∙ ap (λ (o : Option Answer). is_none o) none)).0
+
+-- and one that may act is the newest of its host, also of one that is yet to be made
+call_newest : (held : Held) (c : Caller) (r : Request) → MayAct held c r → AreOfHosts held.world held.calls
+    → is_above_all r.rpc_seqno (held.calls (host_number held.world c)) ≡ true
+call_newest held c r may of =
+    ap (is_above_all r.rpc_seqno) (at_number held.world c.host held.calls of)
+    ∙ above_kept (kept_at held.calls c.host) r.rpc_seqno (canonical_text r) may.1
+
 has_room : (max count : ℕ) (number : Option ℕ) → (number ≡ None → count < max) → has_host_room max number count ≡ true
 has_room max count None room = lt-ltb count max (room refl)
 has_room max count (Some number) room = refl
@@ -141,8 +154,8 @@ has_room max count (Some number) room = refl
 -- what is kept once a call is put in is what the message leaves of each key, and is kept of hosts that stand
 calls_kept : (w : World) (c : Caller) (r : Request) (now : ℕ) (delta : List Change) (reply : Reply) → Sound w
     → RpcStep w c r now (applied w delta) reply → (calls : Calls) → AreOfHosts w calls
-    → AreOfHosts (applied w delta) (calls_with (entry.Kept reply.hostid (kept_call r (reply_text_of reply))) calls)
-    × ((key : Key) → calls_by_number (applied w delta) (calls_with (entry.Kept reply.hostid (kept_call r (reply_text_of reply))) calls) key
+    → AreOfHosts (applied w delta) (calls_with (entry_of_call r.rpc_seqno (canonical_text r) reply) calls)
+    × ((key : Key) → calls_by_number (applied w delta) (calls_with (entry_of_call r.rpc_seqno (canonical_text r) reply) calls) key
     ≡ kept_after this_era key (Rpc r) (reply_text_of reply) (calls_by_number w calls key))
 calls_kept w c r now delta reply sound step calls of =
     let number : reply.hostid ≡ host_number w c = ap (λ (x : Reply). x.hostid) step.answer in
@@ -155,31 +168,33 @@ calls_kept w c r now delta reply sound step calls of =
 module _ (old new : Held) (w : World) (world_is : old.world ≡ w) (c : Caller) (r : Request) (now : ℕ) (delta : List Change) (reply : Reply) (text : List ℕ)
     (moment : now ≤ last_moment) (range : IsInRange r) (spelt : text ≡ canonical_text r)
     (made : IsStep (λ v. IsAdmitted v c r) (λ v after. RpcStep v c r now after reply) delta w) where
-  acts : IsKeptSoundly delta (entry.Kept reply.hostid (record { seqno = r.rpc_seqno; text = text; reply = reply_text_of reply })) old new
+  acts : IsKeptSoundly delta (entry_of_call r.rpc_seqno text reply) old new
       → MayAct old c r → ServesCall r now (Good (reply_text_of reply)) old new
   acts commits may sound =
       let here = subst (IsStep (λ v. IsAdmitted v c r) (λ v after. RpcStep v c r now after reply) delta) (sym world_is) made in
       let admitted : IsAdmitted old.world c r = record { caller = may.0.0; limits = range } in
       let step = here.step sound.world admitted in
+      let newest : IsNewest (entry_of_call r.rpc_seqno text reply) old.calls =
+      ap (λ (x : Reply). is_above_all r.rpc_seqno (old.calls x.hostid)) step.answer ∙ call_newest old c r may sound.hosts in
       step_serves (heard_now now (Rpc r)) (call.Rpc c r) (answered.Rpc reply) delta
-      (entry.Kept reply.hostid (kept_call r (reply_text_of reply))) old new
+      (entry_of_call r.rpc_seqno (canonical_text r) reply) old new
       (told_acting old c r may ∙ ap told_fresh (has_room old.world.settings.max_hosts (length old.world.hosts) c.host step.room))
       refl (record { request = range; moment = moment }) step (here.sound sound.world admitted)
       (calls_kept old.world c r now delta reply sound.world step old.calls sound.hosts) (λ kind batch. refl)
-      (subst (λ t. IsCommitted delta (entry.Kept reply.hostid (record { seqno = r.rpc_seqno; text = t; reply = reply_text_of reply })) old new) spelt
-      (commits (here.fits sound.world admitted) (here.sound sound.world admitted))) sound
+      (subst (λ t. IsCommitted delta (entry_of_call r.rpc_seqno t reply) old new) spelt
+      (commits (record { fits = here.fits sound.world admitted; newest = newest }) (here.sound sound.world admitted))) sound
 
   -- its reply is kept with it
   pub kept_serves : {E : Type 0} (result : Result Answer E) → IfOk result (λ answer. answer ≡ Good (reply_text_of reply))
-      → OnOk result (Fits old.world delta
-      → IsCommitted delta (entry.Kept reply.hostid (record { seqno = r.rpc_seqno; text = text; reply = reply_text_of reply })) old new)
+      → OnOk result (MayBeCommitted delta (entry_of_call r.rpc_seqno text reply) old
+      → IsCommitted delta (entry_of_call r.rpc_seqno text reply) old new)
       → IfOk result (λ answer. MayAct old c r → ServesCall r now answer old new)
   kept_serves (Err e) told commits = tt
   kept_serves (Ok answer) told commits = λ may.
-      subst (λ x. ServesCall r now x old new) (sym told) (acts (λ fits_here soundly_here. commits fits_here) may)
+      subst (λ x. ServesCall r now x old new) (sym told) (acts (λ may_be soundly. commits may_be) may)
 
   -- what a stop leaves of a commit is one call ahead
-  pub kept_ahead : IsKeptSoundly delta (entry.Kept reply.hostid (record { seqno = r.rpc_seqno; text = text; reply = reply_text_of reply })) old new
+  pub kept_ahead : IsKeptSoundly delta (entry_of_call r.rpc_seqno text reply) old new
       → MayAct old c r → IsCallServed r now old new
   kept_ahead commits may = (Good (reply_text_of reply), acts commits may)
 

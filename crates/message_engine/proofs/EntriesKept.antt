@@ -1,6 +1,6 @@
 -- What a message does to a store: one that is told something, and one whose changes and entry are committed.
-use Rattle.std.proofs.Common.{◌≡◌, ℕ, List, false, true≢false, sym, refl, ◌∙◌, subst}
-use Rattle.std.specs.Prelude.{Option, Some, None, Result, Ok, Err, is_ok, OnErr}
+use Rattle.std.proofs.Common.{◌≡◌, ℕ, List, sym, refl, ◌∙◌, subst}
+use Rattle.std.specs.Prelude.{Option, Some, None}
 use Rattle.reply_register.specs.declared.key.Key.{Key}
 use Rattle.sched_book.specs.Delta.{applied, Fits}
 use Rattle.sched_book.specs.Sound.{Sound}

@@ -10,7 +10,7 @@ use Rattle.office_files.specs.declared.fault.RowsFault.TheVariants as rows_fault
 use Rattle.office_files.proofs.TextRecords.{text_has_one_list}
 use Rattle.rpc_records.specs.declared.fault.Fault.{Fault}
 use Rattle.rpc_records.specs.declared.fault.Fault.TheVariants as fault
-use Rattle.sched_book.specs.Delta.{applied, Fits}
+use Rattle.sched_book.specs.Delta.{applied}
 use Rattle.sched_book.specs.Imports.{AreChecked, fault_of_rows, shelf_of}
 use Rattle.sched_book.specs.Limits.{last_moment, AreRowsInLimits}
 use Rattle.sched_book.specs.Step.{ImportStep}
@@ -20,7 +20,7 @@ use Rattle.sched_book.specs.declared.machine.Call.TheVariants as call
 use Rattle.sched_book.specs.declared.rows.Rows.{Rows}
 use Rattle.sched_book.specs.declared.world.World.{World}
 use Rattle.stores.specs.Eras.{this_era}
-use Rattle.stores.specs.Held.{Batches, Held, IsCommitted, IsKeptSoundly, IsLeft}
+use Rattle.stores.specs.Held.{Batches, Held, IsCommitted, IsKeptSoundly, IsLeft, MayBeCommitted}
 use Rattle.pasts.specs.Answers.{imported_text}
 use Rattle.stores.specs.Kinds.{kind_name}
 use Rattle.pasts.specs.Told.{told_import}
@@ -29,9 +29,7 @@ use Rattle.pasts.specs.declared.answer.Answer.TheVariants.{Good, Refusal}
 use Rattle.stores.specs.declared.batch.KeptBatch.{KeptBatch}
 use Rattle.stores.specs.declared.kind.Kind.{Kind}
 use Rattle.pasts.proofs.ByNumber.{kept_by_number}
-use Rattle.stores.specs.declared.entry.Entry.{Entry}
-use Rattle.stores.specs.declared.entry.Entry.TheVariants as entry
-use Rattle.message_engine.specs.Imports.{reading_of, as_refusal, import_of, ServesImport, IsImportServed}
+use Rattle.message_engine.specs.Imports.{reading_of, as_refusal, import_of, entry_of_batch, ServesImport, IsImportServed}
 use Rattle.message_engine.specs.Stores.{IsServed, ServesIn}
 use Rattle.message_engine.proofs.EntriesKept.{told_serves, step_serves, IsStep}
 
@@ -93,36 +91,33 @@ forbidden_serves now kind batch text rows refusal old new forbids left none =
 
 -- ---- rows that are added
 
-abbrev pub entry_of : Kind → List ℕ → List ℕ → ℕ → Entry
-entry_of kind batch text count = entry.Batch kind batch (record { text = text; answer = imported_text (kind_name kind) batch count })
-
 module _ (now count : ℕ) (kind : Kind) (batch text : List ℕ) (new_rows : Rows) (delta : List Change) (old new : Held) (w : World) (world_is : old.world ≡ w)
     (soon : now ≤ last_moment) (limits : AreRowsInLimits new_rows)
     (made : IsStep (λ v. AreChecked v new_rows) (λ v after. ImportStep v new_rows after count) delta w) where
-  rows_serve : IsKeptSoundly delta (entry_of kind batch text count) old new
+  rows_serve : IsKeptSoundly delta (entry_of_batch kind batch text count) old new
       → old.batches kind batch ≡ None → fault_of_rows (shelf_of old.world) new_rows ≡ None
       → ServesIn (import_of now kind batch text (Ok new_rows)) (Good (imported_text (kind_name kind) batch count)) old new
   rows_serve done none unrefused sound =
       let here = subst (IsStep (λ v. AreChecked v new_rows) (λ v after. ImportStep v new_rows after count) delta) (sym world_is) made in
       let checked : AreChecked old.world new_rows = record { in_limits = limits; unrefused = unrefused } in
       let m = import_of now kind batch text (Ok new_rows) in
-      step_serves m (call.Import new_rows) (answered.Imported count) delta (entry_of kind batch text count) old new
+      step_serves m (call.Import new_rows) (answered.Imported count) delta (entry_of_batch kind batch text count) old new
       (ap (λ o. told_import old.world o text (Ok new_rows)) none ∙ ap (option_map Refusal) unrefused)
       refl (record { request = tt; moment = soon }) (here.step sound.world checked) (here.sound sound.world checked)
       (kept_by_number old.world (applied old.world delta) m.said (call.Import new_rows) now (answered.Imported count) sound.world refl (here.step sound.world checked) this_era old.calls
       sound.hosts)
-      (λ k b. refl) (done (here.fits sound.world checked) (here.sound sound.world checked)) sound
+      (λ k b. refl) (done (record { fits = here.fits sound.world checked; newest = tt }) (here.sound sound.world checked)) sound
 
   pub rows_done : {E : Type 0} (result : Result Answer E) → IfOk result (λ answer. answer ≡ Good (imported_text (kind_name kind) batch count))
-      → OnOk result (Fits old.world delta → IsCommitted delta (entry_of kind batch text count) old new)
+      → OnOk result (MayBeCommitted delta (entry_of_batch kind batch text count) old → IsCommitted delta (entry_of_batch kind batch text count) old new)
       → IfOk result (λ answer. old.batches kind batch ≡ None → fault_of_rows (shelf_of old.world) new_rows ≡ None
       → ServesIn (import_of now kind batch text (Ok new_rows)) answer old new)
   rows_done (Ok answer) is done = λ none unrefused.
-      subst (λ a. ServesIn (import_of now kind batch text (Ok new_rows)) a old new) (sym is) (rows_serve (λ fits_here soundly. done fits_here) none unrefused)
+      subst (λ a. ServesIn (import_of now kind batch text (Ok new_rows)) a old new) (sym is) (rows_serve (λ may_be soundly. done may_be) none unrefused)
   rows_done (Err e) is done = tt
 
   -- what a stop leaves of a commit is one import ahead
-  pub rows_ahead : IsKeptSoundly delta (entry_of kind batch text count) old new
+  pub rows_ahead : IsKeptSoundly delta (entry_of_batch kind batch text count) old new
       → old.batches kind batch ≡ None → fault_of_rows (shelf_of old.world) new_rows ≡ None → IsServed (import_of now kind batch text (Ok new_rows)) old new
   rows_ahead done none unrefused = (Good (imported_text (kind_name kind) batch count), rows_serve done none unrefused)
 

@@ -1,7 +1,7 @@
 -- A tick is served by its step and its commit.
 use Rattle.std.proofs.Common.{◌≡◌, ℕ, ◌≤◌, List, sym, refl, subst}
 use Rattle.std.specs.Prelude.{Result, Ok, Err, IfOk, OnOk, ⊤}
-use Rattle.sched_book.specs.Delta.{applied, Fits}
+use Rattle.sched_book.specs.Delta.{applied}
 use Rattle.sched_book.specs.Limits.{last_moment}
 use Rattle.sched_book.specs.Step.{TickStep}
 use Rattle.sched_book.specs.declared.delta.Change.{Change}
@@ -9,7 +9,7 @@ use Rattle.sched_book.specs.declared.machine.Answered.TheVariants as answered
 use Rattle.sched_book.specs.declared.machine.Call.TheVariants as call
 use Rattle.sched_book.specs.declared.world.World.{World}
 use Rattle.stores.specs.Eras.{this_era}
-use Rattle.stores.specs.Held.{Held, IsCommitted, IsKeptSoundly}
+use Rattle.stores.specs.Held.{Held, IsCommitted, IsKeptSoundly, MayBeCommitted}
 use Rattle.stores.specs.declared.entry.Entry.TheVariants as entry
 use Rattle.pasts.specs.Answers.{lapsed_text}
 use Rattle.pasts.specs.Messages.{Tick, heard_now}
@@ -27,12 +27,12 @@ module _ (now count : ℕ) (delta : List Change) (old new : Held) (w : World) (w
       step_serves (heard_now now Tick) call.Tick (answered.Lapsed count) delta entry.Nothing old new
       refl tt (record { request = tt; moment = soon }) (here.step sound.world tt) (here.sound sound.world tt)
       (kept_by_number old.world (applied old.world delta) Tick call.Tick now (answered.Lapsed count) sound.world tt (here.step sound.world tt) this_era old.calls sound.hosts)
-      (λ kind batch. refl) (done (here.fits sound.world tt) (here.sound sound.world tt)) sound
+      (λ kind batch. refl) (done (record { fits = here.fits sound.world tt; newest = tt }) (here.sound sound.world tt)) sound
 
   pub tick_done : {E : Type 0} (result : Result Answer E) → IfOk result (λ answer. answer ≡ Good (lapsed_text count))
-      → OnOk result (Fits old.world delta → IsCommitted delta entry.Nothing old new)
+      → OnOk result (MayBeCommitted delta entry.Nothing old → IsCommitted delta entry.Nothing old new)
       → IfOk result (λ answer. ServesIn (heard_now now Tick) answer old new)
-  tick_done (Ok answer) is done = subst (λ a. ServesIn (heard_now now Tick) a old new) (sym is) (tick_serves (λ fits_here soundly. done fits_here))
+  tick_done (Ok answer) is done = subst (λ a. ServesIn (heard_now now Tick) a old new) (sym is) (tick_serves (λ may_be soundly. done may_be))
   tick_done (Err e) is done = tt
 
   -- what a stop leaves of a commit is one tick ahead

@@ -1,12 +1,16 @@
 -- What a call is told and does, of a caller who is admitted. (This project's own.)
 use Rattle.std.specs.Prelude.{◌≡◌, ℕ, true, List, Option, None}
+use Rattle.rpc_records.specs.Replies.{reply_text_of}
 use Rattle.rpc_records.specs.Spelling.{canonical_text}
+use Rattle.rpc_records.specs.declared.reply.Reply.{Reply}
 use Rattle.rpc_records.specs.declared.request.Request.{Request}
 use Rattle.sched_book.specs.Step.{IsCaller}
 use Rattle.sched_book.specs.declared.machine.Caller.{Caller}
 use Rattle.sched_book.specs.declared.world.World.{World}
 use Rattle.sched_machine.specs.Admission.{names_host}
 use Rattle.stores.specs.Held.{Calls, Held}
+use Rattle.stores.specs.declared.entry.Entry.{Entry}
+use Rattle.stores.specs.declared.entry.Entry.TheVariants.{Kept}
 use Rattle.pasts.specs.ByNumber.{kept_at}
 use Rattle.pasts.specs.Messages.{Rpc, heard_now}
 use Rattle.pasts.specs.Told.{told_beside}
@@ -24,6 +28,10 @@ told_caller calls c seqno text = told_beside true (kept_at calls c.host) seqno t
 -- a call that nothing but want of room may refuse
 abbrev pub MayAct : Held → Caller → Request → Type 0
 MayAct held c r = IsNamed held.world c r × (told_caller held.calls c r.rpc_seqno (canonical_text r) ≡ None)
+
+-- what is kept of a call of this number and text, with its reply
+abbrev pub entry_of_call : ℕ → List ℕ → Reply → Entry
+entry_of_call seqno text reply = Kept reply.hostid (record { seqno = seqno; text = text; reply = reply_text_of reply })
 
 -- what a call does to a store
 abbrev pub ServesCall : Request → ℕ → Answer → Held → Held → Type 0

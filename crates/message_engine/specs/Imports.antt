@@ -8,8 +8,12 @@ use Rattle.rpc_records.specs.declared.fault.Fault.{Fault}
 use Rattle.sched_book.specs.declared.rows.Rows.{Rows}
 use Rattle.stores.specs.Eras.{this_era}
 use Rattle.stores.specs.Held.{Held}
+use Rattle.stores.specs.Kinds.{kind_name}
+use Rattle.stores.specs.declared.entry.Entry.{Entry}
+use Rattle.stores.specs.declared.entry.Entry.TheVariants.{Batch}
 use Rattle.stores.specs.declared.kind.Kind.{Kind}
 use Rattle.stores.specs.declared.kind.Kind.TheVariants.{Accounts, Apps, Versions, Workunits}
+use Rattle.pasts.specs.Answers.{imported_text}
 use Rattle.pasts.specs.Messages.{Import, Message, heard_now}
 use Rattle.pasts.specs.declared.answer.Answer.{Answer}
 use Rattle.message_engine.specs.Stores.{ServesIn, IsServed}
@@ -40,6 +44,10 @@ Reads = ReadsIn this_era
 -- the import of a text of a kind, which reads as this
 abbrev pub import_of : ℕ → Kind → List ℕ → List ℕ → Result Rows Fault → Message
 import_of now kind batch text read = heard_now now (Import kind batch text read)
+
+-- what is kept of an import of so many rows, with its answer
+abbrev pub entry_of_batch : Kind → List ℕ → List ℕ → ℕ → Entry
+entry_of_batch kind batch text count = Batch kind batch (record { text = text; answer = imported_text (kind_name kind) batch count })
 
 -- what the text of an import reads as, and that it is served so
 abbrev pub ServesImport : ℕ → Kind → List ℕ → List ℕ → Answer → Held → Held → Type 0

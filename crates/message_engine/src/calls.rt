@@ -14,12 +14,12 @@ ghost use Rattle.sched_book.specs.declared.machine.Call.TheVariants as call;
 ghost use Rattle.sched_machine.specs.Calling.{IsAdmitted, IsFull, MayBeHeard};
 ghost use Rattle.sched_machine.specs.declared.admission.Refused.TheVariants as refused;
 ghost use Rattle.stores.specs.Acting.{ActsWhole};
-ghost use Rattle.stores.specs.Held.{IsCommitted, IsKeptSoundly};
+ghost use Rattle.stores.specs.Held.{IsCommitted, IsKeptSoundly, MayBeCommitted};
 ghost use Rattle.stores.specs.declared.entry.Entry.TheVariants as entry;
 ghost use Rattle.pasts.specs.ByNumber.{kept_at};
 ghost use Rattle.pasts.specs.Told.{told_beside};
 ghost use Rattle.pasts.specs.declared.answer.Answer.TheVariants.{Good};
-ghost use Rattle.message_engine.specs.Calls.{IsNamed, IsCallServed, MayAct, ServesCall, told_caller};
+ghost use Rattle.message_engine.specs.Calls.{IsNamed, IsCallServed, MayAct, ServesCall, entry_of_call, told_caller};
 
 use crate::commits::commit_and_answer;
 use pasts::Answer;
@@ -149,10 +149,10 @@ fn keep<S: Store>(
     seqno: u32,
     text: Text,
 ) -> Result<Answer, Unavailable>
-    ensures acts { ActsWhole S.Store (is_ok result) (IsKeptSoundly delta.now (entry.Kept reply.now.hostid (record { seqno = seqno; text = text; reply = reply_text_of reply.now })) (S.holds store.old)) store.old store.new }
+    ensures acts { ActsWhole S.Store (is_ok result) (IsKeptSoundly delta.now (entry_of_call seqno text reply.now) (S.holds store.old)) store.old store.new }
     ensures answer { IfOk result (λ answer. answer ≡ Good (reply_text_of reply.now)) }
-    ensures made { Trusted S.Units store.old store.new (OnOk result (Fits (S.holds store.old).world delta.now →
-        IsCommitted delta.now (entry.Kept reply.now.hostid (record { seqno = seqno; text = text; reply = reply_text_of reply.now })) (S.holds store.old) (S.holds store.new))) }
+    ensures made { Trusted S.Units store.old store.new (OnOk result (MayBeCommitted delta.now (entry_of_call seqno text reply.now) (S.holds store.old) →
+        IsCommitted delta.now (entry_of_call seqno text reply.now) (S.holds store.old) (S.holds store.new))) }
 {
     let body = reply_text(alloc, reply)?;
     let entry = call_entry(reply.hostid, seqno, text, &body)?;

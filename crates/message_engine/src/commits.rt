@@ -1,10 +1,9 @@
 //! What each message commits, and its good answer.
 
 ghost use Rattle.std.specs.Prelude.{◌≡◌, is_ok, IfOk, OnOk};
-ghost use Rattle.sched_book.specs.Delta.{Fits};
 ghost use Rattle.sched_book.specs.Trusted.{Trusted};
 ghost use Rattle.stores.specs.Acting.{ActsWhole};
-ghost use Rattle.stores.specs.Held.{IsCommitted, IsKeptSoundly};
+ghost use Rattle.stores.specs.Held.{IsCommitted, IsKeptSoundly, MayBeCommitted};
 ghost use Rattle.pasts.specs.declared.answer.Answer.TheVariants.{Good};
 
 use pasts::Answer;
@@ -22,7 +21,7 @@ pub(crate) fn commit_and_answer<S: Store>(
 ) -> Result<Answer, Unavailable>
     ensures acts { ActsWhole S.Store (is_ok result) (IsKeptSoundly delta.now entry.now (S.holds store.old)) store.old store.new }
     ensures answer { IfOk result (λ answer. answer ≡ Good body) }
-    ensures made { Trusted S.Units store.old store.new (OnOk result (Fits (S.holds store.old).world delta.now →
+    ensures made { Trusted S.Units store.old store.new (OnOk result (MayBeCommitted delta.now entry.now (S.holds store.old) →
         IsCommitted delta.now entry.now (S.holds store.old) (S.holds store.new))) }
 {
     store.commit(delta, entry)?;

@@ -4,17 +4,16 @@ ghost use Rattle.std.specs.Prelude.{◌≡◌, Ok, None, is_ok, IfOk, IfErr, OnO
 ghost use Rattle.std.specs.Str.{bytes_eq};
 ghost use Rattle.office_files.specs.Importing.{Says, Refuses};
 ghost use Rattle.rpc_records.specs.declared.fault.Fault.TheVariants as fault;
-ghost use Rattle.sched_book.specs.Delta.{Fits};
 ghost use Rattle.sched_book.specs.Imports.{fault_of_rows, shelf_of};
 ghost use Rattle.sched_book.specs.Limits.{AreRowsInLimits};
 ghost use Rattle.sched_book.specs.Trusted.{Trusted};
 ghost use Rattle.stores.specs.Acting.{ActsWhole};
-ghost use Rattle.stores.specs.Held.{IsCommitted, IsKeptSoundly};
+ghost use Rattle.stores.specs.Held.{IsCommitted, IsKeptSoundly, MayBeCommitted};
 ghost use Rattle.stores.specs.Kinds.{kind_name};
 ghost use Rattle.stores.specs.declared.entry.Entry.TheVariants as entry;
 ghost use Rattle.pasts.specs.Answers.{imported_text};
 ghost use Rattle.pasts.specs.declared.answer.Answer.TheVariants as answers;
-ghost use Rattle.message_engine.specs.Imports.{reading_of, import_of, ServesImport, IsImportServed};
+ghost use Rattle.message_engine.specs.Imports.{reading_of, import_of, entry_of_batch, ServesImport, IsImportServed};
 ghost use Rattle.message_engine.specs.Stores.{IsServed, ServesIn};
 
 use crate::bodies::imported;
@@ -82,10 +81,10 @@ fn keep_batch<S: Store>(
     delta: &Delta,
     count: u32,
 ) -> Result<Answer, Unavailable>
-    ensures acts { ActsWhole S.Store (is_ok result) (IsKeptSoundly delta.now (entry.Batch kind batch.now (record { text = text.now; answer = imported_text (kind_name kind) batch.now count })) (S.holds store.old)) store.old store.new }
+    ensures acts { ActsWhole S.Store (is_ok result) (IsKeptSoundly delta.now (entry_of_batch kind batch.now text.now count) (S.holds store.old)) store.old store.new }
     ensures answer { IfOk result (λ answer. answer ≡ answers.Good (imported_text (kind_name kind) batch.now count)) }
-    ensures made { Trusted S.Units store.old store.new (OnOk result (Fits (S.holds store.old).world delta.now →
-        IsCommitted delta.now (entry.Batch kind batch.now (record { text = text.now; answer = imported_text (kind_name kind) batch.now count })) (S.holds store.old) (S.holds store.new))) }
+    ensures made { Trusted S.Units store.old store.new (OnOk result (MayBeCommitted delta.now (entry_of_batch kind batch.now text.now count) (S.holds store.old) →
+        IsCommitted delta.now (entry_of_batch kind batch.now text.now count) (S.holds store.old) (S.holds store.new))) }
 {
     let body = imported(alloc, kind.name(), batch.as_str(), count as u64)?;
     let entry = batch_entry(alloc, kind, batch, text, &body)?;

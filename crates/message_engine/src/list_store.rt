@@ -11,7 +11,7 @@ ghost use Rattle.stores.specs.declared.entry.Entry.TheVariants as entry;
 ghost use Rattle.message_engine.specs.ListStores.{calls_at, is_batch, world_of, held_of};
 
 use crate::copies::copy_batch;
-use reply_register::{Kept, append_copies, copy_kept};
+use reply_register::{Kept, MOST_KEPT, append_copies, copy_kept};
 use sched_book::{
     Account, Agreement, App, Counts, Delta, Desk, HostRow, Instance, ListDesk, Moment, Place,
     Placed, Settings, Status, Taker, Unavailable, Units, Version, Workunit,
@@ -20,8 +20,8 @@ use std::alloc::Global;
 use stores::{Entry, KeptBatch, Kind, Store};
 use texts::{Listed, Memory, Text};
 
-/// How many calls of a host are kept beside its last: only the last call is kept.
-const KEPT_BESIDE_LAST: usize = 0;
+/// How many calls of a host are kept beside its last.
+const KEPT_BESIDE_LAST: usize = MOST_KEPT - 1;
 
 /// An import that is kept.
 #[derive(Drop)]
@@ -37,7 +37,7 @@ pub struct Batch {
 pub struct ListStore {
     alloc: Global,
     desk: ListDesk,
-    /// What is kept of each host's calls, the last call first, by the number of the host from 1 on.
+    /// The latest four calls of each host, the last call first, by the number of the host from 1 on.
     calls: Listed<Listed<Kept>>,
     /// What is kept of imports, in the order in which they came.
     batches: Listed<Batch>,

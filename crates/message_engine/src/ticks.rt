@@ -1,10 +1,9 @@
 //! A tick, over any store.
 
 ghost use Rattle.std.specs.Prelude.{◌≡◌, is_ok, IfOk, OnOk};
-ghost use Rattle.sched_book.specs.Delta.{Fits};
 ghost use Rattle.sched_book.specs.Trusted.{Trusted};
 ghost use Rattle.stores.specs.Acting.{ActsWhole};
-ghost use Rattle.stores.specs.Held.{IsCommitted, IsKeptSoundly};
+ghost use Rattle.stores.specs.Held.{IsCommitted, IsKeptSoundly, MayBeCommitted};
 ghost use Rattle.stores.specs.declared.entry.Entry.TheVariants as entry;
 ghost use Rattle.pasts.specs.Answers.{lapsed_text};
 ghost use Rattle.pasts.specs.Messages.{Tick, heard_now};
@@ -28,7 +27,7 @@ fn make_lapse<S: Store>(
 ) -> Result<Answer, Unavailable>
     ensures acts { ActsWhole S.Store (is_ok result) (IsKeptSoundly delta.now entry.Nothing (S.holds store.old)) store.old store.new }
     ensures answer { IfOk result (λ answer. answer ≡ answers.Good (lapsed_text count)) }
-    ensures made { Trusted S.Units store.old store.new (OnOk result (Fits (S.holds store.old).world delta.now →
+    ensures made { Trusted S.Units store.old store.new (OnOk result (MayBeCommitted delta.now entry.Nothing (S.holds store.old) →
         IsCommitted delta.now entry.Nothing (S.holds store.old) (S.holds store.new))) }
 {
     let body = lapsed(alloc, count)?;

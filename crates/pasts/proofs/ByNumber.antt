@@ -134,7 +134,7 @@ host_in-frame w key = λ i. option_and_then (λ account. known account i) (accou
         known-place w.hosts account key.host_cpid ∙ sym (place_where-is (is_name account key.host_cpid) (map host_name w.hosts))
 
 -- what is kept at the number of a caller's host, also of one that is yet to be made
-at_number : (w : World) (host : Option ℕ) (kept : ℕ → List Kept) → AreOfHosts w kept → kept (unwrap_or host (length w.hosts + 1)) ≡ kept_at kept host
+pub at_number : (w : World) (host : Option ℕ) (kept : ℕ → List Kept) → AreOfHosts w kept → kept (unwrap_or host (length w.hosts + 1)) ≡ kept_at kept host
 at_number w None kept of = of (length w.hosts + 1) (omega arith)
 at_number w (Some n) kept of = refl
 

@@ -90,9 +90,10 @@ impl<S: Store> Service<S> {
     ///
     /// A call that is first heard is a step of the job machine and is kept with its reply; an import that is not kept and
     /// has no fault adds its rows and is kept with its answer; a tick is a step of the machine; a statement is a read of
-    /// what stands. Anything else changes nothing, and a repeat gets the very bytes of the kept answer. Behind a commit
-    /// the answer asks for no memory: what is unavailable has changed nothing, unless a fault of the disk has shut the
-    /// store. From then on all is unavailable, until the tables are opened again.
+    /// what stands. Anything else changes nothing; a repeat of a kept call, one of its host's latest four, or of a kept
+    /// import gets the very bytes of its answer. Behind a commit the answer asks for no memory: what is unavailable has
+    /// changed nothing, unless a fault of the disk has shut the store. From then on all is unavailable, until the tables
+    /// are opened again.
     ///
     /// A stop at any moment leaves what stands for all that was answered, or for that and one message more, whose answer
     /// was unavailable or nobody read: it is answered again by the same bytes.

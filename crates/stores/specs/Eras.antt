@@ -6,9 +6,9 @@ abbrev pub era_at : List ℕ → ℕ → ℕ
 era_at [] answered = 0
 era_at (mark ∷ marks) answered = if nat_le mark answered then suc (era_at marks answered) else era_at marks answered
 
--- the era of this program, whose tables keep one call of a host and were never upgraded; with their next schema it becomes 1
+-- the era of this program, whose tables were upgraded once: from the schema that kept the last call of a host alone
 abbrev pub this_era : ℕ
-this_era = 0
+this_era = 1
 
 -- the marks of tables that are new in an era: all upgrades came before their first message
 abbrev pub new_marks : ℕ → List ℕ

@@ -1,6 +1,7 @@
 -- What a store holds, and what a commit makes of it. (This project's own.)
-use Rattle.std.specs.Prelude.{◌≡◌, ℕ, ◌&&◌, ◌==◌, if◌then◌else◌, List, [], ◌∷◌, take, Option, Some, None}
+use Rattle.std.specs.Prelude.{◌≡◌, ℕ, ◌&&◌, ◌==◌, if◌then◌else◌, true, List, [], ◌∷◌, take, Option, Some, None}
 use Rattle.std.specs.Str.{bytes_eq}
+use Rattle.reply_register.specs.Calls.{is_above_all}
 use Rattle.reply_register.specs.declared.kept.Kept.{Kept}
 use Rattle.sched_book.specs.Delta.{applied, Fits}
 use Rattle.sched_book.specs.Sound.{Sound}
@@ -49,15 +50,26 @@ batches_with (entry.Batch kind batch kept) batches k b = if same_kind kind k && 
 batches_with (entry.Kept host kept) batches k b = batches k b
 batches_with entry.Nothing batches k b = batches k b
 
+-- A call's number is above those that are kept of its host.
+abbrev pub IsNewest : Entry → Calls → Type 0
+IsNewest (entry.Kept host kept) calls = is_above_all kept.seqno (calls host) ≡ true
+IsNewest (entry.Batch kind batch kept) calls = Unit {0}
+IsNewest entry.Nothing calls = Unit {0}
+
+-- The changes fit, and a call is the newest of its host.
+pub record MayBeCommitted (delta : List Change) (e : Entry) (old : Held) : Type 0 where
+  pub fits : Fits old.world delta
+  pub newest : IsNewest e old.calls
+
 -- The changes are made and the entry is put in, and all else is as it was.
 pub record IsCommitted (delta : List Change) (e : Entry) (old new : Held) : Type 0 where
   pub world_is : new.world ≡ applied old.world delta
   pub calls_are : (host : ℕ) → new.calls host ≡ calls_with e old.calls host
   pub batches_are : (kind : Kind) (batch : List ℕ) → new.batches kind batch ≡ batches_with e old.batches kind batch
 
--- That is made of changes that fit, and leave a sound world.
+-- That is made of what may be committed, and leaves a sound world.
 abbrev pub IsKeptSoundly : List Change → Entry → Held → Held → Type 0
-IsKeptSoundly delta e old new = Fits old.world delta → Sound (applied old.world delta) → IsCommitted delta e old new
+IsKeptSoundly delta e old new = MayBeCommitted delta e old → Sound (applied old.world delta) → IsCommitted delta e old new
 
 -- Nothing was changed.
 pub record IsLeft (old new : Held) : Type 0 where

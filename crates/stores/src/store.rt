@@ -1,9 +1,8 @@
 ghost use Rattle.std.specs.Prelude.{◌≡◌, true, is_ok, IfOk, OnOk};
-ghost use Rattle.sched_book.specs.Delta.{Fits};
 ghost use Rattle.sched_book.specs.Sound.{Sound};
 ghost use Rattle.sched_book.specs.Trusted.{Trusted};
 ghost use Rattle.stores.specs.Acting.{ActsWhole, parts_of};
-ghost use Rattle.stores.specs.Held.{Held, IsCommitted, IsKeptSoundly, IsLeft};
+ghost use Rattle.stores.specs.Held.{Held, IsCommitted, IsKeptSoundly, IsLeft, MayBeCommitted};
 
 use crate::batch::KeptBatch;
 use crate::entry::Entry;
@@ -59,11 +58,12 @@ pub trait Store: Desk {
         ensures open { clean self.new → result ≡ Ok true → Self.honest self.new };
 
     /// Makes these changes and keeps this entry, at once: where it is unavailable, neither is done, unless a fault has shut
-    /// the store. A stop at any moment leaves what it could leave before, or, where the store was open, the whole.
+    /// the store. A stop at any moment leaves what it could leave before, or, where the store was open, the whole. A call is
+    /// the newest of its host: its number is above those that are kept.
     fn commit(&mut self, delta: &Delta, entry: &Entry) -> Result<(), Unavailable>
         ensures acts { ActsWhole (parts_of Self.Units holds clean lasting may_leave) (is_ok result)
             (IsKeptSoundly delta.now entry.now (holds self.old)) self.old self.new }
-        ensures made { Trusted Self.Units self.old self.new (OnOk result (Fits (holds self.old).world delta.now →
+        ensures made { Trusted Self.Units self.old self.new (OnOk result (MayBeCommitted delta.now entry.now (holds self.old) →
             IsCommitted delta.now entry.now (holds self.old) (holds self.new))) };
 
     // The world that it holds is that of the desk.

@@ -1,15 +1,12 @@
 use Rattle.std.proofs.Common.{Err, ap, sym, true≢false, rules}
 use Rattle.std.specs.Prelude.{false, is_ok, OnOk}
-use Rattle.rpc_records.specs.Replies.{reply_text_of}
 use Rattle.rpc_records.specs.declared.fault.Fault.TheVariants as fault
-use Rattle.sched_book.specs.Delta.{Fits}
 use Rattle.stores.specs.Acting.{parts_of}
-use Rattle.stores.specs.Held.{IsCommitted, IsKeptSoundly}
-use Rattle.stores.specs.declared.entry.Entry.TheVariants as entry
+use Rattle.stores.specs.Held.{IsCommitted, IsKeptSoundly, MayBeCommitted}
 use Rattle.stores.proofs.Results.{only}
 use Rattle.stores.proofs.ReadsAct.{acts_on, reads_act, said_on}
 use Rattle.pasts.specs.declared.answer.Answer.TheVariants.{Refusal}
-use Rattle.message_engine.specs.Calls.{MayAct, ServesCall}
+use Rattle.message_engine.specs.Calls.{MayAct, ServesCall, entry_of_call}
 use Rattle.message_engine.proofs.CallsServed.{kept_serves, kept_ahead, full_serves}
 use Rattle.message_engine.proofs.calls.call_fresh.Goals as goal
 
@@ -17,7 +14,7 @@ pub returns-in-Ok-clause-acts : goal.returns-in-Ok-clause-acts
 returns-in-Ok-clause-acts g c =
     let reads = c.call_step.ensures.reads in
     let old = c.args.store.now in
-    let e = entry.Kept c.in-Ok.reply.hostid (record { seqno = c.args.request.rpc_seqno; text = c.args.text; reply = reply_text_of c.in-Ok.reply }) in
+    let e = entry_of_call c.args.request.rpc_seqno c.args.text c.in-Ok.reply in
     acts_on (parts_of g.S.Units g.S.Store.holds g.S.Store.clean g.S.Store.lasting g.S.Store.may_leave) old c.call_step.new.desk
     (g.met.S.Store.stays_clean _ _ reads) (g.met.S.Units.stays_honest _ _ reads) (g.met.S.Units.stays_kept _ _ reads)
     (λ lasting honest. g.met.S.Store.stays_open _ _ lasting reads honest) (g.met.S.Store.stays_held _ _ reads) (g.met.S.Store.stays_left _ _ reads)
@@ -31,7 +28,7 @@ pub returns-in-Ok-clause-exact : goal.returns-in-Ok-clause-exact
 returns-in-Ok-clause-exact g c = λ honest kept.
     let reads = c.call_step.ensures.reads in
     let old = c.args.store.now in
-    let e = entry.Kept c.in-Ok.reply.hostid (record { seqno = c.args.request.rpc_seqno; text = c.args.text; reply = reply_text_of c.in-Ok.reply }) in
+    let e = entry_of_call c.args.request.rpc_seqno c.args.text c.in-Ok.reply in
     let honest_1 = c.keep.ensures.acts.acts.was_honest honest in
     let kept_1 = g.met.S.Units.stays_kept _ _ reads honest_1 kept in
     kept_serves (g.S.Store.holds old) (g.S.Store.holds c.keep.new.store) _ (g.met.S.Store.world_held old) c.args.caller c.args.request c.args.now c.in-Ok.delta c.in-Ok.reply c.args.text
@@ -41,7 +38,7 @@ returns-in-Ok-clause-exact g c = λ honest kept.
     (said_on (parts_of g.S.Units g.S.Store.holds g.S.Store.clean g.S.Store.lasting g.S.Store.may_leave) old c.call_step.new.desk
     (g.met.S.Store.stays_clean _ _ reads) (g.met.S.Units.stays_honest _ _ reads) (g.met.S.Units.stays_kept _ _ reads)
     (λ lasting honest. g.met.S.Store.stays_open _ _ lasting reads honest) (g.met.S.Store.stays_held _ _ reads) (g.met.S.Store.stays_left _ _ reads)
-    (λ held. OnOk c.keep.result (Fits held.world c.in-Ok.delta → IsCommitted c.in-Ok.delta e held (g.S.Store.holds c.keep.new.store)))
+    (λ held. OnOk c.keep.result (MayBeCommitted c.in-Ok.delta e held → IsCommitted c.in-Ok.delta e held (g.S.Store.holds c.keep.new.store)))
     honest_1 kept (c.keep.ensures.made honest kept_1))
 
 pub returns-in-Err-HostsFull-clause-acts : goal.returns-in-Err-HostsFull-clause-acts

@@ -1,8 +1,7 @@
 use Rattle.std.proofs.Common.{rules}
 use Rattle.std.specs.Prelude.{is_ok, OnOk}
-use Rattle.sched_book.specs.Delta.{Fits}
 use Rattle.stores.specs.Acting.{parts_of}
-use Rattle.stores.specs.Held.{IsCommitted, IsKeptSoundly}
+use Rattle.stores.specs.Held.{IsCommitted, IsKeptSoundly, MayBeCommitted}
 use Rattle.stores.specs.declared.entry.Entry.TheVariants as entry
 use Rattle.stores.proofs.ReadsAct.{acts_on, said_on}
 use Rattle.message_engine.proofs.TicksServed.{tick_done, tick_ahead}
@@ -33,5 +32,5 @@ returns-clause-exact g c = λ honest kept.
     (said_on (parts_of g.S.Units g.S.Store.holds g.S.Store.clean g.S.Store.lasting g.S.Store.may_leave) old c.tick_step.new.desk
     (g.met.S.Store.stays_clean _ _ reads) (g.met.S.Units.stays_honest _ _ reads) (g.met.S.Units.stays_kept _ _ reads)
     (λ lasting honest. g.met.S.Store.stays_open _ _ lasting reads honest) (g.met.S.Store.stays_held _ _ reads) (g.met.S.Store.stays_left _ _ reads)
-    (λ held. OnOk c.make_lapse.result (Fits held.world c.in_ok-delta.delta → IsCommitted c.in_ok-delta.delta entry.Nothing held (g.S.Store.holds new)))
+    (λ held. OnOk c.make_lapse.result (MayBeCommitted c.in_ok-delta.delta entry.Nothing held → IsCommitted c.in_ok-delta.delta entry.Nothing held (g.S.Store.holds new)))
     honest_1 kept (c.make_lapse.ensures.made honest kept_1))
