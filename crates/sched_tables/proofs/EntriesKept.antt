@@ -1,16 +1,19 @@
 -- A commit keeps its entry, and all else as it was.
-use Rattle.std.proofs.Common.{◌≡◌, ℕ, Bool, true, false, ◌&&◌, ◌||◌, cond, eqb, List, [], ◌∷◌, Option, Some, None, option_map, option_to_list, refl, sym, ap, ap₂, subst, ◌∙◌, true≢false}
+use Rattle.std.proofs.Common.{◌≡◌, ℕ, Bool, true, false, ◌&&◌, ◌||◌, cond, eqb, List, [], ◌∷◌, Option, Some, None, option_map, take, refl, sym, ap, ap₂, subst, ◌∙◌, true≢false}
 use Rattle.std.specs.Str.{bytes_eq}
 use Rattle.std.specs.List.{cons_option}
 use Rattle.std.proofs.lemmas.Bool.{eq-eqb, eqb-true}
 use Rattle.std.proofs.lemmas.Slice.Eq.{bytes_eq-Decides}
 use Rattle.sqlite.specs.Effect.{Database}
 use Rattle.sqlite.specs.State.{State}
-use Rattle.stores.specs.Held.{calls_with, batches_with, IsCommitted}
+use Rattle.stores.specs.Eras.{this_era}
+use Rattle.stores.specs.Held.{Calls, Batches, put_call, calls_with, batches_with, IsNewest, IsCommitted}
+use Rattle.stores.specs.declared.batch.KeptBatch.{KeptBatch}
 use Rattle.stores.specs.declared.entry.Entry.{Entry}
 use Rattle.stores.specs.declared.entry.Entry.TheVariants as entry
 use Rattle.stores.specs.Kinds.{kind_name}
 use Rattle.stores.specs.declared.kind.Kind.{Kind}
+use Rattle.reply_register.specs.Calls.{is_above_all}
 use Rattle.reply_register.specs.declared.kept.Kept.{Kept}
 use Rattle.sched_book.specs.Delta.{applied_one, applied}
 use Rattle.sched_book.specs.declared.delta.Change.TheVariants as change
@@ -21,10 +24,11 @@ use Rattle.sched_book.specs.declared.world.World.{World}
 use Rattle.table_meaning.specs.declared.rows.StoredRow.{StoredRow}
 use Rattle.table_meaning.specs.declared.rows.StoredRow.TheVariants as stored
 use Rattle.table_meaning.specs.Rows.{RowKey, kept_key, batch_key, columns_of, same_key}
-use Rattle.table_meaning.specs.Worlds.{BatchText, HoldWorld}
+use Rattle.table_meaning.specs.Worlds.{BatchText, SlotCalls, call_row, HoldWorld}
 use Rattle.table_meaning.proofs.Keys.{key_itself}
-use Rattle.sched_tables.specs.Commits.{LastCalls, Imports, Keeps, LeadsTo, Makes, apps_with}
-use Rattle.sched_tables.specs.Entries.{row_of, last_calls_with, imports_with, kept_batch, calls_of, batches_of}
+use Rattle.sched_tables.specs.Commits.{Imports, Keeps, apps_with}
+use Rattle.sched_tables.specs.Entries.{IsRowOf, MakesWith, kept_batch, calls_of, batches_of}
+use Rattle.sched_tables.specs.Slots.{calls_in_slots, IsSlotFor, with_slot}
 use Rattle.sched_tables.specs.Held.{AreWellKept, AreBeside}
 use Rattle.sched_tables.specs.Remembering.{AreRemembered}
 use Rattle.sched_tables.specs.Views.{held_in}
@@ -33,6 +37,7 @@ use Rattle.table_worlds.specs.Readable.{IsReadable}
 use Rattle.table_worlds.specs.StoredWorld.{world_in}
 use Rattle.table_worlds.proofs.WorldReadBack.{held_is_read_back}
 use Rattle.table_meaning.specs.Kept.{call_of, batch_of, calls_in, batches_in}
+use Rattle.sched_tables.proofs.FourKept.{slots_keep_the_latest}
 
 -- ---- the row of an entry
 
@@ -45,26 +50,65 @@ itself a = (bytes_eq-Decides a a).1 refl
 other_key : (a b : RowKey) → (same_key a b || false) ≡ false → a ≡ b → ⊥
 other_key a b apart same = absurd (true≢false (sym (ap (λ k. same_key k b || false) same ∙ ap (λ c. c || false) (key_itself b)) ∙ apart))
 
-pub keeps_entry : (w : World) (e : Entry) (calls : LastCalls) (batches : Imports) → Keeps w (cons_option (row_of e) []) calls batches (last_calls_with e calls) (imports_with e batches)
-keeps_entry w (entry.Kept host k) calls batches = record {
-  each = (
-    ap (λ (b : Bool). option_map (λ (c : Kept). stored.Kept (record { host_id = host; seqno = c.seqno; text = c.text; reply = c.reply })) (cond b (Some k) (calls host))) (eq-eqb host host refl),
-    tt,
-  );
-  other_calls = λ id none. other id (eqb host id) refl none;
-  other_batches = λ kind name none. refl;
-}
-  where
-    other : (id : ℕ) (b : Bool) → eqb host id ≡ b → (same_key (kept_key id) (kept_key host) || false) ≡ false → calls id ≡ cond b (Some k) (calls id)
-    other id true same apart = absurd (other_key (kept_key id) (kept_key host) apart (ap kept_key (sym (eqb-true host id same))))
-    other id false same apart = refl
-keeps_entry w (entry.Batch kind name b) calls batches = record {
+-- the calls in slots with one more
+abbrev with_call : ℕ → ℕ → Kept → SlotCalls → SlotCalls
+with_call host slot k calls id other = cond (eqb host id) (with_slot slot k (calls id) other) (calls id other)
+
+-- the imports with one more
+abbrev with_import : Kind → List ℕ → KeptBatch → Imports → Imports
+with_import kind name b batches k n = cond (bytes_eq (kind_name kind) k && bytes_eq name n) (Some (b.text, b.answer)) (batches k n)
+
+-- what a store would say of calls in slots, and of imports
+abbrev as_calls : SlotCalls → Calls
+as_calls calls host = calls_in_slots (calls host)
+
+abbrev as_batches : Imports → Batches
+as_batches batches kind name = option_map kept_batch (batches (kind_name kind) name)
+
+-- What is kept once the row of an entry is put: these calls and these imports, as a store says it.
+pub record AreKeptThen (w : World) (e : Entry) (row : Option StoredRow) (calls : SlotCalls) (batches : Imports) : Type 0 where
+  pub calls' : SlotCalls
+  pub batches' : Imports
+  pub keeps : Keeps w (cons_option row []) calls batches calls' batches'
+  pub calls_then : IsNewest e (as_calls calls) → (host : ℕ) → as_calls calls' host ≡ calls_with e (as_calls calls) host
+  pub batches_then : (kind : Kind) (name : List ℕ) → as_batches batches' kind name ≡ batches_with e (as_batches batches) kind name
+
+-- a call in its slot
+module _ (w : World) (host slot : ℕ) (k : Kept) (calls : SlotCalls) (batches : Imports) (for : IsSlotFor (calls host) slot) where
+  call_itself : with_call host slot k calls host slot ≡ Some k
+  call_itself = ap (λ b. cond b (with_slot slot k (calls host) slot) (calls host slot)) (eq-eqb host host refl) ∙ ap (λ b. cond b (Some k) (calls host slot)) (eq-eqb slot slot refl)
+
+  call_keeps : Keeps w (stored.Kept (call_row host slot k) ∷ []) calls batches (with_call host slot k calls) batches
+  call_keeps = record {
+    each = (ap (option_map (λ (c : Kept). stored.Kept (call_row host slot c))) call_itself, tt);
+    other_calls = λ id other none. others id other (eqb host id) (eqb slot other) refl refl none;
+    other_batches = λ kind name none. refl;
+  }
+    where
+      others : (id other : ℕ) (b c : Bool) → eqb host id ≡ b → eqb slot other ≡ c → (same_key (kept_key id other) (kept_key host slot) || false) ≡ false
+          → calls id other ≡ cond b (cond c (Some k) (calls id other)) (calls id other)
+      others id other true true one two apart = absurd (other_key (kept_key id other) (kept_key host slot) apart (ap₂ kept_key (sym (eqb-true host id one)) (sym (eqb-true slot other two))))
+      others id other true false one two apart = refl
+      others id other false c one two apart = refl
+
+  call_kept : is_above_all k.seqno (as_calls calls host) ≡ true → (id : ℕ) → as_calls (with_call host slot k calls) id ≡ put_call this_era host k (as_calls calls) id
+  call_kept newest id = cases (eqb host id) refl
+    where
+      cases : (b : Bool) → eqb host id ≡ b → calls_in_slots (λ other. cond b (with_slot slot k (calls id) other) (calls id other)) ≡ cond b (k ∷ take 3 (as_calls calls host)) (as_calls calls id)
+      cases true same =
+          subst (λ n. calls_in_slots (with_slot slot k (calls n)) ≡ k ∷ take 3 (as_calls calls host)) (eqb-true host id same) (slots_keep_the_latest (calls host) slot k for newest)
+      cases false same = refl
+
+-- an import at its kind and name
+import_keeps : (w : World) (kind : Kind) (name : List ℕ) (b : KeptBatch) (calls : SlotCalls) (batches : Imports)
+    → Keeps w (stored.Batch (record { kind = kind_name kind; name = name; text = b.text; answer = b.answer }) ∷ []) calls batches calls (with_import kind name b batches)
+import_keeps w kind name b calls batches = record {
   each = (
     ap₂ (λ (c d : Bool). option_map (λ (t : BatchText). stored.Batch (record { kind = kind_name kind; name = name; text = t.0; answer = t.1 })) (cond (c && d) (Some (b.text, b.answer)) (batches (kind_name kind) name)))
         (itself (kind_name kind)) (itself name),
     tt,
   );
-  other_calls = λ id none. refl;
+  other_calls = λ id slot none. refl;
   other_batches = λ k n none. other k n (bytes_eq (kind_name kind) k) (bytes_eq name n) refl refl none;
 }
   where
@@ -74,15 +118,45 @@ keeps_entry w (entry.Batch kind name b) calls batches = record {
         absurd (other_key (batch_key k n) (batch_key (kind_name kind) name) apart (ap₂ batch_key (sym (same_bytes (kind_name kind) k one)) (sym (same_bytes name n two))))
     other k n true false one two apart = refl
     other k n false d one two apart = refl
-keeps_entry w entry.Nothing calls batches = record { each = tt; other_calls = λ id none. refl; other_batches = λ kind name none. refl }
+
+import_kept : (kind : Kind) (name : List ℕ) (b : KeptBatch) (batches : Imports) (k : Kind) (n : List ℕ)
+    → as_batches (with_import kind name b batches) k n ≡ batches_with (entry.Batch kind name b) (as_batches batches) k n
+import_kept kind name b batches k n = cases (bytes_eq (kind_name kind) (kind_name k) && bytes_eq name n)
+  where
+    cases : (c : Bool) → option_map kept_batch (cond c (Some (b.text, b.answer)) (batches (kind_name k) n)) ≡ cond c (Some b) (option_map kept_batch (batches (kind_name k) n))
+    cases true = refl
+    cases false = refl
+
+pub are_kept_then : (w : World) (e : Entry) (row : Option StoredRow) (calls : SlotCalls) (batches : Imports) → IsRowOf calls e row → AreKeptThen w e row calls batches
+are_kept_then w (entry.Kept host k) row calls batches is = record {
+  calls' = with_call host is.0 k calls;
+  batches' = batches;
+  keeps = subst (λ r. Keeps w (cons_option r []) calls batches (with_call host is.0 k calls) batches) (sym is.2) (call_keeps w host is.0 k calls batches is.1);
+  calls_then = call_kept w host is.0 k calls batches is.1;
+  batches_then = λ kind name. refl;
+}
+are_kept_then w (entry.Batch kind name b) row calls batches is = record {
+  calls' = calls;
+  batches' = with_import kind name b batches;
+  keeps = subst (λ r. Keeps w (cons_option r []) calls batches calls (with_import kind name b batches)) (sym is) (import_keeps w kind name b calls batches);
+  calls_then = λ _ host. refl;
+  batches_then = λ k n. import_kept kind name b batches k n;
+}
+are_kept_then w entry.Nothing row calls batches is = record {
+  calls' = calls;
+  batches' = batches;
+  keeps = subst (λ r. Keeps w (cons_option r []) calls batches calls batches) (sym is) (record { each = tt; other_calls = λ id slot none. refl; other_batches = λ kind name none. refl });
+  calls_then = λ _ host. refl;
+  batches_then = λ kind name. refl;
+}
 
 -- ---- what tables keep is what they hold
 
-module _ (db : Database) (w : World) (calls : LastCalls) (batches : Imports) (holds : HoldWorld db w calls batches) where
-  pub calls_back : (host : ℕ) → calls_in db.trees host ≡ calls host
-  calls_back host = ap (option_map call_of) (holds.rows (kept_key host)) ∙ cases (calls host)
+module _ (db : Database) (w : World) (calls : SlotCalls) (batches : Imports) (holds : HoldWorld db w calls batches) where
+  pub calls_back : (host slot : ℕ) → calls_in db.trees host slot ≡ calls host slot
+  calls_back host slot = ap (option_map call_of) (holds.rows (kept_key host slot)) ∙ cases (calls host slot)
     where
-      cases : (o : Option Kept) → option_map call_of (option_map columns_of (option_map (λ (k : Kept). stored.Kept (record { host_id = host; seqno = k.seqno; text = k.text; reply = k.reply })) o)) ≡ o
+      cases : (o : Option Kept) → option_map call_of (option_map columns_of (option_map (λ (k : Kept). stored.Kept (call_row host slot k)) o)) ≡ o
       cases None = refl
       cases (Some k) = refl
 
@@ -95,7 +169,7 @@ module _ (db : Database) (w : World) (calls : LastCalls) (batches : Imports) (ho
 
   -- so they hold the world with what they keep
   pub held_with_kept : HoldWorld db w (calls_in db.trees) (batches_in db.trees)
-  held_with_kept = subst (λ (c : LastCalls). HoldWorld db w c (batches_in db.trees)) (λ i host. sym (calls_back host) i) (subst (λ (b : Imports). HoldWorld db w calls b) (λ i kind name. sym (batches_back kind name) i) holds)
+  held_with_kept = subst (λ (c : SlotCalls). HoldWorld db w c (batches_in db.trees)) (λ i host slot. sym (calls_back host slot) i) (subst (λ (b : Imports). HoldWorld db w calls b) (λ i kind name. sym (batches_back kind name) i) holds)
 
 -- ---- what is kept beside the tables
 
@@ -121,63 +195,40 @@ apps_brought w (change.Instance p x ∷ cs) = apps_brought (applied_one w (chang
 -- ---- a commit
 
 -- tables that held a world with what they keep, and tables that the changes and the row of an entry lead to
-module _ (old new : Database) (w : World) (cs : List Change) (e : Entry) (row : Option StoredRow) (row_is : row ≡ row_of e) (holds : HoldWorld old w (calls_in old.trees) (batches_in old.trees))
-    (leads : LeadsTo w cs row old new) where
-  abbrev calls : LastCalls
-  calls = calls_in old.trees
+module _ (old new : Database) (w : World) (cs : List Change) (e : Entry) (holds : HoldWorld old w (calls_in old.trees) (batches_in old.trees)) (made : MakesWith w cs e old new) where
+  abbrev after : AreKeptThen (applied w cs) e made.0 (calls_in old.trees) (batches_in old.trees)
+  after = are_kept_then (applied w cs) e made.0 (calls_in old.trees) (batches_in old.trees) made.1
 
-  abbrev batches : Imports
-  batches = batches_in old.trees
-
-  pub now_held : HoldWorld new (applied w cs) (last_calls_with e calls) (imports_with e batches)
-  now_held = leads calls (last_calls_with e calls) batches (imports_with e batches)
-      (subst (λ r. Keeps (applied w cs) (cons_option r []) calls batches (last_calls_with e calls) (imports_with e batches)) (sym row_is) (keeps_entry (applied w cs) e calls batches)) holds
+  pub now_held : HoldWorld new (applied w cs) after.calls' after.batches'
+  now_held = made.2.leads (calls_in old.trees) after.calls' (batches_in old.trees) after.batches' after.keeps holds
 
   -- the calls are those with the entry
-  pub calls_then : (host : ℕ) → calls_of new.trees host ≡ calls_with e (calls_of old.trees) host
-  calls_then host = ap option_to_list (calls_back new (applied w cs) (last_calls_with e calls) (imports_with e batches) now_held host) ∙ said e
-    where
-      said : (e : Entry) → option_to_list (last_calls_with e calls host) ≡ calls_with e (calls_of old.trees) host
-      said (entry.Kept number k) = cases (eqb number host)
-        where
-          cases : (b : Bool) → option_to_list (cond b (Some k) (calls host)) ≡ cond b (k ∷ []) (option_to_list (calls host))
-          cases true = refl
-          cases false = refl
-      said (entry.Batch kind name b) = refl
-      said entry.Nothing = refl
+  pub calls_then : IsNewest e (calls_of old.trees) → (host : ℕ) → calls_of new.trees host ≡ calls_with e (calls_of old.trees) host
+  calls_then newest host = ap calls_in_slots (λ i slot. calls_back new (applied w cs) after.calls' after.batches' now_held host slot i) ∙ after.calls_then newest host
 
   -- and so are the imports
   pub batches_then : (kind : Kind) (name : List ℕ) → batches_of new.trees kind name ≡ batches_with e (batches_of old.trees) kind name
-  batches_then kind name = ap (option_map kept_batch) (batches_back new (applied w cs) (last_calls_with e calls) (imports_with e batches) now_held (kind_name kind) name) ∙ said e
-    where
-      said : (e : Entry) → option_map kept_batch (imports_with e batches (kind_name kind) name) ≡ batches_with e (batches_of old.trees) kind name
-      said (entry.Batch k n b) = cases (bytes_eq (kind_name k) (kind_name kind) && bytes_eq n name)
-        where
-          cases : (c : Bool) → option_map kept_batch (cond c (Some (b.text, b.answer)) (batches (kind_name kind) name)) ≡ cond c (Some b) (option_map kept_batch (batches (kind_name kind) name))
-          cases true = refl
-          cases false = refl
-      said (entry.Kept number k) = refl
-      said entry.Nothing = refl
+  batches_then kind name = ap (option_map kept_batch) (batches_back new (applied w cs) after.calls' after.batches' now_held (kind_name kind) name) ∙ after.batches_then kind name
 
-module _ (old new : State) (w : World) (cs : List Change) (e : Entry) (row : Option StoredRow) (row_is : row ≡ row_of e) (kept : AreWellKept old w) (made : Makes w cs row old.now new.now) where
+module _ (old new : State) (w : World) (cs : List Change) (e : Entry) (kept : AreWellKept old w) (made : MakesWith w cs e old.now new.now) where
   -- the rows tell the world with the changes made
   pub world_then : world_in new.now.trees ≡ applied w cs
-  world_then = held_is_read_back new.now (applied w cs) _ _ (now_held old.now new.now w cs e row row_is kept.holds made.leads) made.readable
+  world_then = held_is_read_back new.now (applied w cs) _ _ (now_held old.now new.now w cs e kept.holds made) made.2.readable
 
   pub kept_then : new.now ≡ new.committed → new.in_transaction ≡ false → AreWellKept new (world_in new.now.trees)
   kept_then rests idle = record {
     idle = idle;
     rests = rests;
     holds = subst (λ u. HoldWorld new.now u (calls_in new.now.trees) (batches_in new.now.trees)) (sym world_then)
-        (held_with_kept new.now (applied w cs) _ _ (now_held old.now new.now w cs e row row_is kept.holds made.leads));
-    readable = subst IsReadable (sym world_then) made.readable;
+        (held_with_kept new.now (applied w cs) _ _ (now_held old.now new.now w cs e kept.holds made));
+    readable = subst IsReadable (sym world_then) made.2.readable;
   }
 
-  pub committed : IsCommitted cs e (record { world = w; calls = calls_of old.now.trees; batches = batches_of old.now.trees }) (held_in new.now.trees)
-  committed = record {
+  pub committed : IsNewest e (calls_of old.now.trees) → IsCommitted cs e (record { world = w; calls = calls_of old.now.trees; batches = batches_of old.now.trees }) (held_in new.now.trees)
+  committed newest = record {
     world_is = world_then;
-    calls_are = calls_then old.now new.now w cs e row row_is kept.holds made.leads;
-    batches_are = batches_then old.now new.now w cs e row row_is kept.holds made.leads;
+    calls_are = calls_then old.now new.now w cs e kept.holds made newest;
+    batches_are = batches_then old.now new.now w cs e kept.holds made;
   }
 
   -- what is kept beside the tables is the world's, with the applications that the changes bring

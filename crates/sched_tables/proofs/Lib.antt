@@ -1,7 +1,9 @@
+pub mod FourKept
 pub mod EntriesKept
 pub mod Leads
 pub mod NewTables
 pub mod Opened
 pub mod Stops
 pub mod Told
+pub mod Upgraded
 mod Memory

@@ -1,8 +1,9 @@
 -- New tables hold the world in which nothing stands, and keep nothing.
-use Rattle.std.proofs.Common.{◌≡◌, List, [], None, false, option_map, option_to_list, subst, sym, ap, ◌∙◌}
+use Rattle.std.proofs.Common.{◌≡◌, List, [], None, false, option_map, subst, sym, ap, ◌∙◌}
 use Rattle.stores.specs.Held.{IsNew}
 use Rattle.stores.specs.Kinds.{kind_name}
 use Rattle.sched_tables.specs.Entries.{kept_batch}
+use Rattle.sched_tables.specs.Slots.{calls_in_slots}
 use Rattle.sched_tables.specs.Views.{held_in}
 use Rattle.std.proofs.lemmas.List.Elements.{All-nil}
 use Rattle.sqlite.specs.Effect.{Database}
@@ -25,7 +26,7 @@ use Rattle.table_meaning.specs.Kept.{calls_in, batches_in}
 use Rattle.sched_tables.proofs.EntriesKept.{calls_back, batches_back, held_with_kept}
 use Rattle.sched_tables.proofs.Leads.{held_same}
 
-nothing_held : (s : Settings) (db : Database) → HoldJust db (setting_rows s) → HoldWorld db (empty_world s) (λ _. None) (λ _ _. None)
+nothing_held : (s : Settings) (db : Database) → HoldJust db (setting_rows s) → HoldWorld db (empty_world s) (λ _ _. None) (λ _ _. None)
 nothing_held s db just = held_same db _ _ (new_world s) just
 
 -- the world in which nothing stands is told by its rows
@@ -33,18 +34,18 @@ empty_readable : (s : Settings) → IsReadable (empty_world s)
 empty_readable s = record { versions = All-nil _; units = All-nil _; hosts = All-nil _ }
 
 module _ (s : Settings) (st : State) (rests : st.now ≡ st.committed) (just : HoldJust st.committed (setting_rows s)) where
-  held : HoldWorld st.now (empty_world s) (λ _. None) (λ _ _. None)
+  held : HoldWorld st.now (empty_world s) (λ _ _. None) (λ _ _. None)
   held = nothing_held s st.now (subst (λ db. HoldJust db (setting_rows s)) (sym rests) just)
 
   -- the rows tell that world
   pub new_world_is : world_in st.now.trees ≡ empty_world s
-  new_world_is = held_is_read_back st.now (empty_world s) (λ _. None) (λ _ _. None) held (empty_readable s)
+  new_world_is = held_is_read_back st.now (empty_world s) (λ _ _. None) (λ _ _. None) held (empty_readable s)
 
   pub new_kept : st.in_transaction ≡ false → AreWellKept st (world_in st.now.trees)
   new_kept idle = record {
     idle = idle;
     rests = rests;
-    holds = subst (λ v. HoldWorld st.now v (calls_in st.now.trees) (batches_in st.now.trees)) (sym new_world_is) (held_with_kept st.now (empty_world s) (λ _. None) (λ _ _. None) held);
+    holds = subst (λ v. HoldWorld st.now v (calls_in st.now.trees) (batches_in st.now.trees)) (sym new_world_is) (held_with_kept st.now (empty_world s) (λ _ _. None) (λ _ _. None) held);
     readable = subst IsReadable (sym new_world_is) (empty_readable s);
   }
 
@@ -54,6 +55,6 @@ module _ (s : Settings) (st : State) (rests : st.now ≡ st.committed) (just : H
   pub new_held : IsNew s (held_in st.now.trees)
   new_held = record {
     world_is = new_world_is;
-    calls_are = λ host. ap option_to_list (calls_back st.now (empty_world s) (λ _. None) (λ _ _. None) held host);
-    batches_are = λ kind batch. ap (option_map kept_batch) (batches_back st.now (empty_world s) (λ _. None) (λ _ _. None) held (kind_name kind) batch);
+    calls_are = λ host. ap calls_in_slots (λ i slot. calls_back st.now (empty_world s) (λ _ _. None) (λ _ _. None) held host slot i);
+    batches_are = λ kind batch. ap (option_map kept_batch) (batches_back st.now (empty_world s) (λ _ _. None) (λ _ _. None) held (kind_name kind) batch);
   }

@@ -2,7 +2,6 @@
 use Rattle.std.specs.Prelude.{◌≡◌, ℕ, Bool, false, List, [], ◌∷◌, ◌++◌, fold, Option, Some}
 use Rattle.std.specs.List.{AllByRecursion, list_any, cons_option}
 use Rattle.sqlite.specs.Effect.{Database}
-use Rattle.reply_register.specs.declared.kept.Kept.{Kept}
 use Rattle.sched_book.specs.Delta.{applied}
 use Rattle.sched_book.specs.declared.delta.Change.{Change}
 use Rattle.sched_book.specs.declared.delta.Change.TheVariants as change
@@ -10,12 +9,9 @@ use Rattle.sched_book.specs.declared.rows.App.{App}
 use Rattle.sched_book.specs.declared.world.World.{World}
 use Rattle.table_meaning.specs.declared.rows.StoredRow.{StoredRow}
 use Rattle.table_meaning.specs.Rows.{RowKey, kept_key, batch_key, key_of, same_key}
-use Rattle.table_meaning.specs.Worlds.{BatchText, contents_of, HoldWorld}
+use Rattle.table_meaning.specs.Worlds.{BatchText, SlotCalls, contents_of, HoldWorld}
 use Rattle.table_worlds.specs.Changes.{AreChanges}
 use Rattle.table_worlds.specs.Readable.{IsReadable}
-
-abbrev pub LastCalls : Type 0
-LastCalls = ℕ → Option Kept
 
 abbrev pub Imports : Type 0
 Imports = List ℕ → List ℕ → Option BatchText
@@ -24,9 +20,9 @@ abbrev pub is_among : List StoredRow → RowKey → Bool
 is_among rows key = list_any (λ row. same_key key (key_of row)) rows
 
 -- These rows lead from what is kept to what is kept then: each is what stands then, and what none of them is stays.
-pub record Keeps (w : World) (rows : List StoredRow) (calls : LastCalls) (batches : Imports) (calls' : LastCalls) (batches' : Imports) : Type 0 where
+pub record Keeps (w : World) (rows : List StoredRow) (calls : SlotCalls) (batches : Imports) (calls' : SlotCalls) (batches' : Imports) : Type 0 where
   pub each : AllByRecursion (λ r. contents_of w calls' batches' (key_of r) ≡ Some r) rows
-  pub other_calls : (host : ℕ) → is_among rows (kept_key host) ≡ false → calls host ≡ calls' host
+  pub other_calls : (host slot : ℕ) → is_among rows (kept_key host slot) ≡ false → calls host slot ≡ calls' host slot
   pub other_batches : (kind name : List ℕ) → is_among rows (batch_key kind name) ≡ false → batches kind name ≡ batches' kind name
 
 -- These rows lead from a world to that with changes made, with one row more behind them, and that world is told by its rows.
@@ -38,7 +34,7 @@ pub record ArePut (w : World) (cs : List Change) (more : Option StoredRow) (rows
 
 -- Tables that held a world hold it with changes made and one row more, whatever is kept.
 abbrev pub LeadsTo : World → List Change → Option StoredRow → Database → Database → Type 0
-LeadsTo w cs more old new = (calls calls' : LastCalls) (batches batches' : Imports)
+LeadsTo w cs more old new = (calls calls' : SlotCalls) (batches batches' : Imports)
     → Keeps (applied w cs) (cons_option more []) calls batches calls' batches' → HoldWorld old w calls batches → HoldWorld new (applied w cs) calls' batches'
 
 -- They do, and the world after is told by its rows.

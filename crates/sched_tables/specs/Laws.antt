@@ -2,7 +2,12 @@
 use Rattle.std.specs.Prelude.{◌≡◌}
 use Rattle.sqlite_trees.specs.declared.store.Store.{Ghosts}
 use Rattle.sched_book.specs.Sound.{Sound}
+use Rattle.sqlite.specs.Effect.{Database}
+use Rattle.sched_book.specs.declared.world.World.{World}
 use Rattle.stores.specs.Held.{Held, IsLeft}
+use Rattle.table_meaning.specs.Upgrades.{HostCalls, HoldFirstWorld, UpgradesWorld}
+use Rattle.sched_tables.specs.Commits.{Imports}
+use Rattle.sched_tables.specs.Upgrading.{first_held}
 use Rattle.sched_tables.specs.Stops.{MayBeFound}
 use Rattle.sched_tables.specs.Views.{state_of, world_of, held_of, AreKept}
 use Rattle.sched_tables.specs.declared.tables.Tables.{Tables}
@@ -12,3 +17,9 @@ abbrev pub ReopenedHolds : {S R : Type 0} → Ghosts S → Ghosts R → Type 0
 ReopenedHolds {S} {R} before after =
     (old : Tables S) (t : Tables R) → AreKept after t → Sound (world_of after t) → (h : Held) → (found : MayBeFound (state_of before old) h)
     → found.trees ≡ (state_of after t).now.trees → IsLeft (held_of after t) h
+
+-- Tables that were upgraded hold what those of the first schema held.
+abbrev pub UpgradedHolds : {S : Type 0} → Ghosts S → Type 0
+UpgradedHolds {S} store =
+    (old : Database) (t : Tables S) → UpgradesWorld old (state_of store t).now → (w : World) (calls : HostCalls) (batches : Imports) → Sound w → HoldFirstWorld old w calls batches
+    → IsLeft (first_held w calls batches) (held_of store t)

@@ -1,3 +1,4 @@
+pub mod Slots
 pub mod Commits
 pub mod Entries
 pub mod Held
@@ -6,4 +7,5 @@ pub mod Remembering
 pub mod Stops
 pub mod StopLaws
 pub mod Views
+pub mod Upgrading
 pub mod Laws

@@ -6,11 +6,11 @@ use Rattle.sqlite_trees.specs.Tree.{Trees}
 use Rattle.stores.specs.Held.{Held, IsLeft}
 use Rattle.sched_book.specs.Sound.{Sound}
 use Rattle.sched_book.specs.declared.world.World.{World}
-use Rattle.table_meaning.specs.Worlds.{HoldWorld}
+use Rattle.table_meaning.specs.Worlds.{SlotCalls, HoldWorld}
 use Rattle.table_reading.specs.Reading.{ReadFrom}
 use Rattle.table_reading.proofs.KeptRows.{held_by_rows}
 use Rattle.table_worlds.proofs.OneWorld.{one_world}
-use Rattle.sched_tables.specs.Commits.{LastCalls, Imports}
+use Rattle.sched_tables.specs.Commits.{Imports}
 use Rattle.sched_tables.specs.Entries.{calls_of, batches_of}
 use Rattle.sched_tables.specs.Held.{AreWellKept}
 use Rattle.sched_tables.specs.Stops.{MayBeFound}
@@ -28,7 +28,7 @@ stays_found old new held survives found = elim (survives.crash found.clean found
 ]
 
 -- the world that is read from rows is the sound one that they hold
-pub read_as_held : (trees : Trees) (db : Database) (w v : World) (calls : LastCalls) (batches : Imports) → trees ≡ db.trees → Sound w → HoldWorld db w calls batches → ReadFrom trees v → v ≡ w
+pub read_as_held : (trees : Trees) (db : Database) (w v : World) (calls : SlotCalls) (batches : Imports) → trees ≡ db.trees → Sound w → HoldWorld db w calls batches → ReadFrom trees v → v ≡ w
 read_as_held trees db w v calls batches same sound holds read =
     let here : ReadFrom db.trees v = subst (λ (t : Trees). ReadFrom t v) same read in
     one_world db db v w _ calls _ batches refl here.2.sound sound (held_by_rows db v here.0 holds.known here.1 here.2) holds

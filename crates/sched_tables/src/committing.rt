@@ -2,17 +2,21 @@
 
 ghost use Rattle.std.specs.Prelude.{◌≡◌, false, IsTrue, IfOk, OnOk, OnErr};
 ghost use Rattle.sqlite.specs.State.{HasCleanDisk, Survives};
-ghost use Rattle.sched_tables.specs.Commits.{ArePut, Makes, apps_with as apps_then};
-ghost use Rattle.sched_tables.specs.Entries.{row_of as row_put};
+ghost use Rattle.sched_tables.specs.Commits.{apps_with as apps_then};
+ghost use Rattle.sched_tables.specs.Entries.{ArePutWith, IsRowOf, MakesWith};
+ghost use Rattle.table_meaning.specs.Holding.{AreKnown};
+ghost use Rattle.table_meaning.specs.Kept.{calls_in};
+ghost use Rattle.sqlite.specs.Held.{state};
 ghost use Rattle.sched_book.specs.declared.world.World.{World};
 ghost use Rattle.sched_tables.specs.Held.{IsHonest};
 ghost use Rattle.sched_tables.specs.Remembering.{AreRemembered};
 ghost use Rattle.sched_tables.specs.Views.{state_of, world_of, AreKept};
 ghost use Rattle.table_meaning.specs.Reads.{Reads};
 
+use crate::keeping::slot_for;
 use crate::tables::Tables;
 use sched_book::{App, Change, Delta, Unavailable, copy_of};
-use sqlite::Alter;
+use sqlite::{Alter, Connection};
 use std::alloc::Global;
 use stores::Entry;
 use table_changes::rows_of_changes;
@@ -21,12 +25,19 @@ use table_rows::put_rows;
 use texts::{Listed, Memory, Text};
 
 /// The row that an entry puts, where it puts one.
-fn row_of(alloc: Global, entry: &Entry) -> Result<Option<StoredRow>, Unavailable>
-    ensures { IfOk result (λ row. row ≡ row_put entry.now) }
+fn row_of<S: Alter>(
+    alloc: Global,
+    conn: &mut Connection<S>,
+    entry: &Entry,
+) -> Result<Option<StoredRow>, Unavailable>
+    ensures reads { Reads (state S.Store conn.old) (state S.Store conn.new) }
+    ensures row { IsHonest (state S.Store conn.new) → (state S.Store conn.old).now ≡ (state S.Store conn.old).committed → AreKnown (state S.Store conn.old).now
+        → IfOk result (IsRowOf (calls_in (state S.Store conn.old).now.trees) entry.now) }
 {
     match entry {
         Entry::Kept(host, kept) => Ok(Some(StoredRow::Kept(StoredCall {
             host_id: *host,
+            slot: slot_for(alloc, conn, *host)?,
             seqno: kept.seqno,
             text: kept.text.clone()?,
             reply: kept.reply.clone()?,
@@ -60,10 +71,10 @@ impl<S: Alter> Tables<S> {
         ensures reads { Reads (state_of S.Store self.old) (state_of S.Store self.new) }
         ensures beside { (self.new.settings ≡ self.old.settings) × (self.new.apps ≡ self.old.apps) }
         ensures rows { IsHonest (state_of S.Store self.new) → AreKept S.Store self.old
-            → IfOk result (ArePut (world_of S.Store self.old) delta.now (row_put entry.now)) }
+            → IfOk result (ArePutWith (world_of S.Store self.old) delta.now (calls_in (state_of S.Store self.old).now.trees) entry.now) }
     {
-        let row = row_of(self.alloc, entry)?;
         let mut rows = rows_of_changes(self.alloc, self, delta)?;
+        let row = row_of(self.alloc, &mut self.conn, entry)?;
         rows.push_some(row)?;
         Ok(rows)
     }
@@ -81,13 +92,13 @@ impl<S: Alter> Tables<S> {
         ensures apps { OnOk result (self.new.apps ≡ apps_then self.old.apps delta.now) }
         ensures rests { IsHonest (state_of S.Store self.new) → OnOk result ((state_of S.Store self.new).now ≡ (state_of S.Store self.new).committed) }
         ensures made { IsHonest (state_of S.Store self.new) → AreKept S.Store self.old
-            → OnOk result (Makes (world_of S.Store self.old) delta.now (row_put entry.now) (state_of S.Store self.old).now (state_of S.Store self.new).now) }
+            → OnOk result (MakesWith (world_of S.Store self.old) delta.now entry.now (state_of S.Store self.old).now (state_of S.Store self.new).now) }
         ensures left { IsHonest (state_of S.Store self.new) → AreKept S.Store self.old → OnErr result (
             ((state_of S.Store self.new).now ≡ (state_of S.Store self.old).now) × ((state_of S.Store self.new).committed ≡ (state_of S.Store self.old).committed)
             × (self.new.apps ≡ self.old.apps)) }
         ensures crash { Survives (state_of S.Store self.old) (state_of S.Store self.new)
             (λ trees. IsTrue (state_of S.Store self.old).is_open × (AreKept S.Store self.old
-            → (db : _) × Makes (world_of S.Store self.old) delta.now (row_put entry.now) (state_of S.Store self.old).now db × (trees ≡ db.trees))) }
+            → (db : _) × MakesWith (world_of S.Store self.old) delta.now entry.now (state_of S.Store self.old).now db × (trees ≡ db.trees))) }
     {
         let rows = self.rows_with(delta, entry);
         self.remembered.forget();

@@ -2,7 +2,7 @@
 
 ghost use Rattle.sqlite.specs.Steps.{over_memory};
 ghost use Rattle.sched_tables.specs.Held.{NeverFails};
-ghost use Rattle.sched_tables.specs.Laws.{ReopenedHolds};
+ghost use Rattle.sched_tables.specs.Laws.{ReopenedHolds, UpgradedHolds};
 
 use sqlite::Alter;
 
@@ -14,4 +14,10 @@ pub fn memory_never_fails()
 /// Tables that are opened over the rows that a stop left hold what was left.
 pub fn reopened_holds<S: Alter, R: Alter>()
     ensures { ReopenedHolds S.Store R.Store }
+{}
+
+/// Tables that were upgraded hold what those of the first schema held: the world, the imports, and of each host its last
+/// call.
+pub fn upgraded_holds<S: Alter>()
+    ensures { UpgradedHolds S.Store }
 {}

@@ -10,7 +10,9 @@ mod reading;
 mod remembered;
 mod store;
 mod tables;
+mod upgrading;
 
 pub use stores::Entry;
 pub use table_rows::OpenFault;
 pub use tables::Tables;
+pub use upgrading::{SCHEMA_1, upgrade};

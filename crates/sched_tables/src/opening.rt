@@ -49,9 +49,10 @@ impl<S: Alter + Drop> Tables<S> {
 
     /// Opens the tables of a database that were made before.
     ///
-    /// `NotTables` where the schema is not that of the stored tables, or no setting tells it; `BadRow` where the rows are
-    /// not those of a sound world with what may be kept beside it, as [`table_reading::stored_world`] says. A connection
-    /// that is refused is dropped, with its file as it was. A stop that finds the tables opened leaves what they hold.
+    /// `OldSchema` where the tables are those of an older schema, whose number it tells; `NotTables` where the schema is
+    /// none of the stored tables', or no setting tells it; `BadRow` where the rows are not those of a sound world with what
+    /// may be kept beside it, as [`table_reading::stored_world`] says. A connection that is refused is dropped, with its
+    /// file as it was. A stop that finds the tables opened leaves what they hold.
     pub fn open(alloc: Global, conn: Connection<S>) -> Result<Tables<S>, OpenFault>
         ensures open { IfOk result (λ t. HasCleanDisk (state_of S.Store t) → IsHonest (state_of S.Store t)) }
         ensures sound { IfOk result (λ t. HasCleanDisk (state_of S.Store t) → Sound (world_of S.Store t)) }

@@ -27,10 +27,7 @@ impl<S: Alter> Store for Tables<S> {
     ghost may_leave = { λ t. MayBeFound (state_of S.Store t) };
 
     fn kept(&mut self, alloc: Global, host: u32) -> Result<Listed<Kept>, Unavailable> {
-        let call = self.last_call(alloc, host)?;
-        let mut kept = Listed::new(alloc);
-        kept.push_some(call)?;
-        Ok(kept)
+        self.calls_kept(alloc, host)
     }
 
     fn kept_batch(

@@ -14,6 +14,7 @@ use Rattle.table_meaning.specs.declared.rows.SettingValue.{SettingValue}
 use Rattle.table_meaning.specs.declared.rows.SettingValue.TheVariants.{Number, Word}
 use Rattle.table_meaning.specs.declared.rows.StoredRow.{StoredRow}
 use Rattle.table_meaning.specs.declared.rows.StoredRow.TheVariants as stored
+use Rattle.table_meaning.specs.Schema.{newest}
 use Rattle.table_meaning.specs.Worlds.{account_row, app_row, version_row, unit_row, host_row}
 use Rattle.table_decoding.specs.declared.fault.DecodeFault.{DecodeFault}
 use Rattle.table_decoding.specs.declared.fault.DecodeFault.TheVariants as decode
@@ -31,7 +32,7 @@ fault_of Unavailable = decode.Unavailable
 
 -- the row that tells the schema of the stored tables
 abbrev pub schema_row : StoredRow
-schema_row = stored.Setting (record { name = codes "schema"; value = Number 1 })
+schema_row = stored.Setting (record { name = codes "schema"; value = Number newest })
 
 -- what a row says of the setting of a name
 abbrev pub told_of : List ℕ → StoredRow → Option SettingValue

@@ -11,6 +11,7 @@ ghost use Rattle.table_decoding.specs.Decoding.{Gives, Tells, TellAll, schema_ro
 use crate::fault::RowFault;
 use sched_book::Settings;
 use table_meaning::rows::{SettingValue, StoredRow};
+use table_meaning::tables::NEWEST_SCHEMA;
 use texts::Text;
 
 /// Whether the row tells the schema of the stored tables.
@@ -19,7 +20,8 @@ fn is_schema(row: &StoredRow) -> bool
 {
     match row {
         StoredRow::Setting(setting) => {
-            setting.name.is("schema") && matches!(setting.value, SettingValue::Number(1))
+            setting.name.is("schema")
+                && matches!(setting.value, SettingValue::Number(NEWEST_SCHEMA))
         }
         _ => false,
     }

@@ -6,7 +6,6 @@ use Rattle.std.proofs.lemmas.Bool.Decides.{nat_tests}
 use Rattle.std.proofs.lemmas.List.Elements.{recursion_from_All}
 use Rattle.std.proofs.lemmas.Option.{none-some}
 use Rattle.sqlite_trees.specs.Tree.{IsAscending}
-use Rattle.reply_register.specs.declared.kept.Kept.{Kept}
 use Rattle.sched_book.specs.Places.{nth, is_before, places_in, places_among, places_where, places}
 use Rattle.sched_book.specs.declared.instance.Instance.{Instance}
 use Rattle.sched_book.specs.declared.instance.Place.{Place}
@@ -16,7 +15,7 @@ use Rattle.sched_book.proofs.PlacesWhere.{each_among, they_rise}
 use Rattle.sched_book.proofs.PlacesOf.{nth-suc}
 use Rattle.sched_book.proofs.Rising.{pairs_head, pairs_tail}
 use Rattle.table_meaning.specs.Places.{IsBefore, AreAllPlaces}
-use Rattle.table_meaning.specs.Worlds.{BatchText, contents_of}
+use Rattle.table_meaning.specs.Worlds.{BatchText, SlotCalls, contents_of}
 use Rattle.table_worlds.proofs.KeysStand.{instance_listed}
 
 -- ---- they rise
@@ -33,7 +32,7 @@ rising (p ∷ ps) pairs =
     each [] h = tt
     each (q ∷ qs) h = (before p q h.0, each qs h.1)
 
-module _ (w : World) (calls : ℕ → Option Kept) (batches : List ℕ → List ℕ → Option BatchText) where
+module _ (w : World) (calls : SlotCalls) (batches : List ℕ → List ℕ → Option BatchText) where
   pub all_places : AreAllPlaces (contents_of w calls batches) (places w)
   all_places = record {
     rise = rising (places w) (they_rise w (λ b x. true));

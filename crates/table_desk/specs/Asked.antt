@@ -1,17 +1,16 @@
 -- What is asked of the stored tables, and of which world the answer is.
 use Rattle.std.specs.Prelude.{◌≡◌, ℕ, List, Option, IsTrue}
-use Rattle.reply_register.specs.declared.kept.Kept.{Kept}
 use Rattle.sched_book.specs.declared.world.World.{World}
 use Rattle.sqlite_trees.specs.declared.store.Store.{Ghosts}
 use Rattle.sqlite.specs.Effect.{Database}
 use Rattle.sqlite.specs.Held.{Held, state}
 use Rattle.sqlite.specs.State.{HasCleanDisk}
-use Rattle.table_meaning.specs.Worlds.{BatchText, HoldWorld}
+use Rattle.table_meaning.specs.Worlds.{BatchText, SlotCalls, HoldWorld}
 use Rattle.table_worlds.specs.Readable.{IsReadable}
 
 -- The tables hold this world, whatever they keep beside it, and it is told by its rows.
 pub record Tell (db : Database) (w : World) : Type 0 where
-  pub calls : ℕ → Option Kept
+  pub calls : SlotCalls
   pub batches : List ℕ → List ℕ → Option BatchText
   pub holds : HoldWorld db w calls batches
   pub readable : IsReadable w

@@ -9,6 +9,7 @@ use Rattle.sqlite_trees.specs.Tree.{Trees}
 use Rattle.sqlite_sql.specs.Term.{eval_all}
 use Rattle.sqlite_sql.specs.Program.{overlay}
 use Rattle.sqlite_schema.specs.declared.command.Command.TheVariants.{Select}
+use Rattle.sqlite_schema.specs.declared.schema.Schema.{Schema}
 use Rattle.sqlite_schema.specs.Rules.{agree}
 use Rattle.sqlite_rules.specs.Keys.{conflicts}
 use Rattle.sqlite_tied.specs.Compute.{everything}
@@ -37,10 +38,13 @@ abbrev pub IsRead : TableName → Type 0
 IsRead t = (command_of (understood stored_schema (read_text t)) ≡ Select (record { lets = []; body = read_query (tree_of t) (places_of t) }) (names_of t)) × IsPlain (understood stored_schema (read_text t))
     × (reads_listing stored_schema (read_text t) ≡ false)
 
--- the text reads these columns of the rows that have the key
+-- under a schema the text reads these columns of the rows that have the key
+abbrev pub ReadsByKeyIn : Schema → TableName → List ℕ → List (List ℕ) → List ℕ → Type 0
+ReadsByKeyIn schema t places names text = (command_of (understood schema text) ≡ Select (record { lets = []; body = key_query (tree_of t) (key_places t) places }) names) × IsPlain (understood schema text)
+    × (reads_listing schema text ≡ false)
+
 abbrev pub ReadsByKey : TableName → List ℕ → List (List ℕ) → List ℕ → Type 0
-ReadsByKey t places names text = (command_of (understood stored_schema text) ≡ Select (record { lets = []; body = key_query (tree_of t) (key_places t) places }) names) × IsPlain (understood stored_schema text)
-    × (reads_listing stored_schema text ≡ false)
+ReadsByKey = ReadsByKeyIn stored_schema
 
 -- the first column is a number, where it is the number of the row
 abbrev pub BeginsBy : Key → List Kind → Type 0
@@ -83,6 +87,6 @@ computed t = elim t as Computed [
   | Unit ↦ record { listed = refl; found = refl; own = λ db. refl; starts = (_, refl); reads = (refl, (refl, refl), refl); reads_key = (refl, (refl, refl), refl); puts = refl; plain_text = (refl, refl); values = λ c. refl; meets = λ c id x. or_false _; slot_is = λ c v rest. refl; columns_are = λ c id r v. refl; shows = λ c id. refl }
   | Host ↦ record { listed = refl; found = refl; own = λ db. refl; starts = (_, refl); reads = (refl, (refl, refl), refl); reads_key = (refl, (refl, refl), refl); puts = refl; plain_text = (refl, refl); values = λ c. refl; meets = λ c id x. or_false _; slot_is = λ c v rest. refl; columns_are = λ c id r v. refl; shows = λ c id. refl }
   | Instance ↦ record { listed = refl; found = refl; own = λ db. refl; starts = tt; reads = (refl, (refl, refl), refl); reads_key = (refl, (refl, refl), refl); puts = refl; plain_text = (refl, refl); values = λ c. refl; meets = λ c id x. or_false _; slot_is = λ c v rest. refl; columns_are = λ c id r v. refl; shows = λ c id. refl }
-  | Kept ↦ record { listed = refl; found = refl; own = λ db. refl; starts = (_, refl); reads = (refl, (refl, refl), refl); reads_key = (refl, (refl, refl), refl); puts = refl; plain_text = (refl, refl); values = λ c. refl; meets = λ c id x. or_false _; slot_is = λ c v rest. refl; columns_are = λ c id r v. refl; shows = λ c id. refl }
+  | Kept ↦ record { listed = refl; found = refl; own = λ db. refl; starts = tt; reads = (refl, (refl, refl), refl); reads_key = (refl, (refl, refl), refl); puts = refl; plain_text = (refl, refl); values = λ c. refl; meets = λ c id x. or_false _; slot_is = λ c v rest. refl; columns_are = λ c id r v. refl; shows = λ c id. refl }
   | Batch ↦ record { listed = refl; found = refl; own = λ db. refl; starts = tt; reads = (refl, (refl, refl), refl); reads_key = (refl, (refl, refl), refl); puts = refl; plain_text = (refl, refl); values = λ c. refl; meets = λ c id x. or_false _; slot_is = λ c v rest. refl; columns_are = λ c id r v. refl; shows = λ c id. refl }
 ]

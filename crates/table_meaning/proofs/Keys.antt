@@ -83,7 +83,7 @@ key_from Version cols = version_key (number_in (column cols 0))
 key_from Unit cols = unit_key (number_in (column cols 0))
 key_from Host cols = host_key (number_in (column cols 0))
 key_from Instance cols = instance_key (number_in (column cols 0)) (number_in (column cols 1))
-key_from Kept cols = kept_key (number_in (column cols 0))
+key_from Kept cols = kept_key (number_in (column cols 0)) (number_in (column cols 1))
 key_from Batch cols = batch_key (bytes_of (column cols 0)) (bytes_of (column cols 1))
 
 -- what is found of each key by computing: the form of its columns, that it is told by them, and how many there are
@@ -95,7 +95,7 @@ key_is (version_key id) = (refl, refl, refl)
 key_is (unit_key id) = (refl, refl, refl)
 key_is (host_key id) = (refl, refl, refl)
 key_is (instance_key unit num) = (refl, refl, refl)
-key_is (kept_key id) = (refl, refl, refl)
+key_is (kept_key host slot) = (refl, refl, refl)
 key_is (batch_key kind name) = (refl, refl, refl)
 
 pub one_key : (a b : RowKey) → same_key a b ≡ true → a ≡ b

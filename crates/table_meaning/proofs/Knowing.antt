@@ -1,4 +1,4 @@
--- Tables of the known schema that obey it are known ones, once the numbers of their rows rise.
+-- Tables of a schema that obey it are known ones, once the numbers of their rows rise.
 use Rattle.std.proofs.Common.{◌≡◌, ℕ, Bool, true, false, not, ◌&&◌, List, [], ◌∷◌, map, take, length, slice_get, get_or, Some, refl, sym, ap₂, subst, ◌∙◌, Ordering, Less, Equal, Greater, is_eq, int_eq}
 use Rattle.std.specs.List.{AllByRecursion, range_with_len}
 use Rattle.std.proofs.lemmas.Bool.{both_ways, false_from_ne_true, and_from}
@@ -30,11 +30,11 @@ use Rattle.sqlite_typed.proofs.TestLemmas.{at_ints, last_term}
 use Rattle.sqlite.specs.Effect.{Database, IsDatabase}
 use Rattle.table_meaning.specs.declared.tables.TableName.{TableName}
 use Rattle.table_meaning.specs.Layouts.{Key, numbered, by_first, layout_of, places_by, key_width}
-use Rattle.table_meaning.specs.Schema.{in_row, uniques_with, stored_schema, table_by, place_of}
+use Rattle.table_meaning.specs.Schema.{in_row, uniques_with, schema_at, table_by, place_of}
 use Rattle.table_meaning.specs.Rows.{tree_of}
-use Rattle.table_meaning.specs.Holding.{AreApart, AreKnown}
-use Rattle.table_meaning.proofs.ByComputing.{computed}
-use Rattle.table_meaning.proofs.EachTable.{of_each}
+use Rattle.table_meaning.specs.Holding.{AreApart}
+use Rattle.table_meaning.specs.Schemas.{IsSchema, has_table, AreKnownAt}
+use Rattle.table_meaning.proofs.SchemaTables.{at_tree, listed_at}
 
 equal_is : (o : Ordering) → is_eq o ≡ true → o ≡ Equal
 equal_is Less h = absurd (cc)
@@ -80,20 +80,26 @@ apart_by : (key : Key) (count : ℕ) (others : List (List ℕ)) (rows : List Row
 apart_by numbered count others rows shaped unique a b is_a is_b same = same_number rows shaped a b is_a is_b same
 apart_by (by_first n) count others rows shaped unique a b is_a is_b same = no_clash rows shaped a b is_a is_b (take n (range_with_len 1 count)) (unique _ b refl is_b) same
 
-pub known_from : (db : Database) → db.schema ≡ stored_schema → IsDatabase db → ((t : TableName) → IsShaped TableTree (db.trees (tree_of t))) → AreKnown db
-known_from db schema sound ordered = record {
+pub known_at_from : (n : ℕ) → IsSchema n → (db : Database) → db.schema ≡ schema_at n → IsDatabase db → AllByRecursion (λ t. IsShaped TableTree (db.trees t.tree)) db.schema.tables → AreKnownAt n db
+known_at_from n is db schema sound rising = record {
   schema = schema;
   ordered = ordered;
-  apart = λ t. let l = layout_of t in apart_by l.key (length l.columns) (map (in_row l) l.uniques) (db.trees l.tree) (ordered t) (unique t);
+  apart = λ t has.
+      let l = layout_of t in
+      apart_by l.key (length l.columns) (map (in_row l) l.uniques) (db.trees l.tree) (at_tree n (λ tree. IsShaped TableTree (db.trees tree)) ordered l.tree has) (unique t has);
 }
   where
     orders_are : (uniques : List (List ℕ)) → get_or (map (λ _. plain) uniques) 0 plain ≡ plain
     orders_are [] = refl
     orders_are (u ∷ uniques) = refl
 
-    unique : (t : TableName) (ps : List ℕ) (row : Row) → slice_get (table_by t).uniques 0 ≡ Some ps → Has (db.trees (tree_of t)) row → clashes plain ps (db.trees (tree_of t)) row ≡ false
-    unique t ps row first has =
-        let listed : Has db.schema.tables (table_by t) = subst (λ s. Has s.tables (table_by t)) (sym schema) (has_got stored_schema.tables (place_of t) (table_by t) (computed t).listed) in
+    ordered : AllByRecursion (λ t. IsShaped TableTree (db.trees t.tree)) (schema_at n).tables
+    ordered = subst (λ s. AllByRecursion (λ t. IsShaped TableTree (db.trees t.tree)) s.tables) schema rising
+
+    unique : (t : TableName) → has_table n t ≡ true → (ps : List ℕ) (row : Row) → slice_get (table_by t).uniques 0 ≡ Some ps → Has (db.trees (tree_of t)) row
+        → clashes plain ps (db.trees (tree_of t)) row ≡ false
+    unique t stands ps row first has =
+        let listed : Has db.schema.tables (table_by t) = subst (λ s. Has s.tables (table_by t)) (sym schema) (has_got (schema_at n).tables (place_of t) (table_by t) (listed_at n is t stands)) in
         subst (λ order. clashes order ps (db.trees (tree_of t)) row ≡ false) (orders_are (table_by t).uniques) (keys_are_unique db.schema db.trees (table_by t) 0 ps row sound listed first has)
 
 -- ---- a store keeps the numbers of each table's rows rising
@@ -106,6 +112,3 @@ tables_rise v schema trees same order listed sound =
     let shaped = shaped_of v schema listed rising lists in
     subst (λ (ts : Trees). AllByRecursion (λ (t : Table). IsShaped TableTree (ts t.tree)) schema.tables) (sym same)
     (all_weaker _ (λ (t : Table). IsShaped TableTree (v.trees t.tree)) (λ t h. subst (λ (s : Shape). IsShaped s (v.trees t.tree)) h.0 (order t.tree)) schema.tables shaped.tables)
-
-pub each_rises : (db : Database) → db.schema ≡ stored_schema → AllByRecursion (λ t. IsShaped TableTree (db.trees t.tree)) db.schema.tables → (t : TableName) → IsShaped TableTree (db.trees (tree_of t))
-each_rises db schema all = of_each (λ t. IsShaped TableTree (db.trees t.tree)) (subst (λ s. AllByRecursion (λ t. IsShaped TableTree (db.trees t.tree)) s.tables) schema all)

@@ -1,9 +1,12 @@
 pub mod ByComputing
 pub mod ByKey
 pub mod Columns
+pub mod Copying
 pub mod Definitions
 pub mod EachTable
 pub mod FormatLemmas
+pub mod FormerCalls
+pub mod Inserting
 pub mod Keys
 pub mod Knowing
 pub mod LastRow
@@ -23,7 +26,10 @@ pub mod PutRows
 pub mod Putting
 pub mod Reading
 pub mod RowsHeld
+pub mod SchemaSaid
+pub mod SchemaTables
 pub mod Statements
 pub mod StepLemmas
 pub mod Typed
 pub mod TypedRows
+pub mod UpgradedWorlds

@@ -52,7 +52,7 @@ map-filter_map f h (x ∷ xs) = turn (h x) (map-filter_map f h xs)
     turn None later = later
     turn (Some y) later = ap (λ l. f y ∷ l) later
 
-find-map : {X Y : Type 0} (f : X → Y) (p : Y → Bool) (q : X → Bool) → ((x : X) → p (f x) ≡ q x) → (xs : List X) → find p (map f xs) ≡ option_map f (find q xs)
+pub find-map : {X Y : Type 0} (f : X → Y) (p : Y → Bool) (q : X → Bool) → ((x : X) → p (f x) ≡ q x) → (xs : List X) → find p (map f xs) ≡ option_map f (find q xs)
 find-map f p q same [] = refl
 find-map f p q same (x ∷ xs) = ap (λ b. cond b (Some (f x)) (find p (map f xs))) (same x) ∙ turn (q x) (find-map f p q same xs)
   where
@@ -206,7 +206,7 @@ module _ (t : TableName) (terms : List Term) (places : List ℕ) (params : Row) 
   listed_rows : (trees : Trees) → IsShaped TableTree (trees (tree_of t)) → (rows : List Row) → IsAnswer (listing_query (tree_of t) terms places) (overlay trees []) params rows → map pick rows ≡ map from (rows_where trees t test)
   listed_rows trees shaped rows answer =
       let p = λ (r : Row). is_numbered r && test (shown t r) in
-      let found = passing_rows trees (tree_of t) _ places params p (own_rows t trees) shaped (λ n. then_term (at_ints false Gt n.0 (pos 0)) (tests (as_row n))) rows answer in
+      let found = passing_rows trees (tree_of t) _ params p (own_rows t trees) shaped (λ n. then_term (at_ints false Gt n.0 (pos 0)) (tests (as_row n))) places rows answer in
       let kept = filter p (trees (tree_of t)) in
       ap (map pick) found ∙ map-map pick (λ r. map (column r) places) kept ∙ map_same _ (λ r. from (shown t r)) same kept ∙ sym (map-map from (shown t) kept)
 

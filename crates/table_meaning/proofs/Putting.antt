@@ -45,6 +45,10 @@ module _ (t : TableName) (c : Row) where
   abbrev pub IsNumbered : ℤ → Type 0
   IsNumbered = IsNumberedBy (key_by t) c
 
+  -- The tree has the columns under some number, and lost nothing but the row that had the key; the other trees are as before.
+  abbrev pub PutsColumns : Trees → Trees → Type 0
+  PutsColumns db next = (id : ℤ) × IsNumbered id × Puts (key_places t) (db (tree_of t)) (next (tree_of t)) (Int id ∷ behind) × AllByRecursion (λ s. s.tree ≢ tree_of t → next s.tree ≡ db s.tree) stored_schema.tables
+
   -- what is found by computing with the text, the schema and the columns
   pub record Facts : Type 0 where
     pub is : command_of (understood stored_schema (put_text t)) ≡ put_command (place_of t) (put_terms (key_by t) (count_of t)) (count_of t + 1) (update_at (key_places t) (tree_of t) (count_of t) (set_terms (key_by t) (count_of t)))
@@ -80,12 +84,8 @@ module _ (t : TableName) (c : Row) (f : Facts t c) (old new : State) (known : Ar
   abbrev numbered_as : ℤ → Row
   numbered_as id = Int id ∷ behind t c
 
-  -- The tree has the columns under some number, and lost nothing but the row that had the key; the other trees are as before.
-  abbrev pub Ends : Trees → Type 0
-  Ends next = (id : ℤ) × IsNumbered t c id × Puts (key_places t) rows (next (tree_of t)) (numbered_as id) × AllByRecursion (λ s. s.tree ≢ tree_of t → next s.tree ≡ db s.tree) stored_schema.tables
-
   -- no row had the key, or one had it
-  ends : (next : Trees) (first : ℤ) → IsNumbered t c first → Settles db (table_by t) (key_places t) c clause (numbered_as first) next → Ends next
+  ends : (next : Trees) (first : ℤ) → IsNumbered t c first → Settles db (table_by t) (key_places t) c clause (numbered_as first) next → PutsColumns t c db next
   ends next first is_first (inl went) =
       let n = numbered_as first in
       let applies = went.1 in
@@ -116,7 +116,7 @@ module _ (t : TableName) (c : Row) (f : Facts t c) (old new : State) (known : Ar
       let put = replaced (key_places t) rows r id (known.ordered t) met.1 is over refl (subst (λ m. is_taken left m ≡ false) news free) (known.apart t) same in
       (id, keyed.0, subst (λ ys. Puts (key_places t) rows ys over) (sym (applied.rows ∙ ap (λ m. put_row m left) news)) put, applied.tables)
 
-  pub puts : (count : ℕ) → Executes (put_text t) c old new (Ok count) → (new.now.schema ≡ stored_schema) × Ends new.now.trees
+  pub puts : (count : ℕ) → Executes (put_text t) c old new (Ok count) → (new.now.schema ≡ stored_schema) × PutsColumns t c db new.now.trees
   puts count h =
       let first = f.begins rows in
       let ran = settles (put_text t) c old new known.schema (place_of t) (table_by t) (put_terms (key_by t) (count_of t)) (count_of t + 1) (key_places t) (count_of t) columns f.is f.plain_text f.listed refl

@@ -17,7 +17,7 @@ use Rattle.table_meaning.proofs.TypedRows.{row_key_shown}
 
 -- ---- lists
 
-found : {X : Type 0} (p : X → Bool) (xs : List X) → ((find p xs ≡ None) × ((x : X) → Has xs x → p x ≡ false)) ⊎ ((x : X) × (find p xs ≡ Some x) × Has xs x × (p x ≡ true))
+pub found : {X : Type 0} (p : X → Bool) (xs : List X) → ((find p xs ≡ None) × ((x : X) → Has xs x → p x ≡ false)) ⊎ ((x : X) × (find p xs ≡ Some x) × Has xs x × (p x ≡ true))
 found p [] = inl (refl, λ x has. absurd has)
 found {X} p (x ∷ xs) = go (p x) refl (found p xs)
   where

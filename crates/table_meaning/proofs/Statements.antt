@@ -40,11 +40,11 @@ use Rattle.table_meaning.specs.Upserts.{update_query, update_at, put_command}
 use Rattle.table_meaning.proofs.PutRows.{only}
 
 -- a part that gave a value did not stop on the way
-went : {B E R : Type 0} {b : B} {Stops : E → Type 0} → ((stop : E) × Stops stop × (Ok b ≡ Err stop)) ⊎ R → R
+pub went : {B E R : Type 0} {b : B} {Stops : E → Type 0} → ((stop : E) × Stops stop × (Ok b ≡ Err stop)) ⊎ R → R
 went (inl stopped) = absurd (let e = stopped.2 in cc)
 went (inr on) = on
 
-same_value : {B E : Type 0} {a b : B} → ◌≡◌ {A = Result B E} (Ok a) (Ok b) → a ≡ b
+pub same_value : {B E : Type 0} {a b : B} → ◌≡◌ {A = Result B E} (Ok a) (Ok b) → a ≡ b
 same_value e = cc
 
 -- ---- no foreign key of the schema acts
@@ -93,7 +93,7 @@ Settles db table target params clause new next =
     × Applies stored_schema Enforced db (edit_of db table (ids_of rows) Given 1 rows) next)
 
 module _ (task : Task) (keys : task.keys ≡ Enforced) (schema : task.schema ≡ stored_schema) where
-  applied : (db next : Trees) (edit : Edit) → Writes task.schema task.keys db edit (Ok next) → Applies stored_schema Enforced db edit next
+  pub applied : (db next : Trees) (edit : Edit) → Writes task.schema task.keys db edit (Ok next) → Applies stored_schema Enforced db edit next
   applied db next edit h =
       let written = subst (λ k. Writes stored_schema k db edit (Ok next)) keys (subst (λ s. Writes s task.keys db edit (Ok next)) schema h) in
       one_step stored_schema Enforced db next edit (no_acts edit.table.tree (taken_by db edit) edit.news) written
@@ -130,7 +130,7 @@ module _ (task : Task) (keys : task.keys ≡ Enforced) (schema : task.schema ≡
   tried clauses new db one (inr (None, judged, ran)) = ran
   tried clauses new db one (inr (Some why, judged, ran)) = absurd (let e = ran in cc)
 
-  not_counted : task.table.is_counted ≡ false → (db next : Trees) (counter : Option Row) (top : ℤ) → Counts task db counter top (Ok next) → next ≡ db
+  pub not_counted : task.table.is_counted ≡ false → (db next : Trees) (counter : Option Row) (top : ℤ) → Counts task db counter top (Ok next) → next ≡ db
   not_counted none db next counter top h =
       same_value (subst (λ b. MatchBool (cond b (is_lt (int_cmp (count_of counter) top)) false) (CountsIn task db counter top (sequence task.schema) (Ok next)) (Gives db (Ok next))) none h)
 

@@ -1,13 +1,15 @@
 -- The steps of a transaction, one after another, and what its end leaves.
-use Rattle.std.proofs.Common.{◌≡◌, ◌⊎◌, cond, ℕ, zero, suc, ◌+◌, true, false, List, [], ◌∷◌, ◌++◌, map, drop, fold, length, ◌<◌, slice_index_or, Option, Some, None, Result, Ok, Err, IsTrue, refl, sym, ap, subst, ◌∙◌, inl, inr, arith}
+use Rattle.std.proofs.Common.{◌≡◌, ◌⊎◌, cond, ℕ, zero, suc, ◌+◌, true, false, List, [], ◌∷◌, ◌++◌, map, drop, fold, length, ◌<◌, ◌≤◌, take, slice_index_or, Option, Some, None, Result, Ok, Err, IsTrue, refl, sym, ap, subst, ◌∙◌, inl, inr, arith}
 use Rattle.std.specs.List.{AllByRecursion}
 use Rattle.std.proofs.lemmas.Bool.{cases_Bool}
+use Rattle.std.proofs.lemmas.List.{drop_all, length-take}
 use Rattle.sqlite_value.specs.Order.{Row}
 use Rattle.sqlite_trees.specs.declared.store.Store.{Ghosts}
 use Rattle.sqlite_trees.specs.Tree.{Trees}
 use Rattle.sqlite_schema.specs.declared.command.Command.TheVariants.{CreateTable, CreateIndex}
 use Rattle.sqlite_schema.specs.declared.command.Returning.{Returning}
 use Rattle.sqlite_schema.specs.declared.schema.Table.{Table}
+use Rattle.sqlite_schema.specs.declared.schema.Schema.{Schema}
 use Rattle.sqlite_schema.specs.declared.schema.Index.{Index}
 use Rattle.sqlite_catalog.specs.Change.{created, indexed, KeepsRows}
 use Rattle.sqlite_catalog.specs.Calls.{CreatesTable, CreatesIndex}
@@ -17,21 +19,22 @@ use Rattle.sqlite.specs.Effect.{Database}
 use Rattle.sqlite.specs.Does.{Tally, lacks_sequence, AtPlace, Defines, MakesIndex, MakesSequence}
 use Rattle.sqlite.specs.Held.{Held, state}
 use Rattle.sqlite.specs.State.{State, HasCleanDisk, IsUnchanged, IsRolledBack, KeepsCommit, Survives, Writes, Executes, ExecutesInside, Fails, IsNotRun, FailsToQuery, FailsToShow, Shown, ShowsRows, IsTooLate, mode_of}
-use Rattle.sqlite.proofs.Callers.{runs_as, survives_begin}
+use Rattle.sqlite.specs.Listing.{understood}
+use Rattle.sqlite.proofs.Callers.{IsPlain, runs_as, survives_begin}
 use Rattle.sqlite.proofs.StateLemmas.{survives_then}
 use Rattle.table_meaning.specs.declared.tables.TableName.TheVariants.{Instance}
 use Rattle.table_meaning.specs.declared.rows.StoredRow.{StoredRow}
-use Rattle.table_meaning.specs.Schema.{no_schema, stored_schema, table_by, place_of}
+use Rattle.table_meaning.specs.Schema.{stored_schema, table_by, place_of}
 use Rattle.table_meaning.specs.Texts.{Made, made_table, made_index, definitions, definition_texts, put_text}
-use Rattle.table_meaning.specs.Making.{with_made, MakeInTurn, IsLeft}
+use Rattle.table_meaning.specs.Making.{with_made, MakeInTurn, AreFree, IsLeft, no_rows}
 use Rattle.table_meaning.specs.Rows.{table_of, columns_of}
 use Rattle.table_meaning.specs.Holding.{Contents, Hold, with_row, with_rows}
 use Rattle.table_meaning.specs.Reads.{Reads}
 use Rattle.table_meaning.specs.Steps.{Moves, AreNew}
-use Rattle.table_meaning.proofs.Definitions.{definitions_make, definitions_whole}
 use Rattle.table_meaning.proofs.EachTable.{of_each}
 use Rattle.table_meaning.proofs.TypedRows.{typed}
 use Rattle.table_meaning.proofs.PutFacts.{facts}
+use Rattle.table_meaning.proofs.Putting.{puts}
 use Rattle.table_meaning.proofs.LookUps.{hold_put}
 
 -- ---- rows put
@@ -48,7 +51,10 @@ moved_more a b c rows row first one =
     record { inside = one.inside; puts = λ contents holds. subst (Hold c.now) (sym (rows_and_one contents rows row)) (one.puts (with_rows contents rows) (first.puts contents holds)) }
 
 pub row_moved : (row : StoredRow) (old new : State) (count : ℕ) → ExecutesInside 0 (put_text (table_of row)) (columns_of row) old new (Ok count) → Moves old new (row ∷ [])
-row_moved row old new count h = record { inside = h.1.mode; puts = λ contents holds. hold_put row (facts _ _ (typed row)) old new holds.known count h.0 contents holds }
+row_moved row old new count h = record {
+  inside = h.1.mode;
+  puts = λ contents holds. let ran = puts (table_of row) (columns_of row) (facts _ _ (typed row)) old new holds.known count h.0 in hold_put row old.now new.now holds.known ran.0 ran.1 contents holds;
+}
 
 -- ---- nothing is committed on the way
 
@@ -87,6 +93,19 @@ kept_shown sql params old new rows inside (c, it, shows) = go c.returning _ show
     go : (o : Option Returning) (full : Row) → ShowsRows old new sql c full rows o → KeepsCommit old new
     go None full h = kept_unchanged old new h.3
     go (Some what) full h = let shown = h.1.shown in record { was_open = λ _. shown.was_open; committed = λ _. subst (λ b. new.committed ≡ cond b old.committed new.now) inside shown.committed_is }
+
+-- what shows rows leaves the transaction open, and a plain text leaves all as it was
+pub inside_shown : (sql : List ℕ) (params : Row) (old new : State) (rows : List Row) → Shown sql params old new rows → new.in_transaction ≡ old.in_transaction
+unfolding Shown
+inside_shown sql params old new rows (c, it, shows) = go c.returning _ shows
+  where
+    go : (o : Option Returning) (full : Row) → ShowsRows old new sql c full rows o → new.in_transaction ≡ old.in_transaction
+    go None full h = h.3.0.mode
+    go (Some what) full h = h.1.shown.mode
+
+pub unchanged_shown : (sql : List ℕ) (params : Row) (old new : State) (rows : List Row) → IsPlain (understood old.now.schema sql) → Shown sql params old new rows → IsUnchanged old new
+unfolding Shown
+unchanged_shown sql params old new rows plain (c, it, shows) = (subst (ShowsRows old new sql c _ rows) (subst IsPlain it.is plain).0 shows).3
 
 pub kept_failed : (sql : List ℕ) (params : Row) (old new : State) (e : Error) → (FailsToQuery sql params old new e ⊎ IsTooLate sql params old new e) → KeepsCommit old new
 unfolding FailsToQuery IsNotRun
@@ -155,67 +174,71 @@ went (inr on) = on
 same_value : {B E : Type 0} {a b : B} → ◌≡◌ {A = Result B E} (Ok a) (Ok b) → a ≡ b
 same_value e = cc
 
-still_empty : (tables : List Table) (old new : Trees) → AllByRecursion (λ t. old t.tree ≡ []) tables → KeepsRows tables old new → AllByRecursion (λ t. new t.tree ≡ []) tables
-still_empty tables old new was kept = all_both _ _ (λ t. new t.tree ≡ []) (λ t before same. same ∙ before) tables was kept
+still_same : (rows : Trees) (tables : List Table) (old new : Trees) → AllByRecursion (λ t. old t.tree ≡ rows t.tree) tables → KeepsRows tables old new → AllByRecursion (λ t. new t.tree ≡ rows t.tree) tables
+still_same rows tables old new was kept = all_both _ _ (λ t. new t.tree ≡ rows t.tree) (λ t before same. same ∙ before) tables was kept
 
-left_with : (old new : Database) (text : List ℕ) (made : Made) (more : List (List ℕ × Made)) → IsLeft ((text, made) ∷ more) old → new.schema ≡ with_made old.schema made
-    → AllByRecursion (λ t. new.trees t.tree ≡ []) (with_made old.schema made).tables → IsLeft more new
-left_with old new text made more left schema empty = record {
-  makes = subst (λ s. MakeInTurn s more) (sym schema) left.makes.3;
-  whole = subst (λ s. fold (λ s' d. with_made s' d.1) s more ≡ stored_schema) (sym schema) left.whole;
-  empty = subst (λ s. AllByRecursion (λ t. new.trees t.tree ≡ []) s.tables) (sym schema) empty;
-}
+next_made : (all : List (List ℕ × Made)) (count at : ℕ) → at < length all → at < count → (made : Made) × (drop at (take count all) ≡ (slice_index_or (map (λ d. d.0) all) at [], made) ∷ drop (suc at) (take count all))
+next_made [] count at within below = absurd (omega (arith, within))
+next_made (d ∷ all) zero at within below = absurd (omega (arith, below))
+next_made (d ∷ all) (suc count) zero within below = (d.1, refl)
+next_made (d ∷ all) (suc count) (suc at) within below = next_made all count at (omega (arith, within)) (omega (arith, below))
 
-table_more : (text : List ℕ) (table : Table) (more : List (List ℕ × Made)) (old after new : Database) → IsLeft ((text, made_table table) ∷ more) old
-    → CreatesTable old.schema text old.trees after.schema after.trees → MakesSequence after (Ok new) → IsLeft more new
-table_more text table more old after new left it counts =
-    let table_is = same_value (sym it.defined ∙ left.makes.0.1) in
-    let schema : after.schema ≡ created old.schema table = it.is ∙ ap (created old.schema) table_is in
-    let plain : lacks_sequence after.schema ≡ false = ap lacks_sequence schema ∙ left.makes.0.2 in
-    let now : new ≡ after = same_value (rw plain at counts) in
-    let empty = all-append (λ t. after.trees t.tree ≡ []) old.schema.tables _ (still_empty old.schema.tables old.trees after.trees left.empty it.others) (it.empty, tt) in
-    subst (IsLeft more) (sym now) (left_with old after text (made_table table) more left schema empty)
+-- the tables that are wanted, and the rows that they have in the end
+module _ (wanted : Schema) (rows : Trees) where
+  left_with : (old new : Database) (text : List ℕ) (made : Made) (more : List (List ℕ × Made)) → IsLeft wanted rows ((text, made) ∷ more) old → new.schema ≡ with_made old.schema made
+      → AllByRecursion (λ t. new.trees t.tree ≡ rows t.tree) (with_made old.schema made).tables → IsLeft wanted rows more new
+  left_with old new text made more left schema same = record {
+    makes = subst (λ s. MakeInTurn s more) (sym schema) left.makes.3;
+    whole = subst (λ s. fold (λ s' d. with_made s' d.1) s more ≡ wanted) (sym schema) left.whole;
+    free = subst (λ s. AreFree rows s more) (sym schema) left.free.1;
+    same = subst (λ s. AllByRecursion (λ t. new.trees t.tree ≡ rows t.tree) s.tables) (sym schema) same;
+  }
 
-index_more : (text : List ℕ) (index : Index) (more : List (List ℕ × Made)) (old new : Database) → IsLeft ((text, made_index index) ∷ more) old
-    → CreatesIndex old.schema (table_by Instance) text old.trees new.schema new.trees → IsLeft more new
-index_more text index more old new left it =
-    let index_is = same_value (sym it.defined ∙ left.makes.0.2) in
-    left_with old new text (made_index index) more left (it.is ∙ ap (indexed old.schema (table_by Instance)) index_is) (still_empty old.schema.tables old.trees new.trees left.empty it.rows)
+  table_more : (text : List ℕ) (table : Table) (more : List (List ℕ × Made)) (old after new : Database) → IsLeft wanted rows ((text, made_table table) ∷ more) old
+      → CreatesTable old.schema text old.trees after.schema after.trees → MakesSequence after (Ok new) → IsLeft wanted rows more new
+  table_more text table more old after new left it counts =
+      let table_is = same_value (sym it.defined ∙ left.makes.0.1) in
+      let schema : after.schema ≡ created old.schema table = it.is ∙ ap (created old.schema) table_is in
+      let plain : lacks_sequence after.schema ≡ false = ap lacks_sequence schema ∙ left.makes.0.2 in
+      let now : new ≡ after = same_value (rw plain at counts) in
+      let same = all-append (λ t. after.trees t.tree ≡ rows t.tree) old.schema.tables _ (still_same rows old.schema.tables old.trees after.trees left.same it.others) (it.empty ∙ sym left.free.0, tt) in
+      subst (IsLeft wanted rows more) (sym now) (left_with old after text (made_table table) more left schema same)
 
-pub made_more : (text : List ℕ) (made : Made) (more : List (List ℕ × Made)) (old new : State) (count : ℕ) → IsLeft ((text, made) ∷ more) old.now → Executes text [] old new (Ok count) → IsLeft more new.now
-made_more text (made_table table) more old new count left h =
-    let w = subst (λ t. Writes old new None CreateTable t [] count) left.makes.1 (runs_as text [] old new old.now.schema refl CreateTable left.makes.0.0 left.makes.2 count h) in
-    let all = went w.changed in
-    let first = went all.1 in
-    let now : new.now ≡ all.0 = ap (λ (p : Tally × Database). p.1) (same_value all.2) in
-    table_more text table more old.now first.0 new.now left first.1 (subst (λ d. MakesSequence first.0 (Ok d)) (sym now) first.2)
-made_more text (made_index index) more old new count left h =
-    let w = subst (λ t. Writes old new None (CreateIndex (place_of Instance)) t [] count) left.makes.1 (runs_as text [] old new old.now.schema refl (CreateIndex (place_of Instance)) left.makes.0.0 left.makes.2 count h) in
-    let all = went (subst (λ o. AtPlace (λ table. Defines (mode_of old) (MakesIndex text old.now table)) o (Ok (w.tally, new.now))) left.makes.0.1 w.changed) in
-    let now : new.now ≡ all.0 = ap (λ (p : Tally × Database). p.1) (same_value all.2) in
-    index_more text index more old.now new.now left (subst (λ d. CreatesIndex old.now.schema (table_by Instance) text old.now.trees d.schema d.trees) (sym now) all.1)
+  index_more : (text : List ℕ) (index : Index) (more : List (List ℕ × Made)) (old new : Database) → IsLeft wanted rows ((text, made_index index) ∷ more) old
+      → CreatesIndex old.schema (table_by Instance) text old.trees new.schema new.trees → IsLeft wanted rows more new
+  index_more text index more old new left it =
+      let index_is = same_value (sym it.defined ∙ left.makes.0.2) in
+      left_with old new text (made_index index) more left (it.is ∙ ap (indexed old.schema (table_by Instance)) index_is) (still_same rows old.schema.tables old.trees new.trees left.same it.rows)
 
-pub none_made : (db : Database) → db.schema ≡ no_schema → IsLeft definitions db
-none_made db none = record {
-  makes = subst (λ s. MakeInTurn s definitions) (sym none) definitions_make;
-  whole = subst (λ s. fold (λ s' d. with_made s' d.1) s definitions ≡ stored_schema) (sym none) definitions_whole;
-  empty = subst (λ s. AllByRecursion (λ t. db.trees t.tree ≡ []) s.tables) (sym none) tt;
-}
+  made_more : (text : List ℕ) (made : Made) (more : List (List ℕ × Made)) (old new : State) (count : ℕ) → IsLeft wanted rows ((text, made) ∷ more) old.now → Executes text [] old new (Ok count)
+      → IsLeft wanted rows more new.now
+  made_more text (made_table table) more old new count left h =
+      let w = subst (λ t. Writes old new None CreateTable t [] count) left.makes.1 (runs_as text [] old new old.now.schema refl CreateTable left.makes.0.0 left.makes.2 count h) in
+      let all = went w.changed in
+      let first = went all.1 in
+      let now : new.now ≡ all.0 = ap (λ (p : Tally × Database). p.1) (same_value all.2) in
+      table_more text table more old.now first.0 new.now left first.1 (subst (λ d. MakesSequence first.0 (Ok d)) (sym now) first.2)
+  made_more text (made_index index) more old new count left h =
+      let w = subst (λ t. Writes old new None (CreateIndex (place_of Instance)) t [] count) left.makes.1 (runs_as text [] old new old.now.schema refl (CreateIndex (place_of Instance)) left.makes.0.0 left.makes.2 count h) in
+      let all = went (subst (λ o. AtPlace (λ table. Defines (mode_of old) (MakesIndex text old.now table)) o (Ok (w.tally, new.now))) left.makes.0.1 w.changed) in
+      let now : new.now ≡ all.0 = ap (λ (p : Tally × Database). p.1) (same_value all.2) in
+      index_more text index more old.now new.now left (subst (λ d. CreatesIndex old.now.schema (table_by Instance) text old.now.trees d.schema d.trees) (sym now) all.1)
 
-next_made : (all : List (List ℕ × Made)) (at : ℕ) → at < length all → (made : Made) × (drop at all ≡ (slice_index_or (map (λ d. d.0) all) at [], made) ∷ drop (suc at) all)
-next_made [] at within = absurd (omega arith)
-next_made (d ∷ all) zero within = (d.1, refl)
-next_made (d ∷ all) (suc at) within = next_made all at (omega arith)
+  -- the text at a place among the first of them, of which it is the next
+  pub defined_more : (count at : ℕ) (text : List ℕ) (old new : State) (changed : ℕ) → at < length definitions → at < count → text ≡ slice_index_or definition_texts at []
+      → IsLeft wanted rows (drop at (take count definitions)) old.now → ExecutesInside 0 text [] old new (Ok changed) → IsTrue new.in_transaction × IsLeft wanted rows (drop (at + 1) (take count definitions)) new.now
+  defined_more count at text old new changed within below is left h =
+      let next = next_made definitions count at within below in
+      let one : suc at ≡ at + 1 = omega arith in
+      let here : IsLeft wanted rows ((text, next.0) ∷ drop (suc at) (take count definitions)) old.now =
+      subst (λ t. IsLeft wanted rows ((t, next.0) ∷ drop (suc at) (take count definitions)) old.now) (sym is) (subst (λ ds. IsLeft wanted rows ds old.now) next.1 left) in
+      (h.1.mode, subst (λ n. IsLeft wanted rows (drop n (take count definitions)) new.now) one (made_more text next.0 (drop (suc at) (take count definitions)) old new changed here h.0))
 
-pub defined_more : (at : ℕ) (text : List ℕ) (old new : State) (count : ℕ) → at < length definitions → text ≡ slice_index_or definition_texts at [] → IsLeft (drop at definitions) old.now
-    → ExecutesInside 0 text [] old new (Ok count) → IsTrue new.in_transaction × IsLeft (drop (at + 1) definitions) new.now
-defined_more at text old new count within is left h =
-    let next = next_made definitions at within in
-    let one : suc at ≡ at + 1 = omega arith in
-    let here : IsLeft ((text, next.0) ∷ drop (suc at) definitions) old.now = subst (λ t. IsLeft ((t, next.0) ∷ drop (suc at) definitions) old.now) (sym is) (subst (λ ds. IsLeft ds old.now) next.1 left) in
-    (h.1.mode, subst (λ n. IsLeft (drop n definitions) new.now) one (made_more text next.0 (drop (suc at) definitions) old new count here h.0))
+  -- none is left behind the last
+  pub all_defined : (count at : ℕ) (db : Database) → count ≤ at → IsLeft wanted rows (drop at (take count definitions)) db → IsLeft wanted rows [] db
+  all_defined count at db past = subst (λ ds. IsLeft wanted rows ds db) (drop_all at (take count definitions) (omega (arith, past, length-take count definitions)))
 
-pub all_made : (db : Database) → IsLeft [] db → AreNew db
+pub all_made : (db : Database) → IsLeft stored_schema no_rows [] db → AreNew db
 all_made db left =
-    let empty = subst (λ s. AllByRecursion (λ t. db.trees t.tree ≡ []) s.tables) left.whole left.empty in
+    let empty = subst (λ s. AllByRecursion (λ t. db.trees t.tree ≡ []) s.tables) left.whole left.same in
     record { schema = left.whole; empty = of_each (λ t. db.trees t.tree ≡ []) empty }

@@ -17,6 +17,14 @@ status_text = codes "SELECT status FROM unit WHERE id = ?1 ORDER BY id"
 abbrev pub status_in : Row → Value
 status_in row = column row 13
 
+-- reads the number of a kept call
+abbrev pub call_number_text : List ℕ
+call_number_text = codes "SELECT seqno FROM kept4 WHERE host_id = ?1 AND slot = ?2 ORDER BY rowid"
+
+-- the column of it
+abbrev pub call_number_in : Row → Value
+call_number_in row = column row 2
+
 -- the columns at these places are the parameters from one on
 abbrev pub key_tests : ℕ → List ℕ → List Term
 key_tests slot [] = []

@@ -7,23 +7,23 @@ use Rattle.sqlite_value.specs.declared.value.Value.{Value}
 use Rattle.sqlite_value.specs.declared.value.Value.TheVariants.{Int}
 use Rattle.sqlite_value.specs.Order.{Row, column}
 use Rattle.table_meaning.specs.Rows.{kept_key, batch_key, look_up}
-use Rattle.table_meaning.specs.Worlds.{BatchText}
+use Rattle.table_meaning.specs.Worlds.{BatchText, SlotCalls}
 
 abbrev pub number_of : Value → ℕ
 number_of (Int (pos n)) = n
 number_of other = 0
 
--- the call that a row of `kept` shows
+-- the call that a row of `kept4` shows
 abbrev pub call_of : Row → Kept
-call_of row = record { seqno = number_of (column row 1); text = bytes_of (column row 2); reply = bytes_of (column row 3) }
+call_of row = record { seqno = number_of (column row 2); text = bytes_of (column row 3); reply = bytes_of (column row 4) }
 
 -- the bytes and the answer that a row of `batch` shows
 abbrev pub batch_of : Row → BatchText
 batch_of row = (bytes_of (column row 2), bytes_of (column row 3))
 
--- by the number of the host
-abbrev pub calls_in : Trees → ℕ → Option Kept
-calls_in trees host = option_map call_of (look_up trees (kept_key host))
+-- by the number of the host and the slot
+abbrev pub calls_in : Trees → SlotCalls
+calls_in trees host slot = option_map call_of (look_up trees (kept_key host slot))
 
 -- by kind and name
 abbrev pub batches_in : Trees → List ℕ → List ℕ → Option BatchText

@@ -105,13 +105,23 @@ layout_of table.Instance = record {
   uniques = [];
 }
 layout_of table.Kept = record {
+  name = codes "kept4";
+  tree = 21;
+  key = by_first 2;
+  columns = refers_to table.Host "host_id" number ∷ has "slot" number ∷ has "seqno" number ∷ has "text" words ∷ has "reply" words ∷ [];
+  uniques = [];
+}
+layout_of table.Batch = record { name = codes "batch"; tree = 15; key = by_first 2; columns = has "kind" words ∷ has "name" words ∷ has "text" octets ∷ has "answer" words ∷ []; uniques = [] }
+
+-- The table in which the first schema keeps the last call of each host. The later ones leave it as it is, and look at it no more.
+abbrev pub former_kept : Layout
+former_kept = record {
   name = codes "kept";
   tree = 14;
   key = numbered;
   columns = refers_to table.Host "host_id" number ∷ has "seqno" number ∷ has "text" words ∷ has "reply" words ∷ [];
   uniques = [];
 }
-layout_of table.Batch = record { name = codes "batch"; tree = 15; key = by_first 2; columns = has "kind" words ∷ has "name" words ∷ has "text" octets ∷ has "answer" words ∷ []; uniques = [] }
 
 -- ---- its columns
 

@@ -10,7 +10,9 @@ pub mod Places
 pub mod Reads
 pub mod Rows
 pub mod Schema
+pub mod Schemas
 pub mod Steps
 pub mod Texts
+pub mod Upgrades
 pub mod Upserts
 pub mod Worlds

@@ -1,18 +1,20 @@
--- How the CREATE texts make the schema, one after another.
-use Rattle.std.specs.Prelude.{◌≡◌, ℕ, ⊤, false, List, [], ◌∷◌, fold, slice_get, Some, Ok}
+-- How the CREATE texts make a schema, one after another.
+use Rattle.std.specs.Prelude.{◌≡◌, ℕ, ⊤, false, List, [], ◌∷◌, fold, if◌then◌else◌, slice_get, Some, Ok}
 use Rattle.std.specs.List.{AllByRecursion}
 use Rattle.sqlite_schema.specs.declared.schema.Schema.{Schema}
 use Rattle.sqlite_schema.specs.declared.command.Command.TheVariants.{CreateTable, CreateIndex}
 use Rattle.sqlite_resolve.specs.Compile.{table_defined_by, index_defined_by}
-use Rattle.sqlite_catalog.specs.Change.{created, indexed}
+use Rattle.sqlite_trees.specs.Tree.{Trees}
+use Rattle.sqlite_catalog.specs.Change.{next_tree, created, indexed}
 use Rattle.sqlite.specs.Effect.{Database}
 use Rattle.sqlite.specs.Does.{lacks_sequence}
 use Rattle.sqlite.specs.Given.{IsPlain}
 use Rattle.sqlite.specs.Listing.{understood}
 use Rattle.sqlite.proofs.Callers.{command_of, statement_of}
 use Rattle.table_meaning.specs.declared.tables.TableName.TheVariants.{Instance}
-use Rattle.table_meaning.specs.Schema.{table_by, place_of, stored_schema}
+use Rattle.table_meaning.specs.Schema.{table_by, place_of}
 use Rattle.table_meaning.specs.Texts.{Made, made_table, made_index}
+use Rattle.table_meaning.specs.Schemas.{has_tree}
 
 abbrev pub with_made : Schema → Made → Schema
 with_made schema (made_table table) = created schema table
@@ -32,8 +34,22 @@ MakeInTurn schema [] = ⊤
 MakeInTurn schema (d ∷ more) =
     Makes schema d.0 d.1 × (statement_of d.0 (understood schema d.0) ≡ d.0) × IsPlain (understood schema d.0) × MakeInTurn (with_made schema d.1) more
 
--- the tables so far are empty, and what is left to make makes them all
-pub record IsLeft (left : List (List ℕ × Made)) (db : Database) : Type 0 where
+-- each tree that is made in turn has no row here
+abbrev pub AreFree : Trees → Schema → List (List ℕ × Made) → Type 0
+AreFree rows schema [] = ⊤
+AreFree rows schema (d ∷ more) = (rows (next_tree schema) ≡ []) × AreFree rows (with_made schema d.1) more
+
+-- What is left to make makes the schema that is wanted. The tables so far have these rows, and those that are left have none of them.
+pub record IsLeft (wanted : Schema) (rows : Trees) (left : List (List ℕ × Made)) (db : Database) : Type 0 where
   pub makes : MakeInTurn db.schema left
-  pub whole : fold (λ schema d. with_made schema d.1) db.schema left ≡ stored_schema
-  pub empty : AllByRecursion (λ t. db.trees t.tree ≡ []) db.schema.tables
+  pub whole : fold (λ schema d. with_made schema d.1) db.schema left ≡ wanted
+  pub free : AreFree rows db.schema left
+  pub same : AllByRecursion (λ t. db.trees t.tree ≡ rows t.tree) db.schema.tables
+
+-- no tree has a row
+abbrev pub no_rows : Trees
+no_rows tree = []
+
+-- the rows of the tables that the schema of this number has
+abbrev pub rows_at : ℕ → Trees → Trees
+rows_at n trees tree = if has_tree n tree then trees tree else []

@@ -79,7 +79,7 @@ columns_of (Instance i) =
     ∷ or_null whole i.place
     ∷ whole (if i.queued then 1 else 0)
     ∷ []
-columns_of (Kept k) = whole k.host_id ∷ whole k.seqno ∷ Text k.text ∷ Text k.reply ∷ []
+columns_of (Kept k) = whole k.host_id ∷ whole k.slot ∷ whole k.seqno ∷ Text k.text ∷ Text k.reply ∷ []
 columns_of (Batch b) = Text b.kind ∷ Text b.name ∷ Blob b.text ∷ Text b.answer ∷ []
 
 -- ---- keys
@@ -94,7 +94,8 @@ pub data RowKey : Type 0 where
   host_key : ℕ → RowKey
   -- the unit, and the number in it
   instance_key : ℕ → ℕ → RowKey
-  kept_key : ℕ → RowKey
+  -- the host, and the slot of it
+  kept_key : ℕ → ℕ → RowKey
   -- the kind and the name
   batch_key : List ℕ → List ℕ → RowKey
 
@@ -106,7 +107,7 @@ table_at (version_key id) = table.Version
 table_at (unit_key id) = table.Unit
 table_at (host_key id) = table.Host
 table_at (instance_key unit num) = table.Instance
-table_at (kept_key id) = table.Kept
+table_at (kept_key host slot) = table.Kept
 table_at (batch_key kind name) = table.Batch
 
 abbrev pub key_columns : RowKey → Row
@@ -117,7 +118,7 @@ key_columns (version_key id) = whole id ∷ []
 key_columns (unit_key id) = whole id ∷ []
 key_columns (host_key id) = whole id ∷ []
 key_columns (instance_key unit num) = whole unit ∷ whole num ∷ []
-key_columns (kept_key id) = whole id ∷ []
+key_columns (kept_key host slot) = whole host ∷ whole slot ∷ []
 key_columns (batch_key kind name) = Text kind ∷ Text name ∷ []
 
 abbrev pub key_of : StoredRow → RowKey
@@ -128,7 +129,7 @@ key_of (Version v) = version_key v.id
 key_of (Unit u) = unit_key u.id
 key_of (Host h) = host_key h.id
 key_of (Instance i) = instance_key i.unit_id i.num
-key_of (Kept k) = kept_key k.host_id
+key_of (Kept k) = kept_key k.host_id k.slot
 key_of (Batch b) = batch_key b.kind b.name
 
 abbrev pub table_of : StoredRow → TableName

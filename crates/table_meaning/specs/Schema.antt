@@ -16,7 +16,7 @@ use Rattle.sqlite_catalog.specs.Change.{automatics}
 use Rattle.table_meaning.specs.declared.tables.TableName.{TableName}
 use Rattle.table_meaning.specs.declared.tables.TableName.TheVariants.{Setting, Account, App, Version, Unit, Host, Instance, Kept, Batch}
 use Rattle.table_meaning.specs.Kinds.{Kind, number, integer, words, flag, octets, optional, either}
-use Rattle.table_meaning.specs.Layouts.{Column, Key, numbered, by_first, Layout, layout_of, places_in, of_key}
+use Rattle.table_meaning.specs.Layouts.{Column, Key, numbered, by_first, Layout, layout_of, former_kept, places_in, of_key}
 
 -- ---- a table
 
@@ -96,6 +96,8 @@ index_by i = record { name = i.name; tree = i.tree; table = (layout_of Instance)
 
 pub data Part : Type 0 where
   a_table : TableName → Part
+  -- a table that is looked at no more
+  a_former : Layout → Part
   an_index : Indexing → Part
 
 -- in the order in which they came
@@ -108,7 +110,7 @@ parts =
     ∷ a_table Unit
     ∷ a_table Host
     ∷ a_table Instance
-    ∷ a_table Kept
+    ∷ a_former former_kept
     ∷ a_table Batch
     -- the waiting instances by place
     ∷ an_index (record { name = codes "instance_queue"; tree = 17; columns = 9 ∷ 0 ∷ 1 ∷ [] })
@@ -116,33 +118,49 @@ parts =
     ∷ an_index (record { name = codes "instance_owner"; tree = 18; columns = 2 ∷ 0 ∷ 1 ∷ [] })
     ∷ an_index (record { name = codes "instance_sent"; tree = 19; columns = 2 ∷ 3 ∷ [] })
     ∷ an_index (record { name = codes "instance_deadline"; tree = 20; columns = 4 ∷ [] })
+    ∷ a_table Kept
     ∷ []
 
 -- how many of them each schema has, by its number; there is none of number 0
 abbrev sizes : List ℕ
-sizes = 0 ∷ 13 ∷ []
+sizes = 0 ∷ 13 ∷ 14 ∷ []
 
 abbrev pub parts_at : ℕ → List Part
 parts_at schema = take (slice_index sizes schema) parts
 
 -- the number of the schema that is worked on
 abbrev pub newest : ℕ
-newest = 1
+newest = 2
 
 abbrev tables_in : Part → List TableName
 tables_in (a_table t) = t ∷ []
+tables_in (a_former l) = []
 tables_in (an_index i) = []
 
+abbrev layouts_in : Part → List Layout
+layouts_in (a_table t) = layout_of t ∷ []
+layouts_in (a_former l) = l ∷ []
+layouts_in (an_index i) = []
+
 -- with those that PRIMARY KEY and UNIQUE make, each in the tree behind its table's
+abbrev indexes_of : Layout → List Index
+indexes_of l = automatics (sql_table l) 0 (l.tree + 1) (sql_table l).uniques
+
 abbrev indexes_in : Part → List Index
-indexes_in (a_table t) = automatics (table_by t) 0 ((layout_of t).tree + 1) (table_by t).uniques
+indexes_in (a_table t) = indexes_of (layout_of t)
+indexes_in (a_former l) = indexes_of l
 indexes_in (an_index i) = index_by i ∷ []
 
+-- the tables that are looked at
 abbrev pub tables_at : ℕ → List TableName
 tables_at schema = flat_map tables_in (parts_at schema)
 
+-- all of its tables
+abbrev pub layouts_at : ℕ → List Layout
+layouts_at schema = flat_map layouts_in (parts_at schema)
+
 abbrev pub schema_at : ℕ → Schema
-schema_at schema = record { tables = map table_by (tables_at schema); indexes = flat_map indexes_in (parts_at schema); views = [] }
+schema_at schema = record { tables = map sql_table (layouts_at schema); indexes = flat_map indexes_in (parts_at schema); views = [] }
 
 abbrev pub stored_schema : Schema
 stored_schema = schema_at newest
@@ -152,4 +170,4 @@ no_schema = record { tables = []; indexes = []; views = [] }
 
 -- where a table stands among those of the schema
 abbrev pub place_of : TableName → ℕ
-place_of t = position_or_len (λ other. (layout_of other).tree == (layout_of t).tree) (tables_at newest)
+place_of t = position_or_len (λ l. l.tree == (layout_of t).tree) (layouts_at newest)

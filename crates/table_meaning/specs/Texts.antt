@@ -8,7 +8,7 @@ use Rattle.sqlite_schema.specs.declared.schema.Index.{Index}
 use Rattle.table_meaning.specs.declared.tables.TableName.{TableName}
 use Rattle.table_meaning.specs.declared.tables.TableName.TheVariants.{Instance}
 use Rattle.table_meaning.specs.Layouts.{Column, Layout, layout_of, names, key_width, of_key, behind_number}
-use Rattle.table_meaning.specs.Schema.{type_of, is_by_number, is_needed, table_by, Indexing, index_by, Part, a_table, an_index, parts_at, newest}
+use Rattle.table_meaning.specs.Schema.{type_of, is_by_number, is_needed, sql_table, table_by, Indexing, index_by, Part, a_table, a_former, an_index, parts_at, newest}
 
 -- ---- lists of words
 
@@ -83,6 +83,7 @@ pub data Made : Type 0 where
 
 abbrev definition : Part → List ℕ × Made
 definition (a_table t) = (create_of (layout_of t), made_table (table_by t))
+definition (a_former l) = (create_of l, made_table (sql_table l))
 definition (an_index i) = (index_text i, made_index (index_by i))
 
 -- the CREATE texts in order, with what each makes

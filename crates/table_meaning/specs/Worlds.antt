@@ -27,15 +27,17 @@ use Rattle.table_meaning.specs.declared.rows.StoredVersion.{StoredVersion}
 use Rattle.table_meaning.specs.declared.rows.StoredUnit.{StoredUnit}
 use Rattle.table_meaning.specs.declared.rows.StoredHost.{StoredHost}
 use Rattle.table_meaning.specs.declared.rows.StoredInstance.{StoredInstance}
+use Rattle.table_meaning.specs.declared.rows.StoredCall.{StoredCall}
 use Rattle.table_meaning.specs.declared.rows.StoredRow.TheVariants as stored
 use Rattle.table_meaning.specs.Rows.{setting_key, account_key, app_key, version_key, unit_key, host_key, instance_key, kept_key, batch_key}
+use Rattle.table_meaning.specs.Schema.{newest}
 use Rattle.table_meaning.specs.Holding.{Contents, Hold}
 
 -- ---- values as the tables write them
 
 abbrev pub setting_in : Settings → List ℕ → Option SettingValue
 setting_in s name =
-    if bytes_eq name (codes "schema") then Some (Number 1)
+    if bytes_eq name (codes "schema") then Some (Number newest)
     else (if bytes_eq name (codes "daily_result_quota") then Some (Number s.daily_result_quota)
     else (if bytes_eq name (codes "max_hosts") then Some (Number s.max_hosts)
     else (if bytes_eq name (codes "max_wus_in_progress") then Some (Number s.max_wus_in_progress)
@@ -131,11 +133,18 @@ instance_row w b unit num x = record {
   queued = is_queued w b x;
 }
 
+abbrev pub call_row : ℕ → ℕ → Call → StoredCall
+call_row host slot k = record { host_id = host; slot = slot; seqno = k.seqno; text = k.text; reply = k.reply }
+
 -- what is kept of a batch: its bytes and its answer
 abbrev pub BatchText : Type 0
 BatchText = List ℕ × List ℕ
 
-module _ (w : World) (calls : ℕ → Option Call) (batches : List ℕ → List ℕ → Option BatchText) where
+-- the calls that are kept, by the number of the host and the slot
+abbrev pub SlotCalls : Type 0
+SlotCalls = ℕ → ℕ → Option Call
+
+module _ (w : World) (calls : SlotCalls) (batches : List ℕ → List ℕ → Option BatchText) where
   abbrev pub contents_of : Contents
   contents_of (setting_key name) = option_map (λ v. stored.Setting (record { name = name; value = v })) (setting_in w.settings name)
   contents_of (account_key id) = option_map (λ a. stored.Account (account_row id a)) (nth w.accounts id)
@@ -144,9 +153,9 @@ module _ (w : World) (calls : ℕ → Option Call) (batches : List ℕ → List 
   contents_of (unit_key id) = option_map (λ b. stored.Unit (unit_row w id b)) (unit_at w id)
   contents_of (host_key id) = option_map (λ h. stored.Host (host_row (length (held_by w id)) (host_credit w id) id h)) (host_at w id)
   contents_of (instance_key unit num) = option_and_then (λ b. option_map (λ x. stored.Instance (instance_row w b unit num x)) (slice_get b.instances num)) (unit_at w unit)
-  contents_of (kept_key id) = option_map (λ k. stored.Kept (record { host_id = id; seqno = k.seqno; text = k.text; reply = k.reply })) (calls id)
+  contents_of (kept_key host slot) = option_map (λ k. stored.Kept (call_row host slot k)) (calls host slot)
   contents_of (batch_key kind name) = option_map (λ b. stored.Batch (record { kind = kind; name = name; text = b.0; answer = b.1 })) (batches kind name)
 
--- The tables hold this world, with these calls by the number of their host and these batches by kind and name.
-abbrev pub HoldWorld : Database → World → (ℕ → Option Call) → (List ℕ → List ℕ → Option BatchText) → Type 0
+-- The tables hold this world, with these calls by host and slot and these batches by kind and name.
+abbrev pub HoldWorld : Database → World → SlotCalls → (List ℕ → List ℕ → Option BatchText) → Type 0
 HoldWorld db w calls batches = Hold db (contents_of w calls batches)

@@ -92,10 +92,12 @@ pub struct StoredInstance {
     pub queued: bool,
 }
 
-/// The last kept call of a host.
+/// A kept call of a host, in one of its slots.
 #[derive(Drop)]
 pub struct StoredCall {
     pub host_id: u32,
+    /// 0 to 3.
+    pub slot: u32,
     pub seqno: u32,
     pub text: Text,
     pub reply: Text,

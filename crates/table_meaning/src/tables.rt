@@ -1,3 +1,6 @@
+/// The number of the newest schema, which is the one that is worked on.
+pub const NEWEST_SCHEMA: u32 = 2;
+
 /// The tables of the stored format.
 #[derive(Clone, Copy)]
 pub enum TableName {

@@ -13,7 +13,7 @@ use Rattle.table_meaning.specs.declared.tables.TableName.TheVariants as name
 use Rattle.table_meaning.specs.Holding.{AreKnown}
 use Rattle.table_meaning.specs.Kept.{call_of, batch_of, calls_in, batches_in}
 use Rattle.table_meaning.specs.Rows.{RowKey, kept_key, batch_key, table_at, columns_of, key_of, rows_in, look_up}
-use Rattle.table_meaning.specs.Worlds.{contents_of, HoldWorld}
+use Rattle.table_meaning.specs.Worlds.{call_row, contents_of, HoldWorld}
 use Rattle.table_meaning.proofs.RowsHeld.{held_row}
 use Rattle.table_worlds.proofs.RowsHold.{world_held}
 use Rattle.table_reading.specs.Reading.{AllRows, AreAllRead, StandFor, is_call_of, is_import}
@@ -50,15 +50,19 @@ import_table (stored.Kept r) is = absurd (true≢false (sym is))
 -- ---- a row at a key is what is kept there
 
 -- the row of a call, by what it shows
-abbrev call_row : ℕ → Row → StoredRow
-call_row id row = stored.Kept (record { host_id = id; seqno = (call_of row).seqno; text = (call_of row).text; reply = (call_of row).reply })
+abbrev shown_call : ℕ → ℕ → Row → StoredRow
+shown_call host slot row = stored.Kept (call_row host slot (call_of row))
 
 abbrev import_row : List ℕ → List ℕ → Row → StoredRow
 import_row kind text row = stored.Batch (record { kind = kind; name = text; text = (batch_of row).0; answer = (batch_of row).1 })
 
 host_in : RowKey → ℕ
-host_in (kept_key id) = id
+host_in (kept_key host slot) = host
 host_in other = 0
+
+slot_in : RowKey → ℕ
+slot_in (kept_key host slot) = slot
+slot_in other = 0
 
 kind_in : RowKey → List ℕ
 kind_in (batch_key kind text) = kind
@@ -68,17 +72,19 @@ name_in : RowKey → List ℕ
 name_in (batch_key kind text) = text
 name_in other = []
 
-call_shown : (w : World) (id : ℕ) (s : StoredRow) → is_call_of w s ≡ true → key_of s ≡ kept_key id → columns_of s ≡ columns_of (call_row id (columns_of s))
-unfolding host_in
-call_shown w id (stored.Kept k) is key = ap (λ i. columns_of (stored.Kept (record { host_id = i; seqno = k.seqno; text = k.text; reply = k.reply }))) (ap host_in key)
-call_shown w id (stored.Setting r) is key = absurd (true≢false (sym is))
-call_shown w id (stored.Account r) is key = absurd (true≢false (sym is))
-call_shown w id (stored.App r) is key = absurd (true≢false (sym is))
-call_shown w id (stored.Version r) is key = absurd (true≢false (sym is))
-call_shown w id (stored.Unit r) is key = absurd (true≢false (sym is))
-call_shown w id (stored.Host r) is key = absurd (true≢false (sym is))
-call_shown w id (stored.Instance r) is key = absurd (true≢false (sym is))
-call_shown w id (stored.Batch r) is key = absurd (true≢false (sym is))
+call_shown : (w : World) (host slot : ℕ) (s : StoredRow) → is_call_of w s ≡ true → key_of s ≡ kept_key host slot → columns_of s ≡ columns_of (shown_call host slot (columns_of s))
+unfolding host_in slot_in
+call_shown w host slot (stored.Kept k) is key =
+    ap (λ h. columns_of (stored.Kept (record k { host_id = h }))) (ap host_in key)
+    ∙ ap (λ s. columns_of (stored.Kept (record k { host_id = host; slot = s }))) (ap slot_in key)
+call_shown w host slot (stored.Setting r) is key = absurd (true≢false (sym is))
+call_shown w host slot (stored.Account r) is key = absurd (true≢false (sym is))
+call_shown w host slot (stored.App r) is key = absurd (true≢false (sym is))
+call_shown w host slot (stored.Version r) is key = absurd (true≢false (sym is))
+call_shown w host slot (stored.Unit r) is key = absurd (true≢false (sym is))
+call_shown w host slot (stored.Host r) is key = absurd (true≢false (sym is))
+call_shown w host slot (stored.Instance r) is key = absurd (true≢false (sym is))
+call_shown w host slot (stored.Batch r) is key = absurd (true≢false (sym is))
 
 import_shown : (kind text : List ℕ) (s : StoredRow) → is_import s ≡ true → key_of s ≡ batch_key kind text → columns_of s ≡ columns_of (import_row kind text (columns_of s))
 unfolding kind_in name_in
@@ -95,16 +101,16 @@ import_shown kind text (stored.Instance r) is key = absurd (true≢false (sym is
 import_shown kind text (stored.Kept r) is key = absurd (true≢false (sym is))
 
 module _ (trees : Trees) (w : World) where
-  calls_stand : (calls : List StoredRow) → map columns_of calls ≡ rows_in trees name.Kept → list_all (is_call_of w) calls ≡ true → (id : ℕ)
-      → look_up trees (kept_key id) ≡ option_map columns_of (contents_of w (calls_in trees) (batches_in trees) (kept_key id))
-  calls_stand calls read fit id = go (look_up trees (kept_key id)) refl
+  calls_stand : (calls : List StoredRow) → map columns_of calls ≡ rows_in trees name.Kept → list_all (is_call_of w) calls ≡ true → (host slot : ℕ)
+      → look_up trees (kept_key host slot) ≡ option_map columns_of (contents_of w (calls_in trees) (batches_in trees) (kept_key host slot))
+  calls_stand calls read fit host slot = go (look_up trees (kept_key host slot)) refl
     where
-      go : (o : Option Row) → look_up trees (kept_key id) ≡ o → o ≡ option_map columns_of (option_map (λ k. stored.Kept (record { host_id = id; seqno = k.seqno; text = k.text; reply = k.reply })) (option_map call_of o))
+      go : (o : Option Row) → look_up trees (kept_key host slot) ≡ o → o ≡ option_map columns_of (option_map (λ k. stored.Kept (call_row host slot k)) (option_map call_of o))
       go None is = refl
       go (Some row) is =
-          let s = held_row trees name.Kept calls read (λ r has. call_table w r (each_passes (is_call_of w) calls r fit has)) (kept_key id) refl row is in
+          let s = held_row trees name.Kept calls read (λ r has. call_table w r (each_passes (is_call_of w) calls r fit has)) (kept_key host slot) refl row is in
           let passes = each_passes (is_call_of w) calls s.0 fit s.1 in
-          subst (λ (r : Row). Some r ≡ Some (columns_of (call_row id r))) (sym s.2) (ap Some (call_shown w id s.0 passes s.3))
+          subst (λ (r : Row). Some r ≡ Some (columns_of (shown_call host slot r))) (sym s.2) (ap Some (call_shown w host slot s.0 passes s.3))
 
   imports_stand : (batches : List StoredRow) → map columns_of batches ≡ rows_in trees name.Batch → list_all is_import batches ≡ true → (kind text : List ℕ)
       → look_up trees (batch_key kind text) ≡ option_map columns_of (contents_of w (calls_in trees) (batches_in trees) (batch_key kind text))

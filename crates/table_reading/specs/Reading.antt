@@ -1,10 +1,11 @@
 -- What the rows of tables have to be for a world to be read from them.
-use Rattle.std.specs.Prelude.{◌≡◌, ℕ, Bool, false, not, ◌&&◌, ◌==◌, nat_le, max, IsTrue, List, [], ◌∷◌, ◌++◌, map, fold, length, is_some}
+use Rattle.std.specs.Prelude.{◌≡◌, ℕ, Bool, false, not, ◌&&◌, ◌==◌, nat_le, nat_lt, max, IsTrue, List, [], ◌∷◌, ◌++◌, map, fold, length, is_some}
 use Rattle.std.specs.List.{AllByRecursion, list_all}
 use Rattle.sqlite.specs.State.{State, HasCleanDisk}
 use Rattle.sqlite_rules.specs.Lists.{Has}
 use Rattle.sqlite_trees.specs.Tree.{Trees}
 use Rattle.texts.specs.Words.{is_word}
+use Rattle.reply_register.specs.Keeping.{most_kept}
 use Rattle.stores.specs.Kinds.{kind_of}
 use Rattle.sched_book.specs.Places.{host_at}
 use Rattle.sched_book.specs.Sound.{Sound}
@@ -50,9 +51,9 @@ last_seqno = 2147483647
 abbrev pub most_import_bytes : ℕ
 most_import_bytes = 1048576
 
--- what is kept of a call: its host stands, and its number is in its range
+-- what is kept of a call: its host stands, and its slot and its number are in their ranges
 abbrev pub is_call_of : World → StoredRow → Bool
-is_call_of w (stored.Kept k) = is_some (host_at w k.host_id) && nat_le k.seqno last_seqno
+is_call_of w (stored.Kept k) = is_some (host_at w k.host_id) && (nat_lt k.slot most_kept && nat_le k.seqno last_seqno)
 is_call_of w other = false
 
 -- what is kept of an import: of one of the four kinds, with a word for its name, and not too long
@@ -62,9 +63,9 @@ is_import other = false
 
 -- ---- what a reading holds of the rows
 
--- what is kept of a call of some host: its number is in its range
+-- what is kept of a call of some host: its slot and its number are in their ranges
 abbrev pub is_call : StoredRow → Bool
-is_call (stored.Kept k) = not (k.host_id == 0) && nat_le k.seqno last_seqno
+is_call (stored.Kept k) = not (k.host_id == 0) && (nat_lt k.slot most_kept && nat_le k.seqno last_seqno)
 is_call other = false
 
 -- the greater one of a number and that of the call's host

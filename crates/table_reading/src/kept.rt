@@ -5,6 +5,7 @@ ghost use Rattle.table_meaning.specs.declared.rows.StoredRow.TheVariants as stor
 ghost use Rattle.table_reading.specs.Reading.{is_call, is_import};
 
 use crate::rows::Reading;
+use reply_register::MOST_KEPT;
 use sched_book::World;
 use stores::Kind;
 use table_meaning::rows::{StoredBatch, StoredCall};
@@ -20,7 +21,7 @@ const MOST_IMPORT_BYTES: usize = 1_048_576;
 pub(crate) fn is_call(call: &StoredCall) -> bool
     ensures { result ≡ is_call (stored.Kept call.now) }
 {
-    call.host_id != 0 && call.seqno <= LAST_SEQNO
+    call.host_id != 0 && (call.slot as usize) < MOST_KEPT && call.seqno <= LAST_SEQNO
 }
 
 /// Whether all that is kept of calls may stand beside this world.

@@ -139,7 +139,9 @@ pub fn stored_world<S: Alter>(
     let reading = match read_all(alloc, conn) {
         Ok(reading) => reading,
         Err(OpenFault::BadRow) => return Err(OpenFault::BadRow),
-        Err(_) => return Err(OpenFault::Unavailable),
+        Err(OpenFault::NotTables | OpenFault::OldSchema(_) | OpenFault::Unavailable) => {
+            return Err(OpenFault::Unavailable);
+        }
     };
     let world = world_beside(alloc, &reading)?;
     match test_world(alloc, conn, &world, &reading) {
@@ -148,6 +150,8 @@ pub fn stored_world<S: Alter>(
             apps: world.apps,
         }),
         Err(OpenFault::BadRow) => Err(OpenFault::BadRow),
-        Err(_) => Err(OpenFault::Unavailable),
+        Err(OpenFault::NotTables | OpenFault::OldSchema(_) | OpenFault::Unavailable) => {
+            Err(OpenFault::Unavailable)
+        }
     }
 }

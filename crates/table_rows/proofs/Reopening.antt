@@ -8,7 +8,7 @@ use Rattle.sqlite_schema.specs.declared.schema.Schema.{Schema}
 use Rattle.sqlite.specs.Effect.{Database, IsDatabase}
 use Rattle.sqlite.specs.Held.{Held}
 use Rattle.table_rows.specs.declared.opening.Refused.{Refused}
-use Rattle.table_rows.specs.declared.opening.Refused.TheVariants.{NotTables, Unavailable}
+use Rattle.table_rows.specs.declared.opening.Refused.TheVariants.{NotTables, OldSchema, Unavailable}
 
 database : Schema → Trees → Database
 database schema trees = record { schema = schema; trees = trees }
@@ -21,6 +21,7 @@ one_database a b trees first second =
 -- a refused connection is told by its refusal
 abbrev refused : {S : Type 0} → Held S → Refused S → Held S
 refused other (NotTables conn) = conn
+refused other (OldSchema schema conn) = conn
 refused other Unavailable = other
 
 pub one_refused : {S : Type 0} (a b : Held S) → NotTables a ≡ NotTables b → a ≡ b

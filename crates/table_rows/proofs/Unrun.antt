@@ -1,6 +1,5 @@
 -- A call that runs no statement leaves what a read leaves.
-use Rattle.std.proofs.Common.{◌≡◌, ℕ, false, List, IsTrue, Result, Ok, Err, sym, ◌∙◌, inl, inr}
-use Rattle.std.specs.Prelude.{IfOk, IfErr}
+use Rattle.std.proofs.Common.{◌≡◌, ℕ, false, List, sym, ◌∙◌, inl, inr}
 use Rattle.sqlite_value.specs.Order.{Row}
 use Rattle.sqlite.specs.State.{State, HasCleanDisk, Survives, IsUnchanged, IsNotRun}
 use Rattle.sqlite.specs.declared.error.Error.{Error}

@@ -34,7 +34,7 @@ given_first t s known rows h =
     let meaning = (computed t).reads in
     let start = begins_as (read_text t) [] s s stored_schema known.schema (Select (record { lets = []; body = read_query (tree_of t) (places_of t) }) (names_of t)) meaning.0 meaning.1 meaning.2 rows h in (
       start.1.0,
-      passing_rows s.now.trees (tree_of t) [] (places_of t) [] (λ _. true) (own_rows t s.now.trees) (known.ordered t) (λ _. refl) (rows ++ start.1.0) (start.1.1 Null) ∙ ap (map (shown t)) (unfiltered (s.now.trees (tree_of t)) refl),
+      passing_rows s.now.trees (tree_of t) [] [] (λ _. true) (own_rows t s.now.trees) (known.ordered t) (λ _. refl) (places_of t) (rows ++ start.1.0) (start.1.1 Null) ∙ ap (map (shown t)) (unfiltered (s.now.trees (tree_of t)) refl),
     )
 
 has_front : (xs ys : List Row) (x : Row) → Has xs x → Has (xs ++ ys) x

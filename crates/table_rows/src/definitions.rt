@@ -1,20 +1,22 @@
 //! The tables, made in an empty database.
 
-ghost use Rattle.std.specs.Prelude.{◌≡◌, ◌≢◌, false, [], IsTrue, IfErr, OnOk, OnErr, slice_index_or};
+ghost use Rattle.std.specs.Prelude.{◌≡◌, ◌≢◌, ◌≤◌, ◌<◌, false, [], length, IsTrue, IfErr, OnOk, OnErr, slice_index_or};
+ghost use Rattle.sqlite_schema.specs.declared.schema.Schema.{Schema};
+ghost use Rattle.sqlite_trees.specs.Tree.{Trees};
 ghost use Rattle.sqlite.specs.Held.{state};
 ghost use Rattle.sqlite.specs.State.{HasCleanDisk, KeepsCommit, Survives};
-ghost use Rattle.table_meaning.specs.Schema.{no_schema};
+ghost use Rattle.table_meaning.specs.Schema.{no_schema, parts_at, newest, schema_at};
+ghost use Rattle.table_meaning.specs.Schemas.{definitions_between};
+ghost use Rattle.table_meaning.specs.Making.{IsLeft};
 ghost use Rattle.table_meaning.specs.Texts.{definition_texts};
-ghost use Rattle.table_meaning.specs.Steps.{AreNew, HoldJust};
+ghost use Rattle.table_meaning.specs.Steps.{HoldJust};
 
 use crate::opening::OpenFault;
 use crate::put::put_each;
 use sqlite::{Alter, Connection, Error, Transaction};
 use std::alloc::Global;
 use table_meaning::rows::StoredRow;
-
-/// How many texts make the tables and the indexes.
-const DEFINITIONS: usize = 13;
+use table_meaning::tables::NEWEST_SCHEMA;
 
 /// The CREATE text at this place in their order.
 fn definition(at: usize) -> &'static str
@@ -42,7 +44,21 @@ fn definition(at: usize) -> &'static str
         10 => "CREATE INDEX instance_owner ON instance (host_id, unit_id, num)",
         11 => "CREATE INDEX instance_sent ON instance (host_id, sent)",
         12 => "CREATE INDEX instance_deadline ON instance (deadline)",
+        13 =>
+            "CREATE TABLE kept4 (host_id INTEGER NOT NULL REFERENCES host, slot INTEGER NOT NULL, seqno INTEGER NOT NULL, text TEXT NOT NULL, reply TEXT NOT NULL, PRIMARY KEY (host_id, slot)) STRICT",
         _ => "",
+    }
+}
+
+/// How many of these texts make the schema of this number. Number 0 is that of no schema.
+fn size_of(schema: u32) -> usize
+    requires { schema ≤ newest }
+    ensures { result ≡ length (parts_at schema) }
+{
+    match schema {
+        0 => 0,
+        1 => 13,
+        _ => 14,
     }
 }
 
@@ -57,15 +73,21 @@ fn is_empty<S: Alter>(conn: &Connection<S>) -> bool
         && schema.views.as_slice().is_empty()
 }
 
-/// Makes the tables and the indexes, one after another.
-fn define_all<S: Alter>(tx: &mut Transaction<'_, S>) -> Result<(), Error>
+/// Makes the tables and the indexes that one schema lacks and another has, one after another.
+pub(crate) fn define<S: Alter>(tx: &mut Transaction<'_, S>, from: u32, to: u32) -> Result<(), Error>
+    requires from { from ≤ newest }
+    requires to { to ≤ newest }
     ensures same_reference { tx.new.conn.ghost_name ≡ tx.old.conn.ghost_name }
     ensures survives { Survives (state S.Store tx.old.conn.now) (state S.Store tx.new.conn.now) (λ _. ⊥) }
     ensures kept { HasCleanDisk (state S.Store tx.new.conn.now) → KeepsCommit (state S.Store tx.old.conn.now) (state S.Store tx.new.conn.now) }
-    ensures made { HasCleanDisk (state S.Store tx.new.conn.now) → IsTrue (state S.Store tx.old.conn.now).in_transaction → (state S.Store tx.old.conn.now).now.schema ≡ no_schema
-        → OnOk result (IsTrue (state S.Store tx.new.conn.now).in_transaction × AreNew (state S.Store tx.new.conn.now).now) }
+    ensures made { HasCleanDisk (state S.Store tx.new.conn.now) → IsTrue (state S.Store tx.old.conn.now).in_transaction
+        → (wanted : Schema) (rows : Trees) → IsLeft wanted rows (definitions_between from to) (state S.Store tx.old.conn.now).now
+        → OnOk result (IsLeft wanted rows [] (state S.Store tx.new.conn.now).now) }
+    ensures inside { HasCleanDisk (state S.Store tx.new.conn.now) → IsTrue (state S.Store tx.old.conn.now).in_transaction → OnOk result (IsTrue (state S.Store tx.new.conn.now).in_transaction) }
+    ensures ran { HasCleanDisk (state S.Store tx.new.conn.now) → length (parts_at from) < length (parts_at to)
+        → OnOk result (IsTrue (state S.Store tx.old.conn.now).is_open × IsTrue (state S.Store tx.new.conn.now).in_transaction) }
 {
-    for at in 0..DEFINITIONS {
+    for at in size_of(from)..size_of(to) {
         tx.execute(definition(at), &[])?;
     }
     Ok(())
@@ -83,11 +105,25 @@ fn make_tables<S: Alter>(
     ensures made { HasCleanDisk (state S.Store tx.new.conn.now) → IsTrue (state S.Store tx.old.conn.now).in_transaction → (state S.Store tx.old.conn.now).now.schema ≡ no_schema
         → OnOk result (IsTrue (state S.Store tx.new.conn.now).in_transaction × HoldJust (state S.Store tx.new.conn.now).now rows.now) }
 {
-    define_all(tx)?;
+    define(tx, 0, NEWEST_SCHEMA)?;
     put_each(alloc, tx, rows)
 }
 
-/// Makes the nine tables with these rows, put in order, in a database that has none: all of them or nothing.
+/// Makes the tables and the indexes of the schema of this number in an empty database.
+pub(crate) fn make_schema<S: Alter>(conn: &mut Connection<S>, schema: u32) -> Result<(), OpenFault>
+    requires { schema ≤ newest }
+    ensures made { HasCleanDisk (state S.Store conn.new) → (state S.Store conn.old).now.schema ≡ no_schema → OnOk result ((state S.Store conn.new).now.schema ≡ schema_at schema) }
+{
+    if !conn.is_autocommit() {
+        return Err(OpenFault::Unavailable);
+    }
+    let mut tx = conn.transaction();
+    define(&mut tx, 0, schema)?;
+    tx.commit()?;
+    Ok(())
+}
+
+/// Makes the tables with these rows, put in order, in a database that has none: all of them or nothing.
 pub fn create<S: Alter>(
     alloc: Global,
     conn: &mut Connection<S>,

@@ -1,6 +1,7 @@
 //! Columns of a row as values with types.
 
 ghost use Rattle.std.specs.Prelude.{◌≡◌, pos, IfOk, IfErr, if◌then◌else◌};
+ghost use Rattle.std.specs.Bool.{Decides};
 ghost use Rattle.sqlite.specs.Values.{or_null};
 ghost use Rattle.sqlite_value.specs.Value.{owned};
 ghost use Rattle.sqlite_value.specs.declared.value.Value.TheVariants.{Int as SqlInt, Text as SqlText, Blob as SqlBlob};
@@ -43,6 +44,16 @@ pub(crate) fn whole(alloc: Global, row: &Row, at: usize) -> Result<u32, OpenFaul
     ensures bad { IfErr result (λ e. e ≡ OpenFault.BadRow → ¬ IsOf sql_number (column row.now at)) }
 {
     field(alloc, row, at)
+}
+
+/// Whether the column is this number.
+pub(crate) fn is_whole(row: &Row, at: usize, number: u32) -> bool
+    ensures { Decides result (column row.now at ≡ sql_whole number) }
+{
+    match value(row, at) {
+        ValueRef::Int(found) => found == i64::from(number),
+        _ => false,
+    }
 }
 
 /// Any integer.

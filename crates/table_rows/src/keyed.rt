@@ -4,7 +4,7 @@ ghost use Rattle.std.specs.Prelude.{◌≡◌, option_map, IfOk};
 ghost use Rattle.sqlite.specs.Held.{state};
 ghost use Rattle.sqlite.specs.State.{HasCleanDisk};
 ghost use Rattle.table_meaning.specs.declared.rows.StoredRow.TheVariants as stored;
-ghost use Rattle.table_meaning.specs.ByKey.{status_in};
+ghost use Rattle.table_meaning.specs.ByKey.{status_in, call_number_in};
 ghost use Rattle.table_meaning.specs.Rows.{whole as sql_whole, unit_key, host_key, instance_key, kept_key, batch_key, columns_of, look_up};
 ghost use Rattle.table_meaning.specs.Reads.{Reads};
 ghost use Rattle.table_meaning.specs.Holding.{AreKnown};
@@ -18,22 +18,42 @@ use sqlite::{Alter, Connection};
 use std::alloc::Global;
 use table_meaning::rows::{StoredBatch, StoredCall, StoredHost, StoredInstance, StoredUnit};
 
-/// What is kept of the last call of the host of this number. The connection shows what it showed.
+/// The call that is kept of the host of this number in this slot. The connection shows what it showed.
 pub fn kept_of<S: Alter>(
     alloc: Global,
     conn: &mut Connection<S>,
     host: u32,
+    slot: u32,
 ) -> Result<Option<StoredCall>, OpenFault>
     ensures reads { Reads (state S.Store conn.old) (state S.Store conn.new) }
     ensures row { HasCleanDisk (state S.Store conn.new) → AreKnown (state S.Store conn.old).now
-        → IfOk result (λ row. option_map (λ k. columns_of (stored.Kept k)) row ≡ look_up (state S.Store conn.old).now.trees (kept_key host)) }
+        → IfOk result (λ row. option_map (λ k. columns_of (stored.Kept k)) row ≡ look_up (state S.Store conn.old).now.trees (kept_key host slot)) }
 {
     first_shown(
         alloc,
         conn,
-        "SELECT host_id, seqno, text, reply FROM kept WHERE host_id = ?1 ORDER BY host_id",
-        &[whole(host)],
+        "SELECT host_id, slot, seqno, text, reply FROM kept4 WHERE host_id = ?1 AND slot = ?2 ORDER BY rowid",
+        &[whole(host), whole(slot)],
         typed::call,
+    )
+}
+
+/// The number of the call that is kept of the host of this number in this slot. The connection shows what it showed.
+pub fn kept_number_of<S: Alter>(
+    alloc: Global,
+    conn: &mut Connection<S>,
+    host: u32,
+    slot: u32,
+) -> Result<Option<u32>, OpenFault>
+    ensures reads { Reads (state S.Store conn.old) (state S.Store conn.new) }
+    ensures row { HasCleanDisk (state S.Store conn.new) → AreKnown (state S.Store conn.old).now
+        → IfOk result (λ seqno. option_map sql_whole seqno ≡ option_map call_number_in (look_up (state S.Store conn.old).now.trees (kept_key host slot))) }
+{
+    first_number(
+        alloc,
+        conn,
+        "SELECT seqno FROM kept4 WHERE host_id = ?1 AND slot = ?2 ORDER BY rowid",
+        &[whole(host), whole(slot)],
     )
 }
 

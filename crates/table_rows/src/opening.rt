@@ -1,6 +1,6 @@
 //! Connections whose tables are the known ones.
 
-ghost use Rattle.std.specs.Prelude.{◌≡◌, ◌≢◌, IfOk, IfErr, IfSome};
+ghost use Rattle.std.specs.Prelude.{◌≡◌, ◌≢◌, ℕ, IfOk, IfErr, IfSome};
 ghost use Rattle.std.specs.List.{AllByRecursion};
 ghost use Rattle.sqlite_trees.specs.declared.store.Shape.TheVariants.{Table as TableTree};
 ghost use Rattle.sqlite_trees.specs.View.{IsShaped};
@@ -8,23 +8,26 @@ ghost use Rattle.sqlite.specs.Held.{Held, state};
 ghost use Rattle.sqlite.specs.Steps.{over_memory};
 ghost use Rattle.sqlite.specs.State.{HasCleanDisk, IsLive, Opens};
 ghost use Rattle.table_meaning.specs.Schema.{stored_schema};
+ghost use Rattle.table_meaning.specs.Schemas.{IsEarlier, AreKnownAt, AreEarlier};
 ghost use Rattle.table_meaning.specs.Steps.{HoldJust};
 ghost use Rattle.table_meaning.specs.Holding.{AreKnown};
 ghost use Rattle.table_rows.specs.declared.opening.Refused.TheVariants as refused;
 
-use crate::alike::Alike;
 use crate::definitions::create;
+use crate::schemas::{says_schema, schema_number};
 use sched_book::Unavailable;
 use sqlite::{Alter, Connection, Error, MemStore};
-use sqlite_schema::schema::Schema;
 use std::alloc::{AllocError, Global};
 use table_meaning::rows::StoredRow;
+use table_meaning::tables::NEWEST_SCHEMA;
 
 /// Why tables are not taken.
 #[derive(Clone, Copy, Debug, PartialEq, Eq)]
 pub enum OpenFault {
     /// Its tables are not the stored ones.
     NotTables,
+    /// Its tables are those of an older schema, whose number this is: they have to be upgraded.
+    OldSchema(u32),
     /// A row has not the form of its table, or a value out of its range.
     BadRow,
     /// Memory or the disk failed.
@@ -80,20 +83,13 @@ pub fn in_memory(alloc: Global, rows: &[StoredRow]) -> Result<Connection<MemStor
     Ok(conn)
 }
 
-/// The schema of the stored tables.
-pub fn wanted_schema(alloc: Global) -> Result<Schema, OpenFault>
-    ensures { IfOk result (λ schema. schema ≡ stored_schema) }
-{
-    let conn = in_memory(alloc, &[])?;
-    let schema = conn.schema().copy(alloc)?;
-    Ok(schema)
-}
-
 /// Why a connection is not taken.
 #[derive(Drop)]
 pub enum Refused<S: Alter> {
     /// Its tables are not the stored ones. The connection is opened anew.
     NotTables(Connection<S>),
+    /// Its tables are those of an older schema, whose number this is. The connection is opened anew.
+    OldSchema(u32, Connection<S>),
     /// Memory or the disk failed.
     Unavailable,
 }
@@ -107,6 +103,7 @@ impl<S: Alter + Drop> From<Refused<S>> for OpenFault {
     fn from(refused: Refused<S>) -> OpenFault {
         match refused {
             Refused::NotTables(_) => OpenFault::NotTables,
+            Refused::OldSchema(schema, _) => OpenFault::OldSchema(schema),
             Refused::Unavailable => OpenFault::Unavailable,
         }
     }
@@ -130,8 +127,23 @@ fn reopened<S: Alter + Drop>(alloc: Global, conn: Connection<S>) -> Option<Conne
     Some(conn)
 }
 
+/// Why a connection is refused whose tables are those of an earlier schema: they say so, or say something else.
+fn refusal<S: Alter + Drop>(conn: Connection<S>, schema: u32) -> Refused<S>
+    requires { IsEarlier schema }
+    ensures old { (n : ℕ) (c : Held S) → result ≡ refused.OldSchema n c → HasCleanDisk (state S.Store c)
+        → HasCleanDisk (state S.Store conn) × (AreKnownAt schema (state S.Store conn).now → (n ≡ schema) × AreEarlier n (state S.Store conn).now) }
+    ensures other { (c : Held S) → result ≡ refused.NotTables c → HasCleanDisk (state S.Store c) → HasCleanDisk (state S.Store conn) × ¬ AreEarlier schema (state S.Store conn).now }
+{
+    let mut conn = conn;
+    match says_schema(&mut conn, schema) {
+        Ok(true) => Refused::OldSchema(schema, conn),
+        Ok(false) => Refused::NotTables(conn),
+        Err(_) => Refused::Unavailable,
+    }
+}
+
 /// The connection, if its tables are the stored ones: then it is at rest, with what was last committed. Where they are
-/// others it is given back in the refusal.
+/// others, or those of an older schema, it is given back in the refusal.
 pub fn known<S: Alter + Drop>(
     alloc: Global,
     conn: Connection<S>,
@@ -139,16 +151,21 @@ pub fn known<S: Alter + Drop>(
     ensures known { IfOk result (λ c. HasCleanDisk (state S.Store c) → AreKnown (state S.Store c).now) }
     ensures opens { IfOk result (λ c. HasCleanDisk (state S.Store c) → Opens (state S.Store c)) }
     ensures same { IfOk result (λ c. HasCleanDisk (state S.Store c) → (state S.Store c).now ≡ (state S.Store conn).committed) }
+    ensures old { IfErr result (λ e. (n : ℕ) (c : Held S) → e ≡ refused.OldSchema n c → HasCleanDisk (state S.Store c) → AreEarlier n (state S.Store conn).committed) }
     ensures other { IfErr result (λ e. (c : Held S) → e ≡ refused.NotTables c → HasCleanDisk (state S.Store c) → (state S.Store conn).committed.schema ≢ stored_schema) }
+    ensures neither { IfErr result (λ e. (c : Held S) → e ≡ refused.NotTables c → HasCleanDisk (state S.Store c) → (n : ℕ) → ¬ AreEarlier n (state S.Store conn).committed) }
 {
-    let Ok(wanted) = wanted_schema(alloc) else {
-        return Err(Refused::Unavailable);
-    };
     let Some(conn) = reopened(alloc, conn) else {
         return Err(Refused::Unavailable);
     };
-    if !conn.schema().is_alike(&wanted) {
+    let Ok(found) = schema_number(alloc, &conn) else {
+        return Err(Refused::Unavailable);
+    };
+    let Some(schema) = found else {
         return Err(Refused::NotTables(conn));
+    };
+    if schema < NEWEST_SCHEMA {
+        return Err(refusal(conn, schema));
     }
     Ok(conn)
 }

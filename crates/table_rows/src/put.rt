@@ -13,13 +13,16 @@ use sqlite::{Alter, Connection, Error, ErrorCode, Transaction};
 use std::alloc::Global;
 use table_meaning::rows::StoredRow;
 
+/// The statement that puts a setting.
+pub(crate) const PUT_SETTING: &str =
+    "INSERT INTO setting (name, value) VALUES (?1, ?2) ON CONFLICT (name) DO UPDATE SET name = excluded.name, value = excluded.value";
+
 /// The statement that puts the row.
 fn put_text(row: &StoredRow) -> &'static str
     ensures { result.now ≡ sql_put (table_at (key_of row.now)) }
 {
     match row {
-        StoredRow::Setting(_) =>
-            "INSERT INTO setting (name, value) VALUES (?1, ?2) ON CONFLICT (name) DO UPDATE SET name = excluded.name, value = excluded.value",
+        StoredRow::Setting(_) => PUT_SETTING,
         StoredRow::Account(_) =>
             "INSERT INTO account (id, auth, name) VALUES (?1, ?2, ?3) ON CONFLICT (id) DO UPDATE SET auth = excluded.auth, name = excluded.name",
         StoredRow::App(_) =>
@@ -33,7 +36,7 @@ fn put_text(row: &StoredRow) -> &'static str
         StoredRow::Instance(_) =>
             "INSERT INTO instance (unit_id, num, host_id, sent, deadline, lapse, outcome, output, place, queued) VALUES (?1, ?2, ?3, ?4, ?5, ?6, ?7, ?8, ?9, ?10) ON CONFLICT (unit_id, num) DO UPDATE SET unit_id = excluded.unit_id, num = excluded.num, host_id = excluded.host_id, sent = excluded.sent, deadline = excluded.deadline, lapse = excluded.lapse, outcome = excluded.outcome, output = excluded.output, place = excluded.place, queued = excluded.queued",
         StoredRow::Kept(_) =>
-            "INSERT INTO kept (host_id, seqno, text, reply) VALUES (?1, ?2, ?3, ?4) ON CONFLICT (host_id) DO UPDATE SET seqno = excluded.seqno, text = excluded.text, reply = excluded.reply",
+            "INSERT INTO kept4 (host_id, slot, seqno, text, reply) VALUES (?1, ?2, ?3, ?4, ?5) ON CONFLICT (host_id, slot) DO UPDATE SET host_id = excluded.host_id, slot = excluded.slot, seqno = excluded.seqno, text = excluded.text, reply = excluded.reply",
         StoredRow::Batch(_) =>
             "INSERT INTO batch (kind, name, text, answer) VALUES (?1, ?2, ?3, ?4) ON CONFLICT (kind, name) DO UPDATE SET kind = excluded.kind, name = excluded.name, text = excluded.text, answer = excluded.answer",
     }

@@ -25,7 +25,8 @@ fn width(table: TableName) -> usize
     match table {
         TableName::Setting => 2,
         TableName::Account | TableName::App => 3,
-        TableName::Version | TableName::Kept | TableName::Batch => 4,
+        TableName::Version | TableName::Batch => 4,
+        TableName::Kept => 5,
         TableName::Unit => 14,
         TableName::Host | TableName::Instance => 10,
     }
@@ -134,14 +135,15 @@ pub(crate) fn instance(alloc: Global, row: &Row) -> Result<StoredInstance, OpenF
 }
 
 pub(crate) fn call(alloc: Global, row: &Row) -> Result<StoredCall, OpenFault>
-    ensures read { IfOk result (λ k. columns_of (stored.Kept k) ≡ columns_in row.now 4) }
+    ensures read { IfOk result (λ k. columns_of (stored.Kept k) ≡ columns_in row.now 5) }
     ensures bad { IfErr result (λ e. e ≡ OpenFault.BadRow → ¬ AreOf (kinds_of named.Kept) row.now 0) }
 {
     Ok(StoredCall {
         host_id: whole(alloc, row, 0)?,
-        seqno: whole(alloc, row, 1)?,
-        text: text(alloc, row, 2)?,
-        reply: text(alloc, row, 3)?,
+        slot: whole(alloc, row, 1)?,
+        seqno: whole(alloc, row, 2)?,
+        text: text(alloc, row, 3)?,
+        reply: text(alloc, row, 4)?,
     })
 }
 

@@ -128,6 +128,7 @@ pub fn values_of<'a>(alloc: Global, row: &'a StoredRow) -> Result<Vec<ValueRef<'
         StoredRow::Kept(row) => {
             Ok(vec![in alloc;
                 whole(row.host_id),
+                whole(row.slot),
                 whole(row.seqno),
                 text(&row.text),
                 text(&row.reply),

@@ -32,7 +32,7 @@ fn read_text(table: TableName) -> &'static str
             "SELECT id, account_id, cpid, platforms, fpops, memory, disk, quota, held, credit FROM host ORDER BY id",
         TableName::Instance =>
             "SELECT unit_id, num, host_id, sent, deadline, lapse, outcome, output, place, queued FROM instance ORDER BY rowid",
-        TableName::Kept => "SELECT host_id, seqno, text, reply FROM kept ORDER BY host_id",
+        TableName::Kept => "SELECT host_id, slot, seqno, text, reply FROM kept4 ORDER BY rowid",
         TableName::Batch => "SELECT kind, name, text, answer FROM batch ORDER BY rowid",
     }
 }

@@ -21,7 +21,7 @@ none_there (suc i) = nth-suc [] i
 
 module _ (s : Settings) where
   abbrev empty : Contents
-  empty = contents_of (empty_world s) (λ _. None) (λ _ _. None)
+  empty = contents_of (empty_world s) (λ _ _. None) (λ _ _. None)
 
   pub each_stands : AllByRecursion (λ r. empty (key_of r) ≡ Some r) (setting_rows s)
   each_stands = (refl, (refl, (refl, (refl, (refl, (refl, (refl, (refl, tt))))))))
@@ -69,7 +69,7 @@ module _ (s : Settings) where
   others_none (unit_key id) none = ap (option_map _) (sym (none_there id))
   others_none (host_key id) none = ap (option_map _) (sym (none_there id))
   others_none (instance_key unit num) none = ap (option_and_then _) (sym (none_there unit))
-  others_none (kept_key id) none = refl
+  others_none (kept_key host slot) none = refl
   others_none (batch_key kind name) none = refl
 
   pub new_world : (key : RowKey) → with_rows (λ k. None) (setting_rows s) key ≡ empty key

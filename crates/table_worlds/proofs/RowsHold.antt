@@ -6,7 +6,6 @@ use Rattle.std.proofs.lemmas.Bool.{cases_Bool}
 use Rattle.std.proofs.lemmas.Option.{none-some}
 use Rattle.sqlite_rules.specs.Lists.{Has}
 use Rattle.sqlite_trees.specs.Tree.{Trees}
-use Rattle.reply_register.specs.declared.kept.Kept.{Kept as Call}
 use Rattle.sched_book.specs.Places.{nth, places}
 use Rattle.sched_book.specs.Step.{empty_world}
 use Rattle.sched_book.specs.declared.instance.Place.{Place}
@@ -18,7 +17,7 @@ use Rattle.table_meaning.specs.declared.rows.StoredRow.TheVariants as stored
 use Rattle.table_meaning.specs.declared.tables.TableName.{TableName}
 use Rattle.table_meaning.specs.declared.tables.TableName.TheVariants as name
 use Rattle.table_meaning.specs.Rows.{RowKey, setting_key, account_key, app_key, version_key, unit_key, host_key, instance_key, kept_key, batch_key, table_at, key_of, columns_of, rows_in, look_up, same_key}
-use Rattle.table_meaning.specs.Worlds.{BatchText, setting_in, contents_of}
+use Rattle.table_meaning.specs.Worlds.{BatchText, SlotCalls, setting_in, contents_of}
 use Rattle.table_meaning.proofs.Keys.{is_put, one_key}
 use Rattle.table_meaning.proofs.RowsHeld.{held_at, mapped, source}
 use Rattle.table_worlds.specs.declared.keys.NumberedTable.{NumberedTable}
@@ -76,7 +75,7 @@ module _ (trees : Trees) (w : World) where
         (λ r is. (elim listed [ inl none ↦ absurd (none-some r (sym none ∙ is)) | inr has ↦ of_rows r (kept_by (row_in w) keys key r has is) ], row_has_key w key r is))
         (λ r has same.
         let k = given_by (row_in w) keys r (in_rows r has) in
-        ap (contents_of w (λ _. None) (λ _ _. None)) (sym (sym (row_has_key w k.0 r k.2) ∙ same)) ∙ k.2)
+        ap (contents_of w (λ _ _. None) (λ _ _. None)) (sym (sym (row_has_key w k.0 r k.2) ∙ same)) ∙ k.2)
 
   -- a table whose rows are numbered
   numbered_at : {X : Type 0} (t : NumberedTable) (xs : List X) (rows : List StoredRow) → map columns_of rows ≡ rows_in trees (table_name t) → rows ≡ filter_map (row_in w) (numbered t (length xs))
@@ -110,7 +109,7 @@ all_have P (s ∷ rows) r all (inr later) = all_have P rows r all.1 later
 
 module _ (s : Settings) where
   abbrev empty : RowKey → Option StoredRow
-  empty = contents_of (empty_world s) (λ _. None) (λ _ _. None)
+  empty = contents_of (empty_world s) (λ _ _. None) (λ _ _. None)
 
   -- a setting that stands is one of the eight
   setting_listed : (key : RowKey) (r : StoredRow) → empty key ≡ Some r → Has (setting_rows s) r
@@ -139,8 +138,8 @@ module _ (s : Settings) where
 
 -- ---- the whole world
 
-pub world_held : (trees : Trees) (w : World) (rows : WorldRows) → AreRead trees rows → AreRowsOf w rows → (calls : ℕ → Option Call) (batches : List ℕ → List ℕ → Option BatchText)
-    → ((id : ℕ) → look_up trees (kept_key id) ≡ option_map columns_of (contents_of w calls batches (kept_key id)))
+pub world_held : (trees : Trees) (w : World) (rows : WorldRows) → AreRead trees rows → AreRowsOf w rows → (calls : SlotCalls) (batches : List ℕ → List ℕ → Option BatchText)
+    → ((host slot : ℕ) → look_up trees (kept_key host slot) ≡ option_map columns_of (contents_of w calls batches (kept_key host slot)))
     → ((kind text : List ℕ) → look_up trees (batch_key kind text) ≡ option_map columns_of (contents_of w calls batches (batch_key kind text)))
     → (key : RowKey) → look_up trees key ≡ option_map columns_of (contents_of w calls batches key)
 world_held trees w rows read are calls batches kept imports (setting_key text) = settings_at w.settings trees rows.settings read.settings are.settings text
@@ -150,5 +149,5 @@ world_held trees w rows read are calls batches kept imports (version_key id) = n
 world_held trees w rows read are calls batches kept imports (unit_key id) = numbered_at trees w table.Unit w.units rows.units read.units are.units id (no_row _ (nth w.units id))
 world_held trees w rows read are calls batches kept imports (host_key id) = numbered_at trees w table.Host w.hosts rows.hosts read.hosts are.hosts id (no_row _ (nth w.hosts id))
 world_held trees w rows read are calls batches kept imports (instance_key unit num) = instances_at trees w rows.instances read.instances are.instances (record { unit = unit; number = num })
-world_held trees w rows read are calls batches kept imports (kept_key id) = kept id
+world_held trees w rows read are calls batches kept imports (kept_key host slot) = kept host slot
 world_held trees w rows read are calls batches kept imports (batch_key kind text) = imports kind text

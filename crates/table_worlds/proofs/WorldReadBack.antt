@@ -4,7 +4,6 @@ use Rattle.std.specs.Prelude.{All, codes, option_and_then, slice_get, unwrap_or,
 use Rattle.sqlite.specs.Effect.{Database}
 use Rattle.sqlite_trees.specs.Tree.{Trees}
 use Rattle.sqlite_value.specs.Order.{Row}
-use Rattle.reply_register.specs.declared.kept.Kept.{Kept}
 use Rattle.rpc_records.specs.Ranges.{IsWord}
 use Rattle.sched_book.specs.Imports.{has_app}
 use Rattle.sched_book.specs.Places.{unit_at, held_by, host_credit}
@@ -18,7 +17,7 @@ use Rattle.sched_book.specs.declared.world.World.{World}
 use Rattle.table_meaning.specs.declared.rows.StoredRow.TheVariants as stored
 use Rattle.table_meaning.specs.declared.tables.TableName.TheVariants as table
 use Rattle.table_meaning.specs.Rows.{setting_key, account_key, app_key, version_key, unit_key, host_key, instance_key, columns_of, rows_in}
-use Rattle.table_meaning.specs.Worlds.{BatchText, HoldWorld, account_row, app_row, version_row, unit_row, host_row, instance_row}
+use Rattle.table_meaning.specs.Worlds.{BatchText, SlotCalls, HoldWorld, account_row, app_row, version_row, unit_row, host_row, instance_row}
 use Rattle.table_worlds.specs.ReadBack.{number_at, text_at, account_in, app_in, version_in, host_in, job_in}
 use Rattle.table_worlds.specs.Readable.{IsReadable}
 use Rattle.table_worlds.specs.StoredWorld.{settings_in, accounts_in, apps_in, versions_in, hosts_in, jobs_in, book_in, units_in, greatest, world_in, HeldIsReadBack}
@@ -31,7 +30,7 @@ switch_back : (on : Bool) → ((if on then 1 else 0) == 1) ≡ on
 switch_back true = refl
 switch_back false = refl
 
-module _ (db : Database) (w : World) (calls : ℕ → Option Kept) (batches : List ℕ → List ℕ → Option BatchText) (holds : HoldWorld db w calls batches) (readable : IsReadable w) where
+module _ (db : Database) (w : World) (calls : SlotCalls) (batches : List ℕ → List ℕ → Option BatchText) (holds : HoldWorld db w calls batches) (readable : IsReadable w) where
   abbrev trees : Trees
   trees = db.trees
 

@@ -10,7 +10,7 @@ use Rattle.table_meaning.specs.declared.rows.StoredRow.{StoredRow}
 use Rattle.table_meaning.specs.declared.rows.StoredRow.TheVariants as stored
 use Rattle.table_meaning.specs.Rows.{RowKey, setting_key, account_key, app_key, version_key, unit_key, host_key, instance_key, kept_key, batch_key, key_of}
 use Rattle.table_meaning.specs.Holding.{with_rows}
-use Rattle.table_meaning.specs.Worlds.{setting_in, BatchText, contents_of}
+use Rattle.table_meaning.specs.Worlds.{setting_in, call_row, BatchText, SlotCalls, contents_of}
 use Rattle.table_meaning.proofs.Keys.{is_put, settled}
 use Rattle.table_worlds.specs.declared.keys.WorldKey.{WorldKey}
 use Rattle.table_worlds.specs.declared.keys.WorldKey.TheVariants.{Account, App, Version, Unit, Host, Instance}
@@ -20,7 +20,7 @@ use Rattle.table_worlds.proofs.KeysStand.{row_has_key}
 use Rattle.table_worlds.proofs.NothingGoes.{none_goes, settings_stay}
 
 -- what the tables hold at a key of a world is its row there, whatever is kept
-at_world_key : (w : World) (calls : ℕ → Option Call) (batches : List ℕ → List ℕ → Option BatchText) (key : WorldKey) → contents_of w calls batches (row_key key) ≡ row_in w key
+at_world_key : (w : World) (calls : SlotCalls) (batches : List ℕ → List ℕ → Option BatchText) (key : WorldKey) → contents_of w calls batches (row_key key) ≡ row_in w key
 at_world_key w calls batches (Account id) = refl
 at_world_key w calls batches (App id) = refl
 at_world_key w calls batches (Version id) = refl
@@ -33,9 +33,9 @@ neither true b h = absurd (true≢false h)
 neither false b h = (refl, h)
 
 module _ (w : World) (cs : List Change) (rows : List StoredRow) (changes : AreChanges w (applied w cs) rows)
-    (calls calls' : ℕ → Option Call) (batches batches' : List ℕ → List ℕ → Option BatchText) (more : List StoredRow)
+    (calls calls' : SlotCalls) (batches batches' : List ℕ → List ℕ → Option BatchText) (more : List StoredRow)
     (kept : AllByRecursion (λ r. contents_of (applied w cs) calls' batches' (key_of r) ≡ Some r) more)
-    (other_calls : (id : ℕ) → is_put more (kept_key id) ≡ false → calls id ≡ calls' id)
+    (other_calls : (host slot : ℕ) → is_put more (kept_key host slot) ≡ false → calls host slot ≡ calls' host slot)
     (other_batches : (kind name : List ℕ) → is_put more (batch_key kind name) ≡ false → batches kind name ≡ batches' kind name) where
   abbrev w' : World
   w' = applied w cs
@@ -65,7 +65,7 @@ module _ (w : World) (cs : List Change) (rows : List StoredRow) (changes : AreCh
   others_hold (unit_key id) none = same_at (Unit id) none
   others_hold (host_key id) none = same_at (Host id) none
   others_hold (instance_key unit num) none = same_at (Instance (record { unit = unit; number = num })) none
-  others_hold (kept_key id) none = ap (option_map (λ (k : Call). stored.Kept (record { host_id = id; seqno = k.seqno; text = k.text; reply = k.reply }))) (other_calls id (not_put (kept_key id) none).1)
+  others_hold (kept_key host slot) none = ap (option_map (λ (k : Call). stored.Kept (call_row host slot k))) (other_calls host slot (not_put (kept_key host slot) none).1)
   others_hold (batch_key kind name) none = ap (option_map (λ (b : BatchText). stored.Batch (record { kind = kind; name = name; text = b.0; answer = b.1 }))) (other_batches kind name (not_put (batch_key kind name) none).1)
 
   pub world_settled : (key : RowKey) → with_rows (contents_of w calls batches) (rows ++ more) key ≡ contents_of w' calls' batches' key

@@ -20,7 +20,7 @@ row_key (Instance p) = instance_key p.unit p.number
 
 -- the row that a world has at a key
 abbrev pub row_in : World → WorldKey → Option StoredRow
-row_in w key = contents_of w (λ _. None) (λ _ _. None) (row_key key)
+row_in w key = contents_of w (λ _ _. None) (λ _ _. None) (row_key key)
 
 -- the row that it has at a key of any table but those of workunits and instances
 abbrev pub row_beside : World → WorldKey → Option StoredRow

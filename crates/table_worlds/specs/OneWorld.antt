@@ -1,13 +1,12 @@
 -- What tables say of the world that they hold.
 use Rattle.std.specs.Prelude.{◌≡◌, ℕ, List, Option}
-use Rattle.reply_register.specs.declared.kept.Kept.{Kept}
 use Rattle.sched_book.specs.Sound.{Sound}
 use Rattle.sched_book.specs.declared.world.World.{World}
 use Rattle.sqlite.specs.Effect.{Database}
-use Rattle.table_meaning.specs.Worlds.{BatchText, HoldWorld}
+use Rattle.table_meaning.specs.Worlds.{BatchText, SlotCalls, HoldWorld}
 
 -- tables hold one sound world at most, whatever they keep beside it
 abbrev pub TablesHoldOneWorld : Type 0
 TablesHoldOneWorld =
-    (db other : Database) (w v : World) (calls later : ℕ → Option Kept) (batches newer : List ℕ → List ℕ → Option BatchText)
+    (db other : Database) (w v : World) (calls later : SlotCalls) (batches newer : List ℕ → List ℕ → Option BatchText)
     → db.trees ≡ other.trees → Sound w → Sound v → HoldWorld db w calls batches → HoldWorld other v later newer → w ≡ v

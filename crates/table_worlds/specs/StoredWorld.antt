@@ -1,7 +1,6 @@
 -- The world that stands in tables, as a function of their rows: each part of it is found at its keys.
 use Rattle.std.specs.Prelude.{◌≡◌, ℕ, ◌+◌, max, ◌==◌, List, [], ◌∷◌, filter_map, codes, Option, option_map, unwrap_or}
 use Rattle.std.specs.List.{range_with_len}
-use Rattle.reply_register.specs.declared.kept.Kept.{Kept}
 use Rattle.sched_book.specs.declared.instance.Instance.{Instance as Job}
 use Rattle.sched_book.specs.declared.instance.UnitBook.{UnitBook}
 use Rattle.sched_book.specs.declared.rows.Account.{Account}
@@ -16,7 +15,7 @@ use Rattle.sqlite_value.specs.Order.{Row}
 use Rattle.table_meaning.specs.declared.tables.TableName.{TableName}
 use Rattle.table_meaning.specs.declared.tables.TableName.TheVariants as table
 use Rattle.table_meaning.specs.Rows.{setting_key, account_key, app_key, version_key, unit_key, host_key, instance_key, rows_in, look_up}
-use Rattle.table_meaning.specs.Worlds.{BatchText, HoldWorld}
+use Rattle.table_meaning.specs.Worlds.{BatchText, SlotCalls, HoldWorld}
 use Rattle.table_worlds.specs.ReadBack.{number_at, text_at, account_in, app_in, version_in, unit_in, host_in, job_in}
 use Rattle.table_worlds.specs.Readable.{IsReadable}
 
@@ -86,5 +85,5 @@ world_in trees = record {
 -- the world that tables hold, where it is told by its rows, is the world in them, whatever they keep beside it
 abbrev pub HeldIsReadBack : Type 0
 HeldIsReadBack =
-    (db : Database) (w : World) (calls : ℕ → Option Kept) (batches : List ℕ → List ℕ → Option BatchText)
+    (db : Database) (w : World) (calls : SlotCalls) (batches : List ℕ → List ℕ → Option BatchText)
     → HoldWorld db w calls batches → IsReadable w → world_in db.trees ≡ w

@@ -128,6 +128,7 @@ fn same_call(left: &StoredCall, right: &StoredCall) -> bool
     ensures { Decides result (left.now ≡ right.now) }
 {
     left.host_id == right.host_id
+        && left.slot == right.slot
         && left.seqno == right.seqno
         && same_text(&left.text, &right.text)
         && same_text(&left.reply, &right.reply)

@@ -8,10 +8,8 @@ ghost use Rattle.table_worlds.specs.RowsOf.{setting_rows};
 use sched_book::Settings;
 use std::alloc::Global;
 use table_meaning::rows::{SettingValue, StoredRow, StoredSetting};
+use table_meaning::tables::NEWEST_SCHEMA;
 use texts::{Listed, Memory, Text};
-
-/// The schema of the stored tables.
-const SCHEMA: u32 = 1;
 
 fn setting(alloc: Global, name: &str, value: SettingValue) -> Result<StoredRow, Memory>
     ensures { IfOk result (λ row. row ≡ stored.Setting (record { name = name.now; value = value })) }
@@ -35,7 +33,7 @@ pub fn setting_rows(alloc: Global, settings: &Settings) -> Result<Listed<StoredR
 {
     let key = SettingValue::Word(settings.operator_key.clone()?);
     Ok(Listed::of(vec![in alloc;
-        number(alloc, "schema", SCHEMA)?,
+        number(alloc, "schema", NEWEST_SCHEMA)?,
         number(alloc, "daily_result_quota", settings.daily_result_quota)?,
         number(alloc, "max_hosts", settings.max_hosts)?,
         number(alloc, "max_wus_in_progress", settings.max_wus_in_progress)?,

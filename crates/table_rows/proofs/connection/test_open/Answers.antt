@@ -1,4 +1,4 @@
-use Rattle.std.proofs.Common.{[], rules}
+use Rattle.std.proofs.Common.{[]}
 use Rattle.sqlite.specs.Held.{state}
 use Rattle.table_rows.proofs.Unrun.{reads_unchanged, reads_unrun}
 use Rattle.table_rows.proofs.connection.test_open.Goals as goal

@@ -9,4 +9,4 @@ use Rattle.table_rows.proofs.keyed.kept_of.Goals as goal
 pub returns-clause-row : goal.returns-clause-row
 returns-clause-row g c clean known =
     let old = state g.S.Store (record c.args.conn.now { in_transaction = true }) in
-    first_is g.S.Store c.args.conn.now _ _ _ _ c.first_shown.result _ (λ after rows h. row_shown_at (kept_key c.args.host) old (state g.S.Store after) known rows (rw c.whole.ensures at h)) (c.first_shown.ensures.first (λ k. columns_of (Kept k)) 4 (λ row x told. told.1.0) clean)
+    first_is g.S.Store c.args.conn.now _ _ _ _ c.first_shown.result _ (λ after rows h. row_shown_at (kept_key c.args.host c.args.slot) old (state g.S.Store after) known rows (rw (c.whole.ensures, c.whole-2.ensures) at h)) (c.first_shown.ensures.first (λ k. columns_of (Kept k)) 5 (λ row x told. told.1.0) clean)

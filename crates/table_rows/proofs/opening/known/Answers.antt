@@ -1,26 +1,34 @@
-use Rattle.std.proofs.Common.{◌≡◌, false, sym, ap, subst, ◌∙◌, rules}
-use Rattle.std.proofs.lemmas.Bool.{both_ways}
+use Rattle.std.proofs.Common.{◌≡◌, sym, ap, subst, ◌∙◌, rules, arith}
+use Rattle.sqlite.specs.Effect.{Database}
 use Rattle.sqlite.specs.Held.{state}
 use Rattle.sqlite.specs.State.{HasCleanDisk}
-use Rattle.table_meaning.specs.Schema.{newest, stored_schema}
-use Rattle.table_meaning.proofs.Knowing.{known_from, each_rises}
-use Rattle.table_rows.specs.Plain.{IsPlain}
-use Rattle.table_rows.proofs.PlainSchema.{each_is_plain}
+use Rattle.table_meaning.specs.Schema.{newest}
+use Rattle.table_meaning.specs.Schemas.{AreKnownAt, AreEarlier}
+use Rattle.table_meaning.proofs.Knowing.{known_at_from}
+use Rattle.table_meaning.proofs.SchemaTables.{known_newest}
 use Rattle.table_rows.proofs.Reopening.{one_refused}
 use Rattle.table_rows.proofs.opening.known.Goals as goal
 
-pub returns-then-not-is_alike-clause-other : goal.returns-then-not-is_alike-clause-other
-returns-then-not-is_alike-clause-other g c = λ refused is clean schema.
-    let clean_here = subst (λ h. HasCleanDisk (state g.S.Store h)) (sym (one_refused c.in-Some.conn refused is)) clean in
-    let now = c.in-Some.ensures.same clean_here in
-    let same : c.schema.result.now ≡ c.in-Ok.wanted = c.schema.ensures.value ∙ ap (λ db. db.schema) now ∙ schema ∙ sym c.in-Ok.ensures in
-    let differ : c.is_alike.result ≡ false = search rules in
-    both_ways _ differ (c.is_alike.ensures.1 (same, subst IsPlain (sym c.in-Ok.ensures) (each_is_plain newest)))
-
 pub returns-clause-known : goal.returns-clause-known
 returns-clause-known g c clean =
+    let n = c.in-Some-found.schema in
     let now = (state g.S.Store c.in-Some.conn).now in
+    let found = rw c.in-Some-found.is at c.in-Ok.ensures.found in
     let opened = c.in-Some.ensures.opens clean in
-    let alike : c.schema.result.now ≡ c.in-Ok.wanted = (c.is_alike.ensures.0 (search rules)).0 in
-    let schema : now.schema ≡ stored_schema = sym c.schema.ensures.value ∙ alike ∙ c.in-Ok.ensures in
-    known_from now schema (opened.1 opened.0.is_open).0 (each_rises now schema (c.in-Some.ensures.ordered clean))
+    let top : n ≡ newest = omega (arith, found.0.1, c.if-schema-lt-NEWEST_SCHEMA.false) in
+    known_newest now (subst (λ m. AreKnownAt m now) top (known_at_from n found.0 now found.1 (opened.1 opened.0.is_open).0 (c.in-Some.ensures.ordered clean)))
+
+pub returns-then-schema-lt-NEWEST_SCHEMA-clause-old : goal.returns-then-schema-lt-NEWEST_SCHEMA-clause-old
+returns-then-schema-lt-NEWEST_SCHEMA-clause-old g c m other is clean =
+    let n = c.in-Some-found.schema in
+    let now = (state g.S.Store c.in-Some.conn).now in
+    let found = rw c.in-Some-found.is at c.in-Ok.ensures.found in
+    let told = c.refusal.ensures.old m other is clean in
+    let opened = c.in-Some.ensures.opens told.0 in
+    subst (AreEarlier m) (c.in-Some.ensures.same told.0) (told.1 (known_at_from n found.0 now found.1 (opened.1 opened.0.is_open).0 (c.in-Some.ensures.ordered told.0))).1
+
+pub returns-in_default-found-clause-other : goal.returns-in_default-found-clause-other
+returns-in_default-found-clause-other g c refused is clean schema =
+    let clean_here = subst (λ h. HasCleanDisk (state g.S.Store h)) (sym (one_refused c.in-Some.conn refused is)) clean in
+    let same = ap (λ (db : Database). db.schema) (c.in-Some.ensures.same clean_here) in
+    c.in-Ok.ensures.none (search rules) newest (omega arith, omega arith) (same ∙ schema)

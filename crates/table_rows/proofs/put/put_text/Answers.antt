@@ -5,3 +5,6 @@ use Rattle.table_rows.proofs.put.put_text.Goals as goal
 
 pub returns-in-Host : goal.returns-in-Host
 returns-in-Host c = sym (ap (λ r. sql_put (table_at (key_of r))) c.in-Host.is)
+
+pub returns-in-Kept : goal.returns-in-Kept
+returns-in-Kept c = sym (ap (λ r. sql_put (table_at (key_of r))) c.in-Kept.is)

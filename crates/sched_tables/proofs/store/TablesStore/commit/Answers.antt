@@ -1,13 +1,13 @@
-use Rattle.std.proofs.Common.{◌≡◌, refl, inl, inr, ap, ◌∙◌, arith}
-use Rattle.std.specs.Prelude.{is_ok, IsTrue}
+use Rattle.std.proofs.Common.{◌≡◌, inl, inr, ap, ◌∙◌, arith}
+use Rattle.std.specs.Prelude.{IsTrue}
 use Rattle.sqlite.specs.Effect.{Database}
-use Rattle.sched_tables.specs.Commits.{Makes, apps_with}
-use Rattle.sched_tables.specs.Entries.{row_of, calls_of, batches_of}
+use Rattle.sched_tables.specs.Commits.{apps_with}
+use Rattle.sched_tables.specs.Entries.{MakesWith, calls_of, batches_of}
 use Rattle.sched_tables.specs.ReadLaws.{left_world, left_kept, left_beside, never_shut}
 use Rattle.sched_tables.specs.Views.{state_of, world_of, AreKept}
 use Rattle.sched_tables.proofs.EntriesKept.{kept_then, beside_then, committed}
 use Rattle.stores.proofs.Results.{on_ok, on_err}
-use Rattle.sched_tables.proofs.Leads.{all_ok, all_err, either_way}
+use Rattle.sched_tables.proofs.Leads.{all_ok, either_way}
 use Rattle.sched_tables.proofs.Stops.{found_is_ahead}
 use Rattle.sched_tables.proofs.store.TablesStore.commit.Goals as goal
 
@@ -19,7 +19,6 @@ returns-clause-acts g c =
     let new = state_of g.S.Store after in
     let w = world_of g.S.Store before in
     let cs = c.args.delta.now in
-    let row = row_of c.args.entry.now in
     record {
       acts = record {
         was_clean = λ clean. omega (arith, c.commit.ensures.crash.clean, clean);
@@ -30,18 +29,18 @@ returns-clause-acts g c =
         stays_kept = λ honest kept.
             let idle = c.commit.ensures.idle kept.0.idle in
             either_way c.commit.result (AreKept g.S.Store after) _ (AreKept g.S.Store after)
-            (all_ok c.commit.result (after.apps ≡ apps_with before.apps cs) (new.now ≡ new.committed) (Makes w cs row old.now new.now) (AreKept g.S.Store after)
+            (all_ok c.commit.result (after.apps ≡ apps_with before.apps cs) (new.now ≡ new.committed) (MakesWith w cs c.args.entry.now old.now new.now) (AreKept g.S.Store after)
             c.commit.ensures.apps (c.commit.ensures.rests honest) (c.commit.ensures.made honest kept)
             (λ apps rests made. (
-              kept_then old new w cs c.args.entry.now row refl kept.0 made rests idle,
-              beside_then old new w cs c.args.entry.now row refl kept.0 made after.settings before.apps after.apps before.remembered after.remembered
+              kept_then old new w cs c.args.entry.now kept.0 made rests idle,
+              beside_then old new w cs c.args.entry.now kept.0 made after.settings before.apps after.apps before.remembered after.remembered
                   (record { settings_are = c.commit.ensures.settings ∙ kept.1.settings_are; apps_are = kept.1.apps_are; rows_are = kept.1.rows_are }) apps c.commit.ensures.forgets,
             )))
             (c.commit.ensures.left honest kept)
             (λ all. all)
             (λ left. (left_kept old new left.0 left.1 kept.0 idle, left_beside old new left.0 left.1 kept.0 before.settings after.settings before.apps after.apps before.remembered after.remembered c.commit.ensures.settings left.2 (c.commit.ensures.forgets _) kept.1));
         left = λ h found.
-            elim (found_is_ahead old new w h cs c.args.entry.now row (AreKept g.S.Store before) (λ well. well.0) refl c.commit.ensures.crash found) [
+            elim (found_is_ahead old new w h cs c.args.entry.now (AreKept g.S.Store before) (λ well. well.0) c.commit.ensures.crash found) [
               | inl earlier ↦ inl earlier
               | inr ahead ↦ inr ahead
             ];
@@ -63,7 +62,6 @@ returns-clause-made g c = λ honest kept.
     let new = state_of g.S.Store after in
     let w = world_of g.S.Store before in
     let cs = c.args.delta.now in
-    let row = row_of c.args.entry.now in
-    all_ok c.commit.result (after.apps ≡ apps_with before.apps cs) (new.now ≡ new.committed) (Makes w cs row old.now new.now) _
+    all_ok c.commit.result (after.apps ≡ apps_with before.apps cs) (new.now ≡ new.committed) (MakesWith w cs c.args.entry.now old.now new.now) _
     c.commit.ensures.apps (c.commit.ensures.rests honest) (c.commit.ensures.made honest kept)
-    (λ apps rests made fits. committed old new w cs c.args.entry.now row refl kept.0 made)
+    (λ apps rests made may. committed old new w cs c.args.entry.now kept.0 made may.newest)

@@ -2,8 +2,8 @@ use Rattle.std.proofs.Common.{◌≡◌, sym, subst, rules, arith}
 use Rattle.sqlite.specs.Held.{state}
 use Rattle.sqlite.specs.State.{HasCleanDisk}
 use Rattle.table_meaning.specs.Steps.{PutsRows}
-use Rattle.sched_tables.specs.Commits.{ArePut}
-use Rattle.sched_tables.specs.Entries.{row_of}
+use Rattle.table_meaning.specs.Kept.{calls_in}
+use Rattle.sched_tables.specs.Entries.{ArePutWith}
 use Rattle.sched_tables.specs.Views.{world_of, AreKept}
 use Rattle.sched_tables.proofs.Leads.{puts_all, leaves_made, was_ok}
 use Rattle.sched_tables.proofs.tables.Tables.commit.Goals as goal
@@ -17,25 +17,23 @@ returns-clause-made g c = λ honest kept.
     let was_open = c.put_rows.ensures.was_open honest.0 honest.1 in
     let puts = was_ok c.put_rows.result (PutsRows mid.now new.committed c.as_slice.result.now) (search rules) (c.put_rows.ensures.both honest.0 honest.1) in
     let rest = was_ok c.put_rows.result (new.now ≡ new.committed) (search rules) (c.put_rows.ensures.rest honest.0 honest.1) in
-    puts_all (state g.S.Store before.conn) mid new (world_of g.S.Store before) c.args.delta.now (row_of c.args.entry.now) c.as_slice.result.now
+    puts_all (state g.S.Store before.conn) mid new (world_of g.S.Store before) c.args.delta.now c.args.entry.now c.as_slice.result.now
     (c.rows_with-rows.ensures.reads.same clean was_open kept.0.rests).0 rest
-    (subst (ArePut (world_of g.S.Store before) c.args.delta.now (row_of c.args.entry.now)) (sym c.as_slice.ensures) (c.in_ok-rows.ensures.rows (clean, was_open) kept))
+    (subst (ArePutWith (world_of g.S.Store before) c.args.delta.now (calls_in (state g.S.Store before.conn).now.trees) c.args.entry.now) (sym c.as_slice.ensures) (c.in_ok-rows.ensures.rows (clean, was_open) kept))
     puts
 
 pub returns-clause-crash : goal.returns-clause-crash
 returns-clause-crash g c =
     let before = c.args.self.now in
     let cs = c.args.delta.now in
-    let row = row_of c.args.entry.now in
-    leaves_made (state g.S.Store before.conn) (state g.S.Store c.rows_with-rows.new.self.conn) (state g.S.Store c.put_rows.new.conn) (world_of g.S.Store before) cs row c.as_slice.result.now
+    leaves_made (state g.S.Store before.conn) (state g.S.Store c.rows_with-rows.new.self.conn) (state g.S.Store c.put_rows.new.conn) (world_of g.S.Store before) cs c.args.entry.now c.as_slice.result.now
     (AreKept g.S.Store before) c.rows_with-rows.ensures.reads c.put_rows.ensures.crash
-    (λ honest kept. subst (ArePut (world_of g.S.Store before) cs row) (sym c.as_slice.ensures) (c.in_ok-rows.ensures.rows honest kept)) (λ kept. kept.0.rests)
+    (λ honest kept. subst (ArePutWith (world_of g.S.Store before) cs (calls_in (state g.S.Store before.conn).now.trees) c.args.entry.now) (sym c.as_slice.ensures) (c.in_ok-rows.ensures.rows honest kept)) (λ kept. kept.0.rests)
 
 pub returns-then-is_err-clause-crash : goal.returns-then-is_err-clause-crash
 returns-then-is_err-clause-crash g c =
     let before = c.args.self.now in
     let cs = c.args.delta.now in
-    let row = row_of c.args.entry.now in
-    leaves_made (state g.S.Store before.conn) (state g.S.Store c.rows_with-rows.new.self.conn) (state g.S.Store c.put_rows.new.conn) (world_of g.S.Store before) cs row c.as_slice.result.now
+    leaves_made (state g.S.Store before.conn) (state g.S.Store c.rows_with-rows.new.self.conn) (state g.S.Store c.put_rows.new.conn) (world_of g.S.Store before) cs c.args.entry.now c.as_slice.result.now
     (AreKept g.S.Store before) c.rows_with-rows.ensures.reads c.put_rows.ensures.crash
-    (λ honest kept. subst (ArePut (world_of g.S.Store before) cs row) (sym c.as_slice.ensures) (c.in_ok-rows.ensures.rows honest kept)) (λ kept. kept.0.rests)
+    (λ honest kept. subst (ArePutWith (world_of g.S.Store before) cs (calls_in (state g.S.Store before.conn).now.trees) c.args.entry.now) (sym c.as_slice.ensures) (c.in_ok-rows.ensures.rows honest kept)) (λ kept. kept.0.rests)

@@ -1,0 +1,94 @@
+-- The tables of a schema by its number: each by its tree, and what they are once the newest schema is made of them.
+use Rattle.std.proofs.Common.{◌≡◌, ℕ, zero, suc, Bool, true, false, cond, List, [], ◌∷◌, map, find, slice_get, Some, None, option_map, refl, sym, ap, subst, ◌∙◌, inl, inr, true≢false, arith}
+use Rattle.std.specs.Prelude.{◌==◌}
+use Rattle.std.specs.List.{AllByRecursion, list_any}
+use Rattle.std.proofs.lemmas.Bool.{cases_Bool, eqb-true}
+use Rattle.sqlite_trees.specs.declared.store.Shape.TheVariants.{Table as TableTree}
+use Rattle.sqlite_trees.specs.View.{IsShaped}
+use Rattle.sqlite.specs.Effect.{Database}
+use Rattle.table_meaning.specs.declared.tables.TableName.{TableName}
+use Rattle.table_meaning.specs.declared.tables.TableName.TheVariants.{Setting, Account, App, Version, Unit, Host, Instance, Kept, Batch}
+use Rattle.table_meaning.specs.Layouts.{Layout}
+use Rattle.table_meaning.specs.Schema.{newest, layouts_at, sql_table, schema_at, stored_schema, table_by, place_of}
+use Rattle.table_meaning.specs.Rows.{tree_of, key_places, shown, columns_of, RowKey, table_at, has_key}
+use Rattle.table_meaning.specs.Holding.{AreApart, AreKnown, Contents, Hold}
+use Rattle.table_meaning.specs.Schemas.{IsSchema, has_tree, has_table, AreKnownAt, HoldAt, only_at}
+use Rattle.table_meaning.specs.Making.{IsLeft, rows_at}
+use Rattle.table_meaning.proofs.ByComputing.{computed}
+
+-- what holds of the tree of each table of the schema holds of each tree that it has
+pub at_tree : (n : ℕ) (P : ℕ → Type 0) → AllByRecursion (λ t. P t.tree) (schema_at n).tables → (tree : ℕ) → has_tree n tree ≡ true → P tree
+at_tree n P all tree has = go (layouts_at n) all has
+  where
+    go : (ls : List Layout) → AllByRecursion (λ t. P t.tree) (map sql_table ls) → list_any (λ l. l.tree == tree) ls ≡ true → P tree
+    go [] all has = absurd (true≢false (sym has))
+    go (l ∷ ls) all has = elim (cases_Bool (l.tree == tree)) [
+      | inl here ↦ subst P (eqb-true _ _ here) all.0
+      | inr other ↦ go ls all.1 (rw other at has)
+    ]
+
+-- the tables of a schema have their places among those of the newest
+in_first : (t : TableName) → has_table 1 t ≡ true → slice_get (schema_at 1).tables (place_of t) ≡ Some (table_by t)
+in_first t = elim t as (λ t. has_table 1 t ≡ true → slice_get (schema_at 1).tables (place_of t) ≡ Some (table_by t)) [
+  | Setting ↦ λ h. refl
+  | Account ↦ λ h. refl
+  | App ↦ λ h. refl
+  | Version ↦ λ h. refl
+  | Unit ↦ λ h. refl
+  | Host ↦ λ h. refl
+  | Instance ↦ λ h. refl
+  | Kept ↦ λ h. absurd (true≢false (sym h))
+  | Batch ↦ λ h. refl
+]
+
+pub listed_at : (n : ℕ) → IsSchema n → (t : TableName) → has_table n t ≡ true → slice_get (schema_at n).tables (place_of t) ≡ Some (table_by t)
+listed_at zero is t has = absurd (omega (arith, is.0))
+listed_at (suc zero) is t has = in_first t has
+listed_at (suc (suc zero)) is t has = (computed t).listed
+listed_at (suc (suc (suc n))) is t has = absurd (omega (arith, is.1))
+
+-- ---- the newest schema
+
+pub newest_has : (t : TableName) → has_table newest t ≡ true
+newest_has t = elim t as (λ t. has_table newest t ≡ true) [ Setting ↦ refl | Account ↦ refl | App ↦ refl | Version ↦ refl | Unit ↦ refl | Host ↦ refl | Instance ↦ refl | Kept ↦ refl | Batch ↦ refl ]
+
+pub known_newest : (db : Database) → AreKnownAt newest db → AreKnown db
+known_newest db known = record {
+  schema = known.schema;
+  ordered = λ t. at_tree newest (λ tree. IsShaped TableTree (db.trees tree)) known.ordered (tree_of t) (newest_has t);
+  apart = λ t. known.apart t (newest_has t);
+}
+
+-- ---- the newest schema made of tables of another
+
+module _ (n : ℕ) (old new : Database) (left : IsLeft stored_schema (rows_at n old.trees) [] new) where
+  rows_are : (tree : ℕ) → has_tree newest tree ≡ true → new.trees tree ≡ cond (has_tree n tree) (old.trees tree) []
+  rows_are = at_tree newest (λ tree. new.trees tree ≡ rows_at n old.trees tree) (subst (λ s. AllByRecursion (λ t. new.trees t.tree ≡ rows_at n old.trees t.tree) s.tables) left.whole left.same)
+
+  -- a tree that both schemas have is as it was
+  pub stays_made : (tree : ℕ) → has_tree newest tree ≡ true → has_tree n tree ≡ true → new.trees tree ≡ old.trees tree
+  stays_made tree is had = rows_are tree is ∙ ap (λ b. cond b (old.trees tree) []) had
+
+  -- the tables of the earlier schema have what they had, and the others nothing
+  pub hold_made : (contents : Contents) → HoldAt n old contents → Hold new (only_at n contents)
+  hold_made contents holds = record {
+    known = record {
+      schema = left.whole;
+      ordered = λ t. subst (IsShaped TableTree) (sym (rows_are (tree_of t) (newest_has t))) (ordered t (has_table n t) refl);
+      apart = λ t. subst (AreApart (key_places t)) (sym (rows_are (tree_of t) (newest_has t))) (apart t (has_table n t) refl);
+    };
+    rows = λ key. ap (λ rows. option_map (shown (table_at key)) (find (has_key key) rows)) (rows_are (tree_of (table_at key)) (newest_has (table_at key))) ∙ found key (has_table n (table_at key)) refl;
+  }
+    where
+      ordered : (t : TableName) (had : Bool) → has_table n t ≡ had → IsShaped TableTree (cond had (old.trees (tree_of t)) [])
+      ordered t true is = at_tree n (λ tree. IsShaped TableTree (old.trees tree)) holds.known.ordered (tree_of t) is
+      ordered t false is = (tt, tt)
+
+      apart : (t : TableName) (had : Bool) → has_table n t ≡ had → AreApart (key_places t) (cond had (old.trees (tree_of t)) [])
+      apart t true is = holds.known.apart t is
+      apart t false is = λ a b is_a is_b same. absurd is_a
+
+      found : (key : RowKey) (had : Bool) → has_table n (table_at key) ≡ had
+          → option_map (shown (table_at key)) (find (has_key key) (cond had (old.trees (tree_of (table_at key))) [])) ≡ option_map columns_of (cond had (contents key) None)
+      found key true is = holds.rows key is
+      found key false is = refl
