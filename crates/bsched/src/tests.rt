@@ -16,6 +16,7 @@ mod settings;
 mod spellings;
 mod stops;
 mod stored;
+mod upgrades;
 
 use commands::default_settings;
 use message_engine::ListStore;

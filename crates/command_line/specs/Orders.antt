@@ -9,7 +9,7 @@ use Rattle.instants.specs.Instants.{moment_told}
 use Rattle.command_line.specs.Numbers.{number_up_to, last_port, most_connections, last_host}
 use Rattle.command_line.specs.Program.{the_program}
 use Rattle.command_line.specs.declared.order.Order.{Order}
-use Rattle.command_line.specs.declared.order.Order.TheVariants.{Create, Serve, Import, Tick, Statement, Replay}
+use Rattle.command_line.specs.declared.order.Order.TheVariants.{Create, Serve, Import, Tick, Statement, Upgrade, Replay}
 use Rattle.command_line.specs.declared.order.OrderFault.{OrderFault}
 use Rattle.command_line.specs.declared.order.OrderFault.TheVariants.{Refused, Help, Memory}
 
@@ -62,6 +62,11 @@ statement_order values =
     number_at (codes "host") last_host values >>= λ host.
     Some (Statement tables host)
 
+abbrev pub upgrade_order : List Row → Option Order
+upgrade_order values =
+    first_of (codes "tables") values >>= λ tables.
+    Some (Upgrade tables)
+
 abbrev pub replay_order : List Row → Option Order
 replay_order values = Some (Replay (first_of (codes "settings") values))
 
@@ -73,8 +78,9 @@ order_named name values =
     else (if bytes_eq name (codes "import") then import_order values
     else (if bytes_eq name (codes "tick") then tick_order values
     else (if bytes_eq name (codes "statement") then statement_order values
+    else (if bytes_eq name (codes "upgrade") then upgrade_order values
     else (if bytes_eq name (codes "replay") then replay_order values
-    else None)))))
+    else None))))))
 
 -- no subcommand at all is a replay with the default settings
 abbrev pub order_by : Option (Text × List Row) → Option Order

@@ -38,6 +38,9 @@ tick_command = command (codes "tick") (wanted (codes "tables") ∷ wanted (codes
 abbrev pub statement_command : App
 statement_command = command (codes "statement") (wanted (codes "tables") ∷ wanted (codes "host") ∷ [])
 
+abbrev pub upgrade_command : App
+upgrade_command = command (codes "upgrade") (wanted (codes "tables") ∷ [])
+
 abbrev pub replay_command : App
 replay_command = command (codes "replay") (optional (codes "settings") ∷ [])
 
@@ -46,5 +49,5 @@ unfoldable pub the_program : App
 the_program = record {
   top = record (new_shape (codes "bsched")) { is_leaf = false };
   subs = create_command.top ∷ serve_command.top ∷ import_command.top ∷ tick_command.top ∷ statement_command.top
-      ∷ replay_command.top ∷ [];
+      ∷ upgrade_command.top ∷ replay_command.top ∷ [];
 }

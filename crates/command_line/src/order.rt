@@ -32,6 +32,10 @@ pub enum Order {
         tables: Text,
         host: u32,
     },
+    /// Carry tables of an older schema over to the newest one.
+    Upgrade {
+        tables: Text,
+    },
     /// Answer the messages of a run from standard input, with the default settings where none are told.
     Replay {
         settings: Option<Text>,

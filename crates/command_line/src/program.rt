@@ -103,6 +103,14 @@ fn statement_command<'a>(alloc: Global) -> Result<Command<'a>, Memory>
     subcommand(alloc, "statement", about, &options)
 }
 
+fn upgrade_command<'a>(alloc: Global) -> Result<Command<'a>, Memory>
+    ensures { IfOk result (spec.IsSubcommand spec.upgrade_command) }
+{
+    let about = "Carry a tables file over to the newest schema and print `schema` and its number";
+    let tables = "Tables file of any schema; keep a copy of it before";
+    subcommand(alloc, "upgrade", about, &[("tables", "FILE", tables)])
+}
+
 fn replay_command<'a>(alloc: Global) -> Result<Command<'a>, Memory>
     ensures { IfOk result (spec.IsSubcommand spec.replay_command) }
 {
@@ -134,5 +142,6 @@ pub(crate) fn program<'a>(alloc: Global) -> Result<Command<'a>, Memory>
     let bsched = with(bsched, import_command(alloc))?;
     let bsched = with(bsched, tick_command(alloc))?;
     let bsched = with(bsched, statement_command(alloc))?;
+    let bsched = with(bsched, upgrade_command(alloc))?;
     with(bsched, replay_command(alloc))
 }

@@ -143,6 +143,17 @@ fn statement_order(alloc: Global, values: &ArgMatches<'_>) -> Result<Option<Orde
     }))
 }
 
+fn upgrade_order(alloc: Global, values: &ArgMatches<'_>) -> Result<Option<Order>, Memory>
+    ensures { IfOk result (λ order. order ≡ spec.upgrade_order (rows_of (found_of values.now))) }
+{
+    let Some(tables) = value_at(values, "tables") else {
+        return Ok(None);
+    };
+    Ok(Some(Order::Upgrade {
+        tables: Text::copied(alloc, tables)?,
+    }))
+}
+
 fn replay_order(alloc: Global, values: &ArgMatches<'_>) -> Result<Option<Order>, Memory>
     ensures { IfOk result (λ order. order ≡ spec.replay_order (rows_of (found_of values.now))) }
 {
@@ -168,6 +179,7 @@ pub(crate) fn order_named(
         "import" => import_order(alloc, values),
         "tick" => tick_order(alloc, values),
         "statement" => statement_order(alloc, values),
+        "upgrade" => upgrade_order(alloc, values),
         "replay" => replay_order(alloc, values),
         _ => Ok(None),
     }

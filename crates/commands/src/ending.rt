@@ -33,6 +33,8 @@ pub enum Failure {
     Settings,
     /// A file, a socket or a stream failed, or a file is none of tables.
     File,
+    /// The tables are of an older schema: they have to be upgraded.
+    OldSchema,
     /// The line of this number, from 1, of a replay is none.
     Line(u32),
     /// Memory was wanting, or the disk failed.
@@ -43,7 +45,7 @@ impl Failure {
     /// The exit status of a program that ends so.
     pub fn status(self) -> u8 {
         match self {
-            Failure::Settings | Failure::File | Failure::Line(_) => 1,
+            Failure::Settings | Failure::File | Failure::OldSchema | Failure::Line(_) => 1,
             Failure::Unavailable => 2,
         }
     }
@@ -54,6 +56,7 @@ impl fmt::Display for Failure {
         match self {
             Failure::Settings => write!(f, "settings"),
             Failure::File => write!(f, "file"),
+            Failure::OldSchema => write!(f, "old schema"),
             Failure::Line(number) => write!(f, "line {number}"),
             Failure::Unavailable => write!(f, "unavailable"),
         }
@@ -88,6 +91,7 @@ impl From<OpenFault> for Failure {
     fn from(fault: OpenFault) -> Failure {
         match fault {
             OpenFault::NotTables | OpenFault::BadRow => Failure::File,
+            OpenFault::OldSchema(_) => Failure::OldSchema,
             OpenFault::Unavailable => Failure::Unavailable,
         }
     }

@@ -4,7 +4,7 @@ use crate::ending::Failure;
 use office_files::{SettingsFault, settings_of};
 use sched_book::Settings;
 use sched_server::Service;
-use sched_tables::Tables;
+use sched_tables::{Tables, upgrade};
 use sqlite::{Alter, Connection};
 use std::alloc::Global;
 use std::fs::File;
@@ -74,6 +74,21 @@ impl Visit for Creation<'_> {
     fn visit<S: Alter + Drop>(&self, rt: &HostRuntime, conn: Connection<S>) -> Result<(), Failure> {
         Tables::create(rt.alloc(), conn, self.settings)?;
         Ok(())
+    }
+}
+
+/// Carries tables over to the newest schema, and tells its number.
+pub(crate) struct Upgrade;
+
+impl Visit for Upgrade {
+    type Found = u32;
+
+    fn visit<S: Alter + Drop>(
+        &self,
+        rt: &HostRuntime,
+        mut conn: Connection<S>,
+    ) -> Result<u32, Failure> {
+        Ok(upgrade(rt.alloc(), &mut conn)?)
     }
 }
 

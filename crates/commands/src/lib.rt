@@ -1,7 +1,8 @@
 //! What the program does at each order of an operator.
 //!
 //! Nothing here has a clause but that it is safe and ends: what is printed, files and sockets are shown by tests. What an
-//! order does to the tables is done by [`sched_server::Service::handle`], which has.
+//! order does to the tables is done by [`sched_server::Service::handle`], [`sched_tables::Tables::create`] and
+//! [`sched_tables::upgrade`], which have.
 #![tactic(auto)]
 
 mod connection;

@@ -4,7 +4,9 @@ ghost use Rattle.std.specs.Prelude.{IfOk};
 ghost use Rattle.sched_book.specs.Limits.{AreSettingsInLimits};
 
 use crate::ending::{Failure, Outcome, ended};
-use crate::files::{Creation, Visit, bytes_of, open_in, service_over, settings_in, visit_file};
+use crate::files::{
+    Creation, Upgrade, Visit, bytes_of, open_in, service_over, settings_in, visit_file,
+};
 use crate::serving::serve_on;
 use command_line::Order;
 use http_requests::{import_request, statement_request, tick_request};
@@ -55,6 +57,7 @@ pub fn perform(rt: &HostRuntime, order: &Order) -> Result<Outcome, Failure> {
         Order::Create { settings, tables } => {
             return create(rt, settings.as_str(), tables.as_str());
         }
+        Order::Upgrade { tables } => return upgrade(rt, tables.as_str()),
         Order::Replay { settings } => return replay_input(rt, settings.as_ref()),
         Order::Serve {
             tables,
@@ -129,6 +132,14 @@ fn create(rt: &HostRuntime, settings: &str, tables: &str) -> Result<Outcome, Fai
         },
     )?;
     writeln!(io::writer(rt), "created")?;
+    Ok(Outcome::Done)
+}
+
+/// Carries the tables in a file over to the newest schema. A file that does not stand is not made.
+fn upgrade(rt: &HostRuntime, tables: &str) -> Result<Outcome, Failure> {
+    fs::metadata(rt, tables)?;
+    let schema = visit_file(rt, tables, &Upgrade)?;
+    writeln!(io::writer(rt), "schema {schema}")?;
     Ok(Outcome::Done)
 }
 

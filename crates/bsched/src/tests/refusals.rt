@@ -20,6 +20,24 @@ pub const ROWS: &str = r#"
 > 1970-01-01T00:16:40Z scheduler {"authenticator":"k1","rpc_seqno":2,"host_info":{"host_cpid":"c1","p_fpops":1000,"m_nbytes":8000,"d_free":9000},"platform_name":"linux"}
 < 409 {"error":"stale","last":3,"number":10}
 
+= each of the latest four calls is repeated, and an older one is stale
+> 1970-01-01T00:16:41Z scheduler {"authenticator":"k1","rpc_seqno":1,"host_info":{"host_cpid":"c1","p_fpops":1000,"m_nbytes":8000,"d_free":9000},"platform_name":"linux"}
+< 200 {"end_word":"enough","host_total_credit":0,"hostid":1,"request_delay":60,"result_abort":[],"result_ack":[],"results":[],"rpc_seqno":1,"user_name":"Ann","user_total_credit":0}
+> 1970-01-01T00:16:42Z scheduler {"authenticator":"k1","rpc_seqno":2,"host_info":{"host_cpid":"c1","p_fpops":1000,"m_nbytes":8000,"d_free":9000},"platform_name":"linux"}
+< 200 {"end_word":"enough","host_total_credit":0,"hostid":1,"request_delay":60,"result_abort":[],"result_ack":[],"results":[],"rpc_seqno":2,"user_name":"Ann","user_total_credit":0}
+> 1970-01-01T00:16:43Z scheduler {"authenticator":"k1","rpc_seqno":3,"host_info":{"host_cpid":"c1","p_fpops":1000,"m_nbytes":8000,"d_free":9000},"platform_name":"linux"}
+< 200 {"end_word":"enough","host_total_credit":0,"hostid":1,"request_delay":60,"result_abort":[],"result_ack":[],"results":[],"rpc_seqno":3,"user_name":"Ann","user_total_credit":0}
+> 1970-01-01T00:16:44Z scheduler {"authenticator":"k1","rpc_seqno":4,"host_info":{"host_cpid":"c1","p_fpops":1000,"m_nbytes":8000,"d_free":9000},"platform_name":"linux"}
+< 200 {"end_word":"enough","host_total_credit":0,"hostid":1,"request_delay":60,"result_abort":[],"result_ack":[],"results":[],"rpc_seqno":4,"user_name":"Ann","user_total_credit":0}
+> 1970-01-01T00:16:45Z scheduler {"authenticator":"k1","rpc_seqno":5,"host_info":{"host_cpid":"c1","p_fpops":1000,"m_nbytes":8000,"d_free":9000},"platform_name":"linux"}
+< 200 {"end_word":"enough","host_total_credit":0,"hostid":1,"request_delay":60,"result_abort":[],"result_ack":[],"results":[],"rpc_seqno":5,"user_name":"Ann","user_total_credit":0}
+> 1970-01-01T00:33:20Z scheduler {"authenticator":"k1","rpc_seqno":2,"host_info":{"host_cpid":"c1","p_fpops":1000,"m_nbytes":8000,"d_free":9000},"platform_name":"linux"}
+< 200 {"end_word":"enough","host_total_credit":0,"hostid":1,"request_delay":60,"result_abort":[],"result_ack":[],"results":[],"rpc_seqno":2,"user_name":"Ann","user_total_credit":0}
+> 1970-01-01T00:33:20Z scheduler {"authenticator":"k1","rpc_seqno":1,"host_info":{"host_cpid":"c1","p_fpops":1000,"m_nbytes":8000,"d_free":9000},"platform_name":"linux"}
+< 409 {"error":"stale","last":5,"number":10}
+> 1970-01-01T00:33:20Z scheduler {"authenticator":"k1","rpc_seqno":3,"host_info":{"host_cpid":"c1","p_fpops":1000,"m_nbytes":8000,"d_free":9000},"platform_name":"linux","work_req_seconds":100}
+< 409 {"error":"reused","last":5,"number":11}
+
 = the last number of all is repeated, and nothing is fresh behind it
 > 1970-01-01T00:16:40Z scheduler {"authenticator":"k1","rpc_seqno":2147483647,"host_info":{"host_cpid":"c1","p_fpops":1000,"m_nbytes":8000,"d_free":9000},"platform_name":"linux"}
 < 200 {"end_word":"enough","host_total_credit":0,"hostid":1,"request_delay":60,"result_abort":[],"result_ack":[],"results":[],"rpc_seqno":2147483647,"user_name":"Ann","user_total_credit":0}

@@ -23,25 +23,39 @@ use stores::Store;
 
 /// What the two files of a database hold.
 #[derive(Drop)]
-struct Image {
+pub struct Image {
     log: Vec<u8>,
     db: Vec<u8>,
 }
 
 /// How many calls each of the two files passes on before it fails all.
 #[derive(Clone, Copy)]
-struct Fuses {
+pub struct Fuses {
     log: u64,
     db: u64,
 }
 
+impl Fuses {
+    /// The log, or the database file, passes on so many calls, and the other never fails.
+    pub fn behind(calls: u64, in_log: bool) -> Fuses {
+        let mut fuses = LASTING;
+        if in_log {
+            fuses.log = calls;
+        } else {
+            fuses.db = calls;
+        }
+        fuses
+    }
+}
+
 /// Files that never fail.
-const LASTING: Fuses = Fuses {
+pub const LASTING: Fuses = Fuses {
     log: u64::MAX,
     db: u64::MAX,
 };
 
-type Fused = Connection<FileStore<Fuse<Memory>>>;
+/// A connection to a database in two such files.
+pub type Fused = Connection<FileStore<Fuse<Memory>>>;
 
 /// A disk on which these bytes stand.
 fn disk(alloc: Global, bytes: &[u8]) -> Result<Memory, Fail>
@@ -56,7 +70,7 @@ fn disk(alloc: Global, bytes: &[u8]) -> Result<Memory, Fail>
 }
 
 /// A connection to the database in these files, or the files, where one of them fails while they are opened.
-fn connected(
+pub fn connected(
     alloc: Global,
     image: &Image,
     fuses: Fuses,
@@ -72,7 +86,7 @@ fn connected(
 }
 
 /// What the files hold behind a stop: what was synced.
-fn image_of(alloc: Global, mut files: Files<Fuse<Memory>>) -> Result<Image, Fail> {
+pub fn image_of(alloc: Global, mut files: Files<Fuse<Memory>>) -> Result<Image, Fail> {
     files.log.crash();
     files.db.crash();
     Ok(Image {
@@ -82,18 +96,22 @@ fn image_of(alloc: Global, mut files: Files<Fuse<Memory>>) -> Result<Image, Fail
 }
 
 /// What a closed database leaves in its files.
-fn closed(alloc: Global, conn: Fused) -> Result<Image, Fail> {
+pub fn closed(alloc: Global, conn: Fused) -> Result<Image, Fail> {
     let files = conn.close_files().ok().ok_or("the files are not closed")?;
     image_of(alloc, files)
 }
 
-/// New tables in files, which are closed.
-fn created(alloc: Global) -> Result<Image, Fail> {
-    let empty = Image {
+/// Files that hold nothing.
+pub fn empty(alloc: Global) -> Image {
+    Image {
         log: Vec::new(alloc),
         db: Vec::new(alloc),
-    };
-    match connected(alloc, &empty, LASTING)? {
+    }
+}
+
+/// New tables in files, which are closed.
+fn created(alloc: Global) -> Result<Image, Fail> {
+    match connected(alloc, &empty(alloc), LASTING)? {
         Ok(conn) => closed(alloc, with_lines(alloc, conn, &[])?),
         Err(_) => Err(Fail::new("new files are not opened")),
     }
@@ -109,6 +127,7 @@ const ROWS_TOLD: &[&str] = &[
     "SELECT id || ' ' || account_id || ' ' || cpid || ' ' || platforms || ' ' || fpops || ' ' || quota || ' ' || held || ' ' || credit FROM host ORDER BY id",
     "SELECT unit_id || ' ' || num || ' ' || coalesce(host_id, '-') || ' ' || coalesce(sent, '-') || ' ' || coalesce(deadline, '-') || ' ' || lapse || ' ' || coalesce(outcome, '-') || ' ' || coalesce(output, '-') || ' ' || coalesce(place, '-') || ' ' || queued FROM instance ORDER BY unit_id, num",
     "SELECT host_id || ' ' || seqno || ' ' || text || ' ' || reply FROM kept ORDER BY host_id",
+    "SELECT host_id || ' ' || slot || ' ' || seqno || ' ' || text || ' ' || reply FROM kept4 ORDER BY host_id, slot",
     "SELECT kind || ' ' || name || ' ' || answer FROM batch ORDER BY kind, name",
 ];
 
@@ -126,7 +145,7 @@ fn rows_told<S: Alter>(alloc: Global, conn: &mut Connection<S>) -> Result<String
 }
 
 /// All rows of the tables in files.
-fn rows_in(alloc: Global, image: &Image) -> Result<String, Fail> {
+pub fn rows_in(alloc: Global, image: &Image) -> Result<String, Fail> {
     match connected(alloc, image, LASTING)? {
         Ok(mut conn) => rows_told(alloc, &mut conn),
         Err(_) => Err(Fail::new("the files are not opened")),
@@ -299,7 +318,7 @@ fn ran_over(
 }
 
 /// The most calls behind which a file is made to stop.
-const MOST_CALLS: u64 = 100_000;
+pub const MOST_CALLS: u64 = 100_000;
 
 /// How many stops of the log, or of the database file, all went on as with no stop; none where one did not.
 fn stops_survived(alloc: Global, in_log: bool) -> Result<Option<u64>, Fail> {
@@ -307,13 +326,13 @@ fn stops_survived(alloc: Global, in_log: bool) -> Result<Option<u64>, Fail> {
     let arrivals = arrivals(alloc)?;
     let whole = whole(alloc, created(alloc)?, &arrivals)?;
     for calls in 0..MOST_CALLS {
-        let mut fuses = LASTING;
-        if in_log {
-            fuses.log = calls;
-        } else {
-            fuses.db = calls;
-        }
-        match ran_over(alloc, &image, fuses, &arrivals, &whole)? {
+        match ran_over(
+            alloc,
+            &image,
+            Fuses::behind(calls, in_log),
+            &arrivals,
+            &whole,
+        )? {
             Ran::Through => return Ok(Some(calls)),
             Ran::On => {}
             Ran::Wrong => return Ok(None),

@@ -14,7 +14,7 @@ use std::test::Fail;
 use stores::Store;
 
 /// The rows of two workunits: for one a single result is enough.
-const WORKUNITS: &str =
+pub const WORKUNITS: &str =
     "1970-01-01T00:00:00Z import/workunits/a0 \"name,app,min_quorum,target_nresults,max_error_results,max_total_results,max_success_results,delay_bound,rsc_fpops_est,rsc_memory_bound,rsc_disk_bound,credit\\nw1,dock,1,1,3,6,4,7200,3600000,1000,1000,5000\\nw2,dock,2,2,3,6,4,7200,3600000,1000,1000,5000\\n\"\n";
 
 /// What Ann's host tells in its next call: it has one job yet, and reports the other.
@@ -30,7 +30,7 @@ fn lines(alloc: Global) -> Result<String, Fail> {
 }
 
 /// Runs a statement. (It has no clause, so that the proof of a test does not carry what each statement does.)
-fn run<S: Alter>(
+pub fn run<S: Alter>(
     conn: &mut Connection<S>,
     sql: &str,
     params: &[ValueRef<'_>],
@@ -165,7 +165,8 @@ const SPOILED: &[&str] = &[
     "UPDATE instance SET place = 101 WHERE place = 1",
     "UPDATE instance SET queued = 0 WHERE queued = 1",
     "UPDATE instance SET queued = 2 WHERE queued = 1",
-    "UPDATE kept SET seqno = 2147483648",
+    "UPDATE kept4 SET seqno = 2147483648 WHERE slot = 0",
+    "UPDATE kept4 SET slot = 4 WHERE slot = 0",
     "UPDATE batch SET kind = 'files' WHERE kind = 'apps'",
     "UPDATE batch SET name = 'a 0' WHERE kind = 'apps'",
 ];

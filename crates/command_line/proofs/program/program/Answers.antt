@@ -12,4 +12,5 @@ returns c =
     let import = c.in_ok-bsched-3.ensures _ _ serve c.import_command.ensures in
     let tick = c.in_ok-bsched-4.ensures _ _ import c.tick_command.ensures in
     let statement = c.in_ok-bsched-5.ensures _ _ tick c.statement_command.ensures in
-    c.with-6.ensures _ _ statement c.replay_command.ensures
+    let upgrade = c.in_ok-bsched-6.ensures _ _ statement c.upgrade_command.ensures in
+    c.with-7.ensures _ _ upgrade c.replay_command.ensures
