@@ -47,7 +47,7 @@ class Host:
     held: list = field(default_factory=list)  # the instances with neither report nor lapse
     sent: Counter = field(default_factory=Counter)  # how many instances were sent on a day
     credit: int = 0
-    kept: tuple = None  # the number, the canonical text and the reply of the last call
+    kept: list = field(default_factory=list)  # of the latest four calls the number, the canonical text and the reply
 
 
 class Unit:
@@ -413,18 +413,19 @@ class Service:
             raise Refused(409, 9, "bad_host")
         seqno, said = record["rpc_seqno"], text(record)
         if host is not None:
-            last, kept, reply = host.kept
-            if (seqno, said) == (last, kept):
-                return reply
+            last = host.kept[0][0]
+            before = next((call for call in host.kept if call[0] == seqno), None)
+            if before is not None and before[1] == said:
+                return before[2]
             if seqno <= last:
-                raise Refused(409, *((11, "reused") if seqno == last else (10, "stale")), last=last)
+                raise Refused(409, *((11, "reused") if before is not None else (10, "stale")), last=last)
         elif len(hosts) >= self.machine.settings["max_hosts"]:
             raise Refused(409, 12, "hosts_full")
         else:
             host = hosts[key] = Host(len(hosts) + 1, account, self.machine.settings["daily_result_quota"])
             account.hosts.append(host)
         reply = text(self.machine.call(host, record, now))
-        host.kept = seqno, said, reply
+        host.kept = [(seqno, said, reply), *host.kept[:3]]
         return reply
 
     def answer(self, line):

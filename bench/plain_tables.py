@@ -2,14 +2,16 @@
 """The scheduler in plain Python over a SQLite file: the twin that `bench/serve life` measures the program against.
 
 usage: plain_tables.py [--once] TABLES PORT
+       plain_tables.py --upgrade TABLES
 Serves the tables of a file, which stand, on 127.0.0.1, one connection after the other, over a blocking socket. It prints the
 port once it listens. docs/PROFILE.md states the formats, the rules and the stored tables; the rules of one workunit are
-those of plain.py. A message with a field `x-moment` is acted on as of that second.
+those of plain.py. A message with a field `x-moment` is acted on as of that second. With --upgrade it carries tables of the
+first schema over to the second.
 
 It keeps settings and applications beside the tables and looks all else up by the statements of the proved program, as
 often as the program does: rows of workunits, instances and hosts, and the account and the version read last, are kept
-until rows are put. With --once no statement at all is run twice for one message. Each message that changes anything is one transaction, on the disk when it is
-answered (journal_mode WAL, synchronous FULL).
+until rows are put. With --once no statement at all is run twice for one message. Each message that changes anything is one
+transaction, on the disk when it is answered (journal_mode WAL, synchronous FULL).
 """
 import socket
 import sqlite3
@@ -21,7 +23,7 @@ sys.dont_write_bytecode = True
 import plain
 from plain_formats import KINDS, Refused, is_word, record_of, rows_of, text
 
-SCHEMA = """
+FIRST_SCHEMA = """
 CREATE TABLE setting (name TEXT NOT NULL PRIMARY KEY, value ANY NOT NULL) STRICT;
 CREATE TABLE account (id INTEGER PRIMARY KEY, auth TEXT NOT NULL UNIQUE, name TEXT NOT NULL) STRICT;
 CREATE TABLE app (id INTEGER PRIMARY KEY, name TEXT NOT NULL UNIQUE, agreement INTEGER) STRICT;
@@ -47,6 +49,11 @@ CREATE INDEX instance_owner ON instance (host_id, unit_id, num);
 CREATE INDEX instance_sent ON instance (host_id, sent);
 CREATE INDEX instance_deadline ON instance (deadline);
 """
+# what the second schema has beside that
+SECOND_SCHEMA = """
+CREATE TABLE kept4 (host_id INTEGER NOT NULL REFERENCES host, slot INTEGER NOT NULL, seqno INTEGER NOT NULL,
+  text TEXT NOT NULL, reply TEXT NOT NULL, PRIMARY KEY (host_id, slot)) STRICT;
+"""
 # of each table its columns, and how many of them, from the first on, are the key of a row
 COLUMNS = {
     "setting": ("name, value", 1),
@@ -59,7 +66,7 @@ COLUMNS = {
     ),
     "host": ("id, account_id, cpid, platforms, fpops, memory, disk, quota, held, credit", 1),
     "instance": ("unit_id, num, host_id, sent, deadline, lapse, outcome, output, place, queued", 2),
-    "kept": ("host_id, seqno, text, reply", 1),
+    "kept4": ("host_id, slot, seqno, text, reply", 2),
     "batch": ("kind, name, text, answer", 2),
 }
 PLACES = "SELECT unit_id, num FROM instance WHERE unit_id > 0 AND num >= 0 AND "
@@ -67,7 +74,8 @@ PLACES = "SELECT unit_id, num FROM instance WHERE unit_id > 0 AND num >= 0 AND "
 LOOK_UPS = {
     "account by authenticator": "SELECT id, auth, name FROM account WHERE id > 0 AND auth = ?1 ORDER BY id",
     "host by account and client": "SELECT id FROM host WHERE id > 0 AND account_id = ?1 AND cpid = ?2 ORDER BY id",
-    "kept call": f"SELECT {COLUMNS['kept'][0]} FROM kept WHERE host_id = ?1 ORDER BY host_id",
+    "kept call": f"SELECT {COLUMNS['kept4'][0]} FROM kept4 WHERE host_id = ?1 AND slot = ?2 ORDER BY rowid",
+    "number of a kept call": "SELECT seqno FROM kept4 WHERE host_id = ?1 AND slot = ?2 ORDER BY rowid",
     "host by number": f"SELECT {COLUMNS['host'][0]} FROM host WHERE id = ?1 ORDER BY id",
     "what a host holds": f"{PLACES}host_id = ?1 AND lapse = 0 AND outcome IS NULL ORDER BY unit_id, num",
     "what a host was given": f"{PLACES}host_id = ?1 ORDER BY unit_id, num",
@@ -88,6 +96,7 @@ LOOK_UPS = {
         for table in ("account", "app", "version", "unit", "host")
     },
 }
+SLOTS = 4  # so many calls of a host are kept
 # whose rows are kept until rows are put
 KEPT = {"account by authenticator", "host by number", "workunit", "instances of a workunit"}
 
@@ -200,9 +209,35 @@ def split_name(name):
 def create(path, settings):
     """New tables in a file, as `bsched create` makes them."""
     connection = sqlite3.connect(path)
-    connection.executescript(f"PRAGMA journal_mode = WAL; BEGIN; {SCHEMA} COMMIT;")
-    connection.executemany(PUTS["setting"], [("schema", 1), *settings.items()])
+    connection.executescript(f"PRAGMA journal_mode = WAL; BEGIN; {FIRST_SCHEMA} {SECOND_SCHEMA} COMMIT;")
+    connection.executemany(PUTS["setting"], [("schema", 2), *settings.items()])
     connection.commit()
+    connection.close()
+
+
+def make_former(path, newest):
+    """Makes tables of the first schema in a file, with the rows of newer ones: of the calls of a host the last."""
+    connection = sqlite3.connect(path)
+    connection.executescript(f"PRAGMA journal_mode = WAL; BEGIN; {FIRST_SCHEMA} COMMIT;")
+    connection.execute("ATTACH ? AS newest", (newest,))
+    for table, (columns, _) in COLUMNS.items():
+        if table != "kept4":
+            connection.execute(f"INSERT INTO {table} SELECT {columns} FROM newest.{table} ORDER BY rowid")
+    connection.execute("INSERT INTO kept SELECT host_id, max(seqno), text, reply FROM newest.kept4 GROUP BY host_id")
+    connection.execute("UPDATE setting SET value = 1 WHERE name = 'schema'")
+    connection.commit()
+    connection.close()
+
+
+def upgrade(path):
+    """Carries tables of the first schema in a file over to the second, as `bsched upgrade` does, with one statement for all
+    kept calls."""
+    connection = sqlite3.connect(path, isolation_level=None)
+    connection.executescript(
+        f"PRAGMA synchronous = FULL; PRAGMA foreign_keys = ON; BEGIN IMMEDIATE; {SECOND_SCHEMA} "
+        "INSERT INTO kept4 SELECT host_id, 0, seqno, text, reply FROM kept ORDER BY host_id; "
+        "UPDATE setting SET value = 2 WHERE name = 'schema'; COMMIT;"
+    )
     connection.close()
 
 
@@ -260,6 +295,16 @@ class Tables:
         """The number that the first row of a look-up begins with, where there is one."""
         row = self.first(kind, *values)
         return None if row is None else row[0]
+
+    def kept_calls(self, host):
+        """The number, the text and the reply of each kept call of a host."""
+        rows = [self.first("kept call", host, slot) for slot in range(SLOTS)]
+        return [row[2:] for row in rows if row is not None]
+
+    def slot_for(self, host):
+        """The slot into which the next call of a host is put: the first that is free, or the first of the least number."""
+        numbers = [self.number_of("number of a kept call", host, slot) for slot in range(SLOTS)]
+        return min(range(SLOTS), key=lambda slot: -1 if numbers[slot] is None else numbers[slot])
 
     def counts(self):
         """How many rows each table has."""
@@ -655,16 +700,17 @@ class Service(plain.Service):
         if record["hostid"] not in (0, number):
             raise Refused(409, 9, "bad_host")
         seqno, said = record["rpc_seqno"], text(record)
-        kept = None if number is None else tables.first("kept call", number)
-        if kept is not None:
-            _, last, before, reply = kept
-            if (seqno, said) == (last, before):
-                return reply
+        kept = [] if number is None else tables.kept_calls(number)
+        if kept:
+            last = max(call[0] for call in kept)
+            before = next((call for call in kept if call[0] == seqno), None)
+            if before is not None and before[1] == said:
+                return before[2]
             if seqno <= last:
-                raise Refused(409, *((11, "reused") if seqno == last else (10, "stale")), last=last)
+                raise Refused(409, *((11, "reused") if before is not None else (10, "stale")), last=last)
         number, rows, reply = self.machine.call(account[0], number, record, now)
         reply = text(reply)
-        tables.put([*rows, ("kept", (number, seqno, said, reply))])
+        tables.put([*rows, ("kept4", (number, tables.slot_for(number), seqno, said, reply))])
         return reply
 
     # ---- HTTP
@@ -727,8 +773,11 @@ def heard(connection):
 
 
 def main():
-    """Serves until it is killed."""
+    """Serves until it is killed, or upgrades."""
     *options, path, port = sys.argv[1:]
+    if path == "--upgrade":
+        upgrade(port)
+        return
     service = Service(Tables(path, once="--once" in options))
     listener = socket.create_server(("127.0.0.1", int(port)))
     print(listener.getsockname()[1], flush=True)

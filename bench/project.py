@@ -150,9 +150,9 @@ class Project:
             self.take(client, reply)
 
     def refused_call(self, client):
-        """A call with an older number, or with the last number and another text."""
-        older = self.pick.random() < 0.5
-        said = {**json.loads(self.request(client)), "rpc_seqno": client.seqno - 2 if older else client.seqno - 1}
+        """A call with a number older than those that are kept, or with the last number and another text."""
+        older = client.seqno > 4 and self.pick.random() < 0.5
+        said = {**json.loads(self.request(client)), "rpc_seqno": client.seqno - 5 if older else client.seqno - 1}
         client.seqno -= 1
         status, body = self.send(f"scheduler {json.dumps({**said, 'work_req_seconds': 999_999_999})}")
         self.seen[f"refused as {json.loads(body)['error']}"] += 1

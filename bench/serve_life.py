@@ -1,4 +1,5 @@
-"""The cases of `bench/serve` over the tables of a growing project: life, ticks, past, statements, twins and profile.
+"""The cases of `bench/serve` over the tables of a growing project: life, opening, upgrade, ticks, past, statements, twins and
+profile.
 
 Each sets the program beside plain_tables.py, a scheduler in Python that does the same statements by the module `sqlite3`
 over the same tables, in one run and with the same messages. The messages are made first, by plain_tables.py in this
@@ -6,6 +7,7 @@ process, so the client only sends bytes and keeps the answers. The program acts 
 told that second with each message, and then each answer has to be equal byte for byte, and all rows in the end too.
 """
 import atexit
+import contextlib
 import json
 import os
 import random
@@ -36,6 +38,7 @@ SIZES = {100: 180, 10_000: 200, 200_000: 200}  # of so many workunits, how many 
 LEAST, MOST, ROUNDS = min(SIZES), max(SIZES), 10
 PAST = 20_000  # how many results a host has behind it
 LINES = 4000  # how many calls the project has over which the twins are compared
+UPGRADED = 10_000, 100_000  # how many hosts the tables have that are upgraded
 FPOPS, HOUR, DELAY, CREDIT = 10**9, 3600, 604_800, 5000
 HEAD = b"POST /scheduler HTTP/1.1\r\nhost: 127.0.0.1\r\nx-moment: %010d\r\ncontent-length: %d\r\n\r\n%b"
 TICK = f"POST /tick HTTP/1.1\r\nx-operator-key: {KEY}\r\n\r\n".encode()
@@ -74,6 +77,11 @@ def import_rows(service, kind, rows):
         service.imported(kind, f"b{first}", "\n".join([header, *rows[first : first + 10_000], ""]))
 
 
+def import_users(service, hosts):
+    """Imports the users of so many hosts."""
+    import_rows(service, "accounts", [f"user{user},User {user}" for user in range(1, user_of(hosts) + 1)])
+
+
 def host_rows(host):
     """The rows that the first call of a host leaves, which asked for nothing."""
     user, cpid = user_of(host), f"host{host}"
@@ -84,7 +92,20 @@ def host_rows(host):
         "user_total_credit": 0,
     }
     row = host, user, cpid, "x86_64-pc-linux-gnu", FPOPS, 8 * 10**9, 9 * 10**10, SETTINGS["daily_result_quota"], 0, 0
-    return [("host", row), ("kept", (host, 1, said, text(reply)))]
+    return [("host", row), ("kept4", (host, 0, 1, said, text(reply)))]
+
+
+def settings_file():
+    """A file of settings."""
+    path = os.path.join(MADE.name, "settings.toml")
+    with open(path, "w") as file:
+        file.writelines(f"{name} = {json.dumps(value)}\n" for name, value in SETTINGS.items())
+    return path
+
+
+def create(program, path):
+    """New tables in a file, by the program."""
+    wants(ordered(program, "create", "--settings", settings_file(), "--tables", path), "created\n", "new tables")
 
 
 def made(program, units):
@@ -92,13 +113,10 @@ def made(program, units):
     path = os.path.join(MADE.name, f"{units}.db")
     if os.path.exists(path):
         return path
-    settings = os.path.join(MADE.name, "settings.toml")
-    with open(settings, "w") as file:
-        file.writelines(f"{name} = {json.dumps(value)}\n" for name, value in SETTINGS.items())
-    wants(ordered(program, "create", "--settings", settings, "--tables", path), "created\n", "new tables")
+    create(program, path)
     tables = plain_tables.Tables(path, synchronous="OFF")
     service, hosts = plain_tables.Service(tables), hosts_of(units)
-    import_rows(service, "accounts", [f"user{user},User {user}" for user in range(1, user_of(hosts) + 1)])
+    import_users(service, hosts)
     import_rows(service, "apps", ["dock,exact", "fold,within:2"])
     import_rows(service, "versions", [f"{app},x86_64-pc-linux-gnu,{number}" for app in ("dock", "fold") for number in (1, 2)])
     limits = f"2,2,3,8,6,{DELAY},{HOUR * FPOPS},1000000000,1000000000,{CREDIT}"
@@ -136,6 +154,18 @@ def made_past(program):
         connection.execute("UPDATE host SET credit = ? WHERE id = ?", (credit, host))
     connection.execute("COMMIT")
     connection.close()
+    return path
+
+
+def made_former(hosts, folder):
+    """Tables of the first schema in a file, with so many hosts that called once."""
+    newest, path = (os.path.join(folder, f"{name}{hosts}.db") for name in ("newest", "former"))
+    plain_tables.create(newest, SETTINGS)
+    tables = plain_tables.Tables(newest, synchronous="OFF")
+    import_users(plain_tables.Service(tables), hosts)
+    tables.put([row for host in range(1, hosts + 1) for row in host_rows(host)])
+    tables.connection.close()
+    plain_tables.make_former(path, newest)
     return path
 
 
@@ -228,9 +258,9 @@ class Life:
             if client.unheard is not None and self.pick.random() < 0.5:
                 self.seen["repeats"] += 1
                 self.take(client, client.unheard, self.send(client.unheard), 0.1)
-            elif client.seqno > 1 and self.pick.random() < 0.01:
+            elif client.seqno > 4 and self.pick.random() < 0.01:
                 self.seen["stale calls"] += 1
-                self.send(request(client.user, client.cpid, client.seqno - 1, work_req_seconds=7))
+                self.send(request(client.user, client.cpid, client.seqno - 4, work_req_seconds=7))
             else:
                 asked = self.pick.choice([0, *[1] * 8, HOUR + 1])
                 self.call(client, asked, kept=0.15, lost=0.1, silent=0.05)
@@ -491,14 +521,17 @@ print(done.returncode, time.perf_counter() - begin, resource.getrusage(resource.
 """
 
 
-def bare_opening(program, path):
-    """Seconds, and peak memory in kilobytes, of the library's own opening of a file: an order to create, which is refused
-    since tables stand there, opens it and reads no row."""
-    settings = os.path.join(MADE.name, "settings.toml")
-    words = [program, "create", "--settings", settings, "--tables", path]
-    status, seconds, kilobytes = ordered(sys.executable, "-c", PEAK, *words).split()
-    wants(status, "1", "an order to create tables where some stand")
+def taken_by(status, *words):
+    """Seconds, and peak memory in kilobytes, of a command, which has to end with this status."""
+    ended, seconds, kilobytes = ordered(sys.executable, "-c", PEAK, *words).split()
+    wants(int(ended), status, f"the status of {words}")
     return float(seconds), int(kilobytes)
+
+
+def bare_opening(program, path):
+    """What the library's own opening of a file takes: an order to create, which is refused since tables stand there, opens it
+    and reads no row."""
+    return taken_by(1, program, "create", "--settings", settings_file(), "--tables", path)
 
 
 def opening(program, folder):
@@ -511,6 +544,52 @@ def opening(program, folder):
             f"opening: {units} workunits in {ours.open_seconds:.2f} seconds, with a peak of {ours.open_peak / 1024:.0f} MB; of "
             f"the library alone {bare[0]:.2f} seconds ({ours.open_seconds / bare[0]:.1f} times) and {bare[1] / 1024:.0f} MB "
             f"({ours.open_peak / bare[1]:.1f} times)"
+        )
+
+
+def schema_in(path):
+    """The tables and indexes of a file, in the order in which they came, with their statements on one line each."""
+    with contextlib.closing(sqlite3.connect(path)) as base:
+        rows = base.execute("SELECT type, name, tbl_name, coalesce(sql, '') FROM sqlite_schema ORDER BY rowid").fetchall()
+    return [(*row[:3], " ".join(row[3].split())) for row in rows]
+
+
+def kept_before(path):
+    """The rows of the table in which the first schema keeps calls."""
+    with contextlib.closing(sqlite3.connect(path)) as base:
+        return base.execute("SELECT * FROM kept ORDER BY host_id").fetchall()
+
+
+def is_whole(path):
+    """Ends the run where SQLite finds a fault in a file."""
+    with contextlib.closing(sqlite3.connect(path)) as base:
+        wants(base.execute("PRAGMA integrity_check").fetchall(), [("ok",)], "the check of the file by SQLite")
+        wants(base.execute("PRAGMA foreign_key_check").fetchall(), [], "the rows that refer to none")
+
+
+def upgrade(program, folder):
+    """What an upgrade of tables of the first schema takes, beside the same by the module `sqlite3`, and beside the library's
+    own opening of the file; and what stands then."""
+    new = os.path.join(folder, "new.db")
+    create(program, new)
+    for hosts in UPGRADED:
+        former = made_former(hosts, folder)
+        ours, theirs = (copied(former, folder, name) for name in ("ours.db", "theirs.db"))
+        statement = [program, "statement", "--tables", ours, "--host", str(hosts)]
+        refused = subprocess.run(statement, capture_output=True, text=True)
+        wants((refused.stdout, refused.stderr, refused.returncode), ("", "bsched: old schema\n", 1), "an order on old tables")
+        bare = bare_opening(program, ours)
+        one, other = taken_by(0, program, "upgrade", "--tables", ours), taken_by(0, sys.executable, TWIN, "--upgrade", theirs)
+        wants(ordered(program, "upgrade", "--tables", ours), "schema 2\n", "what an upgrade of upgraded tables prints")
+        wants(ordered(*statement).splitlines()[-1], "total,,,,,,,0.000", "a statement of upgraded tables")
+        same_rows(ours, theirs)
+        wants((schema_in(ours), kept_before(ours)), (schema_in(new), kept_before(former)), "the schema, and the former table")
+        is_whole(ours)
+        print(
+            f"upgrade: {hosts} hosts in {one[0]:.2f} seconds with a peak of {one[1] / 1024:.0f} MB; the module sqlite3 takes "
+            f"{other[0]:.2f} seconds ({one[0] / other[0]:.1f} times) and {other[1] / 1024:.0f} MB, the library's own opening of "
+            f"the file {bare[0]:.2f} seconds ({one[0] / bare[0]:.1f} times) and {bare[1] / 1024:.0f} MB; all rows are those of "
+            f"the twin, and the schema is that of new tables"
         )
 
 
@@ -685,4 +764,13 @@ def profile(program, folder):
         print(f"  {100 * many / own.total():5.1f} {what}")
 
 
-CASES = {"life": life, "opening": opening, "ticks": ticks, "past": past, "statements": statements, "twins": twins, "profile": profile}
+CASES = {
+    "life": life,
+    "opening": opening,
+    "upgrade": upgrade,
+    "ticks": ticks,
+    "past": past,
+    "statements": statements,
+    "twins": twins,
+    "profile": profile,
+}
