@@ -198,7 +198,7 @@ def test_a_count_that_was_lost_goes_on(bridge, twin, project):
     for path in project.glob("bridge.db*"):
         path.unlink()
     bridge.start()
-    assert value(bridge.call(request()), "hostid") == "1"
+    assert value(bridge.call(request(seconds=90)), "hostid") == "1"
     assert [call["rpc_seqno"] for call in twin.calls()[3:]] == [1, 4]
     bridge.call(request())
     assert twin.calls()[-1]["rpc_seqno"] == 5
