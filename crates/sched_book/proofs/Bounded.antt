@@ -3,18 +3,16 @@ use Rattle.std.proofs.Common.{◌≡◌, ℕ, ◌+◌, ◌*◌, ◌≤◌, Bool,
 use Rattle.std.specs.Prelude.{◌&&◌, All}
 use Rattle.std.proofs.lemmas.List.Elements.{All-head, All-tail, All-weaker}
 use Rattle.std.proofs.lemmas.List.Sums.{count_by-le-length}
-use Rattle.sched_book.specs.Bounds.{SoundIsBounded, OwnersStandInSound, InstancesAreFew, ChargesAreFew}
+use Rattle.sched_book.specs.Bounds.{SoundIsBounded, InstancesAreFew, ChargesAreFew}
 use Rattle.sched_book.specs.Count.{tells_error, is_valid, is_invalid}
 use Rattle.sched_book.specs.Limits.{most_workunits, most_hosts, most_instances, IsBounded}
 use Rattle.sched_book.specs.Places.{passes, places, places_in, places_among, places_where, is_held_by, is_overdue, is_owned_by, verdict_of}
 use Rattle.sched_book.specs.Settle.{is_late, newly}
-use Rattle.sched_book.specs.Given.{HasAccountAmong}
-use Rattle.sched_book.specs.Sound.{IsSoundHost, IsSoundUnit, HasOwnerAmong}
+use Rattle.sched_book.specs.Sound.{IsSoundUnit}
 use Rattle.sched_book.specs.declared.instance.Instance.{Instance}
 use Rattle.sched_book.specs.declared.instance.Place.{Place}
 use Rattle.sched_book.specs.declared.instance.UnitBook.{UnitBook}
 use Rattle.sched_book.specs.declared.world.World.{World}
-use Rattle.sched_book.proofs.PlacesOf.{nth-within}
 
 pub sound_is_bounded : SoundIsBounded
 sound_is_bounded w sound = record {
@@ -27,15 +25,6 @@ sound_is_bounded w sound = record {
       omega arith);
   units = sound.rows.unit_count;
   instances = All-weaker (IsSoundUnit w.hosts w.apps) (λ (b : UnitBook). length b.instances ≤ most_instances) (λ b unit. unit.well.few) w.units sound.units;
-}
-
-pub owners_stand_in_sound : OwnersStandInSound
-owners_stand_in_sound w sound = record {
-  accounts =
-      All-weaker (IsSoundHost (length w.accounts) w.settings.daily_result_quota) (HasAccountAmong w.accounts)
-      (λ h host. nth-within w.accounts h.account host.account.0 host.account.1) w.hosts sound.rows.hosts;
-  hosts =
-      All-weaker (IsSoundUnit w.hosts w.apps) (λ (b : UnitBook). All (HasOwnerAmong w.hosts) b.instances) (λ b unit. unit.well.owners) w.units sound.units;
 }
 
 in_unit : (unit from : ℕ) (test : Instance → Bool) (xs : List Instance) → length (places_in unit from test xs) ≤ length xs

@@ -1,17 +1,17 @@
--- Credits: those of what a host or a user was given are the credits of the host and of the user.
+-- Credits: the credit of a user is that of the instances which were given to the user's hosts.
 use Rattle.std.proofs.Common.{◌≡◌, ℕ, zero, suc, ◌+◌, ◌*◌, ◌<◌, Bool, true, false, cond, eqb, List, [], ◌∷◌, Option, Some, None, sym, refl, ap, ◌∙◌, arith}
 use Rattle.std.proofs.lemmas.Bool.{eq-eqb}
 use Rattle.std.proofs.lemmas.Bool.Decides.{nat_tests}
-use Rattle.std.proofs.lemmas.List.Sums.{sum_by-cons, sum_by-append}
+use Rattle.std.proofs.lemmas.List.Sums.{sum_by-cons}
 use Rattle.std.specs.Prelude.{count_by, sum_by, option_map, option_and_then, unwrap_or, slice_get, ◌&&◌, ◌==◌}
 use Rattle.std.specs.List.{enumerate_from}
 use Rattle.sched_book.specs.Count.{is_valid}
-use Rattle.sched_book.specs.Given.{given_as, given_in, given_among}
-use Rattle.sched_book.specs.Places.{nth, unit_at, host_of, option_any, account_at, is_of_user, is_owned_by, book_verdict, credit_by, credit_at, credit_in, host_credit, user_credit}
-use Rattle.sched_book.specs.declared.given.Given.{Given}
+use Rattle.sched_book.specs.Places.{nth, host_of, option_any, account_at, is_of_user, is_owned_by, book_verdict, host_credit, user_credit}
+use Rattle.sched_book.specs.Selections.{credit_of}
 use Rattle.sched_book.specs.declared.instance.Instance.{Instance}
 use Rattle.sched_book.specs.declared.instance.UnitBook.{UnitBook}
 use Rattle.sched_book.specs.declared.rows.HostRow.{HostRow}
+use Rattle.sched_book.specs.declared.selection.Selection.TheVariants.{OfUser}
 use Rattle.sched_book.specs.declared.world.World.{World}
 use Rattle.sched_book.proofs.PlacesOf.{nth-suc}
 
@@ -101,71 +101,28 @@ module _ (t : HostRow → Bool) (c : ℕ) where
       ∙ once xs 1 i
       ∙ ap (λ o. cond (unwrap_or (option_map t o) false) c 0) (sym (nth-suc xs i))
 
--- what was given gives the credits of its instances: those of one workunit, from a number on
-abbrev credit_given : World → Given → ℕ
-credit_given w g = credit_at w g.place
+-- the credit of one instance, where it is meant
+abbrev credit_by : World → UnitBook → Instance → ℕ
+credit_by w b x = cond (is_valid (book_verdict w.apps b x)) b.unit.credit 0
 
--- the credit of an instance, where it passes
 abbrev credit_if : (Instance → Bool) → World → UnitBook → Instance → ℕ
-credit_if p w b x = cond (p x) (credit_by w.apps b x) 0
+credit_if p w b x = cond (p x) (credit_by w b x) 0
 
-in_unit : (w : World) (p : Instance → Bool) (unit : ℕ) (b : UnitBook) → unit_at w unit ≡ Some b → (number : ℕ) (xs : List Instance)
-    → ((i : ℕ) → slice_get b.instances (number + i) ≡ slice_get xs i)
-    → sum_by (credit_given w) (given_in unit number p xs) ≡ sum_by (credit_if p w b) xs
-in_unit w p unit b stands number [] same = refl
-in_unit w p unit b stands number (x ∷ xs) same =
-    cases (p x) (given_in unit (number + 1) p xs)
-    (in_unit w p unit b stands (number + 1) xs
-    (λ i. ap (slice_get b.instances) (let at : number + 1 + i ≡ number + suc i = omega arith in at) ∙ same (suc i)))
-    ∙ sym (sum_by-cons (credit_if p w b) x xs)
-  where
-    g : Given
-    g = given_as (record { unit = unit; number = number }) x
-
-    here : credit_given w g ≡ credit_by w.apps b x
-    here =
-        ap (λ (o : Option UnitBook). unwrap_or (option_and_then (λ b. option_map (credit_by w.apps b) (slice_get b.instances number)) o) 0) stands
-        ∙ ap (λ (o : Option Instance). unwrap_or (option_map (credit_by w.apps b) o) 0)
-        (ap (slice_get b.instances) (let at : number ≡ number + 0 = omega arith in at) ∙ same 0)
-
-    cases : (t : Bool) (gs : List Given) → sum_by (credit_given w) gs ≡ sum_by (credit_if p w b) xs
-        → sum_by (credit_given w) (cond t (g ∷ gs) gs) ≡ cond t (credit_by w.apps b x) 0 + sum_by (credit_if p w b) xs
-    cases true gs rest =
-        sum_by-cons (credit_given w) g gs
-        ∙ ap (λ n. n + sum_by (credit_given w) gs) here
-        ∙ ap (λ n. credit_by w.apps b x + n) rest
-    cases false gs rest = rest ∙ (let none : sum_by (credit_if p w b) xs ≡ 0 + sum_by (credit_if p w b) xs = omega arith in none)
-
--- of workunits, from a place on
-among : (w : World) (p : Instance → Bool) (unit : ℕ) (bs : List UnitBook) → ((i : ℕ) → unit_at w (unit + i) ≡ slice_get bs i)
-    → sum_by (credit_given w) (given_among unit p bs) ≡ sum_by (λ b. sum_by (credit_if p w b) b.instances) bs
-among w p unit [] same = refl
-among w p unit (b ∷ bs) same =
-    sum_by-append (credit_given w) (given_in unit 0 p b.instances) (given_among (unit + 1) p bs)
-    ∙ ap (λ n. n + sum_by (credit_given w) (given_among (unit + 1) p bs))
-    (in_unit w p unit b (ap (unit_at w) (let at : unit ≡ unit + 0 = omega arith in at) ∙ same 0) 0 b.instances
-    (λ i. ap (slice_get b.instances) (let at : 0 + i ≡ i = omega arith in at)))
-    ∙ ap (λ n. sum_by (credit_if p w b) b.instances + n)
-    (among w p (unit + 1) bs (λ i. ap (unit_at w) (let at : unit + 1 + i ≡ unit + suc i = omega arith in at) ∙ same (suc i)))
-    ∙ sym (sum_by-cons (λ (b : UnitBook). sum_by (credit_if p w b) b.instances) b bs)
-
-credit_of_given : (w : World) (p : Instance → Bool)
-    → sum_by (credit_given w) (given_among 1 p w.units) ≡ sum_by (λ b. sum_by (credit_if p w b) b.instances) w.units
-credit_of_given w p =
-    among w p 1 w.units (λ i. ap (unit_at w) (let at : 1 + i ≡ suc i = omega arith in at) ∙ nth-suc w.units i)
-
--- the credit of a host is that of its own instances
+-- what is counted a workunit at a time, an instance at a time
 both : (own valid : Bool) (c : ℕ) → cond (own && valid) c 0 ≡ cond own (cond valid c 0) 0
 both true valid c = refl
 both false valid c = refl
 
-host_credit-is : (w : World) (host : ℕ) → host_credit w host ≡ sum_by (λ b. sum_by (credit_if (is_owned_by host) w b) b.instances) w.units
-host_credit-is w host =
-    sum_same (credit_in w.apps host) (λ b. sum_by (credit_if (is_owned_by host) w b) b.instances)
+by_instance : (p : Instance → Bool) (w : World)
+    → sum_by (λ (b : UnitBook). b.unit.credit * count_by (λ x. p x && is_valid (book_verdict w.apps b x)) b.instances) w.units
+    ≡ sum_by (λ b. sum_by (credit_if p w b) b.instances) w.units
+by_instance p w =
+    sum_same (λ (b : UnitBook). b.unit.credit * count_by (λ x. p x && is_valid (book_verdict w.apps b x)) b.instances)
+    (λ b. sum_by (credit_if p w b) b.instances)
     (λ b.
-    times b.unit.credit (λ x. is_owned_by host x && is_valid (book_verdict w.apps b x)) b.instances
-    ∙ sum_same (λ x. cond (is_owned_by host x && is_valid (book_verdict w.apps b x)) b.unit.credit 0) (credit_if (is_owned_by host) w b)
-    (λ x. both (is_owned_by host x) (is_valid (book_verdict w.apps b x)) b.unit.credit) b.instances) w.units
+    times b.unit.credit (λ x. p x && is_valid (book_verdict w.apps b x)) b.instances
+    ∙ sum_same (λ x. cond (p x && is_valid (book_verdict w.apps b x)) b.unit.credit 0) (credit_if p w b)
+    (λ x. both (p x) (is_valid (book_verdict w.apps b x)) b.unit.credit) b.instances) w.units
 
 -- the credit of a user is that of the instances of the user's hosts
 module _ (w : World) (account : ℕ) where
@@ -174,7 +131,7 @@ module _ (w : World) (account : ℕ) where
 
   of_host : (own : Bool) (n : ℕ) → cond own (host_credit w n) 0
       ≡ sum_by (λ b. sum_by (λ x. cond own (credit_if (is_owned_by n) w b x) 0) b.instances) w.units
-  of_host true n = host_credit-is w n
+  of_host true n = by_instance (is_owned_by n) w
   of_host false n =
       sym (sum_zero (λ (b : UnitBook). sum_by (λ (x : Instance). 0) b.instances) (λ b. sum_zero (λ x. 0) (λ x. refl) b.instances) w.units)
 
@@ -183,7 +140,7 @@ module _ (w : World) (account : ℕ) where
   of_instance b x = cases (host_of x)
     where
       c : ℕ
-      c = credit_by w.apps b x
+      c = credit_by w b x
 
       none : (own : Bool) → cond {A = ℕ} own 0 0 ≡ 0
       none true = refl
@@ -213,13 +170,6 @@ module _ (w : World) (account : ℕ) where
       exchange (λ e. part e b) es b.instances
       ∙ sum_same (λ x. sum_by (λ e. part e b x) es) (credit_if (is_of_user w.hosts account) w b) (of_instance b) b.instances) w.units
 
--- what the plain desk counts of what it lists
-pub host_credited : (w : World) (host : ℕ) (given : List Given) (credit : ℕ) → given ≡ given_among 1 (is_owned_by host) w.units
-    → credit ≡ sum_by (λ (g : Given). credit_at w g.place) given → credit ≡ host_credit w host
-host_credited w host given credit of_host is =
-    is ∙ ap (sum_by (credit_given w)) of_host ∙ credit_of_given w (is_owned_by host) ∙ sym (host_credit-is w host)
-
-pub user_credited : (w : World) (account : ℕ) (given : List Given) (credit : ℕ) → given ≡ given_among 1 (is_of_user w.hosts account) w.units
-    → credit ≡ sum_by (λ (g : Given). credit_at w g.place) given → credit ≡ user_credit w account
-user_credited w account given credit of_user is =
-    is ∙ ap (sum_by (credit_given w)) of_user ∙ credit_of_given w (is_of_user w.hosts account) ∙ sym (user_credit-is w account)
+-- what the plain desk counts of a user is the user's credit
+pub user_credited : (w : World) (account credit : ℕ) → credit ≡ sum_by (credit_of w.hosts w.apps (OfUser account)) w.units → credit ≡ user_credit w account
+user_credited w account credit is = is ∙ by_instance (is_of_user w.hosts account) w ∙ sym (user_credit-is w account)

@@ -2,9 +2,8 @@ pub mod Reports
 pub mod SplitNames
 pub mod Credits
 pub mod PlaceLists
-pub mod Givens
+pub mod Numbered
 pub mod ReadInParts
-pub mod Undoing
 pub mod Offering
 pub mod Changes
 pub mod PlacesOf

@@ -1,6 +1,5 @@
--- What a bounded world has at most: 200,000 workunits of 100 instances each. A sound world is bounded, and its owners stand.
+-- What a bounded world has at most: 200,000 workunits of 100 instances each. A sound world is bounded.
 use Rattle.std.specs.Prelude.{ℕ, ◌≤◌, length}
-use Rattle.sched_book.specs.Given.{OwnersStand}
 use Rattle.sched_book.specs.Limits.{IsBounded}
 use Rattle.sched_book.specs.Places.{places, held_by, overdue}
 use Rattle.sched_book.specs.Settle.{charges, merits}
@@ -9,9 +8,6 @@ use Rattle.sched_book.specs.declared.world.World.{World}
 
 abbrev pub SoundIsBounded : Type 0
 SoundIsBounded = (w : World) → Sound w → IsBounded w
-
-abbrev pub OwnersStandInSound : Type 0
-OwnersStandInSound = (w : World) → Sound w → OwnersStand w
 
 -- No host holds more than all instances, and no more are overdue.
 pub record HasFewInstances (w : World) : Type 0 where

@@ -17,8 +17,8 @@ pub mod Offers
 pub mod Delta
 pub mod Desk
 pub mod Trusted
-pub mod Given
-pub mod Undo
+pub mod Numbered
+pub mod Selections
 pub mod UnitChanges
 pub mod Laws
 pub mod PlaceLaws

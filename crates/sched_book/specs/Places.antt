@@ -141,13 +141,6 @@ abbrev pub deadline_of : Option Owner → ℕ
 deadline_of None = 0
 deadline_of (Some o) = o.deadline
 
--- the credit of one instance: its workunit's, where its result is valid
-abbrev pub credit_by : List App → UnitBook → Instance → ℕ
-credit_by apps b x = if is_valid (book_verdict apps b x) then b.unit.credit else 0
-
-abbrev pub credit_at : World → Place → ℕ
-credit_at w p = unwrap_or (option_and_then (λ b. option_map (credit_by w.apps b) (slice_get b.instances p.number)) (unit_at w p.unit)) 0
-
 -- the credit that a host has from one workunit: the workunit's for each valid instance of the host
 abbrev pub credit_in : List App → ℕ → UnitBook → ℕ
 credit_in apps host b = b.unit.credit * count_by (λ x. is_owned_by host x && is_valid (book_verdict apps b x)) b.instances

@@ -1,20 +1,17 @@
 //! What is counted of a workunit and of its instances, from scratch: the plain slow program of the definitions.
 //!
-//! Agreement, the canonical result, need, status, verdict and credit. Nothing here takes memory.
+//! Agreement, the canonical result, need, status and verdict. Nothing here takes memory.
 
-ghost use Rattle.std.specs.Prelude.{◌≡◌, ◌<◌, ◌≤◌, ◌^◌, ◌+◌, length, take, drop, nat_le, option_map, unwrap_or, slice_get};
+ghost use Rattle.std.specs.Prelude.{◌≡◌, ◌<◌, ◌≤◌, ◌^◌, ◌+◌, length, take, drop, nat_le};
 ghost use Rattle.std.specs.List.{prefix_len};
 ghost use Rattle.arrayvec.specs.ArrayVec.{array_vec_len};
 ghost use Rattle.sched_book.specs.Count.{agree, output_of, place_of, put_by, good, errors, live, votes, leader, first_leader, canonical, want, need, status, verdict_by, verdict, is_valid};
-ghost use Rattle.sched_book.specs.Limits.{IsBounded};
-ghost use Rattle.sched_book.specs.Places.{agreement_by, book_status, credit_by, credit_at};
+ghost use Rattle.sched_book.specs.Places.{agreement_by, book_status};
 
-use crate::instance::{Instance, Place, Status, UnitBook, Verdict};
+use crate::instance::{Instance, Status, UnitBook, Verdict};
 use crate::limits::MOST_INSTANCES;
-use crate::look_ups::nth;
 use crate::rows::{Agreement, App, Workunit};
 use crate::whole_numbers::{are_numbers_within, whole_number_of};
-use crate::world::World;
 use arrayvec::ArrayVec;
 
 /// Whether two outputs of an application agree.
@@ -320,33 +317,5 @@ pub fn is_valid(verdict: Option<Verdict>) -> bool
     match verdict {
         Some(Verdict::Valid) => true,
         Some(Verdict::Invalid) | None => false,
-    }
-}
-
-/// The millicredits of the workunit's instance of this number: the workunit's, where its result is valid.
-fn credit_of_number(apps: &[App], book: &UnitBook, number: u32) -> u32
-    requires { length book.now.instances ≤ MOST_INSTANCES }
-    ensures { result ≡ unwrap_or (option_map (credit_by apps.now book.now) (slice_get book.now.instances number)) 0 }
-{
-    let instances = book.instances.as_slice();
-    let Some(instance) = instances.get(number as usize) else {
-        return 0;
-    };
-    let agreement = agreement_by(apps, book.unit.app.as_str());
-    if is_valid(verdict(&agreement, &book.unit, instances, instance)) {
-        book.unit.credit
-    } else {
-        0
-    }
-}
-
-/// The millicredits of the instance at a place.
-pub(crate) fn credit_at(world: &World, place: Place) -> u32
-    requires { IsBounded world.now }
-    ensures { result ≡ credit_at world.now place }
-{
-    match nth(world.units.as_slice(), place.unit) {
-        None => 0,
-        Some(book) => credit_of_number(world.apps.as_slice(), book, place.number),
     }
 }

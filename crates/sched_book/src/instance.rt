@@ -1,6 +1,6 @@
 ghost use Rattle.std.specs.Prelude.{◌≡◌, Some};
 ghost use Rattle.sched_book.specs.Count.{tells_success, tells_error, is_judged, is_held, is_live, is_open, has_failed};
-ghost use Rattle.sched_book.specs.Places.{is_owned_by, is_held_by};
+ghost use Rattle.sched_book.specs.Places.{is_owned_by, is_held_by, was_sent, is_overdue};
 ghost use Rattle.sched_book.specs.Reports.{awaits_report};
 
 use crate::moment::Moment;
@@ -120,6 +120,26 @@ impl Instance {
         ensures { result ≡ is_held_by host self.now }
     {
         self.is_owned_by(host) && self.is_held()
+    }
+
+    /// Whether it was given to the host of this number on a day.
+    pub(crate) fn was_sent(&self, host: u32, day: u64) -> bool
+        ensures { result ≡ was_sent host day self.now }
+    {
+        match &self.owner {
+            None => false,
+            Some(owner) => owner.host == host && owner.sent.day() == day,
+        }
+    }
+
+    /// Whether it is held and its deadline is before `now`.
+    pub(crate) fn is_overdue(&self, now: Moment) -> bool
+        ensures { result ≡ is_overdue now self.now }
+    {
+        match &self.owner {
+            None => false,
+            Some(owner) => self.is_held() && owner.deadline < now.seconds(),
+        }
     }
 
     /// Whether a result may yet come of it: it was not given to a host, or one holds it.

@@ -1,7 +1,7 @@
 //! Laws of the definitions. Each function does nothing; its contract is the law.
 
 ghost use Rattle.sched_book.specs.Laws.{CanonicalIsFirstLeader, VersionIsNewestOfFirst, SettlementIsPointwise, FirstReportsAreFirst, ReportsAreRecordedByPlace, MadeNamesAreSplit, SplitNamesAreMade, FittingKeepsBounds};
-ghost use Rattle.sched_book.specs.Bounds.{SoundIsBounded, OwnersStandInSound, InstancesAreFew, ChargesAreFew};
+ghost use Rattle.sched_book.specs.Bounds.{SoundIsBounded, InstancesAreFew, ChargesAreFew};
 ghost use Rattle.sched_book.specs.PlaceLaws.{FirstReportsAreOfEachName, FirstNamesAreOfEachName, GoodAreJudgedSuccesses, PlacesAreThoseThatPass, LostAreHeldAndUnlisted, ReportsChangeInstancesAlone, LapsesAreByPlace, GrantsAreByPlace, LostJobsAreByPlace};
 
 /// The canonical result is the first report that agrees with a majority, of the least front of the good reports
@@ -94,11 +94,6 @@ pub fn lost_jobs_are_by_place()
 /// A sound world keeps every table within its bounds.
 pub fn sound_is_bounded()
     ensures { SoundIsBounded }
-{}
-
-/// In a sound world each host that was given an instance stands, and the account of each host: so a plain desk takes it.
-pub fn owners_of_a_sound_world_stand()
-    ensures { OwnersStandInSound }
 {}
 
 /// A bounded world has at most 20,000,000 instances: so no host holds more, and no more are overdue.

@@ -1,31 +1,24 @@
 //! The plain desk, which keeps a world as lists and looks through them.
 
-ghost use Rattle.std.specs.Prelude.{◌≡◌, ◌≤◌, ⊤, length, IfOk, OnOk, OnErr};
+ghost use Rattle.std.specs.Prelude.{◌≡◌, ⊤, length, IfOk, OnOk, OnErr};
 ghost use Rattle.sched_book.specs.Delta.{applied};
-ghost use Rattle.sched_book.specs.Given.{given_among, IsListed, OwnersStand};
-ghost use Rattle.sched_book.specs.Undo.{undone};
-ghost use Rattle.sched_book.specs.Limits.{IsBounded};
-ghost use Rattle.sched_book.specs.Places.{is_owned_by, is_of_user, unit_named, known_host, held_by, sent_on_day, host_credit, user_credit};
+ghost use Rattle.sched_book.specs.Places.{unit_named, known_host, held_by, sent_on_day, host_credit, user_credit};
 ghost use Rattle.sched_book.specs.Desk.{counts, agreement_at, unit_status};
 ghost use Rattle.sched_book.specs.Step.{empty_world};
 
-use crate::changing::{Undo, change_all, undo_all};
+use crate::changing::changed;
 use crate::count::{agreement_by, book_status};
-use crate::delta::{Change, Delta, is_bounded};
+use crate::delta::{Delta, is_bounded};
 use crate::desk::{Counts, Desk, Placed, Taker, Unavailable, Units};
-use crate::given::{
-    Given, Lists, count_held, count_on_day, credit_of, do_owners_stand, held_places, places_of,
-    units_of,
-};
 use crate::instance::{Instance, Place, Status};
 use crate::look_ups::{
-    account_place, app_place, copy_at, copy_instance, copy_nth, copy_of, find_version, host_place,
-    nth, unit_place,
+    account_place, app_place, copy_at, copy_instance, copy_nth, find_version, host_place, nth,
+    unit_place,
 };
 use crate::moment::Moment;
 use crate::offers::offer_all;
-use crate::overdue::list_overdue;
 use crate::rows::{Account, Agreement, App, HostRow, Version, Workunit};
+use crate::selection::Selection;
 use crate::settings::Settings;
 use crate::versions::version_of_app;
 use crate::world::World;
@@ -33,18 +26,16 @@ use std::alloc::Global;
 use std::marker::Model;
 use texts::{Listed, Memory};
 
-/// A desk over lists in memory. Every call takes time in proportion to the rows that it looks through: of one host or
-/// one user these are its own instances. After changes it lists anew who was given what, through all instances. A call that
-/// answers no row and no list takes no memory, and always succeeds.
+/// A desk over lists in memory, which answers by going through the rows, and changes a copy of its world. So each call takes
+/// time in proportion to what stands; of a host or a user it goes through all instances. A call that answers no row and no
+/// list takes no memory, and always succeeds.
 #[derive(Drop)]
 pub struct ListDesk {
     alloc: Global,
     world: World,
-    lists: Lists,
 }
 
 impl Model for ListDesk {
-    ghost use Rattle.sched_book.specs.Given.{IsListed, OwnersStand};
     ghost use Rattle.sched_book.specs.Limits.{IsBounded};
     ghost use Rattle.sched_book.specs.declared.world.World.{World};
 
@@ -52,40 +43,7 @@ impl Model for ListDesk {
 
     ghost view = { λ d. d.world };
 
-    ghost invariant = { λ d. IsBounded d.world × IsListed d.world d.lists × OwnersStand d.world };
-}
-
-/// What each host and each user was given in a world. One that has a list longer than its table may be, or an owner that
-/// does not stand, is refused.
-fn listed(alloc: Global, world: &World) -> Result<Lists, Unavailable>
-    ensures bounded { OnOk result (IsBounded world.now) }
-    ensures owners { OnOk result (OwnersStand world.now) }
-    ensures lists { IfOk result (λ lists. IsListed world.now lists) }
-{
-    if !is_bounded(world) {
-        return Err(Unavailable);
-    }
-    if !do_owners_stand(world) {
-        return Err(Unavailable);
-    }
-    Ok(Lists::of(alloc, world)?)
-}
-
-/// Makes changes, and lists what each host and each user was given then. Where it fails, what was done stands in the log.
-fn remade(
-    alloc: Global,
-    world: &mut World,
-    changes: &[Change],
-    log: &mut Vec<Undo>,
-) -> Result<Lists, Unavailable>
-    ensures ok { OnOk result (world.new ≡ applied world.old changes.now) }
-    ensures log { undone world.new log.new.items ≡ undone world.old log.old.items }
-    ensures bounded { OnOk result (IsBounded world.new) }
-    ensures owners { OnOk result (OwnersStand world.new) }
-    ensures lists { IfOk result (λ lists. IsListed world.new lists) }
-{
-    change_all(alloc, world, changes, log)?;
-    listed(alloc, world)
+    ghost invariant = { λ d. IsBounded d.world };
 }
 
 impl ListDesk {
@@ -101,24 +59,17 @@ impl ListDesk {
             units: Listed::new(alloc),
             hosts: Listed::new(alloc),
         };
-        let lists = Lists::of(alloc, &world)?;
-        Ok(ListDesk {
-            alloc,
-            world,
-            lists,
-        })
+        Ok(ListDesk { alloc, world })
     }
 
-    /// The desk of a world, where no list of it is longer than its table may be, and each owner stands.
+    /// The desk of a world, where no list of it is longer than its table may be.
     pub fn of(alloc: Global, world: World) -> Result<ListDesk, Unavailable>
         ensures { IfOk result (λ d. d ≡ world) }
     {
-        let lists = listed(alloc, &world)?;
-        Ok(ListDesk {
-            alloc,
-            world,
-            lists,
-        })
+        if !is_bounded(&world) {
+            return Err(Unavailable);
+        }
+        Ok(ListDesk { alloc, world })
     }
 
     /// The world that it stands for.
@@ -132,50 +83,16 @@ impl ListDesk {
     pub fn with(&self, delta: &Delta) -> Result<ListDesk, Unavailable>
         ensures { IfOk result (λ d. d ≡ applied self.now delta.now) }
     {
-        let mut desk = ListDesk::of(self.alloc, copy_of(&self.world)?)?;
-        desk.apply(delta)?;
-        Ok(desk)
+        ListDesk::of(self.alloc, changed(self.alloc, &self.world, delta)?)
     }
 
-    /// Makes all changes, or none. Changes that would make a list longer than its table may be are refused, and those that
-    /// would give an instance to a host that does not stand, or put a host of an account that does not.
+    /// Makes all changes, or none. Changes that would make a list longer than its table may be are refused.
     pub fn apply(&mut self, delta: &Delta) -> Result<(), Unavailable>
         ensures ok { OnOk result (self.new ≡ applied self.old delta.now) }
         ensures err { OnErr result (self.new ≡ self.old) }
     {
-        let mut log = Vec::new(self.alloc);
-        match remade(self.alloc, &mut self.world, delta.as_slice(), &mut log) {
-            Ok(lists) => {
-                self.lists = lists;
-                Ok(())
-            }
-            Err(unavailable) => {
-                undo_all(&mut self.world, log);
-                Err(unavailable)
-            }
-        }
-    }
-
-    /// What the host of this number was given, in order.
-    fn given_to_host(&self, host: u32) -> &[Given]
-        ensures value { result.now ≡ given_among 1 (is_owned_by host) self.now.units }
-        ensures few { length result.now ≤ 20000000 }
-    {
-        match nth(self.lists.by_host.as_slice(), host) {
-            None => &[],
-            Some(given) => given.as_slice(),
-        }
-    }
-
-    /// What the hosts of the account at this place were given, in order.
-    fn given_to_user(&self, account: u32) -> &[Given]
-        ensures value { result.now ≡ given_among 1 (is_of_user self.now.hosts account) self.now.units }
-        ensures few { length result.now ≤ 20000000 }
-    {
-        match nth(self.lists.by_user.as_slice(), account) {
-            None => &[],
-            Some(given) => given.as_slice(),
-        }
+        *self = self.with(delta)?;
+        Ok(())
     }
 }
 
@@ -304,43 +221,38 @@ impl Desk for ListDesk {
         }
     }
 
-    #[tactic(auto, using(crate::proofs::Givens::held_listed))]
     fn held_by(&mut self, alloc: Global, host: u32) -> Result<Listed<Place>, Unavailable> {
-        Ok(held_places(alloc, self.given_to_host(host))?)
+        Ok(Selection::HeldBy(host).places(alloc, &self.world)?)
     }
 
-    #[tactic(auto, using(crate::proofs::Givens::held_counted))]
+    #[tactic(auto, using(crate::proofs::PlaceLists::held_counted))]
     fn held_count(&mut self, host: u32) -> Result<u32, Unavailable>
         ensures reads { self.new ≡ self.old }
         ensures answer { result ≡ Ok (length (held_by self.old host)) }
     {
-        Ok(count_held(self.given_to_host(host)) as u32)
+        Ok(Selection::HeldBy(host).count(&self.world))
     }
 
-    #[tactic(auto, using(crate::proofs::Givens::owned_listed))]
     fn owned_by(&mut self, alloc: Global, host: u32) -> Result<Listed<Place>, Unavailable> {
-        Ok(places_of(alloc, self.given_to_host(host))?)
+        Ok(Selection::OwnedBy(host).places(alloc, &self.world)?)
     }
 
-    #[tactic(auto, using(crate::proofs::Givens::sent_listed))]
     fn sent_on_day(&mut self, host: u32, day: u64) -> Result<u32, Unavailable>
         ensures reads { self.new ≡ self.old }
         ensures answer { result ≡ Ok (sent_on_day self.old host day) }
     {
-        Ok(count_on_day(self.given_to_host(host), day) as u32)
+        Ok(Selection::SentOn { host, day }.count(&self.world))
     }
 
-    #[tactic(auto, using(crate::proofs::Givens::units_listed))]
     fn units_of_user(&mut self, alloc: Global, account: u32) -> Result<Listed<u32>, Unavailable> {
-        Ok(units_of(alloc, self.given_to_user(account))?)
+        Ok(Selection::OfUser(account).units(alloc, &self.world)?)
     }
 
-    #[tactic(auto, using(crate::proofs::Credits::host_credited))]
     fn credit_of_host(&mut self, host: u32) -> Result<u64, Unavailable>
         ensures reads { self.new ≡ self.old }
         ensures answer { result ≡ Ok (host_credit self.old host) }
     {
-        Ok(credit_of(&self.world, self.given_to_host(host)))
+        Ok(Selection::OwnedBy(host).credit(&self.world))
     }
 
     #[tactic(auto, using(crate::proofs::Credits::user_credited))]
@@ -348,7 +260,7 @@ impl Desk for ListDesk {
         ensures reads { self.new ≡ self.old }
         ensures answer { result ≡ Ok (user_credit self.old account) }
     {
-        Ok(credit_of(&self.world, self.given_to_user(account)))
+        Ok(Selection::OfUser(account).credit(&self.world))
     }
 
     fn version_for(
@@ -381,7 +293,7 @@ impl Desk for ListDesk {
     }
 
     fn due_before(&mut self, alloc: Global, now: Moment) -> Result<Listed<Place>, Unavailable> {
-        Ok(list_overdue(alloc, now, self.world.units.as_slice())?)
+        Ok(Selection::Overdue(now).places(alloc, &self.world)?)
     }
 
     fn unsent_from<T: Taker>(&mut self, from: Place, taker: &mut T) -> Result<(), Unavailable> {

@@ -1,7 +1,7 @@
 //! The instances of a workunit, from their rows.
 
 ghost use Rattle.std.specs.Prelude.{◌≡◌, ◌≤◌, ◌==◌, ◌-◌, ℕ, pos, Bool, Option, if◌then◌else◌, option_map, option_and_then, All, Ok, IfOk, IfSome};
-ghost use Rattle.sched_book.specs.Given.{map_from};
+ghost use Rattle.sched_book.specs.Numbered.{map_from};
 ghost use Rattle.sched_book.specs.Limits.{last_moment, IsInstanceInLimits};
 ghost use Rattle.sched_book.specs.declared.instance.Instance.{Instance};
 ghost use Rattle.sched_book.specs.declared.instance.Lapse.{Lapse};

@@ -2,7 +2,7 @@
 
 ghost use Rattle.std.specs.Prelude.{◌≡◌, ℕ, List, Some, Result};
 ghost use Rattle.std.specs.Fn.{FnReturnsAt};
-ghost use Rattle.sched_book.specs.Given.{map_from};
+ghost use Rattle.sched_book.specs.Numbered.{map_from};
 ghost use Rattle.sched_book.specs.Places.{nth};
 ghost use Rattle.table_decoding.specs.Decoding.{Gives};
 ghost use Rattle.table_decoding.specs.declared.fault.RowFault.{RowFault};

@@ -1,7 +1,7 @@
 //! Accounts, applications, versions and hosts, each from its row.
 
 ghost use Rattle.std.specs.Prelude.{◌≡◌, ℕ, pos, List, All, IsTrue, Ok, IfOk};
-ghost use Rattle.sched_book.specs.Given.{map_from};
+ghost use Rattle.sched_book.specs.Numbered.{map_from};
 ghost use Rattle.sched_book.specs.Imports.{has_app};
 ghost use Rattle.sched_book.specs.Sound.{IsSoundVersion};
 ghost use Rattle.sched_book.specs.declared.rows.Account.{Account};

@@ -7,7 +7,7 @@ use Rattle.std.proofs.lemmas.Option.{none-some, slice_get_within, get_or_from_sl
 use Rattle.sqlite.specs.Effect.{Database}
 use Rattle.sqlite_rules.specs.Lists.{Has}
 use Rattle.sqlite_value.specs.Order.{Row}
-use Rattle.sched_book.specs.Given.{map_from}
+use Rattle.sched_book.specs.Numbered.{map_from}
 use Rattle.sched_book.specs.Limits.{most_instances}
 use Rattle.sched_book.specs.Sound.{Sound, IsSoundUnit}
 use Rattle.sched_book.specs.declared.instance.Instance.{Instance as Job}

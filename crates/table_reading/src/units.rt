@@ -4,7 +4,7 @@ ghost use Rattle.std.specs.Prelude.{◌≡◌, ◌<◌, ℕ, false, ◌||◌, Li
 ghost use Rattle.std.specs.Str.{bytes_eq};
 ghost use Rattle.sqlite.specs.Held.{state};
 ghost use Rattle.sqlite.specs.State.{HasCleanDisk};
-ghost use Rattle.sched_book.specs.Given.{map_from};
+ghost use Rattle.sched_book.specs.Numbered.{map_from};
 ghost use Rattle.sched_book.specs.Sound.{IsSoundUnit};
 ghost use Rattle.sched_book.specs.declared.instance.UnitBook.{UnitBook as Book};
 ghost use Rattle.table_meaning.specs.Holding.{AreKnown};

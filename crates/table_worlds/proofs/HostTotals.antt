@@ -1,7 +1,7 @@
 -- The totals of hosts, by their numbers.
 use Rattle.std.proofs.Common.{◌≡◌, ℕ, zero, suc, ◌+◌, List, [], ◌∷◌, Some, option_map, length, refl, sym, ap, ◌∙◌, arith}
 use Rattle.std.specs.Prelude.{slice_get, unwrap_or}
-use Rattle.sched_book.specs.Given.{map_from}
+use Rattle.sched_book.specs.Numbered.{map_from}
 use Rattle.sched_book.specs.Places.{nth, host_at, held_by, host_credit}
 use Rattle.sched_book.specs.declared.rows.HostRow.{HostRow}
 use Rattle.sched_book.specs.declared.world.World.{World}

@@ -5,7 +5,7 @@ use Rattle.std.proofs.lemmas.List.{length-append}
 use Rattle.std.proofs.lemmas.List.Sums.{sum_by-cons}
 use Rattle.std.specs.Prelude.{replicate, count_by, sum_by, option_map}
 use Rattle.sched_book.specs.Count.{is_held}
-use Rattle.sched_book.specs.Given.{map_from}
+use Rattle.sched_book.specs.Numbered.{map_from}
 use Rattle.sched_book.specs.Places.{is_owned_by, is_held_by, option_any, places_in, places_among, credit_in}
 use Rattle.sched_book.specs.Reports.{modify_nth}
 use Rattle.sched_book.specs.declared.instance.Instance.{Instance}
@@ -14,7 +14,7 @@ use Rattle.sched_book.specs.declared.instance.Place.{Place}
 use Rattle.sched_book.specs.declared.instance.UnitBook.{UnitBook}
 use Rattle.sched_book.specs.declared.rows.App.{App}
 use Rattle.sched_book.specs.declared.world.World.{World}
-use Rattle.sched_book.proofs.Givens.{map_from-same, map_from-then, map_from-none, modify_nth-map_from}
+use Rattle.sched_book.proofs.Numbered.{map_from-same, map_from-then, map_from-none, modify_nth-map_from}
 use Rattle.table_worlds.specs.Totals.{more, with_instance, with_instances, with_unit, with_units, totals_of}
 use Rattle.table_worlds.specs.declared.totals.Total.{Total}
 

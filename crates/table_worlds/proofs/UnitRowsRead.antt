@@ -3,7 +3,7 @@ use Rattle.std.proofs.Common.{◌≡◌, ◌≢◌, ℕ, suc, ◌+◌, List, [],
 use Rattle.std.specs.Prelude.{slice_get, unwrap_or}
 use Rattle.std.proofs.lemmas.List.{take_more, take_all, length-take-le}
 use Rattle.std.proofs.lemmas.Option.{slice_get_within, get_or_from_slice_get}
-use Rattle.sched_book.specs.Given.{map_from}
+use Rattle.sched_book.specs.Numbered.{map_from}
 use Rattle.table_worlds.proofs.HostTotals.{slice_get-map_from}
 
 -- the first so many with one more

@@ -2,7 +2,7 @@
 use Rattle.std.specs.Prelude.{◌≡◌, ℕ, ◌-◌, List, [], ◌∷◌, map, filter_map, length, codes, option_map}
 use Rattle.sqlite_rules.specs.Lists.{Has}
 use Rattle.sqlite_trees.specs.Tree.{Trees}
-use Rattle.sched_book.specs.Given.{map_from}
+use Rattle.sched_book.specs.Numbered.{map_from}
 use Rattle.sched_book.specs.Places.{places}
 use Rattle.sched_book.specs.declared.instance.UnitBook.{UnitBook}
 use Rattle.sched_book.specs.declared.settings.Settings.{Settings}

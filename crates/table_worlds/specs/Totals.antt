@@ -1,7 +1,7 @@
 -- What each host holds, and its credit: counted from scratch.
 use Rattle.std.specs.Prelude.{ℕ, ◌+◌, ◌*◌, Bool, ◌&&◌, if◌then◌else◌, List, length, count_by, sum_by}
 use Rattle.sched_book.specs.Count.{is_held}
-use Rattle.sched_book.specs.Given.{map_from}
+use Rattle.sched_book.specs.Numbered.{map_from}
 use Rattle.sched_book.specs.Places.{is_owned_by, is_held_by, held_by, credit_in, host_credit}
 use Rattle.sched_book.specs.declared.instance.Instance.{Instance}
 use Rattle.sched_book.specs.declared.instance.UnitBook.{UnitBook}

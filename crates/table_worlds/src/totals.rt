@@ -2,7 +2,7 @@
 
 ghost use Rattle.std.specs.Prelude.{◌≡◌, ◌≤◌, length, replicate, if◌then◌else◌, IfOk, OnOk};
 ghost use Rattle.sched_book.specs.Count.{verdict_by, is_valid};
-ghost use Rattle.sched_book.specs.Given.{map_from};
+ghost use Rattle.sched_book.specs.Numbered.{map_from};
 ghost use Rattle.sched_book.specs.Reports.{modify_nth};
 ghost use Rattle.table_worlds.specs.Totals.{more, with_instance, with_unit};
 

@@ -2,7 +2,7 @@
 
 ghost use Rattle.std.specs.Prelude.{◌≡◌, ◌-◌, IfOk};
 ghost use Rattle.std.specs.Bool.{Decides};
-ghost use Rattle.sched_book.specs.Given.{map_from};
+ghost use Rattle.sched_book.specs.Numbered.{map_from};
 ghost use Rattle.sched_book.specs.Places.{status_of};
 ghost use Rattle.sched_book.specs.declared.instance.UnitBook.{UnitBook};
 ghost use Rattle.sched_book.specs.declared.world.World.{World};

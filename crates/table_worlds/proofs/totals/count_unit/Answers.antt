@@ -1,7 +1,7 @@
 use Rattle.std.proofs.Common.{rules, ◌≡◌, ◌+◌, ◌∷◌, Bool, drop, cond, sym, ap, ◌∙◌}
 use Rattle.std.proofs.lemmas.List.{drop_more, drop_all}
 use Rattle.sched_book.specs.Count.{is_valid}
-use Rattle.sched_book.specs.Given.{map_from}
+use Rattle.sched_book.specs.Numbered.{map_from}
 use Rattle.sched_book.specs.Places.{book_verdict}
 use Rattle.sched_book.specs.declared.instance.Instance.{Instance}
 use Rattle.table_worlds.specs.Totals.{with_instances}

@@ -1,6 +1,6 @@
 use Rattle.std.proofs.Common.{◌≡◌, drop}
 use Rattle.sched_book.specs.Count.{is_valid}
-use Rattle.sched_book.specs.Given.{map_from}
+use Rattle.sched_book.specs.Numbered.{map_from}
 use Rattle.sched_book.specs.Places.{book_verdict}
 use Rattle.table_worlds.specs.Totals.{with_instances, with_unit}
 use Rattle.table_worlds.proofs.totals.count_unit.Given as goal

@@ -1,8 +1,0 @@
-use Rattle.std.proofs.Common.{◌≡◌, ◌++◌, drop}
-use Rattle.std.specs.Prelude.{map}
-use Rattle.sched_book.specs.declared.given.Given.{Given}
-use Rattle.sched_book.proofs.given.places_of.Given as goal
-
-abbrev pub invariant-loop-one : goal.invariant-loop-one
-invariant-loop-one l =
-    l.places ++ map (λ (g : Given). g.place) (drop l.one-index l.given) ≡ map (λ (g : Given). g.place) l.given

@@ -1,0 +1,7 @@
+-- A list made of another.
+use Rattle.std.specs.Prelude.{ℕ, ◌+◌, List, [], ◌∷◌}
+
+-- each element by its number
+abbrev pub map_from : {X Y : Type 0} → ℕ → (ℕ → X → Y) → List X → List Y
+map_from n f [] = []
+map_from n f (x ∷ xs) = f n x ∷ map_from (n + 1) f xs
