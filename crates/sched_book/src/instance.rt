@@ -1,3 +1,5 @@
+//! Instances of workunits, and what became of them.
+
 ghost use Rattle.std.specs.Prelude.{◌≡◌, Some};
 ghost use Rattle.sched_book.specs.Count.{tells_success, tells_error, is_judged, is_held, is_live, is_open, has_failed};
 ghost use Rattle.sched_book.specs.Places.{is_owned_by, is_held_by, was_sent, is_overdue};

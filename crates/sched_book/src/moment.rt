@@ -1,3 +1,5 @@
+//! The moments at which messages come.
+
 ghost use Rattle.std.specs.Prelude.{◌≡◌, ◌≤◌, ◌/◌, ℕ};
 ghost use Rattle.std.specs.Option.{SomeIff};
 

@@ -1,3 +1,5 @@
+//! The rows of a world and of an import.
+
 use texts::{Listed, Same, Text};
 
 /// How two outputs of an application are compared.

@@ -1,3 +1,5 @@
+//! What the operator chose.
+
 use texts::{Same, Text};
 
 /// What the operator chose when the project's tables were made, for good.

@@ -1,3 +1,5 @@
+//! The world: all rows of a project.
+
 use crate::instance::UnitBook;
 use crate::rows::{Account, App, HostRow, Version};
 use crate::settings::Settings;
