@@ -1,3 +1,5 @@
 pub mod Streams
+pub mod Adapters
+pub mod Missing
 pub mod Reading
 pub mod Serving

@@ -1,5 +1,5 @@
 -- What the reading of a message gives.
-use Rattle.std.specs.Prelude.{◌≡◌, ◌≤◌, ℕ, List, [], ◌++◌, length, Option}
+use Rattle.std.specs.Prelude.{◌≡◌, ◌<◌, ◌≤◌, ℕ, List, [], ◌++◌, length, Option}
 use Rattle.std.specs.Io.KnownBytes.{Consumes, IsAtEnd}
 use Rattle.http_serving.specs.Serving.{Comes, IsWhole}
 use Rattle.http_serving.specs.declared.reading.Heard.{Heard}
@@ -11,14 +11,15 @@ use Rattle.http_serving.specs.declared.reading.Turn.TheVariants as turn
 abbrev pub Gives : Option (List ℕ) → Option (List ℕ) → List ℕ → Type 0
 Gives before after last = Consumes before after last × (length last ≤ 4096)
 
--- One read, behind what was read before: more bytes, the end, bytes that there is no room for, or a fault.
+-- One read, behind what was read before: so many bytes more, the end, bytes that there is no room for, or a fault.
 abbrev pub TurnSays : Type 0 → Option (List ℕ) → Option (List ℕ) → List ℕ → List ℕ → Turn → Type 0
-TurnSays failed before after had has turn.More = (last : List ℕ) × Gives before after last × (has ≡ had ++ last)
+TurnSays failed before after had has (turn.Gave count) =
+    (last : List ℕ) × Gives before after last × (has ≡ had ++ last) × (length last ≡ count)
 TurnSays failed before after had has turn.End = IsAtEnd after × Consumes before after [] × (has ≡ had)
-TurnSays failed before after had has turn.NoRoom = (last : List ℕ) × Gives before after last
+TurnSays failed before after had has turn.NoRoom = (last : List ℕ) × Gives before after last × (0 < length last)
 TurnSays failed before after had has turn.Failed = failed
 
 -- A whole message, or one that there was no room for.
 abbrev pub HeardSays : (settled wanting : List ℕ → Type 0) → Option (List ℕ) → Option (List ℕ) → Heard → Type 0
 HeardSays settled wanting before after (Message bytes) = Comes wanting before after bytes.items × IsWhole settled after bytes.items
-HeardSays settled wanting before after NoRoom = (bytes : List ℕ) × Comes wanting before after bytes
+HeardSays settled wanting before after NoRoom = (bytes : List ℕ) × Comes wanting before after bytes × (0 < length bytes)

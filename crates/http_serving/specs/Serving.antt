@@ -1,5 +1,5 @@
 -- How one message is served: read as far as it is wanted, handed over once, and answered.
-use Rattle.std.specs.Prelude.{◌≡◌, ◌≤◌, ◌⊎◌, ℕ, List, [], ◌++◌, length, Option}
+use Rattle.std.specs.Prelude.{◌≡◌, ◌<◌, ◌≤◌, ◌⊎◌, ℕ, List, [], ◌++◌, length, Option}
 use Rattle.std.specs.Io.KnownBytes.{Consumes, IsAtEnd}
 use Rattle.http_responses.specs.Answers.{answer_bytes}
 use Rattle.http_responses.specs.declared.answer.Answer.TheVariants.{Unavailable}
@@ -17,9 +17,9 @@ Comes wanting before after bytes = Consumes before after bytes × IsWanted wanti
 abbrev pub IsWhole : (settled : List ℕ → Type 0) → Option (List ℕ) → List ℕ → Type 0
 IsWhole settled after bytes = settled bytes ⊎ IsAtEnd after
 
--- The whole message was handled and this is its answer; or memory was wanting before all of it was read, and nothing was handled.
+-- The whole message was handled and this is its answer; or there was no room for what was read of it, and nothing was handled.
 abbrev pub IsAnswered : {S : Type 0} → (settled : S → List ℕ → Type 0) → (handles : S → ℕ → List ℕ → List ℕ → S → Type 0)
     → Option (List ℕ) → S → ℕ → List ℕ → List ℕ → S → Type 0
 IsAnswered settled handles after old now bytes answer new =
     (IsWhole (settled old) after bytes × handles old now bytes answer new)
-    ⊎ ((answer ≡ answer_bytes Unavailable) × (new ≡ old))
+    ⊎ ((answer ≡ answer_bytes Unavailable) × (new ≡ old) × (0 < length bytes))

@@ -1,42 +1,44 @@
-//! Sources and sinks of std's readers and writers.
+//! Sources and sinks of std's readers and writers: each call is one call of theirs.
 //!
-//! No contract of std says when a read or a write fails, so these claim nothing of it.
+//! Of a call of `read` std's contracts say what it does to known bytes, and no more: not when it fails, nor that it was
+//! made. So these claim that, and nothing of failing.
 
-ghost use Rattle.std.specs.Prelude.{⊤};
+ghost use Rattle.std.specs.Prelude.{◌≡◌, ⊤};
+ghost use Rattle.std.specs.IoError.{error_kind};
+ghost use Rattle.http_serving.specs.Adapters.{MayRead, fault_of};
 
 use crate::streams::{Sink, Source, StreamFault};
+use std::io;
 use std::io::{ErrorKind, Read, Write};
 
-/// The most times that one read or write is tried.
-const MOST_TRIES: u32 = 1_000_000;
+impl From<io::Error> for StreamFault {
+    ghost from_gives = { λ error fault. fault ≡ fault_of (error_kind error) };
 
-/// A reader as a source. A read that a signal interrupts is tried again.
+    fn from(error: io::Error) -> StreamFault {
+        match error.kind() {
+            ErrorKind::Interrupted => StreamFault::Interrupted,
+            _ => StreamFault::Failed,
+        }
+    }
+}
+
+/// A reader as a source.
 #[derive(Drop)]
 pub struct FromRead<'r, R>(pub &'r mut R);
 
 impl<'r, R: Read> Source for FromRead<'r, R> {
     ghost left = { λ source. R.remaining source.0.now };
 
-    ghost steps = { λ _ _. ⊤ };
+    ghost steps = { λ old new. MayRead (R.remaining old.0.now) (R.remaining new.0.now) };
 
     ghost has_failed = { λ _. ⊤ };
 
     fn read_some(&mut self, buf: &mut [u8]) -> Result<usize, StreamFault> {
-        for _ in 0..MOST_TRIES {
-            match self.0.read(buf) {
-                Ok(count) => return Ok(count),
-                Err(error) => {
-                    if error.kind() != ErrorKind::Interrupted {
-                        return Err(StreamFault);
-                    }
-                }
-            }
-        }
-        Err(StreamFault)
+        Ok(self.0.read(buf)?)
     }
 }
 
-/// A writer as a sink. A write that a signal interrupts is tried again.
+/// A writer as a sink.
 #[derive(Drop)]
 pub struct FromWrite<'w, W>(pub &'w mut W);
 
@@ -46,16 +48,6 @@ impl<'w, W: Write> Sink for FromWrite<'w, W> {
     ghost has_failed = { λ _. ⊤ };
 
     fn write_some(&mut self, bytes: &[u8]) -> Result<usize, StreamFault> {
-        for _ in 0..MOST_TRIES {
-            match self.0.write(bytes) {
-                Ok(count) => return Ok(count),
-                Err(error) => {
-                    if error.kind() != ErrorKind::Interrupted {
-                        return Err(StreamFault);
-                    }
-                }
-            }
-        }
-        Err(StreamFault)
+        Ok(self.0.write(bytes)?)
     }
 }

@@ -1,5 +1,8 @@
-ghost use Rattle.std.specs.Prelude.{◌≡◌, true, false, ℕ, List};
+//! What messages are handed to.
+
+ghost use Rattle.std.specs.Prelude.{◌≡◌, ℕ, List};
 ghost use Rattle.http_responses.specs.Answers.{answer_bytes};
+ghost use Rattle.http_serving.specs.Missing.{Misses};
 
 use http_responses::Answer;
 use std::alloc::Global;
@@ -15,10 +18,11 @@ pub trait Handler {
     /// The state before, the moment, the message, the bytes of its answer, and the state after.
     ghost handles: { Self → ℕ → List ℕ → List ℕ → Self → Type 0 };
 
-    /// Whether no more is to be read.
-    fn is_settled(&self, bytes: &[u8]) -> bool
-        ensures yes { result ≡ true → settled self.now bytes.now }
-        ensures no { result ≡ false → wanting self.now bytes.now };
+    /// How many bytes more have to come at the least before these may be settled: 0 where they are, and no more is to be
+    /// read.
+    fn missing(&self, bytes: &[u8]) -> usize
+        ensures none { result ≡ 0 → settled self.now bytes.now }
+        ensures some { Misses (wanting self.now) bytes.now result };
 
     /// Does what the message asks, and answers it.
     fn handle(&mut self, alloc: Global, now: u64, bytes: &[u8]) -> Answer

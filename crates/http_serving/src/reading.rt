@@ -1,19 +1,20 @@
 //! The reading of one message.
 
-ghost use Rattle.std.specs.Prelude.{◌≡◌, ◌⊎◌, IfOk, OnErr};
+ghost use Rattle.std.specs.Prelude.{◌≡◌, ◌<◌, ◌⊎◌, IfOk, OnErr};
+ghost use Rattle.http_serving.specs.Missing.{Misses};
 ghost use Rattle.http_serving.specs.Reading.{HeardSays, TurnSays};
 ghost use Rattle.http_serving.specs.Streams.{Calls};
 
 use crate::fault::IoFault;
 use crate::handler::Handler;
-use crate::streams::Source;
-use std::alloc::Global;
+use crate::streams::{Source, StreamFault};
+use std::alloc::{AllocError, Global};
 
 /// The most bytes of one read.
 const CHUNK: usize = 4_096;
 
-/// The most reads of one message.
-const MOST_READS: u32 = 2_000_000;
+/// The most turns in which one message is read. Each is one read, also where it is interrupted.
+const MOST_TURNS: u32 = 2_000_000;
 
 /// What was read.
 #[derive(Drop)]
@@ -23,17 +24,18 @@ pub(crate) enum Heard {
     NoRoom,
 }
 
-/// What one read came to.
+/// What one turn came to.
 #[derive(Clone, Copy)]
 pub(crate) enum Turn {
-    More,
+    /// So many bytes more; none where the read was interrupted.
+    Gave(usize),
     End,
     /// There was no room for what it gave.
     NoRoom,
     Failed,
 }
 
-/// Reads until the handler wants no more, or nothing follows.
+/// Reads until the handler wants no more, or nothing follows. The handler is asked again once as many bytes came as it told.
 pub(crate) fn read_message<H: Handler, R: Source>(
     alloc: Global,
     service: &H,
@@ -44,18 +46,35 @@ pub(crate) fn read_message<H: Handler, R: Source>(
     ensures cause { OnErr result (R.has_failed reader.new ⊎ Calls R.steps 2_000_000 reader.old reader.new) }
 {
     let mut bytes = Vec::new(alloc);
-    for _ in 0..MOST_READS {
-        if service.is_settled(&bytes) {
+    let mut missing = service.missing(&bytes);
+    for _ in 0..MOST_TURNS {
+        if missing == 0 {
             return Ok(Heard::Message(bytes));
         }
         match read_turn(reader, &mut bytes) {
-            Turn::More => {}
+            Turn::Gave(count) => {
+                missing = still_missing(service, &bytes, missing.saturating_sub(count));
+            }
             Turn::End => return Ok(Heard::Message(bytes)),
             Turn::NoRoom => return Ok(Heard::NoRoom),
             Turn::Failed => return Err(IoFault::Read),
         }
     }
     Err(IoFault::Read)
+}
+
+/// How many bytes are missing, of which so many are known to be. Only where none is, the handler is asked.
+fn still_missing<H: Handler>(service: &H, bytes: &[u8], known: usize) -> usize
+    requires { Misses (H.wanting service.now) bytes.now known }
+    ensures known { 0 < known → result ≡ known }
+    ensures none { result ≡ 0 → H.settled service.now bytes.now }
+    ensures some { Misses (H.wanting service.now) bytes.now result }
+{
+    if known == 0 {
+        service.missing(bytes)
+    } else {
+        known
+    }
 }
 
 /// One read, whose bytes are put behind the others.
@@ -67,9 +86,10 @@ fn read_turn<R: Source>(reader: &mut R, bytes: &mut Vec<u8>) -> Turn
     match reader.read_some(&mut chunk) {
         Ok(0) => Turn::End,
         Ok(count) => match bytes.extend_from_slice(&chunk[..count]) {
-            Ok(()) => Turn::More,
-            Err(_) => Turn::NoRoom,
+            Ok(()) => Turn::Gave(count),
+            Err(AllocError) => Turn::NoRoom,
         },
-        Err(_) => Turn::Failed,
+        Err(StreamFault::Interrupted) => Turn::Gave(0),
+        Err(StreamFault::Failed) => Turn::Failed,
     }
 }

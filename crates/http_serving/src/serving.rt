@@ -1,3 +1,5 @@
+//! The serving of one message.
+
 ghost use Rattle.std.specs.Prelude.{◌≡◌, ◌⊎◌, ℕ, List, IsErrOf, OnOk, OnErr};
 ghost use Rattle.std.specs.Io.KnownBytes.{Appends};
 ghost use Rattle.http_serving.specs.Serving.{Comes, IsAnswered};
@@ -14,8 +16,9 @@ use std::alloc::Global;
 /// Reads one message as far as `service` wants, hands it over, and writes the answer.
 ///
 /// Where there is no room for the message nothing is handled, and the answer says so. At [`IoFault::Read`] nothing is
-/// handled and nothing written: a read failed, or 2,000,000 reads did not end the message. At [`IoFault::Write`] a
-/// write failed, or took nothing: what was handled stands, and a front of the answer went out.
+/// handled and nothing written: a read failed, or 2,000,000 reads were made, of which an interrupted one is one. At
+/// [`IoFault::Write`] a write failed, was interrupted, or took nothing: what was handled stands, and a front of the
+/// answer went out.
 pub fn serve_one<H: Handler, R: Source, W: Sink>(
     alloc: Global,
     service: &mut H,

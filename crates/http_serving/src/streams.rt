@@ -1,12 +1,31 @@
 //! Where messages come from, and where answers go.
 
-ghost use Rattle.std.specs.Prelude.{◌≡◌, ◌<◌, ℕ, List, length, Option, IfOk, OnErr};
+ghost use Rattle.std.specs.Prelude.{◌≡◌, ◌<◌, ℕ, List, length, Option, IfOk, IsErrOf, OnErr};
 ghost use Rattle.std.specs.Io.{ReadsAtMost, WritesAtMost};
 ghost use Rattle.std.specs.Io.KnownBytes.{ReadConsumes, WriteAppends};
 
-/// A read or a write failed.
-#[derive(Clone, Copy)]
-pub struct StreamFault;
+use std::error::Error;
+use std::fmt;
+
+/// Why one read gave nothing, or one write took nothing.
+#[derive(Clone, Copy, Debug, PartialEq, Eq)]
+pub enum StreamFault {
+    /// A signal came in between. Another call may do.
+    Interrupted,
+    /// It failed.
+    Failed,
+}
+
+impl fmt::Display for StreamFault {
+    fn fmt<W: fmt::Write>(&self, f: &mut fmt::Formatter<W>) -> fmt::Result {
+        match self {
+            StreamFault::Interrupted => write!(f, "interrupted"),
+            StreamFault::Failed => write!(f, "failed"),
+        }
+    }
+}
+
+impl Error for StreamFault {}
 
 /// What bytes are read from.
 pub trait Source {
@@ -24,7 +43,7 @@ pub trait Source {
         ensures bound { ReadsAtMost result buf.new }
         ensures bytes { ReadConsumes (left self.old) (left self.new) result buf.new }
         ensures step { steps self.old self.new }
-        ensures failed { OnErr result (has_failed self.new) };
+        ensures failed { IsErrOf result StreamFault.Failed → has_failed self.new };
 }
 
 /// What bytes are written to.
@@ -32,7 +51,7 @@ pub trait Sink {
     /// The bytes that it holds, where they are known.
     ghost held: { Self → Option (List ℕ) };
 
-    /// The last call failed, or took none of some bytes.
+    /// The last call failed, was interrupted, or took none of some bytes.
     ghost has_failed: { Self → Type 0 };
 
     /// Takes bytes from the front of `bytes`, and says how many.

@@ -6,7 +6,7 @@ ghost use Rattle.http_responses.specs.Answers.{answer_bytes};
 ghost use Rattle.http_serving.specs.Streams.{WentOut};
 
 use crate::fault::IoFault;
-use crate::streams::Sink;
+use crate::streams::{Sink, StreamFault};
 use arrayvec::ArrayVec;
 use http_responses::Answer;
 
@@ -62,7 +62,7 @@ fn write_whole<W: Sink>(writer: &mut W, bytes: &[u8]) -> Result<(), IoFault>
         match writer.write_some(&bytes[written..]) {
             Ok(0) => return Err(IoFault::Write),
             Ok(count) => written += count,
-            Err(_) => return Err(IoFault::Write),
+            Err(StreamFault::Interrupted | StreamFault::Failed) => return Err(IoFault::Write),
         }
     }
     Ok(())

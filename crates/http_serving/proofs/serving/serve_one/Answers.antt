@@ -9,4 +9,4 @@ returns-in-Ok-NoRoom-clause-write_fault g c = λ is_fault.
     let heard = rw c.in-Ok-NoRoom.field-0-is at c.in-Ok-NoRoom.ensures.ok in
     let failed = rw is_fault at c.write_answer.ensures.failed in
     let went = rw is_fault at c.write_answer.ensures.went_out in
-    (failed, (heard.0, answer_bytes Unavailable, heard.1, inr (refl {a = answer_bytes Unavailable}, refl {a = c.args.service.now}), went))
+    (failed, (heard.0, answer_bytes Unavailable, heard.1, inr (refl {a = answer_bytes Unavailable}, refl {a = c.args.service.now}, heard.2), went))

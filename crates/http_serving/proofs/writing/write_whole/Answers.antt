@@ -23,7 +23,7 @@ returns-in-Ok-eq0-clause-went_out g c =
     let told = rw none at c.in-Ok-eq0.ensures.bytes in
     WentOut-front (held c.args.writer.now) (held c.loop-written.writer) (held c.write_some.new.self) c.args.bytes.now c.loop-written.written c.loop-written.invariant.went_out told
 
-pub returns-in-Err-clause-went_out : goal.returns-in-Err-clause-went_out
-returns-in-Err-clause-went_out g c =
+pub returns-in-Err-Interrupted-clause-went_out : goal.returns-in-Err-Interrupted-clause-went_out
+returns-in-Err-Interrupted-clause-went_out g c =
     let held = g.W.Sink.held in
-    WentOut-kept (held c.args.writer.now) (held c.loop-written.writer) (held c.write_some.new.self) c.args.bytes.now c.loop-written.written c.loop-written.invariant.went_out c.in-Err.ensures.bytes
+    WentOut-kept (held c.args.writer.now) (held c.loop-written.writer) (held c.write_some.new.self) c.args.bytes.now c.loop-written.written c.loop-written.invariant.went_out c.in-Err-Interrupted.ensures.bytes
