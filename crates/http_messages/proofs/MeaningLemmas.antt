@@ -1,15 +1,15 @@
 -- What bytes mean, by a head that was read; that they mean one thing, and when they mean it whatever follows.
-use Rattle.std.proofs.Common.{◌≡◌, ℕ, ◌≤◌, Bool, true, false, List, [], ◌++◌, length, map, refl, sym, ap, ◌∙◌, subst, arith, inl, inr, append-nil, length-append, rules, Option, Some, None}
+use Rattle.std.proofs.Common.{◌≡◌, ℕ, ◌≤◌, ◌<◌, true, false, List, [], ◌∷◌, ◌++◌, length, map, refl, sym, ap, ◌∙◌, subst, arith, inl, inr, append-nil, length-append, rules, Option, Some, None}
 use Rattle.std.proofs.lemmas.Bool.Decides.{nat_tests}
 use Rattle.std.proofs.lemmas.List.{take-append-le}
 use Rattle.std.proofs.lemmas.Str.{is_utf8-from_IsUtf8}
-use Rattle.std.specs.Prelude.{nat_lt, not, if◌then◌else◌}
+use Rattle.std.specs.Prelude.{nat_lt, if◌then◌else◌}
 use Rattle.std.specs.Str.{IsUtf8, is_utf8}
 use Rattle.httparse.specs.Grammar.{RequestHead}
 use Rattle.httparse.specs.Spans.{name_and_value}
-use Rattle.http_messages.specs.Deciding.{Asked, Decision, at_once, with_body, decided, decided_for, asked_with, is_cut}
-use Rattle.http_messages.specs.Heads.{IsHead, HasNoHead, NeverHasHead}
-use Rattle.http_messages.specs.Meaning.{Means, IsSettled, Awaits, MessagesHaveOneMeaning}
+use Rattle.http_messages.specs.Deciding.{Asked, Decision, at_once, with_body, decided, decided_for, asked_with, is_cut, missing}
+use Rattle.http_messages.specs.Heads.{IsHead, HasNoHead, NeverHasHead, AwaitsHead}
+use Rattle.http_messages.specs.Meaning.{Means, IsSettled, Awaits, Misses, MissesNoMore, MessagesHaveOneMeaning}
 use Rattle.http_messages.specs.Routing.{Route, path_of, route_of}
 use Rattle.http_messages.proofs.HeadLemmas.{head_more, head_unique}
 
@@ -30,11 +30,50 @@ pub settled_head : (key bytes : List ℕ) (h : RequestHead) (rest : List ℕ) (d
 settled_head key bytes h rest decision asked head same e whole more =
     means_head key (bytes ++ more) h (rest ++ more) decision asked (head_more bytes h rest more head) same (e ∙ stays decision rest more whole)
 
-pub awaits_body : (key bytes : List ℕ) (h : RequestHead) (rest : List ℕ) (decision : Decision) → IsHead bytes h rest
-    → decision ≡ decided key h → is_cut decision rest ≡ true → Awaits key bytes
-awaits_body key bytes h rest decision head same cut =
-    let is : is_cut (decided key h) rest ≡ true = ap (λ (d : Decision). is_cut d rest) (sym same) ∙ cut in
-    inr (h, rest, head, search (rules, is))
+-- a body of which nothing is missing is whole
+whole_body : (decision : Decision) (rest more : List ℕ) → missing decision rest ≤ length more → is_cut decision (rest ++ more) ≡ false
+whole_body (at_once asked) rest more enough = refl
+whole_body (with_body route bytes) rest more enough = let e = length-append rest more in grind (arith, nat_tests, e, enough)
+
+-- with fewer bytes than are missing it is still cut
+cut_body : (decision : Decision) (rest more : List ℕ) → length more < missing decision rest → is_cut decision (rest ++ more) ≡ true
+cut_body (at_once asked) rest more few = absurd (omega (arith, few))
+cut_body (with_body route bytes) rest more few = let e = length-append rest more in grind (arith, nat_tests, e, few)
+
+-- so a whole head whose body is cut awaits more until its last byte is there
+pub misses_body : (key bytes : List ℕ) (h : RequestHead) (rest : List ℕ) (decision : Decision) (count : ℕ) → IsHead bytes h rest
+    → decision ≡ decided key h → count ≡ missing decision rest → Misses key bytes count
+misses_body key bytes h rest decision count head same told more few =
+    let cut = cut_body decision rest more (subst (λ (n : ℕ). length more < n) told few) in
+    let is : is_cut (decided key h) (rest ++ more) ≡ true = ap (λ (d : Decision). is_cut d (rest ++ more)) (sym same) ∙ cut in
+    inr (h, rest ++ more, head_more bytes h rest more head, search (rules, is))
+
+-- and with it no more
+pub misses_no_more : (key bytes : List ℕ) (h : RequestHead) (rest : List ℕ) (decision : Decision) (count : ℕ) → IsHead bytes h rest
+    → decision ≡ decided key h → count ≡ missing decision rest → MissesNoMore key bytes count
+misses_no_more key bytes h rest decision count head same told k other more head_too enough =
+    let whole = whole_body decision rest more (subst (λ (n : ℕ). n ≤ length more) told enough) in (
+      asked_with decision (rest ++ more),
+      settled_head key (bytes ++ more) h (rest ++ more) decision (asked_with decision (rest ++ more)) (head_more bytes h rest more head) same refl whole,
+    )
+
+-- where no byte is missing the body is whole
+pub none_missing : (decision : Decision) (rest : List ℕ) (count : ℕ) → count ≡ missing decision rest → count ≡ 0 → is_cut decision rest ≡ false
+none_missing decision rest count told none =
+    subst (λ (xs : List ℕ). is_cut decision xs ≡ false) (append-nil rest)
+    (whole_body decision rest [] (omega (arith, told, none)))
+
+-- a head that is not whole misses a byte at the least
+pub misses_head : (key bytes : List ℕ) → AwaitsHead bytes → Misses key bytes 1
+misses_head key bytes awaits [] few = subst (Awaits key) (sym (append-nil bytes)) (inl awaits)
+misses_head key bytes awaits (b ∷ more) few = absurd (omega (arith, few))
+
+-- bytes with no head have none that is whole
+pub no_whole_head : (key bytes : List ℕ) (count : ℕ) → HasNoHead bytes → MissesNoMore key bytes count
+no_whole_head key bytes count none h rest more head enough = absurd (none h rest head)
+
+pub none_awaited : (key bytes : List ℕ) → Misses key bytes 0
+none_awaited key bytes more few = absurd (omega (arith, few))
 
 pub no_head_now : (bytes : List ℕ) → NeverHasHead bytes → HasNoHead bytes
 no_head_now bytes never = subst HasNoHead (append-nil bytes) (never [])
@@ -53,14 +92,6 @@ pub decided_at : (key method : List ℕ) (fields : List (List ℕ × List ℕ)) 
 decided_at key method fields path route decision h made methods told routed paths =
     made ∙ ap (λ (m : List ℕ). decided_for key m fields route) methods ∙ ap (λ (fs : List (List ℕ × List ℕ)). decided_for key h.method fs route) told
     ∙ ap (decided_for key h.method (map name_and_value h.fields)) (routed ∙ ap route_of paths)
-
-pub not_true : (b : Bool) → not b ≡ true → b ≡ false
-not_true true h = cc
-not_true false h = refl
-
-pub not_false : (b : Bool) → not b ≡ false → b ≡ true
-not_false true h = refl
-not_false false h = cc
 
 pub one_meaning : MessagesHaveOneMeaning
 one_meaning key bytes a b means and = elim means [

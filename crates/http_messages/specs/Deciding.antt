@@ -1,5 +1,5 @@
 -- What a request asks for, and which check refuses it first.
-use Rattle.std.specs.Prelude.{ℕ, Bool, false, ◌&&◌, not, nat_lt, if◌then◌else◌, List, length, take, map, codes, Option, Some, None, Result, Ok, Err}
+use Rattle.std.specs.Prelude.{ℕ, Bool, false, ◌&&◌, not, nat_lt, ◌-◌, if◌then◌else◌, List, length, take, map, codes, Option, Some, None, Result, Ok, Err}
 use Rattle.std.specs.Str.{bytes_eq}
 use Rattle.httparse.specs.Grammar.{RequestHead}
 use Rattle.httparse.specs.Spans.{name_and_value}
@@ -72,6 +72,11 @@ asked_on (routing.hosts id) body = statement_of (host_in id)
 abbrev pub is_cut : Decision → List ℕ → Bool
 is_cut (at_once asked) rest = false
 is_cut (with_body route bytes) rest = nat_lt (length rest) bytes
+
+-- how many bytes of the body do not stand behind the head
+abbrev pub missing : Decision → List ℕ → ℕ
+missing (at_once asked) rest = 0
+missing (with_body route bytes) rest = bytes - length rest
 
 -- what is asked with these bytes behind the head; those behind the body are not looked at
 abbrev pub asked_with : Decision → List ℕ → Asked

@@ -1,5 +1,5 @@
 -- What the bytes of a connection mean: one request, with its body.
-use Rattle.std.specs.Prelude.{◌≡◌, ◌⊎◌, ℕ, List, ◌++◌, IsTrue}
+use Rattle.std.specs.Prelude.{◌≡◌, ◌<◌, ◌≤◌, ◌⊎◌, ℕ, List, ◌++◌, length, IsTrue}
 use Rattle.httparse.specs.Grammar.{RequestHead}
 use Rattle.rpc_records.specs.declared.fault.Fault.TheVariants.{BadHttp}
 use Rattle.http_messages.specs.Deciding.{Asked, call, import, tick, statement, wrong_method, refused, decided, asked_with, is_cut}
@@ -23,6 +23,15 @@ abbrev pub Awaits : List ℕ → List ℕ → Type 0
 Awaits key bytes =
     AwaitsHead bytes
     ⊎ ((h : RequestHead) × (rest : List ℕ) × IsHead bytes h rest × IsTrue (is_cut (decided key h) rest))
+
+-- so many bytes more have to come at the least: behind fewer they await more
+abbrev pub Misses : List ℕ → List ℕ → ℕ → Type 0
+Misses key bytes count = (more : List ℕ) → length more < count → Awaits key (bytes ++ more)
+
+-- and behind a whole head no more than these: with them they mean something whatever follows
+abbrev pub MissesNoMore : List ℕ → List ℕ → ℕ → Type 0
+MissesNoMore key bytes count = (h : RequestHead) (rest more : List ℕ) → IsHead bytes h rest → count ≤ length more
+    → (asked : Asked) × IsSettled key (bytes ++ more) asked
 
 -- no bytes ask for two things
 abbrev pub MessagesHaveOneMeaning : Type 0

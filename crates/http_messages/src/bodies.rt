@@ -1,3 +1,5 @@
+//! How long the body of a request is.
+
 ghost use Rattle.std.specs.Prelude.{◌≡◌, length, map, All};
 ghost use Rattle.httparse.specs.Spans.{IsHeaderWithin, header_bytes};
 ghost use Rattle.http_messages.specs.Bodies as spec;
@@ -14,7 +16,7 @@ fn untold_length(place: Place) -> Result<usize, Fault>
 {
     match place {
         Place::Tick => Ok(0),
-        _ => Err(Fault::LengthRequired),
+        Place::Scheduler | Place::Import | Place::Hosts => Err(Fault::LengthRequired),
     }
 }
 

@@ -1,3 +1,5 @@
+//! What a head decides, and what is asked with what stands behind it.
+
 ghost use Rattle.std.specs.Prelude.{◌≡◌, length, map, All, option_map};
 ghost use Rattle.std.specs.Str.{bytes_eq};
 ghost use Rattle.httparse.specs.Spans.{IsHeaderWithin, header_bytes};
@@ -27,13 +29,13 @@ pub(crate) enum Decision<'b> {
 }
 
 impl<'b> Decision<'b> {
-    /// Whether fewer bytes than those of the body stand behind the head.
-    pub(crate) fn is_cut(self, rest: &[u8]) -> bool
-        ensures { result ≡ spec.is_cut (decision_seen self.entry) rest.now }
+    /// How many bytes of the body do not stand behind the head.
+    pub(crate) fn missing(self, rest: &[u8]) -> usize
+        ensures { result ≡ spec.missing (decision_seen self.entry) rest.now }
     {
         match self {
-            Decision::AtOnce(_) => false,
-            Decision::WithBody(_, bytes) => rest.len() < bytes,
+            Decision::AtOnce(_) => 0,
+            Decision::WithBody(_, bytes) => bytes.saturating_sub(rest.len()),
         }
     }
 
@@ -89,7 +91,7 @@ fn is_operator(key: &[u8], front: &[u8], spans: &[HeaderSpan]) -> bool
 {
     match find(front, spans, b"x-operator-key") {
         Found::Once(value) => is_same_text(value, key),
-        _ => false,
+        Found::Absent | Found::Often => false,
     }
 }
 

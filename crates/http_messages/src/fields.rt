@@ -1,3 +1,5 @@
+//! The fields of a head, by their names.
+
 ghost use Rattle.std.specs.Prelude.{◌≡◌, length, map, All};
 ghost use Rattle.httparse.specs.Spans.{IsHeaderWithin, header_bytes};
 ghost use Rattle.http_messages.specs.Fields as spec;
@@ -22,7 +24,7 @@ impl<'b> Found<'b> {
     {
         match self {
             Found::Absent => Found::Once(value),
-            _ => Found::Often,
+            Found::Once(_) | Found::Often => Found::Often,
         }
     }
 

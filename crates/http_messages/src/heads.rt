@@ -1,3 +1,5 @@
+//! The heads of requests.
+
 ghost use Rattle.std.specs.Prelude.{◌≡◌, length};
 ghost use Rattle.http_messages.specs.Heads as spec;
 
@@ -39,6 +41,7 @@ pub(crate) fn read_head(bytes: &[u8], fields: &mut [HeaderSpan]) -> HeadRead
     match parse_request(head_room(bytes), fields) {
         Ok(Status::Complete(spans)) => HeadRead::Whole(spans),
         Ok(Status::Partial) if bytes.len() < MOST_HEAD_BYTES => HeadRead::Partial,
-        _ => HeadRead::Refused,
+        Ok(Status::Partial) => HeadRead::Refused,
+        Err(_) => HeadRead::Refused,
     }
 }

@@ -1,9 +1,11 @@
-ghost use Rattle.std.specs.Prelude.{◌≡◌, true, false};
+//! The hearing of a request: what its bytes mean, as far as they came.
+
+ghost use Rattle.std.specs.Prelude.{◌≡◌};
 ghost use Rattle.httparse.specs.Grammar.{RequestHead};
 ghost use Rattle.httparse.specs.Spans.{IsRequestWithin, IsRequestAt};
 ghost use Rattle.http_messages.specs.Deciding.{decided};
 ghost use Rattle.http_messages.specs.Hearing.{decision_seen};
-ghost use Rattle.http_messages.specs.Meaning.{Means, IsSettled, Awaits, message_seen};
+ghost use Rattle.http_messages.specs.Meaning.{Means, IsSettled, Misses, MissesNoMore, message_seen};
 ghost use Rattle.http_messages.specs.Routers.{the_routes};
 
 use crate::deciding::{Decision, decide_for};
@@ -42,19 +44,23 @@ fn decide<'b>(
     }
 }
 
-/// What the bytes that came so far mean, where `key` is the operator's, and whether they stay that whatever follows.
+/// What the bytes that came so far mean, where `key` is the operator's, and how many are missing at the least before they
+/// mean something whatever follows.
 ///
 /// The checks come in this order, and the first that fails tells the refusal: the head, the route, the method, the
 /// operator's key on its routes, the length of the body, and whether the body is whole. What a path names is looked at
 /// with the route, but for a host's number, which comes last.
 ///
-/// Bytes that are not settled await more: as long as the peer goes on, they are to be heard again with what it sends.
-/// Once it has stopped they mean what is told here, which for a request that is cut short is [`Fault::BadHttp`].
+/// Where none is missing they mean the same whatever follows. Where some are, they await more: as long as the peer goes on,
+/// they are to be heard again with what it sends, once that is so many bytes. Of a whole head these are the rest of its
+/// body; a head that is not whole misses one byte at the least. Once the peer has stopped they mean what is told here, which
+/// for a request that is cut short is [`Fault::BadHttp`].
 pub fn hear<'b>(router: &Router<Place>, key: &[u8], bytes: &'b [u8]) -> Heard<'b>
     requires { router.now ≡ the_routes }
     ensures meaning { Means key.now bytes.entry.now (message_seen result.message) }
-    ensures settled { result.is_settled ≡ true → IsSettled key.now bytes.entry.now (message_seen result.message) }
-    ensures awaits { result.is_settled ≡ false → Awaits key.now bytes.entry.now }
+    ensures settled { result.missing ≡ 0 → IsSettled key.now bytes.entry.now (message_seen result.message) }
+    ensures awaits { Misses key.now bytes.entry.now result.missing }
+    ensures no_more { MissesNoMore key.now bytes.entry.now result.missing }
 {
     let mut fields = [EMPTY_HEADER_SPAN; MOST_FIELDS];
     match read_head(bytes, &mut fields) {
@@ -63,16 +69,16 @@ pub fn hear<'b>(router: &Router<Place>, key: &[u8], bytes: &'b [u8]) -> Heard<'b
             let rest = &bytes[spans.len..];
             Heard {
                 message: decision.message(rest),
-                is_settled: !decision.is_cut(rest),
+                missing: decision.missing(rest),
             }
         }
         HeadRead::Partial => Heard {
             message: Message::Refused(Fault::BadHttp),
-            is_settled: false,
+            missing: 1,
         },
         HeadRead::Refused => Heard {
             message: Message::Refused(Fault::BadHttp),
-            is_settled: true,
+            missing: 0,
         },
     }
 }

@@ -1,8 +1,8 @@
 //! What the bytes of a request mean.
 //!
-//! [`hear`] takes the bytes that a peer sent so far. It tells the message that they are, and whether they stay that
-//! message whatever follows; as long as they may yet become another, more is to be read. `specs/` says what bytes
-//! mean, check by check in their order; [`laws`] are the theorems.
+//! [`hear`] takes the bytes that a peer sent so far. It tells the message that they are, and how many bytes are missing
+//! at the least before they stay that message whatever follows. `specs/` says what bytes mean, check by check in their
+//! order; [`laws`] are the theorems.
 #![tactic(auto)]
 
 mod bodies;

@@ -1,3 +1,5 @@
+//! What a request asks for, and what bytes mean.
+
 use http_responses::Method;
 use rpc_records::Fault;
 use stores::Kind;
@@ -27,6 +29,6 @@ pub enum Message<'b> {
 #[derive(Clone, Copy)]
 pub struct Heard<'b> {
     pub message: Message<'b>,
-    /// Whether they mean the same whatever follows.
-    pub is_settled: bool,
+    /// How many bytes more have to come at the least before they may mean something whatever follows: 0 where they do.
+    pub missing: usize,
 }

@@ -1,3 +1,5 @@
+//! Numbers in a head, written in decimal digits.
+
 ghost use Rattle.std.specs.Prelude.{◌≡◌};
 ghost use Rattle.std.specs.Char.{is_ascii_digit};
 ghost use Rattle.std.specs.List.{list_all};
@@ -68,6 +70,6 @@ pub(crate) fn host_in(text: &[u8]) -> Option<u32>
     }
     match number_in(text) {
         Some(number) if number <= MOST_HOST => Some(number as u32),
-        _ => None,
+        Some(_) | None => None,
     }
 }

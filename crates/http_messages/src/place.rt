@@ -1,3 +1,5 @@
+//! What each route asks of a request.
+
 ghost use Rattle.std.specs.Prelude.{◌≡◌};
 ghost use Rattle.http_messages.specs.Places as spec;
 
@@ -29,7 +31,7 @@ impl Place {
     {
         match self {
             Place::Hosts => Method::Get,
-            _ => Method::Post,
+            Place::Scheduler | Place::Import | Place::Tick => Method::Post,
         }
     }
 

@@ -1,3 +1,5 @@
+//! The routes of requests, by their paths.
+
 ghost use Rattle.std.specs.Prelude.{◌≡◌, ◌<◌, length, IfOk, IfSome, option_map, position};
 ghost use Rattle.stores.specs.Kinds.{kind_of};
 ghost use Rattle.http_messages.specs.Routing as spec;
@@ -82,7 +84,7 @@ fn import_with(kind: Option<Kind>, batch: &[u8]) -> Option<Route<'_>>
 {
     match (kind, word_of(batch)) {
         (Some(kind), Some(batch)) => Some(Route::Import(kind, batch)),
-        _ => None,
+        (None, _) | (_, None) => None,
     }
 }
 

@@ -15,12 +15,12 @@ returns-in-Ok-Partial c =
     let may = rw (c.in-Ok-Partial.field-0-is, c.head_room.ensures) at c.in-Ok-Partial.ensures.unfinished in
     awaits c.args.bytes.now c.if-bytes-lt-MOST_HEAD_BYTES.true none may
 
-pub returns-in_default : goal.returns-in_default
-returns-in_default c =
+pub returns-in-Ok-Partial-2 : goal.returns-in-Ok-Partial-2
+returns-in-Ok-Partial-2 c =
     let none = rw (c.in-Ok-Partial.field-0-is, c.head_room.ensures) at c.in-Ok-Partial.ensures.partial in
     never_in_room c.args.bytes.now (omega (arith, c.if-bytes-lt-MOST_HEAD_BYTES.false)) none
 
-pub returns-in_default-2 : goal.returns-in_default-2
-returns-in_default-2 c =
-    let over = rw (c.in_default.is, c.head_room.ensures, c.requires) at c.parse_request.ensures.no_room in
+pub returns-in-Err : goal.returns-in-Err
+returns-in-Err c =
+    let over = rw (c.in-Err.is, c.head_room.ensures, c.requires) at c.parse_request.ensures.no_room in
     never_with_fields c.args.bytes.now over
