@@ -1,3 +1,5 @@
+//! What a message is answered with.
+
 ghost use Rattle.std.specs.Prelude.{◌≡◌};
 ghost use Rattle.http_responses.specs.Responses.{head_of};
 ghost use Rattle.http_responses.specs.Answers.{response_of};

@@ -1,3 +1,5 @@
+//! What bodies are written in.
+
 ghost use Rattle.std.specs.Prelude.{◌≡◌, ◌≤◌, length};
 ghost use Rattle.http_responses.specs.Responses.{media_type};
 

@@ -1,3 +1,5 @@
+//! The methods of routes.
+
 ghost use Rattle.std.specs.Prelude.{◌≡◌, ◌≤◌, length};
 ghost use Rattle.http_responses.specs.Methods.{method_name};
 

@@ -1,3 +1,5 @@
+//! The responses to messages.
+
 ghost use Rattle.std.specs.Prelude.{◌≡◌, IfOk};
 ghost use Rattle.rpc_records.specs.Replies.{status_of};
 ghost use Rattle.http_responses.specs.Responses.{head_of, good_response, statement_response, refusal_response, wrong_method_response};
@@ -90,6 +92,13 @@ fn status_code(fault: Fault) -> StatusCode
         Fault::LengthRequired => StatusCode::LENGTH_REQUIRED,
         Fault::TooLarge => StatusCode::PAYLOAD_TOO_LARGE,
         Fault::Unavailable => StatusCode::SERVICE_UNAVAILABLE,
-        _ => StatusCode::CONFLICT,
+        Fault::BadHost
+        | Fault::Stale(_)
+        | Fault::Reused(_)
+        | Fault::HostsFull
+        | Fault::DuplicateName(_)
+        | Fault::UnknownReference(_)
+        | Fault::BatchReused
+        | Fault::TableFull => StatusCode::CONFLICT,
     }
 }
