@@ -8,9 +8,9 @@ ghost use Rattle.sched_book.specs.Trusted.{Trusted};
 ghost use Rattle.lost_jobs.specs.Fates.{fate, resent_to};
 ghost use Rattle.lost_jobs.specs.Leaves.{open_job_on};
 
-use call_sheet::{Draft, Leaf, Page, Sheet};
+use call_sheet::{Draft, Leaf};
 use job_choice::{fits, seconds_at};
-use sched_book::{Desk, HostRow, Moment, Place, Unavailable, Version, Workunit, copy_of};
+use sched_book::{HostRow, Moment, Place, Unavailable, Version, Workunit, copy_of};
 use std::alloc::Global;
 use texts::{Listed, Memory};
 
@@ -135,27 +135,4 @@ pub fn fates_on<S: Draft>(
         })?;
     }
     Ok(fates)
-}
-
-/// What becomes of these lost jobs of a host as it is told now.
-///
-/// A job is sent again where its workunit is open and fits the host; its deadline then stays where the host can
-/// meet it, or else is as for a new job. The others are dropped.
-pub fn resend_or_drop<D: Desk>(
-    alloc: Global,
-    desk: &mut D,
-    host: &HostRow,
-    lost: &[Place],
-    now: Moment,
-) -> Result<Listed<Fate>, Unavailable>
-    ensures reads { D.reads desk.old desk.new }
-    ensures answer { Trusted D.Units desk.old desk.new (
-        IfOk result (λ fates. fates ≡ map (fate (D.world desk.old) host.now now) lost.now)) }
-{
-    let mut page = Page::new(alloc, desk.settings(alloc)?);
-    let mut sheet = Sheet {
-        desk,
-        page: &mut page,
-    };
-    fates_on(alloc, &mut sheet, host, lost, now)
 }

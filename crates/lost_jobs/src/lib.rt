@@ -6,9 +6,10 @@ mod changes;
 mod fates;
 pub mod laws;
 mod missing;
+mod outer_calls;
 
 pub use aborted::aborts;
 pub use changes::put_fates;
-pub use fates::{Fate, fates_on, resend_or_drop, version_on};
-pub use job_choice::version_for;
-pub use missing::{lost, lost_on};
+pub use fates::{Fate, fates_on, version_on};
+pub use missing::lost_on;
+pub use outer_calls::{lost, resend_or_drop};

@@ -4,15 +4,13 @@ ghost use Rattle.std.specs.Prelude.{◌≡◌, IfOk};
 ghost use Rattle.std.specs.Option.{option_copied};
 ghost use Rattle.sched_book.specs.Places.{held_by};
 ghost use Rattle.sched_book.specs.Lost.{lost};
-ghost use Rattle.sched_book.specs.Delta.{applied};
 ghost use Rattle.sched_book.specs.Trusted.{Trusted};
 ghost use Rattle.lost_jobs.specs.Holding.{HoldsNoMore};
 ghost use Rattle.lost_jobs.specs.Leaves.{is_missing_on};
-ghost use Rattle.lost_jobs.specs.Requested.{RecordsReports, AreLostBy};
 
-use call_sheet::{Draft, Leaf, Page, Sheet, put_all};
+use call_sheet::{Draft, Leaf};
 use rpc_records::Request;
-use sched_book::{Delta, Desk, Place, Unavailable, instance_name};
+use sched_book::{Place, Unavailable, instance_name};
 use std::alloc::Global;
 use texts::{Listed, Memory, SeenSet, Text};
 
@@ -73,33 +71,4 @@ pub fn lost_on<S: Draft>(
         }
     }
     Ok(missing)
-}
-
-/// The jobs of the host that its client lost: what it still holds after changes and the client does not list, by
-/// place. There are none where lost jobs are not sent again, or where the client sent no list. The changes must
-/// leave the host no job that it did not hold before; where they record the request's reports, the lost jobs are those
-/// that it held before, and that the request neither reports nor lists.
-pub fn lost<D: Desk>(
-    alloc: Global,
-    desk: &mut D,
-    delta: &Delta,
-    host: u32,
-    request: &Request,
-) -> Result<Listed<Place>, Unavailable>
-    ensures reads { D.reads desk.old desk.new }
-    ensures answer { Trusted D.Units desk.old desk.new (IfOk result (λ places.
-        HoldsNoMore (D.world desk.old) (applied (D.world desk.old) delta.now) host →
-        places ≡ lost (applied (D.world desk.old) delta.now) host request.now.other_results)) }
-    ensures of_request { Trusted D.Units desk.old desk.new (IfOk result (λ places.
-        RecordsReports (D.world desk.old) delta.now host request.now →
-        AreLostBy (D.world desk.old) host request.now places)) }
-{
-    let mut page = Page::new(alloc, desk.settings(alloc)?);
-    let mut sheet = Sheet {
-        desk,
-        page: &mut page,
-    };
-    put_all(alloc, &mut sheet, delta.as_slice())?;
-    let held = sheet.held_before(alloc, host)?;
-    lost_on(alloc, &mut sheet, host, held.as_slice(), request)
 }

@@ -5,31 +5,17 @@ ghost use Rattle.std.specs.Option.{option_copied};
 ghost use Rattle.rpc_records.specs.Ranges.{IsReport};
 ghost use Rattle.rpc_records.specs.declared.request.Report.{Report};
 ghost use Rattle.sched_book.specs.Limits.{most_instances};
-ghost use Rattle.sched_book.specs.Reports.{first_reports, with_report, record_at, record_one, recorded};
-ghost use Rattle.sched_book.specs.Delta.{applied, Fits};
-ghost use Rattle.sched_book.specs.Sound.{Sound};
+ghost use Rattle.sched_book.specs.Reports.{first_reports, with_report, record_at, record_one};
 ghost use Rattle.sched_book.specs.Trusted.{Trusted};
 ghost use Rattle.quorum_credit.specs.Leaves.{reported_on};
 ghost use Rattle.quorum_credit.specs.Limited.{FitWithin};
-ghost use Rattle.quorum_credit.specs.Taken.{place_among, AreTouched};
+ghost use Rattle.quorum_credit.specs.Taken.{place_among};
 
-use crate::touched::touched_by;
-use call_sheet::{Draft, Leaf, Page, Sheet, place_before};
+use call_sheet::{Draft, Leaf, place_before};
 use rpc_records::{Report, Request};
-use sched_book::{Delta, Desk, Instance, Outcome, Place, Unavailable, first_of_each};
+use sched_book::{Instance, Outcome, Place, Unavailable, first_of_each};
 use std::alloc::Global;
 use texts::{Listed, Memory, Text};
-
-/// What the reports of a call come to.
-#[derive(Drop)]
-pub struct Taken {
-    /// The instances that they change.
-    pub delta: Delta,
-    /// The names that are acknowledged, each once, in the order of their first places.
-    pub acked: Listed<Text>,
-    /// The places of the workunits that they touch, in order and each once.
-    pub touched: Listed<u32>,
-}
 
 /// Copies of the names of these reports.
 fn names_of(alloc: Global, reports: &[&Report]) -> Result<Listed<Text>, Memory>
@@ -187,39 +173,4 @@ pub fn record_on<S: Draft>(
     let acked = names_of(alloc, firsts.as_slice())?;
     take_in_turn(alloc, sheet, host, firsts.as_slice())?;
     Ok(acked)
-}
-
-/// Takes the reports of a call from the host of this number.
-///
-/// Of each name the first report counts. It is recorded where the host was given the instance and did not report
-/// it yet, also after a lapse; it is judged where the workunit had not failed before the call, and then gets the
-/// next place among the workunit's judged reports. Every name is acknowledged, whatever became of its report.
-pub fn take_reports<D: Desk>(
-    alloc: Global,
-    desk: &mut D,
-    host: u32,
-    request: &Request,
-) -> Result<Taken, Unavailable>
-    ensures reads { D.reads desk.old desk.new }
-    ensures delta { Trusted D.Units desk.old desk.new (
-        IfOk result (λ taken. applied (D.world desk.old) taken.delta ≡ recorded (D.world desk.old) host request.now.results)) }
-    ensures acked { IfOk result (λ taken. taken.acked ≡ map (λ (r : Report). r.name) (first_reports request.now.results)) }
-    ensures fits { Trusted D.Units desk.old desk.new (
-        IfOk result (λ taken. All IsReport request.now.results → Sound (D.world desk.old) → Fits (D.world desk.old) taken.delta)) }
-    ensures touched { IfOk result (λ taken. AreTouched taken.delta taken.touched) }
-{
-    let mut page = Page::new(alloc, desk.settings(alloc)?);
-    let mut sheet = Sheet {
-        desk,
-        page: &mut page,
-    };
-    let acked = record_on(alloc, &mut sheet, host, request)?;
-    drop(sheet);
-    let Page { delta, .. } = page;
-    let touched = touched_by(alloc, delta.as_slice())?;
-    Ok(Taken {
-        delta,
-        acked,
-        touched,
-    })
 }

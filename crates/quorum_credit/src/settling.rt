@@ -1,26 +1,22 @@
 //! The settlement of the workunits that changes touch.
 
-ghost use Rattle.std.specs.Prelude.{◌≡◌, [], ◌++◌, true, drop, IfOk, OnOk};
-ghost use Rattle.std.specs.List.{list_all};
+ghost use Rattle.std.specs.Prelude.{◌≡◌, [], IfOk, OnOk};
 ghost use Rattle.sched_book.specs.Delta.{applied, Fits};
 ghost use Rattle.sched_book.specs.Settle.{settled};
 ghost use Rattle.sched_book.specs.Sound.{Sound};
-ghost use Rattle.sched_book.specs.Step.{lapsed};
 ghost use Rattle.sched_book.specs.Trusted.{Trusted};
-ghost use Rattle.call_sheet.specs.Sheets.{IsPageOf};
 ghost use Rattle.quorum_credit.specs.Marking.{marks_of_units};
 ghost use Rattle.quorum_credit.specs.Late.{lapsed_at};
-ghost use Rattle.quorum_credit.specs.Settling.{puts_row, TouchJust, GoesOn, IsSettlement, AreMarks};
-ghost use Rattle.quorum_credit.specs.Taken.{AreTouched};
+ghost use Rattle.quorum_credit.specs.Settling.{TouchJust, GoesOn, AreMarks};
 
 use crate::growth::grow_on;
 use crate::host_quotas::new_quotas;
 use crate::late::lapse_on;
 use crate::marks::{Mark, marks_of_units};
 use call_sheet::{Draft, Page, Sheet, put_all};
-use sched_book::{Delta, Desk, Moment, Place, Unavailable};
+use sched_book::{Delta, Desk, Place, Unavailable};
 use std::alloc::Global;
-use texts::{Listed, Memory};
+use texts::Listed;
 
 /// Settles these workunits on the sheet of a call: each open one gets the instances that it lacks, and each of their hosts
 /// the quota that follows from what is new, of which the marks tell. No workunit but these may have been changed.
@@ -49,60 +45,6 @@ pub fn settle_on<S: Draft>(
     let quotas = new_quotas(alloc, sheet, marks.as_slice())?;
     put_all(alloc, sheet, quotas.as_slice())?;
     Ok(marks)
-}
-
-/// The same over a desk with a page, after changes that are put first.
-fn settle_onto<D: Desk>(
-    alloc: Global,
-    desk: &mut D,
-    page: &mut Page,
-    delta: &Delta,
-    touched: &[u32],
-) -> Result<(), Unavailable>
-    ensures reads { D.reads desk.old desk.new }
-    ensures page { Trusted D.Units desk.old desk.new (IsPageOf (D.world desk.old) page.old → IsPageOf (D.world desk.old) page.new) }
-    ensures settled { Trusted D.Units desk.old desk.new (IsPageOf (D.world desk.old) page.old → OnOk result (
-        IsSettlement (D.world desk.old) (page.old.delta ++ delta.now) page.new.delta touched.now)) }
-{
-    let mut sheet = Sheet { desk, page };
-    put_all(alloc, &mut sheet, delta.as_slice())?;
-    settle_on(alloc, &mut sheet, touched)?;
-    Ok(())
-}
-
-/// The changes of a list that stand behind so many.
-fn behind(alloc: Global, delta: Delta, count: usize) -> Result<Delta, Memory>
-    ensures { IfOk result (λ more. more ≡ drop count delta) }
-{
-    Ok(Listed::of(delta.into_vec().into_iter().skip(count).collect(alloc)?))
-}
-
-/// Settles the workunits that changes touch, which stand at these places: the further changes that give each open
-/// one the instances that it lacks, and each of their hosts the quota that follows from what is new.
-///
-/// The changes are those of a call or a tick, which put hosts and instances; others are refused.
-///
-/// # Errors
-///
-/// [`Unavailable`] where memory is wanting or the desk is unavailable.
-pub fn settle_all<D: Desk>(
-    alloc: Global,
-    desk: &mut D,
-    delta: &Delta,
-    touched: &[u32],
-) -> Result<Delta, Unavailable>
-    ensures reads { D.reads desk.old desk.new }
-    ensures settled { Trusted D.Units desk.old desk.new (IfOk result (λ more.
-        Sound (D.world desk.old) → Fits (D.world desk.old) delta.now → AreTouched delta.now touched.now →
-        applied (D.world desk.old) (delta.now ++ more) ≡ settled (D.world desk.old) (applied (D.world desk.old) delta.now))) }
-    ensures fits { Trusted D.Units desk.old desk.new (IfOk result (λ more.
-        Sound (D.world desk.old) → Fits (D.world desk.old) delta.now → AreTouched delta.now touched.now →
-        Fits (D.world desk.old) (delta.now ++ more))) }
-    ensures puts { Trusted D.Units desk.old desk.new (IfOk result (λ more. list_all puts_row (delta.now ++ more) ≡ true)) }
-{
-    let mut page = Page::new(alloc, desk.settings(alloc)?);
-    settle_onto(alloc, desk, &mut page, delta, touched)?;
-    Ok(behind(alloc, page.delta, delta.len())?)
 }
 
 /// Settles the workunits that a call or a tick has read on its sheet, and tells what is new in them. No other is touched.
@@ -163,20 +105,4 @@ pub fn lapse_places<D: Desk>(
     lapse_read(alloc, &mut sheet, places)?;
     drop(sheet);
     Ok(page.delta)
-}
-
-/// Lets each held instance whose deadline is before this moment lapse late, and settles their workunits.
-///
-/// # Errors
-///
-/// [`Unavailable`] where memory is wanting or the desk is unavailable.
-pub fn lapse<D: Desk>(alloc: Global, desk: &mut D, now: Moment) -> Result<Delta, Unavailable>
-    ensures reads { D.reads desk.old desk.new }
-    ensures settled { Trusted D.Units desk.old desk.new (IfOk result (λ delta.
-        Sound (D.world desk.old) → applied (D.world desk.old) delta ≡ settled (D.world desk.old) (lapsed (D.world desk.old) now))) }
-    ensures fits { Trusted D.Units desk.old desk.new (
-        IfOk result (λ delta. Sound (D.world desk.old) → Fits (D.world desk.old) delta)) }
-{
-    let places = desk.due_before(alloc, now)?;
-    lapse_places(alloc, desk, places.as_slice())
 }

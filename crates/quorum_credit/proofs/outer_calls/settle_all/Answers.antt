@@ -6,8 +6,8 @@ use Rattle.sched_book.specs.Delta.{applied}
 use Rattle.quorum_credit.specs.Settling.{puts_row, IsSettlement}
 use Rattle.quorum_credit.proofs.RowsPut.{call_puts}
 use Rattle.quorum_credit.proofs.SettledAll.{joined_put, joined_settle, joined_fit}
-use Rattle.quorum_credit.proofs.settling.settle_all.Given
-use Rattle.quorum_credit.proofs.settling.settle_all.Goals as goal
+use Rattle.quorum_credit.proofs.outer_calls.settle_all.Given
+use Rattle.quorum_credit.proofs.outer_calls.settle_all.Goals as goal
 
 -- what was settled over the page, of the desk's first world, and that the changes of the page put rows
 record Told (g : Given.Over) (c : goal.After-drop-page-4 g) : Type 0 where

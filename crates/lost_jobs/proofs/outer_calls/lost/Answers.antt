@@ -6,7 +6,7 @@ use Rattle.sched_book.specs.declared.delta.Change.{Change}
 use Rattle.sched_book.specs.declared.world.World.{World}
 use Rattle.call_sheet.specs.Sheets.{IsPageOf}
 use Rattle.lost_jobs.proofs.Requested.{lost_of_both, lost_by_request}
-use Rattle.lost_jobs.proofs.missing.lost.Goals as goal
+use Rattle.lost_jobs.proofs.outer_calls.lost.Goals as goal
 
 -- each step on the sheet left the world that the desk had
 pub returns-clause-answer : goal.returns-clause-answer

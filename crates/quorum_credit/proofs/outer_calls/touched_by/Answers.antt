@@ -2,7 +2,7 @@ use Rattle.std.proofs.Common.{◌≡◌, rules, sym, subst}
 use Rattle.std.proofs.lemmas.List.{take_all}
 use Rattle.quorum_credit.specs.Taken.{AreTouched}
 use Rattle.quorum_credit.proofs.Touching.{HasTouched, touched-is}
-use Rattle.quorum_credit.proofs.touched.touched_by.Goals as goal
+use Rattle.quorum_credit.proofs.outer_calls.touched_by.Goals as goal
 
 pub returns : goal.returns
 returns c =

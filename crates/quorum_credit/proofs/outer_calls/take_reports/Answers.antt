@@ -2,7 +2,7 @@ use Rattle.std.proofs.Common.{◌≡◌, sym, ap, subst, ◌∙◌, rules}
 use Rattle.sched_book.specs.Delta.{Fits}
 use Rattle.call_sheet.specs.declared.page.Page.{Page}
 use Rattle.quorum_credit.proofs.FitReports.{page_fits}
-use Rattle.quorum_credit.proofs.reports.take_reports.Goals as goal
+use Rattle.quorum_credit.proofs.outer_calls.take_reports.Goals as goal
 
 -- the sheet gave back its desk and its page as the reports left them
 pub returns-clause-fits : goal.returns-clause-fits
