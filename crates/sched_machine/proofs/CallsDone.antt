@@ -150,15 +150,3 @@ module _ (w v : World) (r : Request) (now : ℕ) (ready : Ready) (changes : List
       left = done.left;
       answer = reply_is ∙ parts_are delay delay_is;
     }
-
--- What the machine hears is within limits, and so its step leaves a sound world sound.
-heard_in_limits : (w : World) (c : Call) → MayBeHeard w c → IsCallInLimits c
-heard_in_limits w (call.Rpc c r) heard = heard.limits
-heard_in_limits w (call.Import new) heard = tt
-heard_in_limits w call.Tick heard = tt
-
-pub step_leaves_sound : (w after : World) (heard given : Call) (now : ℕ) (answer : Answered) → heard ≡ given → now ≤ last_moment
-    → Sound w → MayBeHeard w heard → (MayBeHeard w given → Step w given now after answer) → Sound after
-step_leaves_sound w after heard given now answer same soon sound may step =
-    let may_given = subst (MayBeHeard w) same may in
-    step_keeps_sound w after given now answer sound (heard_in_limits w given may_given) soon (step may_given)

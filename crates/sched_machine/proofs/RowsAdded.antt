@@ -110,4 +110,7 @@ changes_add new delta are w = ap (applied w) are ∙ added w new
 pub changes_fit : (new : Rows) (delta : List Change) → delta ≡ changes_of new → (w : World) → Sound w → AreChecked w new → Fits w delta
 changes_fit new delta are w sound checked = subst (Fits w) (sym are) (fit_beside w new (rows_added w new sound checked))
 
-pub ruleset import_steps = (changes_add, changes_fit)
+pub changes_sound : (new : Rows) (delta : List Change) → delta ≡ changes_of new → (w : World) → Sound w → AreChecked w new → Sound (applied w delta)
+changes_sound new delta are w sound checked = subst Sound (sym (changes_add new delta are w)) (rows_added w new sound checked)
+
+pub ruleset import_steps = (changes_add, changes_sound, changes_fit)

@@ -86,7 +86,7 @@ module _ (w : World) (c : Caller) (r : Request) (now : ℕ) (sound : Sound w) (c
       subst Sound (sym step.left)
       (grant_keeps_sound (after_settlement w c r now) (asking_of w c r now) step.jobs settled_sound host_stands early step.grant)
 
-tick_keeps_sound : (w after : World) (now count : ℕ) → Sound w → TickStep w now after count → Sound after
+pub tick_keeps_sound : (w after : World) (now count : ℕ) → Sound w → TickStep w now after count → Sound after
 tick_keeps_sound w after now count sound step =
     subst Sound (sym step.left)
     (settlement_makes_sound w (lapsed w now) (sym (lapses_are_by_place w now).rest.settings) (lapses_keep_well w now (sound_is_well w sound)))

@@ -1,5 +1,5 @@
 -- Jobs that are given to a host, as changes of a world, and what a reply says of them.
-use Rattle.std.specs.Prelude.{◌≡◌, ℕ, ◌+◌, Bool, IsTrue, List, All, Option, None, Some, is_some, option_map, option_and_then, unwrap_or, slice_get}
+use Rattle.std.specs.Prelude.{◌≡◌, ℕ, ◌+◌, Bool, true, false, IsTrue, List, All, Option, None, Some, is_some, option_map, option_and_then, unwrap_or, slice_get}
 use Rattle.rpc_records.specs.declared.reply.Job.{Job}
 use Rattle.sched_book.specs.Names.{instance_name}
 use Rattle.sched_book.specs.Fits.{version_for}
@@ -18,6 +18,8 @@ use Rattle.call_sheet.specs.Sheets.{instance_now}
 use Rattle.call_sheet.specs.declared.leaf.Leaf.{Leaf}
 use Rattle.quorum_credit.specs.Limited.{FitWithin}
 use Rattle.quorum_credit.specs.Settling.{AreUnitsInLimits}
+use Rattle.sched_machine.specs.declared.jobs.Sending.{Sending}
+use Rattle.sched_machine.specs.declared.jobs.Sending.TheVariants.{First, Again}
 
 -- the owner that a host becomes at a moment, with a delay for its deadline
 abbrev pub owner_for : ℕ → ℕ → ℕ → Owner
@@ -37,6 +39,11 @@ pub record FitWithHost (w : World) (host : ℕ) (changes : List Change) : Type 0
 -- the version that the host runs of the application of the workunit at a place
 abbrev pub version_at_unit : World → HostRow → ℕ → Option Version
 version_at_unit w h unit = option_and_then (λ (b : UnitBook). version_for w h b.unit.app) (unit_at w unit)
+
+-- a job is one that was lost and is sent again
+abbrev pub is_again : Sending → Bool
+is_again First = false
+is_again Again = true
 
 -- what a reply says of the instance of a number on a leaf, to a host that runs this version
 abbrev pub job_on : Option Leaf → ℕ → HostRow → Bool → Option Version → Option Job

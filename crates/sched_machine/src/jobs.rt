@@ -10,7 +10,7 @@ ghost use Rattle.sched_book.specs.declared.instance.Instance.{Instance};
 ghost use Rattle.job_choice.specs.Chosen.{places_of};
 ghost use Rattle.job_choice.specs.declared.granted.Granted.{Granted};
 ghost use Rattle.call_sheet.specs.Sheets.{instance_now};
-ghost use Rattle.sched_machine.specs.Granting.{version_at_unit, job_on, AreRunBy};
+ghost use Rattle.sched_machine.specs.Granting.{version_at_unit, is_again, job_on, AreRunBy};
 
 use call_sheet::{Draft, Leaf};
 use job_choice::{Granted, seconds_at};
@@ -19,6 +19,24 @@ use rpc_records::Job;
 use sched_book::{HostRow, Place, Unavailable, Version, instance_name};
 use std::alloc::Global;
 use texts::{Listed, Memory};
+
+/// Whether a reply gives a job for the first time, or one that was lost again.
+#[derive(Clone, Copy, Debug, PartialEq, Eq)]
+enum Sending {
+    First,
+    Again,
+}
+
+impl Sending {
+    fn is_again(self) -> bool
+        ensures { result ≡ is_again self }
+    {
+        match self {
+            Sending::First => false,
+            Sending::Again => true,
+        }
+    }
+}
 
 /// The deadline of the instance of a number on a leaf, 0 where there is none or nobody was given it.
 fn deadline_on(leaf: &Leaf, number: u32) -> u64
@@ -40,10 +58,10 @@ fn job_on(
     leaf: Option<&Leaf>,
     number: u32,
     host: &HostRow,
-    resent: bool,
+    sending: Sending,
     version: Option<&Version>,
 ) -> Result<Option<Job>, Memory>
-    ensures { IfOk result (λ job. job ≡ job_on (option_copied leaf.entry) number host.now resent (option_copied version.entry)) }
+    ensures { IfOk result (λ job. job ≡ job_on (option_copied leaf.entry) number host.now (is_again sending) (option_copied version.entry)) }
 {
     let Some(leaf) = leaf else {
         return Ok(None);
@@ -58,7 +76,7 @@ fn job_on(
         name: instance_name(alloc, unit.name.as_str(), number)?,
         platform: version.platform.clone()?,
         report_deadline: deadline_on(leaf, number),
-        resent,
+        resent: sending.is_again(),
         version_num: version.version_num,
         wu_name: unit.name.clone()?,
     }))
@@ -69,7 +87,7 @@ fn add_job<S: Draft>(
     alloc: Global,
     sheet: &mut S,
     host: &HostRow,
-    resent: bool,
+    sending: Sending,
     place: Place,
     version: Option<&Version>,
     jobs: &mut Listed<Job>,
@@ -77,7 +95,7 @@ fn add_job<S: Draft>(
     ensures reads { S.reads sheet.old sheet.new }
     ensures answer { Trusted S.Units sheet.old sheet.new (OnOk result (
         option_copied version.entry ≡ version_at_unit (S.entry sheet.old) host.now place.unit →
-        jobs.new ≡ jobs.old ++ cons_option (job_at (S.world sheet.old) host.now resent place) [])) }
+        jobs.new ≡ jobs.old ++ cons_option (job_at (S.world sheet.old) host.now (is_again sending) place) [])) }
 {
     sheet.read(alloc, place.unit)?;
     let job = job_on(
@@ -85,7 +103,7 @@ fn add_job<S: Draft>(
         sheet.leaf(place.unit),
         place.number,
         host,
-        resent,
+        sending,
         version,
     )?;
     jobs.push_some(job)?;
@@ -122,7 +140,15 @@ fn add_resent<S: Draft>(
         OnOk result (jobs.new ≡ jobs.old ++ cons_option (job_at (S.world sheet.old) host.now true place) [])) }
 {
     let version = version_at_unit(alloc, sheet, host, place.unit)?;
-    add_job(alloc, sheet, host, true, place, version.as_ref(), jobs)
+    add_job(
+        alloc,
+        sheet,
+        host,
+        Sending::Again,
+        place,
+        version.as_ref(),
+        jobs,
+    )
 }
 
 /// What a reply says of the jobs at these places, which are sent again, in their order.
@@ -160,7 +186,7 @@ pub(crate) fn add_granted<S: Draft>(
             alloc,
             sheet,
             host,
-            false,
+            Sending::First,
             job.place,
             Some(&job.version),
             jobs,

@@ -16,4 +16,4 @@ mod totals;
 
 pub use admission::{Refused, admit};
 pub use sched_book::{Answered, Call, Caller};
-pub use steps::step;
+pub use steps::{step, step_call, step_import, step_tick};

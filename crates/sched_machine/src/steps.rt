@@ -90,8 +90,14 @@ fn act<D: Desk>(
     Ok(reply_of(ready, told, end_word, request, request_delay))
 }
 
-/// A call of a host, unless it is of a new one and no more may stand: its changes and its reply.
-fn hear_call<D: Desk>(
+/// The step of a first-heard call, of the caller that [`admit`](crate::admit) names: its changes and its reply. The desk is
+/// only read. The machine knows nothing of sequence numbers, nor of calls before.
+///
+/// # Errors
+///
+/// [`Refused::HostsFull`] where the call is of a new host and no more may stand; [`Refused::Unavailable`] where memory
+/// is wanting or the desk is unavailable. No other refusal is given here.
+pub fn step_call<D: Desk>(
     alloc: Global,
     desk: &mut D,
     caller: &Caller,
@@ -102,6 +108,8 @@ fn hear_call<D: Desk>(
     ensures step { Trusted D.Units desk.old desk.new (IfOk result (λ done.
         Sound (D.world desk.old) → IsAdmitted (D.world desk.old) caller.now request.now →
         RpcStep (D.world desk.old) caller.now request.now now (applied (D.world desk.old) done.0) done.1)) }
+    ensures sound { Trusted D.Units desk.old desk.new (IfOk result (λ done.
+        Sound (D.world desk.old) → IsAdmitted (D.world desk.old) caller.now request.now → Sound (applied (D.world desk.old) done.0))) }
     ensures fits { Trusted D.Units desk.old desk.new (IfOk result (λ done.
         Sound (D.world desk.old) → IsAdmitted (D.world desk.old) caller.now request.now → Fits (D.world desk.old) done.0)) }
     ensures room { Trusted D.Units desk.old desk.new (IfOk result (λ done. HasRoom (D.world desk.old) caller.now)) }
@@ -113,21 +121,36 @@ fn hear_call<D: Desk>(
     Ok((page.delta, reply))
 }
 
-/// Adds the rows of an import.
+/// The step of an import of rows that were checked beside a world: the changes that add them, and how many there are. They
+/// are the same beside every world.
+///
+/// # Errors
+///
+/// Want of memory.
 #[tactic(auto, using(crate::proofs::RowsAdded::import_steps))]
-fn hear_import(alloc: Global, rows: &Rows) -> Result<(Delta, u32), Unavailable>
+pub fn step_import(alloc: Global, rows: &Rows) -> Result<(Delta, u32), Unavailable>
     ensures step { IfOk result (λ done. (w : World) → Sound w → AreChecked w rows.now → ImportStep w rows.now (applied w done.0) done.1) }
+    ensures sound { IfOk result (λ done. (w : World) → Sound w → AreChecked w rows.now → Sound (applied w done.0)) }
     ensures fits { IfOk result (λ done. (w : World) → Sound w → AreChecked w rows.now → Fits w done.0) }
 {
     let delta = changes_of(alloc, rows)?;
     Ok((delta, row_count(rows)?))
 }
 
-/// Lets time go by.
-fn hear_tick<D: Desk>(alloc: Global, desk: &mut D, now: Moment) -> Result<(Delta, u32), Unavailable>
+/// The step of a tick: what lapses by this moment, and how many instances do. The desk is only read.
+///
+/// # Errors
+///
+/// Want of memory, or a desk that is unavailable.
+pub fn step_tick<D: Desk>(
+    alloc: Global,
+    desk: &mut D,
+    now: Moment,
+) -> Result<(Delta, u32), Unavailable>
     ensures reads { D.reads desk.old desk.new }
     ensures step { Trusted D.Units desk.old desk.new (IfOk result (λ done. Sound (D.world desk.old) →
         TickStep (D.world desk.old) now (applied (D.world desk.old) done.0) done.1)) }
+    ensures sound { Trusted D.Units desk.old desk.new (IfOk result (λ done. Sound (D.world desk.old) → Sound (applied (D.world desk.old) done.0))) }
     ensures fits { Trusted D.Units desk.old desk.new (IfOk result (λ done. Sound (D.world desk.old) → Fits (D.world desk.old) done.0)) }
 {
     let places = desk.due_before(alloc, now)?;
@@ -139,15 +162,8 @@ fn hear_tick<D: Desk>(alloc: Global, desk: &mut D, now: Moment) -> Result<(Delta
     Ok((delta, count))
 }
 
-/// One step of the job machine: what a call, an import or the time changes, and the answer. The desk is only read.
-///
-/// A call is one that is first heard, of the caller that [`admit`](crate::admit) names; rows are such as were
-/// checked. The machine knows nothing of sequence numbers, nor of calls before.
-///
-/// # Errors
-///
-/// [`Refused::HostsFull`] where the call is of a new host and no more may stand; [`Refused::Unavailable`] where memory
-/// is wanting or the desk is unavailable. No other refusal is given here.
+/// One step of the job machine, of whichever kind: [`step_call`], [`step_import`] or [`step_tick`]. It is what the laws of a
+/// step are said of; the program calls these three.
 pub fn step<D: Desk>(
     alloc: Global,
     desk: &mut D,
@@ -168,15 +184,15 @@ pub fn step<D: Desk>(
 {
     match call {
         Call::Rpc(caller, request) => {
-            let (delta, reply) = hear_call(alloc, desk, caller, request, now)?;
+            let (delta, reply) = step_call(alloc, desk, caller, request, now)?;
             Ok((delta, Answered::Rpc(reply)))
         }
         Call::Import(rows) => {
-            let (delta, count) = hear_import(alloc, rows)?;
+            let (delta, count) = step_import(alloc, rows)?;
             Ok((delta, Answered::Imported(count)))
         }
         Call::Tick => {
-            let (delta, count) = hear_tick(alloc, desk, now)?;
+            let (delta, count) = step_tick(alloc, desk, now)?;
             Ok((delta, Answered::Lapsed(count)))
         }
     }

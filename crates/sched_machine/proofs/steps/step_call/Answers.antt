@@ -1,10 +1,13 @@
-use Rattle.std.proofs.Common.{sym, ap, ◌∙◌, subst}
+use Rattle.std.proofs.Common.{rules, sym, ap, ◌∙◌, subst}
 use Rattle.sched_book.specs.Delta.{applied, Fits}
 use Rattle.sched_book.specs.Sound.{Sound}
 use Rattle.sched_book.specs.Step.{RpcStep}
+use Rattle.sched_book.specs.declared.machine.Answered.TheVariants as answered
+use Rattle.sched_book.specs.declared.machine.Call.TheVariants as call
 use Rattle.sched_book.specs.declared.world.World.{World}
 use Rattle.sched_machine.specs.Calling.{IsAdmitted}
-use Rattle.sched_machine.proofs.steps.hear_call.Goals as goal
+use Rattle.sched_machine.proofs.StepsSound.{step_keeps_sound}
+use Rattle.sched_machine.proofs.steps.step_call.Goals as goal
 
 pub returns-clause-step : goal.returns-clause-step
 returns-clause-step g c = λ honest kept.
@@ -16,6 +19,11 @@ returns-clause-step g c = λ honest kept.
     subst (λ (e : World). Sound e → IsAdmitted e c.args.caller.now c.args.request.now
     → RpcStep e c.args.caller.now c.args.request.now c.args.now (applied e c.act.new.page.delta) c.in_ok-reply.reply) here
     (c.in_ok-reply.ensures.step honest kept_1 page c.new-page.ensures.delta)
+
+pub returns-clause-sound : goal.returns-clause-sound
+returns-clause-sound g c = λ honest kept sound admitted.
+    step_keeps_sound _ _ (call.Rpc c.args.caller.now c.args.request.now) c.args.now (answered.Rpc c.in_ok-reply.reply) sound admitted.limits (search rules)
+    (returns-clause-step g c honest kept sound admitted)
 
 pub returns-clause-fits : goal.returns-clause-fits
 returns-clause-fits g c = λ honest kept.
