@@ -1,3 +1,5 @@
+//! What a command line orders, and why it orders nothing.
+
 use sched_book::Moment;
 use texts::Text;
 

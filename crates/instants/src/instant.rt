@@ -1,3 +1,5 @@
+//! Moments read from instants of ISO 8601.
+
 ghost use Rattle.std.specs.Prelude.{◌≡◌};
 ghost use Rattle.instants.specs.Instants as spec;
 

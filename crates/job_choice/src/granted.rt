@@ -1,3 +1,5 @@
+//! The new jobs of a reply.
+
 use rpc_records::EndWord;
 use sched_book::{Place, Version};
 use texts::Listed;

@@ -1,3 +1,5 @@
+//! A data row of an import, read column by column.
+
 ghost use Rattle.std.specs.Prelude.{◌≡◌, ◌≤◌, ◌<◌, IfOk, IsTrue};
 ghost use Rattle.csv.specs.Records.{fields_of};
 ghost use Rattle.rpc_records.specs.Ranges.{IsWord};

@@ -1,3 +1,5 @@
+//! Why the rows of an import are refused.
+
 ghost use Rattle.std.specs.Prelude.{◌≡◌};
 ghost use Rattle.office_files.specs.Faults.{refusal_of};
 ghost use Rattle.office_files.specs.declared.fault.RowsFault.TheVariants.{Unavailable};

@@ -1,3 +1,5 @@
+//! The records of a text of comma-separated values (RFC 4180), by `csv`.
+
 ghost use Rattle.std.specs.Prelude.{IfOk, map};
 ghost use Rattle.csv.specs.Records.{fields_of};
 ghost use Rattle.office_files.specs.Records.{AreRecordsOf};

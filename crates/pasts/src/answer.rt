@@ -1,3 +1,5 @@
+//! What a message is answered, before it is written as a response.
+
 use rpc_records::Fault;
 use texts::Text;
 

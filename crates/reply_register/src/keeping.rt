@@ -1,3 +1,5 @@
+//! What is kept of a key once one call more is kept.
+
 ghost use Rattle.std.specs.Prelude.{◌≡◌, ◌<◌, ◌++◌, length, IfOk, OnOk};
 ghost use Rattle.reply_register.specs.Keeping.{IsKeptWith, IsLeastAt};
 

@@ -1,3 +1,5 @@
+//! What is kept of a call, and what a call is beside the kept ones.
+
 ghost use Rattle.std.specs.Prelude.{◌≡◌, ◌<◌, length, position, Some};
 ghost use Rattle.reply_register.specs.Calls.{greatest, has_number, heard, heard_at, is_above_all, IsHeardAs};
 

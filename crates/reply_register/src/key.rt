@@ -1,3 +1,5 @@
+//! The key of a call.
+
 use texts::{Same, Text};
 
 /// Who calls: a host of an account. Keys are in order by the account, then by the host.

@@ -1,3 +1,6 @@
+//! Kept calls by their keys, in memory: for who has no store. The program keeps calls in its tables, by the number of
+//! their host.
+
 ghost use Rattle.std.specs.Prelude.{◌≡◌, List, OnOk, OnErr};
 ghost use Rattle.std.specs.FinMap as map;
 ghost use Rattle.reply_register.specs.Keeping.{calls_of, IsKeptWith};

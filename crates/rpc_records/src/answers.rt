@@ -171,6 +171,19 @@ fn put_details(members: &mut Map<String, Value>, alloc: Global, fault: Fault) ->
         Fault::DuplicateName(row) | Fault::UnknownReference(row) => {
             put_whole(members, alloc, "row", row)
         }
-        _ => Ok(()),
+        Fault::BadHttp
+        | Fault::NoRoute
+        | Fault::WrongMethod
+        | Fault::LengthRequired
+        | Fault::TooLarge
+        | Fault::BadJson
+        | Fault::BadAccount
+        | Fault::BadHost
+        | Fault::HostsFull
+        | Fault::NotOperator
+        | Fault::BatchReused
+        | Fault::TableFull
+        | Fault::NoSuchHost
+        | Fault::Unavailable => Ok(()),
     }
 }

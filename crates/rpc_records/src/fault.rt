@@ -1,9 +1,13 @@
+//! The refusals of the profile, each with its name, its number and its HTTP status.
+
 ghost use Rattle.std.specs.Prelude.{◌≡◌};
 ghost use Rattle.rpc_records.specs.Members.{key_of, path_of};
 ghost use Rattle.rpc_records.specs.Replies.{name_of, number_of, status_of};
 ghost use Rattle.rpc_records.specs.declared.fault.Fault.TheVariants.{Unavailable};
 
 use std::alloc::{AllocError, AllocFailed};
+use std::error::Error;
+use std::fmt;
 
 /// A member of a request, in the order in which they are checked.
 #[derive(Clone, Copy, Debug, PartialEq, Eq)]
@@ -54,7 +58,15 @@ impl Member {
             Member::PFpops => "host_info.p_fpops",
             Member::MNbytes => "host_info.m_nbytes",
             Member::DFree => "host_info.d_free",
-            _ => self.key(),
+            Member::Authenticator
+            | Member::Hostid
+            | Member::RpcSeqno
+            | Member::HostInfo
+            | Member::PlatformName
+            | Member::AltPlatforms
+            | Member::WorkReqSeconds
+            | Member::OtherResults
+            | Member::Results => self.key(),
         }
     }
 }
@@ -82,7 +94,7 @@ pub enum Fault {
     BadHost,
     /// A call of the host with a greater number, this one, was answered.
     Stale(u32),
-    /// The host's last call, of this number, said something else.
+    /// A kept call of the host has the same number and said something else. The number told is that of the host's last call.
     Reused(u32),
     /// As many hosts as there may be.
     HostsFull,
@@ -173,10 +185,25 @@ impl Fault {
             Fault::LengthRequired => 411,
             Fault::TooLarge => 413,
             Fault::Unavailable => 503,
-            _ => 409,
+            Fault::BadHost
+            | Fault::Stale(_)
+            | Fault::Reused(_)
+            | Fault::HostsFull
+            | Fault::DuplicateName(_)
+            | Fault::UnknownReference(_)
+            | Fault::BatchReused
+            | Fault::TableFull => 409,
         }
     }
 }
+
+impl fmt::Display for Fault {
+    fn fmt<W: fmt::Write>(&self, f: &mut fmt::Formatter<W>) -> fmt::Result {
+        f.write_str(self.name())
+    }
+}
+
+impl Error for Fault {}
 
 impl From<AllocError> for Fault {
     ghost from_gives = { λ _ fault. fault ≡ Unavailable };

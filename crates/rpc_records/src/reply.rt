@@ -1,3 +1,5 @@
+//! A scheduler_reply and its jobs.
+
 ghost use Rattle.std.specs.Prelude.{◌≡◌};
 ghost use Rattle.rpc_records.specs.Replies.{end_word_of};
 

@@ -1,3 +1,5 @@
+//! A scheduler_request with what the host tells of itself and what it reports.
+
 use texts::{Listed, Text};
 
 /// What a host tells of itself: `host_info` of a scheduler_request.

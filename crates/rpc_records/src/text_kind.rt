@@ -1,3 +1,5 @@
+//! What the texts of a request have to be like.
+
 ghost use Rattle.std.specs.Prelude.{◌≡◌};
 ghost use Rattle.rpc_records.specs.Members.{is_name, is_of};
 

@@ -38,8 +38,8 @@ pub enum Change {
 /// Changes in their order, of which later ones count over earlier ones.
 pub type Delta = Listed<Change>;
 
-/// The instances that a workunit begins with.
-fn fresh_instances(alloc: Global, count: usize) -> Result<Listed<Instance>, Memory>
+/// So many instances that nobody was given yet.
+pub fn fresh_instances(alloc: Global, count: usize) -> Result<Listed<Instance>, Memory>
     ensures { IfOk result (λ instances. instances ≡ replicate count fresh) }
 {
     let mut instances = Listed::new(alloc);

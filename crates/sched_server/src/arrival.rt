@@ -1,3 +1,5 @@
+//! A message with the moment at which it came.
+
 use sched_book::Moment;
 use texts::Listed;
 

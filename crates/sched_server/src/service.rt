@@ -1,3 +1,5 @@
+//! The service over a store.
+
 ghost use Rattle.std.specs.Prelude.{◌≡◌};
 ghost use Rattle.http_messages.specs.Routers.{the_routes};
 

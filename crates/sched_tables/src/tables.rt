@@ -1,3 +1,5 @@
+//! The stored tables, with what is kept beside them.
+
 ghost use Rattle.std.specs.Prelude.{◌≡◌};
 ghost use Rattle.sqlite.specs.Held.{state};
 ghost use Rattle.sched_tables.specs.Held.{IsHonest};

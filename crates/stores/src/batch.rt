@@ -1,3 +1,5 @@
+//! What is kept of an import.
+
 use texts::{Listed, Text};
 
 /// What is kept of an import, for good.

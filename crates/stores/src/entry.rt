@@ -1,3 +1,5 @@
+//! What is kept of a message beside the changes that it makes.
+
 use crate::batch::KeptBatch;
 use crate::kind::Kind;
 use reply_register::Kept;

@@ -1,3 +1,5 @@
+//! The four kinds of imports.
+
 ghost use Rattle.std.specs.Prelude.{◌≡◌};
 ghost use Rattle.stores.specs.Kinds.{kind_name, kind_of};
 

@@ -1,3 +1,5 @@
+//! The trait of a store, and answers that rest on what was read of one.
+
 ghost use Rattle.std.specs.Prelude.{◌≡◌, true, is_ok, IfOk, OnOk};
 ghost use Rattle.sched_book.specs.Sound.{Sound};
 ghost use Rattle.sched_book.specs.Trusted.{Trusted};

@@ -1,22 +1,31 @@
 -- What is known of the rows of a sound world beside its workunits, table by table.
-use Rattle.std.proofs.Common.{◌≡◌, List, subst, sym, ◌∙◌}
+use Rattle.std.proofs.Common.{◌≡◌, List, subst, sym, ◌∙◌, arith}
 use Rattle.std.specs.Prelude.{All}
 use Rattle.std.proofs.lemmas.List.Elements.{All-weaker}
+use Rattle.sched_book.specs.Limits.{most_quota, IsHostInLimits}
 use Rattle.sched_book.specs.Numbered.{map_from}
 use Rattle.sched_book.specs.Places.{held_by, host_credit}
 use Rattle.sched_book.specs.Sound.{Sound, IsSoundHost}
-use Rattle.sched_book.specs.declared.rows.HostRow.{HostRow}
 use Rattle.sched_book.specs.declared.world.World.{World}
 use Rattle.std.specs.Prelude.{length}
 use Rattle.table_meaning.specs.declared.rows.StoredRow.{StoredRow}
 use Rattle.table_worlds.specs.declared.matching.TableRows.{TableRows}
 use Rattle.table_worlds.specs.RowsOf.{AreRowsBeside}
-use Rattle.table_decoding.specs.Decoding.{TellAll, ArePlatforms, of_account, of_app, of_version, of_host}
+use Rattle.table_decoding.specs.Decoding.{TellAll, of_account, of_app, of_version, of_host}
 use Rattle.table_decoding.proofs.RowsInOrder.{account_rows, app_rows, version_rows, host_rows}
 use Rattle.table_decoding.proofs.SettingsTold.{all_told}
 
-pub platforms_told : (w : World) → Sound w → All (λ (h : HostRow). ArePlatforms h.platforms) w.hosts
-platforms_told w sound = All-weaker (IsSoundHost (length w.accounts) w.settings.daily_result_quota) (λ h. ArePlatforms h.platforms) (λ h is. (is.limits.platforms.0, is.limits.words)) w.hosts sound.rows.hosts
+-- a host within the settings' quota is within the greatest one
+pub hosts_limited : (w : World) → Sound w → All (IsHostInLimits most_quota) w.hosts
+hosts_limited w sound = All-weaker (IsSoundHost (length w.accounts) w.settings.daily_result_quota) (IsHostInLimits most_quota) (λ h is. record {
+  cpid = is.limits.cpid;
+  speed = is.limits.speed;
+  memory = is.limits.memory;
+  disk = is.limits.disk;
+  platforms = is.limits.platforms;
+  words = is.limits.words;
+  quota = (is.limits.quota.0, let least = is.limits.quota.1 in let most = sound.rows.settings.quota.1 in omega (arith, least, most));
+}) w.hosts sound.rows.hosts
 
 -- the rows of each table, however they are passed
 module _ (w : World) (rows : TableRows) (are : AreRowsBeside w rows) (these : List StoredRow) where

@@ -26,6 +26,7 @@ use sched_book::{Instance, Lapse, Moment, Outcome, Owner};
 use std::alloc::Global;
 use table_meaning::rows::StoredInstance;
 use texts::Listed;
+use world_soundness::in_limits::is_instance_in_limits;
 
 /// The moment that a table writes.
 fn moment(written: i64) -> Result<Moment, RowFault>
@@ -94,16 +95,21 @@ fn report(row: &StoredInstance) -> Result<Option<Outcome>, RowFault>
     }
 }
 
-/// The instance of a row.
+/// The instance of a row, where its values are in their ranges.
 pub fn instance(row: &StoredInstance) -> Result<Instance, RowFault>
     ensures given { (w : World) (b : UnitBook) (unit number : ℕ) (x : Instance) → IsInstanceInLimits x → row.now ≡ instance_row w b unit number x → Gives result x }
     ensures read { IfOk result (λ x. x ≡ job_in (columns_of (stored.Instance row.now))) }
+    ensures limits { IfOk result IsInstanceInLimits }
 {
-    Ok(Instance {
+    let instance = Instance {
         owner: owner(row)?,
         lapse: lapse(row.lapse)?,
         report: report(row)?,
-    })
+    };
+    if !is_instance_in_limits(&instance) {
+        return Err(RowFault::BadRow);
+    }
+    Ok(instance)
 }
 
 /// The instances of a workunit from their rows, in the order of their numbers.

@@ -3,6 +3,7 @@
 ghost use Rattle.std.specs.Prelude.{◌≡◌, ℕ, pos, List, All, IsTrue, Ok, IfOk};
 ghost use Rattle.sched_book.specs.Numbered.{map_from};
 ghost use Rattle.sched_book.specs.Imports.{has_app};
+ghost use Rattle.sched_book.specs.Limits.{most_quota, IsAccountInLimits, IsHostInLimits};
 ghost use Rattle.sched_book.specs.Sound.{IsSoundVersion};
 ghost use Rattle.sched_book.specs.declared.rows.Account.{Account};
 ghost use Rattle.sched_book.specs.declared.rows.Agreement.{Agreement};
@@ -14,7 +15,7 @@ ghost use Rattle.table_meaning.specs.Rows.{columns_of};
 ghost use Rattle.table_meaning.specs.Worlds.{agreement_limit, app_place, account_row, host_row};
 ghost use Rattle.table_meaning.specs.declared.rows.StoredRow.TheVariants as stored;
 ghost use Rattle.table_worlds.specs.ReadBack.{account_in, app_name_at, host_in};
-ghost use Rattle.table_decoding.specs.Decoding.{Gives, ArePlatforms, of_account, of_app, of_version, of_host};
+ghost use Rattle.table_decoding.specs.Decoding.{Gives, of_account, of_app, of_version, of_host};
 
 use crate::fault::RowFault;
 use crate::listed_rows::each;
@@ -23,6 +24,7 @@ use sched_book::{Account, Agreement, App, HostRow, Version, nth};
 use std::alloc::Global;
 use table_meaning::rows::{StoredAccount, StoredHost, StoredRow};
 use texts::{Listed, Text};
+use world_soundness::in_limits::{MOST_QUOTA, is_account_in_limits, is_host_in_limits};
 
 /// The number that a table writes, which is negative in no world's row.
 pub(crate) fn amount(written: i64) -> Result<u64, RowFault>
@@ -32,20 +34,25 @@ pub(crate) fn amount(written: i64) -> Result<u64, RowFault>
     u64::try_from(written).map_err(|_| RowFault::BadRow)
 }
 
-/// The account of a row.
+/// The account of a row, where its values are in their ranges.
 pub fn account(row: &StoredAccount) -> Result<Account, RowFault>
-    ensures given { (id : ℕ) (a : Account) → row.now ≡ account_row id a → Gives result a }
+    ensures given { (id : ℕ) (a : Account) → IsAccountInLimits a → row.now ≡ account_row id a → Gives result a }
     ensures read { IfOk result (λ a. a ≡ account_in (columns_of (stored.Account row.now))) }
+    ensures limits { IfOk result IsAccountInLimits }
 {
-    Ok(Account {
+    let account = Account {
         authenticator: row.auth.clone()?,
         name: row.name.clone()?,
-    })
+    };
+    if !is_account_in_limits(&account) {
+        return Err(RowFault::BadRow);
+    }
+    Ok(account)
 }
 
 /// The account of a row of some table.
 fn told_account(row: &StoredRow) -> Result<Account, RowFault>
-    ensures { (id : ℕ) (a : Account) → row.now ≡ of_account id a → Gives result a }
+    ensures { (id : ℕ) (a : Account) → IsAccountInLimits a → row.now ≡ of_account id a → Gives result a }
 {
     match row {
         StoredRow::Account(row) => account(row),
@@ -55,7 +62,7 @@ fn told_account(row: &StoredRow) -> Result<Account, RowFault>
 
 /// The accounts of these rows.
 pub(crate) fn accounts(alloc: Global, rows: &[StoredRow]) -> Result<Listed<Account>, RowFault>
-    ensures { (xs : List Account) → rows.now ≡ map_from 1 of_account xs → Gives result xs }
+    ensures { (xs : List Account) → All IsAccountInLimits xs → rows.now ≡ map_from 1 of_account xs → Gives result xs }
 {
     each(alloc, rows, told_account)
 }
@@ -126,12 +133,13 @@ pub(crate) fn versions(
     each(alloc, rows, |row| version(apps, row))
 }
 
-/// The host of a row.
+/// The host of a row, where its values are in their ranges. Of its quota this is the range that settings may give it.
 pub fn host(alloc: Global, row: &StoredHost) -> Result<HostRow, RowFault>
-    ensures given { (held credit id : ℕ) (h : HostRow) → ArePlatforms h.platforms → row.now ≡ host_row held credit id h → Gives result h }
+    ensures given { (held credit id : ℕ) (h : HostRow) → IsHostInLimits most_quota h → row.now ≡ host_row held credit id h → Gives result h }
     ensures read { IfOk result (λ h. h ≡ host_in (columns_of (stored.Host row.now))) }
+    ensures limits { IfOk result (IsHostInLimits most_quota) }
 {
-    Ok(HostRow {
+    let host = HostRow {
         account: row.account_id,
         cpid: row.cpid.clone()?,
         p_fpops: amount(row.fpops)?,
@@ -139,12 +147,16 @@ pub fn host(alloc: Global, row: &StoredHost) -> Result<HostRow, RowFault>
         d_free: amount(row.disk)?,
         platforms: platforms(alloc, row.platforms.as_str())?,
         quota: row.quota,
-    })
+    };
+    if !is_host_in_limits(MOST_QUOTA, &host) {
+        return Err(RowFault::BadRow);
+    }
+    Ok(host)
 }
 
 /// The host of a row of some table.
 fn told_host(alloc: Global, row: &StoredRow) -> Result<HostRow, RowFault>
-    ensures { (held credit : ℕ → ℕ) (id : ℕ) (h : HostRow) → ArePlatforms h.platforms → row.now ≡ of_host held credit id h → Gives result h }
+    ensures { (held credit : ℕ → ℕ) (id : ℕ) (h : HostRow) → IsHostInLimits most_quota h → row.now ≡ of_host held credit id h → Gives result h }
 {
     match row {
         StoredRow::Host(row) => host(alloc, row),
@@ -154,7 +166,7 @@ fn told_host(alloc: Global, row: &StoredRow) -> Result<HostRow, RowFault>
 
 /// The hosts of these rows.
 pub(crate) fn hosts(alloc: Global, rows: &[StoredRow]) -> Result<Listed<HostRow>, RowFault>
-    ensures { (held credit : ℕ → ℕ) (xs : List HostRow) → All (λ (h : HostRow). ArePlatforms h.platforms) xs → rows.now ≡ map_from 1 (of_host held credit) xs → Gives result xs }
+    ensures { (held credit : ℕ → ℕ) (xs : List HostRow) → All (IsHostInLimits most_quota) xs → rows.now ≡ map_from 1 (of_host held credit) xs → Gives result xs }
 {
     each(alloc, rows, |row| told_host(alloc, row))
 }

@@ -2,6 +2,7 @@
 
 ghost use Rattle.std.specs.Prelude.{◌≡◌, ℕ, IsTrue, IfOk};
 ghost use Rattle.sched_book.specs.Imports.{has_app};
+ghost use Rattle.sched_book.specs.Limits.{IsUnitInLimits};
 ghost use Rattle.sched_book.specs.Sound.{IsSoundUnit};
 ghost use Rattle.sched_book.specs.declared.instance.UnitBook.{UnitBook};
 ghost use Rattle.sched_book.specs.declared.world.World.{World};
@@ -19,13 +20,15 @@ use sched_book::{App, UnitBook, Workunit};
 use std::alloc::Global;
 use table_meaning::rows::StoredUnit;
 use table_worlds::UnitRows;
+use world_soundness::in_limits::is_unit_in_limits;
 
-/// The workunit of a row, beside the applications.
+/// The workunit of a row, beside the applications, where its values are in their ranges.
 pub fn workunit(apps: &[App], row: &StoredUnit) -> Result<Workunit, RowFault>
-    ensures given { (w : World) (id : ℕ) (b : UnitBook) → apps.now ≡ w.apps → IsTrue (has_app w.apps b.unit.app) → row.now ≡ unit_row w id b → Gives result b.unit }
+    ensures given { (w : World) (id : ℕ) (b : UnitBook) → apps.now ≡ w.apps → IsTrue (has_app w.apps b.unit.app) → IsUnitInLimits b.unit → row.now ≡ unit_row w id b → Gives result b.unit }
     ensures read { IfOk result (λ unit. unit ≡ unit_in apps.now (columns_of (stored.Unit row.now))) }
+    ensures limits { IfOk result IsUnitInLimits }
 {
-    Ok(Workunit {
+    let unit = Workunit {
         min_quorum: row.min_quorum,
         target_nresults: row.target_nresults,
         max_error_results: row.max_error_results,
@@ -38,7 +41,11 @@ pub fn workunit(apps: &[App], row: &StoredUnit) -> Result<Workunit, RowFault>
         credit: row.credit,
         name: row.name.clone()?,
         app: app_name(apps, row.app_id)?,
-    })
+    };
+    if !is_unit_in_limits(&unit) {
+        return Err(RowFault::BadRow);
+    }
+    Ok(unit)
 }
 
 /// The workunit of these rows with its instances, beside the applications.

@@ -1,3 +1,5 @@
+//! Lists that contracts see as their items.
+
 ghost use Rattle.std.specs.Prelude.{◌≡◌, ◌<◌, ◌-◌, ◌==◌, List, [], ◌∷◌, ◌++◌, length, take, slice_get, slice_set, Some, OnOk, OnErr};
 ghost use Rattle.std.specs.List.{cons_option};
 

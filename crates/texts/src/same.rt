@@ -1,3 +1,5 @@
+//! Types whose clones are equal to what was cloned.
+
 ghost use Rattle.std.specs.Prelude.{◌≡◌};
 
 /// A type whose clones are equal to what was cloned.

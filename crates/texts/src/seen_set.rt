@@ -1,3 +1,5 @@
+//! Sets of the keys that came by.
+
 ghost use Rattle.std.specs.Prelude.{◌≡◌, false, not, ◌||◌, IfOk, OnOk, OnErr};
 ghost use Rattle.std.specs.List.{list_any};
 ghost use Rattle.texts.specs.SeenSet.{has_seen};

@@ -1,3 +1,5 @@
+//! Texts that contracts see as their bytes.
+
 ghost use Rattle.std.specs.Prelude.{◌≡◌, ◌==◌, List, ℕ, nat_eq, refl, length, Some, None, IfOk, option_map, if◌then◌else◌};
 ghost use Rattle.std.specs.Str.{bytes_eq, is_utf8};
 ghost use Rattle.std.specs.String.{string_bytes};

@@ -1,3 +1,5 @@
+//! Words: the names of authenticators, hosts, applications, platforms, workunits and batches.
+
 ghost use Rattle.std.specs.Prelude.{◌≡◌, option_map};
 ghost use Rattle.std.specs.List.{list_all};
 ghost use Rattle.texts.specs.Words as spec;

@@ -1,4 +1,5 @@
-//! Whether values are in the ranges that a world's values have.
+//! Whether values are in the ranges that a world's values have, each kind by itself: of a whole world, and of a row that is
+//! decoded alone.
 
 ghost use Rattle.std.specs.Prelude.{◌≤◌, ◌↔◌, IsTrue, IfSome};
 ghost use Rattle.sched_book.specs.Limits.{distance_of, AreSettingsInLimits, IsAccountInLimits, IsAppInLimits, IsVersionInLimits, IsUnitInLimits, IsHostInLimits, IsInstanceInLimits};
@@ -15,7 +16,7 @@ use sched_book::{
 use texts::{Text, is_word};
 
 /// The most jobs on one day that settings may allow a host.
-const MOST_QUOTA: u32 = 1_000_000;
+pub const MOST_QUOTA: u32 = 1_000_000;
 
 /// The most jobs in progress that settings may allow a host.
 const MOST_IN_PROGRESS: u32 = 1_000;
@@ -52,7 +53,7 @@ fn is_word_text(text: &Text) -> bool
 }
 
 /// Whether each setting is in range, the operator's key too.
-pub(crate) fn are_settings_in_limits(settings: &Settings) -> bool
+pub fn are_settings_in_limits(settings: &Settings) -> bool
     ensures { IsTrue result ↔ AreSettingsInLimits settings.now }
 {
     1 <= settings.daily_result_quota
@@ -69,7 +70,7 @@ pub(crate) fn are_settings_in_limits(settings: &Settings) -> bool
 }
 
 /// Whether an account has a word for its authenticator, and a name of 1 to 64 bytes.
-pub(crate) fn is_account_in_limits(account: &Account) -> bool
+pub fn is_account_in_limits(account: &Account) -> bool
     ensures { IsTrue result ↔ IsAccountInLimits account.now }
 {
     is_word_text(&account.authenticator)
@@ -88,14 +89,14 @@ fn is_agreement_in_limits(agreement: Agreement) -> bool
 }
 
 /// Whether an application's name and the way its outputs are compared are in range.
-pub(crate) fn is_app_in_limits(app: &App) -> bool
+pub fn is_app_in_limits(app: &App) -> bool
     ensures { IsTrue result ↔ IsAppInLimits app.now }
 {
     is_word_text(&app.name) && is_agreement_in_limits(app.agreement)
 }
 
 /// Whether the names of a version and its number are in range.
-pub(crate) fn is_version_in_limits(version: &Version) -> bool
+pub fn is_version_in_limits(version: &Version) -> bool
     ensures { IsTrue result ↔ IsVersionInLimits version.now }
 {
     is_word_text(&version.app)
@@ -105,7 +106,7 @@ pub(crate) fn is_version_in_limits(version: &Version) -> bool
 }
 
 /// Whether the names, the counts and the amounts of a workunit are in range.
-pub(crate) fn is_unit_in_limits(unit: &Workunit) -> bool
+pub fn is_unit_in_limits(unit: &Workunit) -> bool
     ensures { IsTrue result ↔ IsUnitInLimits unit.now }
 {
     is_word_text(&unit.name)
@@ -126,7 +127,7 @@ pub(crate) fn is_unit_in_limits(unit: &Workunit) -> bool
 }
 
 /// Whether what a host told of itself is in range, and its quota is 1 to `most_quota`.
-pub(crate) fn is_host_in_limits(most_quota: u32, host: &HostRow) -> bool
+pub fn is_host_in_limits(most_quota: u32, host: &HostRow) -> bool
     ensures { IsTrue result ↔ IsHostInLimits most_quota host.now }
 {
     let platforms = host.platforms.as_slice();
@@ -154,7 +155,7 @@ fn is_outcome_in_limits(outcome: &Outcome) -> bool
 }
 
 /// Whether the deadline of an instance and its report are in range. A [`Moment`](sched_book::Moment) always is.
-pub(crate) fn is_instance_in_limits(instance: &Instance) -> bool
+pub fn is_instance_in_limits(instance: &Instance) -> bool
     ensures { IsTrue result ↔ IsInstanceInLimits instance.now }
 {
     instance

@@ -1,7 +1,7 @@
 //! Whether a world is sound, tried on the whole of it: its values, names, references and workunits.
 #![tactic(auto)]
 
-mod in_limits;
+pub mod in_limits;
 mod keyed;
 mod sound_units;
 mod soundness;

@@ -1,3 +1,5 @@
+//! What a line of a host's statement says.
+
 use texts::Text;
 
 /// What a statement says of an instance that a host was given.
