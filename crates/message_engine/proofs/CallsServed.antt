@@ -25,7 +25,7 @@ use Rattle.sched_book.specs.declared.machine.Call.TheVariants as call
 use Rattle.sched_book.specs.declared.machine.Caller.{Caller}
 use Rattle.sched_book.specs.declared.world.World.{World}
 use Rattle.sched_machine.specs.Admission as admission
-use Rattle.sched_machine.specs.Calling.{IsAdmitted, IsFull}
+use Rattle.sched_machine.specs.Calling.{IsAdmitted, LacksRoom}
 use Rattle.stores.specs.Eras.{this_era}
 use Rattle.stores.specs.Held.{Calls, Held, calls_with, IsCommitted, IsKeptSoundly, IsLeft, IsNewest, MayBeCommitted}
 use Rattle.stores.specs.declared.entry.Entry.TheVariants as entry
@@ -117,9 +117,9 @@ module _ (old new : Held) (w : World) (world_is : old.world ≡ w) (left : IsLef
       tells.wrong)
       left
 
-  pub full_serves : (c : Caller) → IsFull w (call.Rpc c r) → MayAct old c r → ServesCall r now (Refusal fault.HostsFull) old new
+  pub full_serves : (c : Caller) → LacksRoom w c → MayAct old c r → ServesCall r now (Refusal fault.HostsFull) old new
   full_serves c full_there may =
-      let full : IsFull old.world (call.Rpc c r) = subst (λ v. IsFull v (call.Rpc c r)) (sym world_is) full_there in
+      let full : LacksRoom old.world c = subst (λ v. LacksRoom v c) (sym world_is) full_there in
       told_serves (heard_now now (Rpc r)) (Refusal fault.HostsFull) old new
       (told_acting old c r may ∙ ap told_fresh (no_room old.world.settings.max_hosts (length old.world.hosts) c.host full.0 full.1)) left
 

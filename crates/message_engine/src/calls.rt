@@ -1,18 +1,11 @@
 //! A call of a host, over any store.
 
-ghost use Rattle.std.specs.Prelude.{◌≡◌, ◌<◌, true, length, is_ok, IfOk, OnOk, IsErrOf};
+ghost use Rattle.std.specs.Prelude.{◌≡◌, ◌<◌, true, length, is_ok, IfOk, OnOk};
 ghost use Rattle.reply_register.specs.Calls.{reply_at};
 ghost use Rattle.rpc_records.specs.Ranges.{IsInRange};
 ghost use Rattle.rpc_records.specs.Replies.{reply_text_of};
 ghost use Rattle.rpc_records.specs.Spelling.{canonical_text};
-ghost use Rattle.sched_book.specs.Delta.{applied, Fits};
-ghost use Rattle.sched_book.specs.Sound.{Sound};
-ghost use Rattle.sched_book.specs.Step.{RpcStep, Step};
 ghost use Rattle.sched_book.specs.Trusted.{Trusted};
-ghost use Rattle.sched_book.specs.declared.machine.Answered.TheVariants as answered;
-ghost use Rattle.sched_book.specs.declared.machine.Call.TheVariants as call;
-ghost use Rattle.sched_machine.specs.Calling.{IsAdmitted, IsFull, MayBeHeard};
-ghost use Rattle.sched_machine.specs.declared.admission.Refused.TheVariants as refused;
 ghost use Rattle.stores.specs.Acting.{ActsWhole};
 ghost use Rattle.stores.specs.Held.{IsCommitted, IsKeptSoundly, MayBeCommitted};
 ghost use Rattle.stores.specs.declared.entry.Entry.TheVariants as entry;
@@ -25,8 +18,8 @@ use crate::commits::commit_and_answer;
 use pasts::Answer;
 use reply_register::{Heard, Kept, classify};
 use rpc_records::{Fault, Reply, Request, reply_text, request_text};
-use sched_book::{Answered, Call, Caller, Delta, Desk, Moment, Unavailable};
-use sched_machine::{Refused, admit, step};
+use sched_book::{Caller, Delta, Moment, Unavailable};
+use sched_machine::{Refused, admit, step_call};
 use std::alloc::Global;
 use stores::{Entry, Store, confirmed};
 use texts::{Listed, Memory, Text};
@@ -83,55 +76,6 @@ fn told_kept<S: Store>(
     Ok(told_beside(kept.as_slice(), seqno, text)?)
 }
 
-/// The step of a call whose answer is a reply: its changes and that reply.
-fn replied_step<D: Desk>(
-    alloc: Global,
-    desk: &mut D,
-    call: &Call,
-    now: Moment,
-) -> Result<(Delta, Reply), Refused>
-    ensures reads { D.reads desk.old desk.new }
-    ensures step { Trusted D.Units desk.old desk.new (IfOk result (λ done.
-        Sound (D.world desk.old) → MayBeHeard (D.world desk.old) call.now →
-        Step (D.world desk.old) call.now now (applied (D.world desk.old) done.0) (answered.Rpc done.1))) }
-    ensures sound { Trusted D.Units desk.old desk.new (IfOk result (λ done.
-        Sound (D.world desk.old) → MayBeHeard (D.world desk.old) call.now → Sound (applied (D.world desk.old) done.0))) }
-    ensures fits { Trusted D.Units desk.old desk.new (IfOk result (λ done.
-        Sound (D.world desk.old) → MayBeHeard (D.world desk.old) call.now → Fits (D.world desk.old) done.0)) }
-    ensures full { Trusted D.Units desk.old desk.new (IsErrOf result refused.HostsFull → IsFull (D.world desk.old) call.now) }
-{
-    match step(alloc, desk, call, now) {
-        Ok((delta, answered)) => match answered {
-            Answered::Rpc(reply) => Ok((delta, reply)),
-            _ => Err(Refused::Unavailable),
-        },
-        Err(refused) => Err(refused),
-    }
-}
-
-/// The step of a first-heard call of this caller: its changes and its reply.
-fn call_step<D: Desk>(
-    alloc: Global,
-    desk: &mut D,
-    caller: Caller,
-    request: Request,
-    now: Moment,
-) -> Result<(Delta, Reply), Refused>
-    ensures reads { D.reads desk.old desk.new }
-    ensures step { Trusted D.Units desk.old desk.new (IfOk result (λ done.
-        Sound (D.world desk.old) → IsAdmitted (D.world desk.old) caller request →
-        RpcStep (D.world desk.old) caller request now (applied (D.world desk.old) done.0) done.1)) }
-    ensures sound { Trusted D.Units desk.old desk.new (IfOk result (λ done.
-        Sound (D.world desk.old) → IsAdmitted (D.world desk.old) caller request → Sound (applied (D.world desk.old) done.0))) }
-    ensures fits { Trusted D.Units desk.old desk.new (IfOk result (λ done.
-        Sound (D.world desk.old) → IsAdmitted (D.world desk.old) caller request → Fits (D.world desk.old) done.0)) }
-    ensures full { Trusted D.Units desk.old desk.new (IsErrOf result refused.HostsFull →
-        IsFull (D.world desk.old) (call.Rpc caller request)) }
-{
-    let call = Call::Rpc(caller, request);
-    replied_step(alloc, desk, &call, now)
-}
-
 /// What is kept of a call of this host, with the body of its reply.
 fn call_entry(host: u32, seqno: u32, text: Text, body: &Text) -> Result<Entry, Memory>
     ensures { IfOk result (λ made. made ≡ entry.Kept host (record { seqno = seqno; text = text; reply = body.now })) }
@@ -163,23 +107,22 @@ fn keep<S: Store>(
 fn call_fresh<S: Store>(
     alloc: Global,
     store: &mut S,
-    caller: Caller,
-    request: Request,
+    caller: &Caller,
+    request: &Request,
     text: Text,
     now: Moment,
 ) -> Result<Answer, Unavailable>
-    requires in_range { IsInRange request }
-    requires text { text ≡ canonical_text request }
+    requires in_range { IsInRange request.now }
+    requires text { text ≡ canonical_text request.now }
     ensures acts { ActsWhole S.Store (is_ok result) (λ h.
-        MayAct (S.holds store.old) caller request → IsCallServed request now (S.holds store.old) h) store.old store.new }
+        MayAct (S.holds store.old) caller.now request.now → IsCallServed request.now now (S.holds store.old) h) store.old store.new }
     ensures exact { Trusted S.Units store.old store.new (IfOk result (λ answer.
-        MayAct (S.holds store.old) caller request → ServesCall request now answer (S.holds store.old) (S.holds store.new))) }
+        MayAct (S.holds store.old) caller.now request.now → ServesCall request.now now answer (S.holds store.old) (S.holds store.new))) }
 {
-    let seqno = request.rpc_seqno;
-    match call_step(alloc, store, caller, request, now) {
-        Ok((delta, reply)) => keep(alloc, store, &delta, &reply, seqno, text),
+    match step_call(alloc, store, caller, request, now) {
+        Ok((delta, reply)) => keep(alloc, store, &delta, &reply, request.rpc_seqno, text),
         Err(Refused::HostsFull) => confirmed(store, Answer::Refusal(Fault::HostsFull)),
-        Err(_) => Err(Unavailable),
+        Err(Refused::BadAccount | Refused::BadHost | Refused::Unavailable) => Err(Unavailable),
     }
 }
 
@@ -187,18 +130,18 @@ fn call_fresh<S: Store>(
 fn call_admitted<S: Store>(
     alloc: Global,
     store: &mut S,
-    caller: Caller,
-    request: Request,
+    caller: &Caller,
+    request: &Request,
     now: Moment,
 ) -> Result<Answer, Unavailable>
-    requires in_range { IsInRange request }
+    requires in_range { IsInRange request.now }
     ensures acts { ActsWhole S.Store (is_ok result) (λ h.
-        IsNamed (S.holds store.old).world caller request → IsCallServed request now (S.holds store.old) h) store.old store.new }
+        IsNamed (S.holds store.old).world caller.now request.now → IsCallServed request.now now (S.holds store.old) h) store.old store.new }
     ensures exact { Trusted S.Units store.old store.new (IfOk result (λ answer.
-        IsNamed (S.holds store.old).world caller request → ServesCall request now answer (S.holds store.old) (S.holds store.new))) }
+        IsNamed (S.holds store.old).world caller.now request.now → ServesCall request.now now answer (S.holds store.old) (S.holds store.new))) }
 {
-    let text = request_text(alloc, &request)?;
-    match told_kept(alloc, store, &caller, request.rpc_seqno, text.as_str())? {
+    let text = request_text(alloc, request)?;
+    match told_kept(alloc, store, caller, request.rpc_seqno, text.as_str())? {
         Some(answer) => confirmed(store, answer),
         None => call_fresh(alloc, store, caller, request, text, now),
     }
@@ -223,9 +166,9 @@ pub fn call<S: Store>(
         ServesCall request now answer (S.holds store.old) (S.holds store.new))) }
 {
     match admit(alloc, store, &request) {
-        Ok(caller) => call_admitted(alloc, store, caller, request, now),
+        Ok(caller) => call_admitted(alloc, store, &caller, &request, now),
         Err(Refused::BadAccount) => confirmed(store, Answer::Refusal(Fault::BadAccount)),
         Err(Refused::BadHost) => confirmed(store, Answer::Refusal(Fault::BadHost)),
-        Err(_) => Err(Unavailable),
+        Err(Refused::HostsFull | Refused::Unavailable) => Err(Unavailable),
     }
 }

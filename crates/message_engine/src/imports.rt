@@ -18,16 +18,16 @@ ghost use Rattle.message_engine.specs.Stores.{IsServed, ServesIn};
 
 use crate::bodies::imported;
 use crate::commits::commit_and_answer;
-use crate::steps::import_step;
 use office_files::{
     RowsFault, check_rows, read_accounts, read_apps, read_versions, read_workunits,
 };
 use pasts::Answer;
 use rpc_records::Fault;
-use sched_book::{Delta, Moment, Rows, Unavailable};
+use sched_book::{Moment, Rows, Unavailable};
+use sched_machine::step_import;
 use std::alloc::Global;
 use stores::{Entry, KeptBatch, Kind, Store, confirmed};
-use texts::{Listed, Text};
+use texts::{Listed, Memory, Text};
 
 /// The rows of this kind that a text says, or its first fault.
 fn read_rows(alloc: Global, kind: Kind, text: &[u8]) -> Result<Rows, RowsFault>
@@ -61,7 +61,7 @@ fn batch_entry(
     batch: &Text,
     text: &[u8],
     body: &Text,
-) -> Result<Entry, Unavailable>
+) -> Result<Entry, Memory>
     ensures { IfOk result (λ made. made ≡ entry.Batch kind batch.now (record { text = text.now; answer = body.now })) }
 {
     let kept = KeptBatch {
@@ -71,72 +71,31 @@ fn batch_entry(
     Ok(Entry::Batch(kind, batch.clone()?, kept))
 }
 
-/// Makes the changes of an import and keeps it, and tells how many rows it brought.
-fn keep_batch<S: Store>(
-    alloc: Global,
-    store: &mut S,
-    kind: Kind,
-    batch: &Text,
-    text: &[u8],
-    delta: &Delta,
-    count: u32,
-) -> Result<Answer, Unavailable>
-    ensures acts { ActsWhole S.Store (is_ok result) (IsKeptSoundly delta.now (entry_of_batch kind batch.now text.now count) (S.holds store.old)) store.old store.new }
-    ensures answer { IfOk result (λ answer. answer ≡ answers.Good (imported_text (kind_name kind) batch.now count)) }
-    ensures made { Trusted S.Units store.old store.new (OnOk result (MayBeCommitted delta.now (entry_of_batch kind batch.now text.now count) (S.holds store.old) →
-        IsCommitted delta.now (entry_of_batch kind batch.now text.now count) (S.holds store.old) (S.holds store.new))) }
-{
-    let body = imported(alloc, kind.name(), batch.as_str(), count as u64)?;
-    let entry = batch_entry(alloc, kind, batch, text, &body)?;
-    commit_and_answer(store, delta, &entry, body)
-}
-
-/// Adds rows that nothing forbids, and keeps their batch.
+/// Adds rows that nothing forbids, and keeps their batch with the answer, which tells how many rows it brought.
 fn add_rows<S: Store>(
     alloc: Global,
     store: &mut S,
     kind: Kind,
     batch: &Text,
     text: &[u8],
-    rows: Rows,
+    rows: &Rows,
     now: Moment,
 ) -> Result<Answer, Unavailable>
-    requires limits { AreRowsInLimits rows }
+    requires limits { AreRowsInLimits rows.now }
     ensures acts { ActsWhole S.Store (is_ok result) (λ h.
-        (S.holds store.old).batches kind batch.now ≡ None → fault_of_rows (shelf_of (S.holds store.old).world) rows ≡ None →
-        IsServed (import_of now kind batch.now text.now (Ok rows)) (S.holds store.old) h) store.old store.new }
+        (S.holds store.old).batches kind batch.now ≡ None → fault_of_rows (shelf_of (S.holds store.old).world) rows.now ≡ None →
+        IsServed (import_of now kind batch.now text.now (Ok rows.now)) (S.holds store.old) h) store.old store.new }
     ensures exact { Trusted S.Units store.old store.new (IfOk result (λ answer.
-        (S.holds store.old).batches kind batch.now ≡ None → fault_of_rows (shelf_of (S.holds store.old).world) rows ≡ None →
-        ServesIn (import_of now kind batch.now text.now (Ok rows)) answer (S.holds store.old) (S.holds store.new))) }
+        (S.holds store.old).batches kind batch.now ≡ None → fault_of_rows (shelf_of (S.holds store.old).world) rows.now ≡ None →
+        ServesIn (import_of now kind batch.now text.now (Ok rows.now)) answer (S.holds store.old) (S.holds store.new))) }
 {
-    let (delta, count) = import_step(alloc, store, rows, now)?;
-    keep_batch(alloc, store, kind, batch, text, &delta, count)
+    let (delta, count) = step_import(alloc, rows)?;
+    let body = imported(alloc, kind.name(), batch.as_str(), count as u64)?;
+    let entry = batch_entry(alloc, kind, batch, text, &body)?;
+    commit_and_answer(store, &delta, &entry, body)
 }
 
-/// Imports rows, unless what stands forbids it.
-fn import_rows<S: Store>(
-    alloc: Global,
-    store: &mut S,
-    kind: Kind,
-    batch: &Text,
-    text: &[u8],
-    rows: Rows,
-    now: Moment,
-) -> Result<Answer, Unavailable>
-    requires limits { AreRowsInLimits rows }
-    ensures acts { ActsWhole S.Store (is_ok result) (λ h. (S.holds store.old).batches kind batch.now ≡ None →
-        IsServed (import_of now kind batch.now text.now (Ok rows)) (S.holds store.old) h) store.old store.new }
-    ensures exact { Trusted S.Units store.old store.new (IfOk result (λ answer. (S.holds store.old).batches kind batch.now ≡ None →
-        ServesIn (import_of now kind batch.now text.now (Ok rows)) answer (S.holds store.old) (S.holds store.new))) }
-{
-    match check_rows(alloc, store, &rows) {
-        Ok(()) => add_rows(alloc, store, kind, batch, text, rows, now),
-        Err(RowsFault::Unavailable) => Err(Unavailable),
-        Err(fault) => confirmed(store, Answer::Refusal(fault.fault())),
-    }
-}
-
-/// Imports a batch that is not kept.
+/// Imports a batch that is not kept: its rows are read, looked at beside what stands, and then added, or refused.
 fn import_new<S: Store>(
     alloc: Global,
     store: &mut S,
@@ -150,8 +109,13 @@ fn import_new<S: Store>(
     ensures exact { Trusted S.Units store.old store.new (IfOk result (λ answer. (S.holds store.old).batches kind batch.now ≡ None →
         ServesImport now kind batch.now text.now answer (S.holds store.old) (S.holds store.new))) }
 {
-    match read_rows(alloc, kind, text) {
-        Ok(rows) => import_rows(alloc, store, kind, batch, text, rows, now),
+    let rows = match read_rows(alloc, kind, text) {
+        Ok(rows) => rows,
+        Err(RowsFault::Unavailable) => return Err(Unavailable),
+        Err(fault) => return confirmed(store, Answer::Refusal(fault.fault())),
+    };
+    match check_rows(alloc, store, &rows) {
+        Ok(()) => add_rows(alloc, store, kind, batch, text, &rows, now),
         Err(RowsFault::Unavailable) => Err(Unavailable),
         Err(fault) => confirmed(store, Answer::Refusal(fault.fault())),
     }

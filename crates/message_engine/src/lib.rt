@@ -12,7 +12,6 @@ mod commits;
 mod copies;
 mod imports;
 mod list_store;
-mod steps;
 mod ticks;
 
 pub use calls::call;

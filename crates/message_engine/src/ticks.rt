@@ -12,9 +12,9 @@ ghost use Rattle.message_engine.specs.Stores.{IsServed, ServesIn};
 
 use crate::bodies::lapsed;
 use crate::commits::commit_and_answer;
-use crate::steps::tick_step;
 use pasts::Answer;
 use sched_book::{Delta, Moment, Unavailable};
+use sched_machine::step_tick;
 use std::alloc::Global;
 use stores::{Entry, Store};
 
@@ -45,6 +45,6 @@ pub fn tick<S: Store>(alloc: Global, store: &mut S, now: Moment) -> Result<Answe
     ensures exact { Trusted S.Units store.old store.new (IfOk result (λ answer.
         ServesIn (heard_now now Tick) answer (S.holds store.old) (S.holds store.new))) }
 {
-    let (delta, count) = tick_step(alloc, store, now)?;
+    let (delta, count) = step_tick(alloc, store, now)?;
     make_lapse(alloc, store, &delta, count)
 }

@@ -1,39 +1,41 @@
-use Rattle.std.proofs.Common.{rules}
-use Rattle.std.specs.Prelude.{is_ok, OnOk}
+use Rattle.std.proofs.Common.{◌≡◌, refl, rules, subst}
+use Rattle.std.specs.Prelude.{is_ok, IfOk, OnOk}
+use Rattle.sched_book.specs.Imports.{AreChecked}
+use Rattle.sched_book.specs.Step.{ImportStep}
 use Rattle.stores.specs.Acting.{parts_of}
 use Rattle.stores.specs.Held.{IsCommitted, IsKeptSoundly, MayBeCommitted}
-use Rattle.stores.proofs.ReadsAct.{acts_on, said_on}
+use Rattle.stores.specs.Kinds.{kind_name}
+use Rattle.stores.specs.declared.entry.Entry.{Entry}
+use Rattle.stores.proofs.ReadsAct.{whole_too}
+use Rattle.pasts.specs.Answers.{imported_text}
+use Rattle.pasts.specs.declared.answer.Answer.TheVariants as answers
 use Rattle.message_engine.specs.Imports.{entry_of_batch}
+use Rattle.message_engine.proofs.EntriesKept.{IsStep}
 use Rattle.message_engine.proofs.ImportsServed.{rows_done, rows_ahead}
+use Rattle.message_engine.proofs.imports.add_rows.Given
 use Rattle.message_engine.proofs.imports.add_rows.Goals as goal
+
+-- the step is one of every world
+a_step : (g : Given.Over) (c : goal.After-drop-delta-inside-2 g) (w : _) → IsStep (λ v. AreChecked v c.args.rows.now) (λ v after. ImportStep v c.args.rows.now after c.in_ok-delta.count) c.in_ok-delta.delta w
+a_step g c w = record { step = c.in_ok-delta.ensures.step w; sound = c.in_ok-delta.ensures.sound w; fits = c.in_ok-delta.ensures.fits w }
 
 pub returns-clause-acts : goal.returns-clause-acts
 returns-clause-acts g c =
-    let reads = c.import_step.ensures.reads in
     let old = c.args.store.now in
-    acts_on (parts_of g.S.Units g.S.Store.holds g.S.Store.clean g.S.Store.lasting g.S.Store.may_leave) old c.import_step.new.desk
-    (g.met.S.Store.stays_clean _ _ reads) (g.met.S.Units.stays_honest _ _ reads) (g.met.S.Units.stays_kept _ _ reads)
-    (λ lasting honest. g.met.S.Store.stays_open _ _ lasting reads honest) (g.met.S.Store.stays_held _ _ reads) (g.met.S.Store.stays_left _ _ reads)
-    (is_ok c.keep_batch.result) (IsKeptSoundly c.in_ok-delta.delta (entry_of_batch c.args.kind c.args.batch.now c.args.text.now c.in_ok-delta.count)) _ c.keep_batch.new.store
-    (λ honest kept h ahead. rows_ahead c.args.now c.in_ok-delta.count c.args.kind c.args.batch.now c.args.text.now c.args.rows c.in_ok-delta.delta (g.S.Store.holds old) h _ (g.met.S.Store.world_held old)
-    (search rules) c.requires.limits
-    (record { step = c.in_ok-delta.ensures.step honest kept; sound = c.in_ok-delta.ensures.sound honest kept; fits = c.in_ok-delta.ensures.fits honest kept }) ahead)
-    c.keep_batch.ensures.acts
+    let held = g.S.Store.holds old in
+    let kept : c.in_ok-entry.entry ≡ entry_of_batch c.args.kind c.args.batch.now c.args.text.now c.in_ok-delta.count = search rules in
+    whole_too (parts_of g.S.Units g.S.Store.holds g.S.Store.clean g.S.Store.lasting g.S.Store.may_leave) (is_ok c.commit_and_answer.result) _ _ old c.commit_and_answer.new.store
+    (λ h made none unrefused. rows_ahead c.args.now c.in_ok-delta.count c.args.kind c.args.batch.now c.args.text.now c.args.rows.now c.in_ok-delta.delta held h held.world refl
+    (search rules) c.requires.limits (a_step g c held.world) (subst (λ (e : Entry). IsKeptSoundly c.in_ok-delta.delta e held h) kept made) none unrefused)
+    c.commit_and_answer.ensures.acts
 
 pub returns-clause-exact : goal.returns-clause-exact
-returns-clause-exact g c = λ honest kept.
-    let reads = c.import_step.ensures.reads in
-    let old = c.args.store.now in
-    let new = c.keep_batch.new.store in
-    let honest_1 = c.keep_batch.ensures.acts.acts.was_honest honest in
-    let kept_1 = g.met.S.Units.stays_kept _ _ reads honest_1 kept in
-    rows_done c.args.now c.in_ok-delta.count c.args.kind c.args.batch.now c.args.text.now c.args.rows c.in_ok-delta.delta (g.S.Store.holds old) (g.S.Store.holds new) _ (g.met.S.Store.world_held old)
-    (search rules) c.requires.limits
-    (record { step = c.in_ok-delta.ensures.step honest_1 kept; sound = c.in_ok-delta.ensures.sound honest_1 kept; fits = c.in_ok-delta.ensures.fits honest_1 kept })
-    c.keep_batch.result c.keep_batch.ensures.answer
-    (said_on (parts_of g.S.Units g.S.Store.holds g.S.Store.clean g.S.Store.lasting g.S.Store.may_leave) old c.import_step.new.desk
-    (g.met.S.Store.stays_clean _ _ reads) (g.met.S.Units.stays_honest _ _ reads) (g.met.S.Units.stays_kept _ _ reads)
-    (λ lasting honest. g.met.S.Store.stays_open _ _ lasting reads honest) (g.met.S.Store.stays_held _ _ reads) (g.met.S.Store.stays_left _ _ reads)
-    (λ held. OnOk c.keep_batch.result (MayBeCommitted c.in_ok-delta.delta (entry_of_batch c.args.kind c.args.batch.now c.args.text.now c.in_ok-delta.count) held
-    → IsCommitted c.in_ok-delta.delta (entry_of_batch c.args.kind c.args.batch.now c.args.text.now c.in_ok-delta.count) held (g.S.Store.holds new)))
-    honest_1 kept (c.keep_batch.ensures.made honest kept_1))
+returns-clause-exact g c = λ honest kept_well.
+    let held = g.S.Store.holds c.args.store.now in
+    let new = g.S.Store.holds c.commit_and_answer.new.store in
+    let kept : c.in_ok-entry.entry ≡ entry_of_batch c.args.kind c.args.batch.now c.args.text.now c.in_ok-delta.count = search rules in
+    rows_done c.args.now c.in_ok-delta.count c.args.kind c.args.batch.now c.args.text.now c.args.rows.now c.in_ok-delta.delta held new held.world refl
+    (search rules) c.requires.limits (a_step g c held.world) c.commit_and_answer.result
+    (let told : IfOk c.commit_and_answer.result (λ answer. answer ≡ answers.Good (imported_text (kind_name c.args.kind) c.args.batch.now c.in_ok-delta.count)) = search rules in told)
+    (subst (λ (e : Entry). OnOk c.commit_and_answer.result (MayBeCommitted c.in_ok-delta.delta e held → IsCommitted c.in_ok-delta.delta e held new)) kept
+    (c.commit_and_answer.ensures.made honest kept_well))
