@@ -9,6 +9,7 @@ use crate::order::Order;
 use clap::ArgMatches;
 use instants::moment_told;
 use sched_book::Moment;
+use sched_book::limits::MOST_NUMBER;
 use std::alloc::Global;
 use texts::{Memory, Text, word_of};
 
@@ -17,9 +18,6 @@ const LAST_PORT: u32 = 65_535;
 
 /// The most connections that one run serves.
 const MOST_CONNECTIONS: u32 = 1_000_000;
-
-/// The greatest number that a host may have.
-const LAST_HOST: u32 = 2_147_483_647;
 
 /// The value of an option.
 fn value_at<'a>(values: &ArgMatches<'a>, name: &str) -> Option<&'a str>
@@ -134,7 +132,7 @@ fn statement_order(alloc: Global, values: &ArgMatches<'_>) -> Result<Option<Orde
     let Some(tables) = value_at(values, "tables") else {
         return Ok(None);
     };
-    let Some(host) = number_at(values, "host", LAST_HOST) else {
+    let Some(host) = number_at(values, "host", MOST_NUMBER) else {
         return Ok(None);
     };
     Ok(Some(Order::Statement {

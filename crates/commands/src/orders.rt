@@ -13,6 +13,7 @@ use http_requests::{import_request, statement_request, tick_request};
 use http_responses::Media;
 use http_serving::Handler;
 use replay_lines::replay;
+use sched_book::limits::MOST_IMPORT_BYTES;
 use sched_book::{Moment, Settings};
 use sched_server::{Answer, Service};
 use sched_tables::Tables;
@@ -23,9 +24,6 @@ use std::net::TcpListener;
 use std::{fs, io};
 use stores::Store;
 use texts::{Memory, Text};
-
-/// The most bytes of an import's file that are read: what is longer is refused.
-const MOST_IMPORT_BYTES: usize = 1_048_576;
 
 /// What an order wants of the service over the tables of a file.
 #[derive(Drop)]

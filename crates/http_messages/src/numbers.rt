@@ -5,13 +5,11 @@ ghost use Rattle.std.specs.Char.{is_ascii_digit};
 ghost use Rattle.std.specs.List.{list_all};
 ghost use Rattle.http_messages.specs.Numbers as spec;
 
+use rpc_records::MOST_NUMBER;
 use texts::utf8_text;
 
 /// The most digits of a length.
 const MOST_LENGTH_DIGITS: usize = 10;
-
-/// The greatest number of a host.
-const MOST_HOST: u64 = 2_147_483_647;
 
 fn are_all_digits(text: &[u8]) -> bool
     ensures { result ≡ list_all is_ascii_digit text.now }
@@ -69,7 +67,7 @@ pub(crate) fn host_in(text: &[u8]) -> Option<u32>
         return None;
     }
     match number_in(text) {
-        Some(number) if number <= MOST_HOST => Some(number as u32),
+        Some(number) if number <= u64::from(MOST_NUMBER) => Some(number as u32),
         Some(_) | None => None,
     }
 }

@@ -4,12 +4,10 @@ ghost use Rattle.std.specs.Prelude.{◌≡◌};
 ghost use Rattle.http_messages.specs.Places as spec;
 
 use http_responses::Method;
+use sched_book::limits::MOST_IMPORT_BYTES;
 
 /// The most bytes of the body of a call or of a tick.
 const MOST_CALL_BYTES: usize = 262_144;
-
-/// The most bytes of the body of an import.
-const MOST_IMPORT_BYTES: usize = 1_048_576;
 
 /// A route, without what its path names.
 #[derive(Clone, Copy)]

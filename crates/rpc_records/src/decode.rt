@@ -10,15 +10,12 @@ ghost use Rattle.rpc_records.specs.Ranges.{IsInRange};
 
 use crate::fault::{Fault, Member};
 use crate::members::{object_at, text_at, texts_in, whole_at, whole_or_zero_at};
-use crate::request::{HostInfo, Report, Request};
+use crate::request::{HostInfo, MOST_NUMBER, Report, Request};
 use crate::text_kind::TextKind;
 use crate::values::{items_in, status_in, text_in};
 use serde_json::Value;
 use std::alloc::Global;
 use texts::{Listed, Text};
-
-/// The greatest rpc_seqno, and the greatest number of a host.
-const MOST_NUMBER: u64 = 2_147_483_647;
 
 /// 10^18: the most operations a second and the most bytes that a host tells.
 const MOST_AMOUNT: u64 = 1_000_000_000_000_000_000;
@@ -70,8 +67,8 @@ fn request_of(alloc: Global, object: &Value) -> Result<Request, Fault>
     ensures { GivesUnless Fault.Unavailable result (request_at (view object.now)) }
 {
     let authenticator = text_at(alloc, object, Member::Authenticator, TextKind::Word)?;
-    let hostid = whole_or_zero_at(object, Member::Hostid, MOST_NUMBER)?;
-    let rpc_seqno = whole_at(object, Member::RpcSeqno, 0, MOST_NUMBER)?;
+    let hostid = whole_or_zero_at(object, Member::Hostid, MOST_NUMBER as u64)?;
+    let rpc_seqno = whole_at(object, Member::RpcSeqno, 0, MOST_NUMBER as u64)?;
     let host = host_of(alloc, object)?;
     let platforms = platforms_of(alloc, object)?;
     let asked = whole_or_zero_at(object, Member::WorkReqSeconds, MOST_SECONDS)?;

@@ -22,4 +22,4 @@ pub use canonical::request_text;
 pub use decode::decode_request;
 pub use fault::{Fault, Member};
 pub use reply::{EndWord, Job, Reply};
-pub use request::{HostInfo, Report, Request};
+pub use request::{HostInfo, MOST_NUMBER, Report, Request};

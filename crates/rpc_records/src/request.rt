@@ -2,6 +2,9 @@
 
 use texts::{Listed, Text};
 
+/// The greatest rpc_seqno and the greatest hostid: BOINC's numbers have 32 bits, of which one is the sign.
+pub const MOST_NUMBER: u32 = 2_147_483_647;
+
 /// What a host tells of itself: `host_info` of a scheduler_request.
 #[derive(Debug, Drop)]
 pub struct HostInfo {

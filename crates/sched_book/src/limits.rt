@@ -1,6 +1,8 @@
 //! The most that the values of a world may be, and those of what is told to it. The ranges of a world that cite these are in
 //! `specs/Limits.antt`.
 
+pub use rpc_records::MOST_NUMBER;
+
 /// The most accounts of a project.
 pub const MOST_ACCOUNTS: usize = 10_000;
 
@@ -33,9 +35,6 @@ pub const MOST_VERSION_NUM: u32 = 1_000_000;
 
 /// How far apart two outputs may be that still agree.
 pub const MOST_DISTANCE: u64 = 1_000_000_000;
-
-/// The greatest number of a call and of a host: BOINC's numbers have 32 bits, of which one is the sign.
-pub const MOST_NUMBER: u32 = 2_147_483_647;
 
 /// The longest text of an import, in bytes.
 pub const MOST_IMPORT_BYTES: usize = 1_048_576;

@@ -19,12 +19,12 @@ use sched_book::count::status;
 use sched_book::limits::MOST_INSTANCES;
 use sched_book::{
     Account, Agreement, App, Change, Counts, Delta, Desk, Instance, Place, Status, Unavailable,
-    Version, Workunit,
+    Version, Workunit, fresh_instances,
 };
 use std::alloc::Global;
 use table_meaning::rows::StoredRow;
 use table_worlds::{account_row, app_row, instance_row, unit_row, version_row};
-use texts::{Listed, Memory};
+use texts::Listed;
 
 /// The number behind a count.
 fn next(count: u32) -> Result<u32, Unavailable>
@@ -84,17 +84,6 @@ fn fresh_instance() -> Instance
     }
 }
 
-/// So many instances that nobody was given yet.
-fn fresh_instances(alloc: Global, count: u32) -> Result<Listed<Instance>, Memory>
-    ensures { IfOk result (λ instances. instances ≡ replicate count fresh) }
-{
-    let mut instances = Listed::new(alloc);
-    for _ in 0..count {
-        instances.push(fresh_instance())?;
-    }
-    Ok(instances)
-}
-
 /// The status of a new workunit; one that begins with more instances than it may have is not told.
 fn first_status(
     alloc: Global,
@@ -106,7 +95,7 @@ fn first_status(
     if unit.target_nresults as usize > MOST_INSTANCES {
         return Err(Unavailable);
     }
-    let instances = fresh_instances(alloc, unit.target_nresults)?;
+    let instances = fresh_instances(alloc, unit.target_nresults as usize)?;
     Ok(status(agreement, unit, instances.as_slice()))
 }
 

@@ -7,21 +7,16 @@ ghost use Rattle.table_reading.specs.Reading.{is_call, is_import};
 use crate::rows::Reading;
 use reply_register::MOST_KEPT;
 use sched_book::World;
+use sched_book::limits::{MOST_IMPORT_BYTES, MOST_NUMBER};
 use stores::Kind;
 use table_meaning::rows::{StoredBatch, StoredCall};
 use texts::is_word;
-
-/// The last number of a call.
-const LAST_SEQNO: u32 = 2_147_483_647;
-
-/// The longest text of an import, in bytes.
-const MOST_IMPORT_BYTES: usize = 1_048_576;
 
 /// Whether this may be what is kept of a call, of whatever host.
 pub(crate) fn is_call(call: &StoredCall) -> bool
     ensures { result ≡ is_call (stored.Kept call.now) }
 {
-    call.host_id != 0 && (call.slot as usize) < MOST_KEPT && call.seqno <= LAST_SEQNO
+    call.host_id != 0 && (call.slot as usize) < MOST_KEPT && call.seqno <= MOST_NUMBER
 }
 
 /// Whether all that is kept of calls may stand beside this world.
