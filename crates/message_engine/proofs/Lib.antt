@@ -1,4 +1,3 @@
-pub mod HostCalls
 pub mod EntriesKept
 mod CallsServed
 mod ImportsServed

@@ -1,20 +1,21 @@
 -- What a store over lists in memory holds. (This project's own.)
 use Rattle.std.proofs.Common.{sym}
-use Rattle.std.specs.Prelude.{◌≡◌, ℕ, Bool, ◌&&◌, List, [], reverse, find, Option, option_map, unwrap_or}
+use Rattle.std.specs.Prelude.{◌≡◌, ℕ, Bool, ◌&&◌, ◌==◌, List, map, filter, take, find, Option, option_map}
 use Rattle.std.specs.Str.{bytes_eq}
+use Rattle.reply_register.specs.Keeping.{most_kept}
 use Rattle.reply_register.specs.declared.kept.Kept.{Kept}
-use Rattle.sched_book.specs.Places.{nth}
 use Rattle.sched_book.specs.declared.world.World.{World}
 use Rattle.stores.specs.Held.{Held, IsLeft}
 use Rattle.stores.specs.Kinds.{same_kind}
 use Rattle.stores.specs.declared.batch.KeptBatch.{KeptBatch}
 use Rattle.stores.specs.declared.kind.Kind.{Kind}
 use Rattle.message_engine.specs.declared.list_store.Batch.{Batch}
+use Rattle.message_engine.specs.declared.list_store.HostCall.{HostCall}
 use Rattle.message_engine.specs.declared.list_store.ListStore.{ListStore}
 
--- what is kept of the calls of the host of a number, where those of the hosts are listed from number 1 on
-abbrev pub calls_at : List (List Kept) → ℕ → List Kept
-calls_at calls host = unwrap_or (nth calls host) []
+-- what is kept of the calls of the host of a number, where calls are listed with the latest first
+abbrev pub calls_at : List HostCall → ℕ → List Kept
+calls_at calls host = take most_kept (map (λ c. c.kept) (filter (λ c. c.host == host) calls))
 
 -- the batch is of this kind and has this name
 abbrev pub is_batch : Kind → List ℕ → Batch → Bool
@@ -22,14 +23,14 @@ is_batch kind name b = same_kind b.kind kind && bytes_eq b.name name
 
 -- what is kept of an import; of two of one kind and name the later counts
 abbrev pub batch_at : List Batch → Kind → List ℕ → Option KeptBatch
-batch_at batches kind name = option_map (λ b. b.kept) (find (is_batch kind name) (reverse batches))
+batch_at batches kind name = option_map (λ b. b.kept) (find (is_batch kind name) batches)
 
 -- the world that a store holds, and all that it holds
 abbrev pub world_of : ListStore → World
 world_of store = store.desk
 
 abbrev pub held_of : ListStore → Held
-held_of store = record { world = world_of store; calls = calls_at store.calls; batches = batch_at store.batches }
+held_of store = record { world = world_of store; calls = calls_at store.calls.items; batches = batch_at store.batches.items }
 
 -- a store that is as it was holds what it held
 pub stays_left_alone : (a b : ListStore) → a ≡ b → IsLeft (held_of a) (held_of b)

@@ -1,17 +1,14 @@
 //! The plain store, which keeps all in lists in memory.
 
-ghost use Rattle.std.specs.Prelude.{◌≡◌, ℕ, ◌∷◌, ◌+◌, ◌<◌, length, take, find, reverse, Ok, ⊤, IfOk, OnOk, OnErr};
+ghost use Rattle.std.specs.Prelude.{◌≡◌, [], length, find, Ok, ⊤, IfOk, OnOk, OnErr};
 ghost use Rattle.std.specs.Option.{option_copied};
-ghost use Rattle.sched_book.specs.Delta.{applied};
 ghost use Rattle.sched_book.specs.Desk.{counts, agreement_at, unit_status};
 ghost use Rattle.sched_book.specs.Places.{unit_named, known_host, held_by, sent_on_day, host_credit, user_credit};
-ghost use Rattle.stores.specs.Eras.{kept_beside, this_era};
 ghost use Rattle.stores.specs.Held.{IsCommitted, IsLeft, IsNew};
-ghost use Rattle.stores.specs.declared.entry.Entry.TheVariants as entry;
 ghost use Rattle.message_engine.specs.ListStores.{calls_at, is_batch, world_of, held_of};
 
 use crate::copies::copy_batch;
-use reply_register::{Kept, MOST_KEPT, append_copies, copy_kept};
+use reply_register::{Kept, MOST_KEPT, copy_kept};
 use sched_book::{
     Account, Agreement, App, Counts, Delta, Desk, HostRow, Instance, ListDesk, Moment, Place,
     Placed, Settings, Status, Taker, Unavailable, Units, Version, Workunit,
@@ -20,8 +17,13 @@ use std::alloc::Global;
 use stores::{Entry, KeptBatch, Kind, Store};
 use texts::{Listed, Memory, Text};
 
-/// How many calls of a host are kept beside its last.
-const KEPT_BESIDE_LAST: usize = MOST_KEPT - 1;
+/// A call that is kept.
+#[derive(Drop)]
+pub struct HostCall {
+    /// The number of its host.
+    pub host: u32,
+    pub kept: Kept,
+}
 
 /// An import that is kept.
 #[derive(Drop)]
@@ -31,72 +33,37 @@ pub struct Batch {
     pub kept: KeptBatch,
 }
 
-/// A store over lists in memory: a plain desk, and what is kept beside it. What is kept of a host's calls is found by its
-/// number; a kept import is looked for from the latest on.
+/// A store over lists in memory: a plain desk, and beside it each call and each import that came. What is kept of them is
+/// looked for from the latest on.
 #[derive(Drop)]
 pub struct ListStore {
     alloc: Global,
     desk: ListDesk,
-    /// The latest four calls of each host, the last call first, by the number of the host from 1 on.
-    calls: Listed<Listed<Kept>>,
-    /// What is kept of imports, in the order in which they came.
-    batches: Listed<Batch>,
+    /// The calls, the latest first.
+    calls: Vec<HostCall>,
+    /// The imports, the latest first.
+    batches: Vec<Batch>,
 }
 
-/// What is kept of the calls of the host of this number.
-fn calls_of(calls: &[Listed<Kept>], host: u32) -> &[Kept]
-    ensures { result.now ≡ calls_at calls.now host }
+/// Copies of what is kept of the calls of the host of this number: of its latest four, the last one first.
+fn calls_of(alloc: Global, calls: &[HostCall], host: u32) -> Result<Listed<Kept>, Memory>
+    ensures { IfOk result (λ kept. kept ≡ calls_at calls.now host) }
 {
-    if host == 0 {
-        return &[];
+    let mut kept = Vec::new(alloc);
+    for call in calls {
+        if call.host == host {
+            kept.push(copy_kept(&call.kept)?)?;
+        }
     }
-    match calls.get(host as usize - 1) {
-        None => &[],
-        Some(kept) => kept.as_slice(),
-    }
-}
-
-/// What is kept of a host's calls once this one is heard.
-fn kept_with(alloc: Global, kept: &Kept, older: &[Kept]) -> Result<Listed<Kept>, Memory>
-    ensures { IfOk result (λ calls. calls ≡ kept.now ∷ take (kept_beside this_era) older.now) }
-{
-    let mut calls = Listed::new(alloc);
-    calls.push(copy_kept(kept)?)?;
-    append_copies(&mut calls, &older[..older.len().min(KEPT_BESIDE_LAST)])?;
-    Ok(calls)
-}
-
-/// The index of what is kept of the calls of the host of this number. The next host is listed first, with no call; a
-/// number beyond it is refused.
-#[tactic(auto, using(crate::proofs::HostCalls::calls_at_listed))]
-fn list_host(
-    alloc: Global,
-    calls: &mut Listed<Listed<Kept>>,
-    host: u32,
-) -> Result<usize, Unavailable>
-    ensures index { IfOk result (λ index. index + 1 ≡ host) }
-    ensures within { IfOk result (λ index. index < length calls.new) }
-    ensures same { (number : ℕ) → calls_at calls.new number ≡ calls_at calls.old number }
-{
-    if host == 0 {
-        return Err(Unavailable);
-    }
-    let index = host as usize - 1;
-    if index < calls.len() {
-        return Ok(index);
-    }
-    if index > calls.len() {
-        return Err(Unavailable);
-    }
-    calls.push(Listed::new(alloc))?;
-    Ok(index)
+    kept.truncate(MOST_KEPT);
+    Ok(Listed::of(kept))
 }
 
 /// The kept import of this kind and name.
 fn find_batch<'a>(batches: &'a [Batch], kind: Kind, name: &str) -> Option<&'a Batch>
-    ensures { option_copied result ≡ find (is_batch kind name.now) (reverse batches.now) }
+    ensures { option_copied result ≡ find (is_batch kind name.now) batches.now }
 {
-    batches.iter().rev().find(|batch| batch.kind.name() == kind.name() && batch.name.is(name))
+    batches.iter().find(|batch| batch.kind.name() == kind.name() && batch.name.is(name))
 }
 
 impl ListStore {
@@ -107,47 +74,33 @@ impl ListStore {
         Ok(ListStore {
             alloc,
             desk: ListDesk::new(alloc, settings)?,
-            calls: Listed::new(alloc),
-            batches: Listed::new(alloc),
+            calls: Vec::new(alloc),
+            batches: Vec::new(alloc),
         })
     }
 
-    /// Makes these changes and keeps this call of the host of this number, or does neither.
-    fn commit_call(&mut self, delta: &Delta, host: u32, kept: &Kept) -> Result<(), Unavailable>
-        ensures ok { OnOk result (
-            IsCommitted delta.now (entry.Kept host kept.now) (held_of self.old) (held_of self.new)) }
-        ensures err { OnErr result (
-            IsLeft (held_of self.old) (held_of self.new)) }
+    /// Keeps an entry, or leaves all as it was.
+    fn keep(&mut self, entry: &Entry) -> Result<(), Memory>
+        ensures ok { OnOk result (IsCommitted [] entry.now (held_of self.old) (held_of self.new)) }
+        ensures err { OnErr result (IsLeft (held_of self.old) (held_of self.new)) }
     {
-        let calls = kept_with(self.alloc, kept, calls_of(self.calls.as_slice(), host))?;
-        let index = list_host(self.alloc, &mut self.calls, host)?;
-        self.desk.apply(delta)?;
-        self.calls.replace(index, calls);
-        Ok(())
-    }
-
-    /// Makes these changes and keeps this import of this kind and name, or does neither.
-    fn commit_batch(
-        &mut self,
-        delta: &Delta,
-        kind: Kind,
-        name: &Text,
-        kept: &KeptBatch,
-    ) -> Result<(), Unavailable>
-        ensures ok { OnOk result (
-            IsCommitted delta.now (entry.Batch kind name.now kept.now) (held_of self.old) (held_of self.new)) }
-        ensures err { OnErr result (
-            IsLeft (held_of self.old) (held_of self.new)) }
-    {
-        let batch = Batch {
-            kind,
-            name: name.clone()?,
-            kept: copy_batch(self.alloc, kept)?,
-        };
-        self.batches.push(batch)?;
-        if let Err(unavailable) = self.desk.apply(delta) {
-            self.batches.drop_last();
-            return Err(unavailable);
+        match entry {
+            Entry::Kept(host, kept) => {
+                let call = HostCall {
+                    host: *host,
+                    kept: copy_kept(kept)?,
+                };
+                self.calls.insert(0, call)?;
+            }
+            Entry::Batch(kind, name, kept) => {
+                let batch = Batch {
+                    kind: *kind,
+                    name: name.clone()?,
+                    kept: copy_batch(self.alloc, kept)?,
+                };
+                self.batches.insert(0, batch)?;
+            }
+            Entry::Nothing => {}
         }
         Ok(())
     }
@@ -334,9 +287,7 @@ impl Store for ListStore {
     ghost may_leave = { λ store held. ⊥ };
 
     fn kept(&mut self, alloc: Global, host: u32) -> Result<Listed<Kept>, Unavailable> {
-        let mut kept = Listed::new(alloc);
-        append_copies(&mut kept, calls_of(self.calls.as_slice(), host))?;
-        Ok(kept)
+        Ok(calls_of(alloc, self.calls.as_slice(), host)?)
     }
 
     fn kept_batch(
@@ -356,11 +307,10 @@ impl Store for ListStore {
     }
 
     fn commit(&mut self, delta: &Delta, entry: &Entry) -> Result<(), Unavailable> {
-        match entry {
-            Entry::Kept(host, kept) => self.commit_call(delta, *host, kept),
-            Entry::Batch(kind, name, kept) => self.commit_batch(delta, *kind, name, kept),
-            Entry::Nothing => self.desk.apply(delta),
-        }
+        let desk = self.desk.with(delta)?;
+        self.keep(entry)?;
+        self.desk = desk;
+        Ok(())
     }
 
     ghost world_held = { λ a. Prim.search rules };
