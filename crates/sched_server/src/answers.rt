@@ -86,7 +86,11 @@ pub(crate) fn allowed_by(message: &Message<'_>) -> Option<Method>
 {
     match message {
         Message::WrongMethod(allowed) => Some(*allowed),
-        _ => None,
+        Message::Call(_)
+        | Message::Import { .. }
+        | Message::Tick
+        | Message::Statement(_)
+        | Message::Refused(_) => None,
     }
 }
 

@@ -1,4 +1,4 @@
-//! A message with the moment at which it came.
+//! A message as it came.
 
 use sched_book::Moment;
 use texts::Listed;

@@ -1,8 +1,8 @@
 //! A message, from its bytes to those of its answer.
 
-ghost use Rattle.std.specs.Prelude.{◌≡◌, ℕ, ◌∷◌, true, false, Ok, IfOk, IfErr, List};
+ghost use Rattle.std.specs.Prelude.{◌≡◌, ℕ, ◌∷◌, true, Ok, IfOk, IfErr, List};
 ghost use Rattle.http_messages.specs.Deciding.{Asked};
-ghost use Rattle.http_messages.specs.Meaning.{Means, IsSettled, Awaits, message_seen};
+ghost use Rattle.http_messages.specs.Meaning.{Means, IsSettled, Awaits, Misses, message_seen};
 ghost use Rattle.http_responses.specs.Answers.{answer_bytes};
 ghost use Rattle.http_responses.specs.declared.answer.Answer as given;
 ghost use Rattle.sched_book.specs.Trusted.{Trusted};
@@ -51,8 +51,8 @@ impl<S> Service<S> {
     /// What these bytes mean, as far as they came.
     fn heard<'b>(&self, bytes: &'b [u8]) -> Heard<'b>
         ensures meaning { Means (key_of self.now) bytes.entry.now (message_seen result.message) }
-        ensures settled { result.is_settled ≡ true → IsSettled (key_of self.now) bytes.entry.now (message_seen result.message) }
-        ensures awaits { result.is_settled ≡ false → Awaits (key_of self.now) bytes.entry.now }
+        ensures settled { result.missing ≡ 0 → IsSettled (key_of self.now) bytes.entry.now (message_seen result.message) }
+        ensures awaits { Misses (key_of self.now) bytes.entry.now result.missing }
     {
         hear(&self.router, self.key.as_str().as_bytes(), bytes)
     }
@@ -122,8 +122,8 @@ impl<S: Store> Handler for Service<S> {
         × (key_of new ≡ key_of old)
         × Trusted S.Units (store_of old) (store_of new) (HandledAs (key_of old) bytes now answer (S.holds (store_of old)) (S.holds (store_of new))) };
 
-    fn is_settled(&self, bytes: &[u8]) -> bool {
-        self.heard(bytes).is_settled
+    fn missing(&self, bytes: &[u8]) -> usize {
+        self.heard(bytes).missing
     }
 
     fn handle(&mut self, alloc: Global, now: u64, bytes: &[u8]) -> Answer {

@@ -1,4 +1,4 @@
-//! The service over a store.
+//! The scheduler as a service over a store.
 
 ghost use Rattle.std.specs.Prelude.{◌≡◌};
 ghost use Rattle.http_messages.specs.Routers.{the_routes};
