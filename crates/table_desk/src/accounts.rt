@@ -1,8 +1,9 @@
 //! Accounts and hosts, by their keys.
 
-ghost use Rattle.std.specs.Prelude.{◌≡◌, IfOk};
+ghost use Rattle.std.specs.Prelude.{◌≡◌, IfOk, IfSome};
 ghost use Rattle.sqlite.specs.Held.{state};
 ghost use Rattle.sched_book.specs.Desk.{account_by_key as account_of_key};
+ghost use Rattle.sched_book.specs.Limits.{IsAccountInLimits};
 ghost use Rattle.sched_book.specs.Places.{known_host};
 ghost use Rattle.table_meaning.specs.Reads.{Reads};
 ghost use Rattle.table_desk.specs.Asked.{Asked};
@@ -13,7 +14,8 @@ use std::alloc::Global;
 use table_decoding::account;
 use table_rows::{account_with, host_known};
 
-/// The account with this authenticator. The connection shows what it showed.
+/// The account with this authenticator. Unavailable where its row has a value out of its range, whatever the rows are. The
+/// connection shows what it showed.
 pub fn account_by_key<S: Alter>(
     alloc: Global,
     conn: &mut Connection<S>,
@@ -21,6 +23,7 @@ pub fn account_by_key<S: Alter>(
 ) -> Result<Option<Placed<Account>>, Unavailable>
     ensures reads { Reads (state S.Store conn.old) (state S.Store conn.new) }
     ensures answer { Asked S.Store conn.old conn.new (λ w. IfOk result (λ r. r ≡ account_of_key w authenticator.now)) }
+    ensures limits { IfOk result (λ r. IfSome r (λ found. IsAccountInLimits found.row)) }
 {
     match account_with(alloc, conn, authenticator)? {
         None => Ok(None),

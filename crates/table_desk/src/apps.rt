@@ -1,10 +1,11 @@
 //! Applications and their versions.
 
-ghost use Rattle.std.specs.Prelude.{◌≡◌, position, Some, IfOk};
+ghost use Rattle.std.specs.Prelude.{◌≡◌, position, Some, IfOk, IfSome};
 ghost use Rattle.std.specs.Str.{bytes_eq};
 ghost use Rattle.sqlite.specs.Held.{state};
 ghost use Rattle.sched_book.specs.Desk.{app_by_name as app_of_name, version_by_key as version_of_key};
 ghost use Rattle.sched_book.specs.Fits.{version_among as among, version_at};
+ghost use Rattle.sched_book.specs.Limits.{IsVersionInLimits};
 ghost use Rattle.sched_book.specs.Places.{place_where};
 ghost use Rattle.sched_book.specs.declared.world.World.{World};
 ghost use Rattle.table_meaning.specs.Reads.{Reads};
@@ -16,6 +17,7 @@ use sqlite::{Alter, Connection};
 use std::alloc::Global;
 use table_rows::version_numbers;
 use texts::Text;
+use world_soundness::in_limits::is_version_in_limits;
 
 fn index_of(apps: &[App], name: &str) -> Option<usize>
     ensures { result ≡ position (λ a. bytes_eq a.name name.now) apps.now }
@@ -69,6 +71,18 @@ fn greatest(numbers: &[u32]) -> Option<u32>
     best
 }
 
+/// A version that was found, where its values are in their ranges.
+fn in_limits(version: Version) -> Result<Version, Unavailable>
+    ensures same { IfOk result (λ v. v ≡ version) }
+    ensures limits { IfOk result IsVersionInLimits }
+{
+    if is_version_in_limits(&version) {
+        Ok(version)
+    } else {
+        Err(Unavailable)
+    }
+}
+
 /// The newest version of the application of this name, which is the first of its name at this place, for the first of
 /// the platforms that has any. The connection shows what it showed.
 fn version_among<S: Alter>(
@@ -81,22 +95,25 @@ fn version_among<S: Alter>(
     ensures reads { Reads (state S.Store conn.old) (state S.Store conn.new) }
     ensures answer { Asked S.Store conn.old conn.new (λ w. Some place ≡ place_where (λ a. bytes_eq a.name app.now) w.apps
         → IfOk result (λ r. r ≡ among w.versions app.now platforms.now)) }
+    ensures limits { IfOk result (λ r. IfSome r IsVersionInLimits) }
 {
     for platform in platforms {
         let numbers = version_numbers(alloc, conn, place, platform.as_str())?;
         if let Some(version_num) = greatest(numbers.as_slice()) {
-            return Ok(Some(Version {
+            let version = Version {
                 app: app.clone()?,
                 platform: platform.clone()?,
                 version_num,
-            }));
+            };
+            return Ok(Some(in_limits(version)?));
         }
     }
     Ok(None)
 }
 
 /// The version that a host runs of the application at this place, of all applications: the newest for the first of the
-/// host's platforms that has any. The connection shows what it showed.
+/// host's platforms that has any. Unavailable where one of its values is out of its range, whatever the rows are. The
+/// connection shows what it showed.
 pub fn version_for<S: Alter>(
     alloc: Global,
     conn: &mut Connection<S>,
@@ -106,6 +123,7 @@ pub fn version_for<S: Alter>(
 ) -> Result<Option<Version>, Unavailable>
     ensures reads { Reads (state S.Store conn.old) (state S.Store conn.new) }
     ensures answer { Asked S.Store conn.old conn.new (λ w. apps.now ≡ w.apps → IfOk result (λ r. r ≡ version_at w host.now app)) }
+    ensures limits { IfOk result (λ r. IfSome r IsVersionInLimits) }
 {
     let Some(named) = nth(apps, app) else {
         return Ok(None);
@@ -116,7 +134,8 @@ pub fn version_for<S: Alter>(
     version_among(alloc, conn, &named.name, place, host.platforms.as_slice())
 }
 
-/// The version of this application, for this platform, with this number. The connection shows what it showed.
+/// The version of this application, for this platform, with this number. Unavailable where one of its values is out of its
+/// range, whatever the rows are. The connection shows what it showed.
 pub fn version_by_key<S: Alter>(
     alloc: Global,
     conn: &mut Connection<S>,
@@ -127,6 +146,7 @@ pub fn version_by_key<S: Alter>(
 ) -> Result<Option<Version>, Unavailable>
     ensures reads { Reads (state S.Store conn.old) (state S.Store conn.new) }
     ensures answer { Asked S.Store conn.old conn.new (λ w. apps.now ≡ w.apps → IfOk result (λ r. r ≡ version_of_key w app.now platform.now version_num)) }
+    ensures limits { IfOk result (λ r. IfSome r IsVersionInLimits) }
 {
     let Some(place) = place_of(apps, app)? else {
         return Ok(None);
@@ -135,9 +155,10 @@ pub fn version_by_key<S: Alter>(
     if !numbers.as_slice().contains(&version_num) {
         return Ok(None);
     }
-    Ok(Some(Version {
+    let version = Version {
         app: Text::copied(alloc, app)?,
         platform: Text::copied(alloc, platform)?,
         version_num,
-    }))
+    };
+    Ok(Some(in_limits(version)?))
 }

@@ -1,7 +1,8 @@
 //! Hosts, each with what is counted of it.
 
-ghost use Rattle.std.specs.Prelude.{◌≡◌, pos, IfOk};
+ghost use Rattle.std.specs.Prelude.{◌≡◌, pos, IfOk, IfSome};
 ghost use Rattle.sqlite.specs.Held.{state};
+ghost use Rattle.sched_book.specs.Limits.{most_quota, IsHostInLimits};
 ghost use Rattle.table_meaning.specs.Reads.{Reads};
 ghost use Rattle.table_meaning.specs.Rows.{columns_of};
 ghost use Rattle.table_meaning.specs.declared.rows.StoredRow.TheVariants as stored;
@@ -36,7 +37,8 @@ impl Same for CountedHost {
 
 /// The host of a row, with what the row counts of it.
 fn counted(alloc: Global, row: &StoredHost) -> Result<CountedHost, Unavailable>
-    ensures { IfOk result (λ h. (h.row ≡ host_in (columns_of (stored.Host row.now))) × (h.held ≡ row.now.held) × (pos h.credit ≡ row.now.credit)) }
+    ensures read { IfOk result (λ h. (h.row ≡ host_in (columns_of (stored.Host row.now))) × (h.held ≡ row.now.held) × (pos h.credit ≡ row.now.credit)) }
+    ensures limits { IfOk result (λ h. IsHostInLimits most_quota h.row) }
 {
     match u64::try_from(row.credit) {
         Err(_) => Err(Unavailable),
@@ -48,7 +50,8 @@ fn counted(alloc: Global, row: &StoredHost) -> Result<CountedHost, Unavailable>
     }
 }
 
-/// The host of this number, with what is counted of it. The connection shows what it showed.
+/// The host of this number, with what is counted of it. Unavailable where its row has a value out of its range, whatever the
+/// rows are. The connection shows what it showed.
 pub fn counted_host<S: Alter>(
     alloc: Global,
     conn: &mut Connection<S>,
@@ -56,6 +59,7 @@ pub fn counted_host<S: Alter>(
 ) -> Result<Option<CountedHost>, Unavailable>
     ensures reads { Reads (state S.Store conn.old) (state S.Store conn.new) }
     ensures answer { Asked S.Store conn.old conn.new (λ w. IfOk result (λ r. r ≡ counted_host_at w number)) }
+    ensures limits { IfOk result (λ r. IfSome r (λ h. IsHostInLimits most_quota h.row)) }
 {
     match host_of(alloc, conn, number)? {
         None => Ok(None),

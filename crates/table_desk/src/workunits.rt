@@ -1,9 +1,10 @@
 //! Workunits and their instances, by their keys.
 
-ghost use Rattle.std.specs.Prelude.{◌≡◌, ◌≤◌, length, map, IfOk};
+ghost use Rattle.std.specs.Prelude.{◌≡◌, ◌≤◌, length, map, IfOk, IfSome};
+ghost use Rattle.std.specs.List.{AllByRecursion};
 ghost use Rattle.sqlite.specs.Held.{state};
 ghost use Rattle.sched_book.specs.Desk.{instances_at as instances_within, workunit_at};
-ghost use Rattle.sched_book.specs.Limits.{most_instances};
+ghost use Rattle.sched_book.specs.Limits.{most_instances, IsUnitInLimits, IsInstanceInLimits};
 ghost use Rattle.sched_book.specs.Places.{unit_named, instance_at as job_at};
 ghost use Rattle.table_meaning.specs.Reads.{Reads};
 ghost use Rattle.table_meaning.specs.Rows.{columns_of};
@@ -32,7 +33,8 @@ pub fn unit_by_name<S: Alter>(
     Ok(unit_named(alloc, conn, name)?)
 }
 
-/// The workunit at this place, beside all applications. The connection shows what it showed.
+/// The workunit at this place, beside all applications. Unavailable where its row has a value out of its range, whatever
+/// the rows are. The connection shows what it showed.
 pub fn unit_at<S: Alter>(
     alloc: Global,
     conn: &mut Connection<S>,
@@ -41,6 +43,7 @@ pub fn unit_at<S: Alter>(
 ) -> Result<Option<Workunit>, Unavailable>
     ensures reads { Reads (state S.Store conn.old) (state S.Store conn.new) }
     ensures answer { Asked S.Store conn.old conn.new (λ w. apps.now ≡ w.apps → IfOk result (λ r. r ≡ workunit_at w unit)) }
+    ensures limits { IfOk result (λ r. IfSome r IsUnitInLimits) }
 {
     match unit_of(alloc, conn, unit)? {
         None => Ok(None),
@@ -48,7 +51,8 @@ pub fn unit_at<S: Alter>(
     }
 }
 
-/// The instance of this number of the workunit at this place. The connection shows what it showed.
+/// The instance of this number of the workunit at this place. Unavailable where its row has a value out of its range,
+/// whatever the rows are. The connection shows what it showed.
 pub fn instance_at<S: Alter>(
     alloc: Global,
     conn: &mut Connection<S>,
@@ -57,6 +61,7 @@ pub fn instance_at<S: Alter>(
 ) -> Result<Option<Instance>, Unavailable>
     ensures reads { Reads (state S.Store conn.old) (state S.Store conn.new) }
     ensures answer { Asked S.Store conn.old conn.new (λ w. IfOk result (λ r. r ≡ job_at w (record { unit = unit; number = number }))) }
+    ensures limits { IfOk result (λ r. IfSome r IsInstanceInLimits) }
 {
     match instance_of(alloc, conn, unit, number)? {
         None => Ok(None),
@@ -66,7 +71,8 @@ pub fn instance_at<S: Alter>(
 
 /// The instances of these rows.
 fn instances(alloc: Global, rows: &[StoredInstance]) -> Result<Listed<Instance>, Unavailable>
-    ensures { IfOk result (λ all. all ≡ map (λ row. job_in (columns_of (stored.Instance row))) rows.now) }
+    ensures all { IfOk result (λ all. all ≡ map (λ row. job_in (columns_of (stored.Instance row))) rows.now) }
+    ensures limits { IfOk result (λ all. AllByRecursion IsInstanceInLimits all) }
 {
     let mut all = Listed::new(alloc);
     for row in rows {
@@ -75,8 +81,8 @@ fn instances(alloc: Global, rows: &[StoredInstance]) -> Result<Listed<Instance>,
     Ok(all)
 }
 
-/// The instances of the workunit at this place, by number. Refused where it has more than it may have. The connection
-/// shows what it showed.
+/// The instances of the workunit at this place, by number. Unavailable where it has more than it may have, or where a row
+/// has a value out of its range, whatever the rows are. The connection shows what it showed.
 pub fn instances_at<S: Alter>(
     alloc: Global,
     conn: &mut Connection<S>,
@@ -84,6 +90,7 @@ pub fn instances_at<S: Alter>(
 ) -> Result<Listed<Instance>, Unavailable>
     ensures reads { Reads (state S.Store conn.old) (state S.Store conn.new) }
     ensures few { IfOk result (λ r. length r ≤ most_instances) }
+    ensures limits { IfOk result (λ r. AllByRecursion IsInstanceInLimits r) }
     ensures answer { Asked S.Store conn.old conn.new (λ w. IfOk result (λ r. r ≡ instances_within w unit)) }
 {
     let rows = instances_in(alloc, conn, unit)?;

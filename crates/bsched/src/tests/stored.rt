@@ -4,6 +4,7 @@ use super::repeats::{is_answered_again_in, settings};
 use super::{CALL_START, PROJECT, replayed, replayed_by, replayed_over, service_over};
 use commands::{Failure, Visit, default_settings, visit_file};
 use replay_lines::Ended;
+use sched_book::{Agreement, App, HostRow};
 use sched_server::Service;
 use sched_tables::{OpenFault, Tables};
 use sqlite::types::ValueRef;
@@ -12,6 +13,7 @@ use std::alloc::Global;
 use std::str;
 use std::test::Fail;
 use stores::Store;
+use texts::{Listed, Text};
 
 /// The rows of two workunits: for one a single result is enough.
 pub const WORKUNITS: &str =
@@ -201,6 +203,169 @@ fn spoiled_rows_are_refused(rt: HostRuntime) -> Result<(), Fail> {
 }
 
 /// How tables are refused in which an import has so many bytes, or none where they are opened.
+/// What is asked of tables, of the rows of the short life.
+#[derive(Clone, Copy, PartialEq, Eq)]
+enum LookUp {
+    Account,
+    Workunit,
+    Status,
+    Instance,
+    Host,
+    Credit,
+    Version,
+}
+
+const LOOK_UPS: [LookUp; 7] = [
+    LookUp::Account,
+    LookUp::Workunit,
+    LookUp::Status,
+    LookUp::Instance,
+    LookUp::Host,
+    LookUp::Credit,
+    LookUp::Version,
+];
+
+/// Statements that put a value past the range of its column, and the look-ups that read it.
+const SPOILED_BEHIND: &[(&str, &[LookUp])] = &[
+    ("UPDATE account SET name = ''", &[LookUp::Account]),
+    (
+        "UPDATE account SET name = replace('nnnnn', 'n', 'nnnnnnnnnnnnn')",
+        &[LookUp::Account],
+    ),
+    (
+        "UPDATE version SET num = 1000001 WHERE id = 2",
+        &[LookUp::Version],
+    ),
+    (
+        "UPDATE unit SET name = 'w 1' WHERE id = 1",
+        &[LookUp::Workunit],
+    ),
+    ("UPDATE unit SET min_quorum = 0", &[LookUp::Workunit]),
+    ("UPDATE unit SET target_nresults = 0", &[LookUp::Workunit]),
+    (
+        "UPDATE unit SET max_error_results = 101",
+        &[LookUp::Workunit],
+    ),
+    (
+        "UPDATE unit SET max_total_results = 101",
+        &[LookUp::Workunit],
+    ),
+    (
+        "UPDATE unit SET max_success_results = 101",
+        &[LookUp::Workunit],
+    ),
+    ("UPDATE unit SET delay_bound = 0", &[LookUp::Workunit]),
+    ("UPDATE unit SET rsc_fpops_est = 0", &[LookUp::Workunit]),
+    (
+        "UPDATE unit SET rsc_memory_bound = 1000000000000000001",
+        &[LookUp::Workunit],
+    ),
+    ("UPDATE unit SET rsc_disk_bound = -1", &[LookUp::Workunit]),
+    ("UPDATE unit SET credit = 100000001", &[LookUp::Workunit]),
+    ("UPDATE unit SET status = 7", &[LookUp::Status]),
+    ("UPDATE host SET cpid = 'c 1'", &[LookUp::Host]),
+    ("UPDATE host SET platforms = ''", &[LookUp::Host]),
+    ("UPDATE host SET fpops = 0", &[LookUp::Host]),
+    (
+        "UPDATE host SET memory = 1000000000000000001",
+        &[LookUp::Host],
+    ),
+    ("UPDATE host SET disk = -1", &[LookUp::Host]),
+    ("UPDATE host SET quota = 0", &[LookUp::Host]),
+    ("UPDATE host SET quota = 1000001", &[LookUp::Host]),
+    (
+        "UPDATE host SET credit = -1",
+        &[LookUp::Host, LookUp::Credit],
+    ),
+    (
+        "UPDATE instance SET sent = 250000000001 WHERE outcome = 1",
+        &[LookUp::Instance],
+    ),
+    (
+        "UPDATE instance SET deadline = 250100000001 WHERE outcome = 1",
+        &[LookUp::Instance],
+    ),
+    (
+        "UPDATE instance SET lapse = 3 WHERE outcome = 1",
+        &[LookUp::Instance],
+    ),
+    (
+        "UPDATE instance SET outcome = 2 WHERE outcome = 1",
+        &[LookUp::Instance],
+    ),
+    (
+        "UPDATE instance SET output = replace('ooooooooooooooooooooooooo', 'o', 'ooooooooooooooooooooooooooooooooooooooooo') WHERE outcome = 1",
+        &[LookUp::Instance],
+    ),
+    (
+        "UPDATE instance SET place = 101 WHERE outcome = 1",
+        &[LookUp::Instance],
+    ),
+];
+
+/// Whether a look-up over tables is answered.
+fn is_answered<S: Alter>(
+    alloc: Global,
+    conn: &mut Connection<S>,
+    apps: &[App],
+    host: &HostRow,
+    look_up: LookUp,
+) -> bool {
+    match look_up {
+        LookUp::Account => table_desk::account_by_key(alloc, conn, "k1").is_ok(),
+        LookUp::Workunit => table_desk::unit_at(alloc, conn, apps, 1).is_ok(),
+        LookUp::Status => table_desk::status_of(alloc, conn, 1).is_ok(),
+        LookUp::Instance => table_desk::instance_at(alloc, conn, 1, 0).is_ok(),
+        LookUp::Host => table_desk::counted_host(alloc, conn, 1).is_ok(),
+        LookUp::Credit => table_desk::credit_of_user(alloc, conn, 1).is_ok(),
+        LookUp::Version => table_desk::version_for(alloc, conn, apps, host, 1).is_ok(),
+    }
+}
+
+/// A host that runs versions for Linux.
+fn linux_host(alloc: Global) -> Result<HostRow, Fail> {
+    let mut platforms = Listed::new(alloc);
+    platforms.push(Text::copied(alloc, "linux")?)?;
+    Ok(HostRow {
+        account: 1,
+        cpid: Text::copied(alloc, "c1")?,
+        p_fpops: 1_000,
+        m_nbytes: 8_000,
+        d_free: 9_000,
+        platforms,
+        quota: 4,
+    })
+}
+
+/// Whether behind a statement just the look-ups that read what it spoils are unavailable.
+fn are_these_unavailable(alloc: Global, sql: &str, spoiled: &[LookUp]) -> Result<bool, Fail> {
+    let apps = [App {
+        name: Text::copied(alloc, "dock")?,
+        agreement: Agreement::Exact,
+    }];
+    let host = linux_host(alloc)?;
+    let mut conn = filled(alloc)?;
+    run(&mut conn, sql, &[])?;
+    for look_up in LOOK_UPS {
+        if is_answered(alloc, &mut conn, &apps, &host, look_up) == spoiled.contains(&look_up) {
+            return Ok(false);
+        }
+    }
+    Ok(true)
+}
+
+#[test]
+fn a_row_spoiled_behind_the_opening_is_unavailable_where_it_is_read(
+    rt: HostRuntime,
+) -> Result<(), Fail> {
+    let alloc = rt.alloc();
+    assert!(rt; are_these_unavailable(alloc, "UPDATE unit SET status = status", &[])?);
+    for (sql, spoiled) in SPOILED_BEHIND {
+        assert!(rt; are_these_unavailable(alloc, sql, spoiled)?, "{sql}");
+    }
+    Ok(())
+}
+
 fn refused_with_an_import_of(alloc: Global, length: usize) -> Result<Option<OpenFault>, Fail> {
     let text = vec![in alloc; b'x'; length]?;
     let longer = "UPDATE batch SET text = ?1 WHERE kind = 'apps'";

@@ -1,5 +1,5 @@
 -- A head was read: what stands behind it is a whole body, or so much of it is missing.
-use Rattle.std.proofs.Common.{◌∙◌, drop}
+use Rattle.std.proofs.Common.{drop}
 use Rattle.std.proofs.lemmas.List.{take_rest}
 use Rattle.http_messages.specs.Hearing.{decision_seen}
 use Rattle.http_messages.specs.Meaning.{message_seen}

@@ -14,4 +14,4 @@ pub returns-in_ok-counted-in-Some-clause-answer : goal.returns-in_ok-counted-in-
 returns-in_ok-counted-in-Some-clause-answer g c = λ clean is_open rests w tell.
     let found : Some c.in-Some.row ≡ c.in_ok-host_of.field-0 = search rules in
     host_counted _ w tell c.args.number c.in-Some.row c.in_ok-counted-in-Some.field-0
-    (ap (option_map (λ (h : StoredHost). columns_of (stored.Host h))) found ∙ c.in_ok-host_of.ensures.row clean tell.holds.known) c.in_ok-counted-in-Some.ensures
+    (ap (option_map (λ (h : StoredHost). columns_of (stored.Host h))) found ∙ c.in_ok-host_of.ensures.row clean tell.holds.known) c.in_ok-counted-in-Some.ensures.read

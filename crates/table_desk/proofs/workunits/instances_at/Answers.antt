@@ -14,4 +14,4 @@ pub returns-clause-answer : goal.returns-clause-answer
 returns-clause-answer g c = λ clean is_open rests w tell.
     let read = c.in_ok-rows.ensures.rows clean (contents_of w tell.calls tell.batches) (places w) tell.holds (all_places w tell.calls tell.batches) in
     IfOk-weaker c.instances.result (λ all. all ≡ map (λ (row : StoredInstance). job_in (columns_of (stored.Instance row))) c.as_slice.result.now) _
-    (λ all is. is ∙ ap (map (λ (row : StoredInstance). job_in (columns_of (stored.Instance row)))) c.as_slice.ensures ∙ instances_told _ w tell c.args.unit c.in_ok-rows.rows read) c.instances.ensures
+    (λ all is. is ∙ ap (map (λ (row : StoredInstance). job_in (columns_of (stored.Instance row)))) c.as_slice.ensures ∙ instances_told _ w tell c.args.unit c.in_ok-rows.rows read) c.instances.ensures.all
