@@ -1,6 +1,8 @@
 //! What a command line orders, and why it orders nothing.
 
 use sched_book::Moment;
+use std::error::Error;
+use std::fmt;
 use texts::Text;
 
 /// What a command line orders. Each `tables`, `settings` and `file` is the path of a file.
@@ -45,7 +47,7 @@ pub enum Order {
 }
 
 /// Why a command line orders nothing.
-#[derive(Drop)]
+#[derive(Debug, Drop)]
 pub enum OrderFault {
     /// The words are no order of the program.
     Refused,
@@ -54,3 +56,15 @@ pub enum OrderFault {
     /// Memory was wanting.
     Memory,
 }
+
+impl fmt::Display for OrderFault {
+    fn fmt<W: fmt::Write>(&self, f: &mut fmt::Formatter<W>) -> fmt::Result {
+        match self {
+            OrderFault::Refused => write!(f, "bad command line"),
+            OrderFault::Help(text) => f.write_str(text.as_str()),
+            OrderFault::Memory => write!(f, "no memory"),
+        }
+    }
+}
+
+impl Error for OrderFault {}

@@ -5,6 +5,8 @@ ghost use Rattle.office_files.specs.Faults.{refusal_of};
 ghost use Rattle.office_files.specs.declared.fault.RowsFault.TheVariants.{Unavailable};
 
 use rpc_records::Fault;
+use std::error::Error;
+use std::fmt;
 use texts::Memory;
 
 /// Why the rows of an import are refused.
@@ -37,6 +39,22 @@ impl RowsFault {
         }
     }
 }
+
+impl fmt::Display for RowsFault {
+    fn fmt<W: fmt::Write>(&self, f: &mut fmt::Formatter<W>) -> fmt::Result {
+        match self {
+            RowsFault::BadCsv { row, column } => write!(f, "row {row}, column {column} is faulty"),
+            RowsFault::DuplicateName(row) => write!(f, "the name in row {row} stands already"),
+            RowsFault::UnknownReference(row) => {
+                write!(f, "row {row} names an application that does not stand")
+            }
+            RowsFault::TableFull => write!(f, "more rows than a table may have"),
+            RowsFault::Unavailable => write!(f, "unavailable"),
+        }
+    }
+}
+
+impl Error for RowsFault {}
 
 impl From<Memory> for RowsFault {
     ghost from_gives = { λ _ fault. fault ≡ Unavailable };

@@ -13,6 +13,8 @@ ghost use Rattle.office_files.specs.SettingsTexts as spec;
 use sched_book::Settings;
 use sched_book::limits::MOST_HOSTS;
 use std::alloc::Global;
+use std::error::Error;
+use std::fmt;
 use texts::{Memory, Text, is_word};
 use toml::Table;
 
@@ -39,6 +41,17 @@ pub enum SettingsFault {
     /// Memory is wanting.
     Memory,
 }
+
+impl fmt::Display for SettingsFault {
+    fn fmt<W: fmt::Write>(&self, f: &mut fmt::Formatter<W>) -> fmt::Result {
+        match self {
+            SettingsFault::Bad => write!(f, "no settings"),
+            SettingsFault::Memory => write!(f, "no memory"),
+        }
+    }
+}
+
+impl Error for SettingsFault {}
 
 impl From<Memory> for SettingsFault {
     ghost use Rattle.office_files.specs.declared.settings.SettingsFault.TheVariants as fault;

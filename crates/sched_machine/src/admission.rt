@@ -10,6 +10,8 @@ ghost use Rattle.sched_machine.specs.declared.admission.Refused.TheVariants as r
 use rpc_records::Request;
 use sched_book::{Caller, Desk, Unavailable};
 use std::alloc::Global;
+use std::error::Error;
+use std::fmt;
 
 /// Why a call is refused before it is acted on.
 #[derive(Clone, Copy, Debug, PartialEq, Eq)]
@@ -23,6 +25,19 @@ pub enum Refused {
     /// Memory, size or disk is wanting.
     Unavailable,
 }
+
+impl fmt::Display for Refused {
+    fn fmt<W: fmt::Write>(&self, f: &mut fmt::Formatter<W>) -> fmt::Result {
+        match self {
+            Refused::BadAccount => write!(f, "no account has the authenticator"),
+            Refused::BadHost => write!(f, "the number is not that of the caller's host"),
+            Refused::HostsFull => write!(f, "no more hosts may stand"),
+            Refused::Unavailable => write!(f, "unavailable"),
+        }
+    }
+}
+
+impl Error for Refused {}
 
 impl From<Unavailable> for Refused {
     ghost from_gives = { λ _ why. why ≡ refused.Unavailable };
