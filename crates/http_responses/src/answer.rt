@@ -1,14 +1,16 @@
 //! What a message is answered with.
 
-ghost use Rattle.std.specs.Prelude.{◌≡◌};
+ghost use Rattle.std.specs.Prelude.{◌≡◌, IfOk};
 ghost use Rattle.http_responses.specs.Responses.{head_of};
-ghost use Rattle.http_responses.specs.Answers.{response_of};
+ghost use Rattle.http_responses.specs.Answers.{answer_bytes, response_of};
 
 use crate::head::{Head, head_of_size};
 use crate::media::Media;
 use crate::response::Response;
 use http::StatusCode;
 use rpc_records::unavailable_text;
+use std::alloc::Global;
+use texts::Memory;
 
 /// What a message is answered with.
 #[derive(Drop)]
@@ -62,5 +64,20 @@ impl Answer {
             Answer::Unavailable => unavailable_text(),
             Answer::Response(response) => response.body.as_str(),
         }
+    }
+
+    /// All bytes of its response: its head, and its body behind it.
+    ///
+    /// # Errors
+    ///
+    /// Want of memory.
+    #[tactic(auto, unfolding(crate::specs::Responses::response_text))]
+    pub fn bytes(&self, alloc: Global) -> Result<Vec<u8>, Memory>
+        ensures { IfOk result (λ bytes. bytes.items ≡ answer_bytes self.now) }
+    {
+        let head = self.head();
+        let mut bytes = head.as_str().as_bytes().to_vec(alloc)?;
+        bytes.extend_from_slice(self.body().as_bytes())?;
+        Ok(bytes)
     }
 }

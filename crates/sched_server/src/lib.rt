@@ -1,7 +1,7 @@
 //! The scheduler as an HTTP server: what the bytes of a message do, and the bytes that answer them.
 //!
 //! A [`Service`] hears a message, does what it means over any store, and answers with a response whose bytes are all
-//! owned before the store commits. It is served on a reader and a writer by [`http_serving::serve_one`].
+//! owned before the store commits. [`serve_one`] serves it over a reader and a writer.
 #![tactic(auto)]
 
 mod answers;
@@ -14,5 +14,5 @@ mod statements;
 
 pub use arrival::Arrival;
 pub use http_responses::Answer;
-pub use http_serving::IoFault;
+pub use http_serving::{FromRead, FromWrite, IoFault, Sink, Source, serve_one};
 pub use service::Service;
