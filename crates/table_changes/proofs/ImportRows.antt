@@ -31,7 +31,7 @@ use Rattle.table_meaning.specs.declared.rows.StoredRow.{StoredRow}
 use Rattle.table_meaning.specs.declared.rows.StoredRow.TheVariants as stored
 use Rattle.table_worlds.proofs.ByPlace.{all_nth}
 use Rattle.table_worlds.proofs.StaysReadable.{stays_readable}
-use Rattle.table_worlds.proofs.TotalsCounted.{held-among}
+use Rattle.sched_book.proofs.PlaceLists.{places_counted}
 use Rattle.table_worlds.specs.Changes.{IsChange, AreChanges}
 use Rattle.table_worlds.specs.Keys.{row_in}
 use Rattle.table_worlds.specs.Readable.{IsReadable}
@@ -331,8 +331,8 @@ module _ (w v : World) (count : Counts) (rows mid new : List StoredRow) (n app :
 
   host_same : (id : ℕ) → row_in v (Host id) ≡ row_in with_unit (Host id)
   host_same id =
-      let before = held-among (is_held_by id) 1 v.units in
-      let after = held-among (is_held_by id) 1 (v.units ++ new_unit u ∷ []) in
+      let before = places_counted (is_held_by id) 1 v.units in
+      let after = places_counted (is_held_by id) 1 (v.units ++ new_unit u ∷ []) in
       let held : length (held_by v id) ≡ length (held_by with_unit id) =
       before ∙ sym (after ∙ sum_stays (λ (b : UnitBook). count_by (is_held_by id) b.instances) v.units (new_unit u) (none_of_fresh (is_held_by id) u.target_nresults refl)) in
       let none : credit_in v.apps id (new_unit u) ≡ 0 =

@@ -21,7 +21,7 @@ use Rattle.call_sheet.specs.Sheets.{book_before, book_now, IsLeafOf, IsLeafAt, I
 use Rattle.table_meaning.specs.Worlds.{status_code, lapse_code, unit_row, host_row, instance_row, app_place}
 use Rattle.table_meaning.specs.declared.rows.StoredRow.{StoredRow}
 use Rattle.table_meaning.specs.declared.rows.StoredRow.TheVariants as stored
-use Rattle.table_worlds.proofs.TotalsCounted.{held-among}
+use Rattle.sched_book.proofs.PlaceLists.{places_counted}
 use Rattle.table_worlds.specs.Changes.{IsChange, AreChanges}
 use Rattle.table_worlds.specs.Keys.{row_in}
 use Rattle.table_worlds.specs.Totals.{total_of}
@@ -248,8 +248,8 @@ module _ (w v : World) (kept : ℕ → Option Leaf) (units : List ℕ) (host : �
   goes_on : GoesFrom w v host (total_on book_before kept units host) (total_on book_now kept units host)
   goes_on = record {
     held =
-        let before = held-among (is_held_by host) 1 w.units in
-        let after = held-among (is_held_by host) 1 v.units in
+        let before = places_counted (is_held_by host) 1 w.units in
+        let after = places_counted (is_held_by host) 1 v.units in
         let sums = sums_differ held_in w.units v.units units all.rising untouched in
         let old = same_among (at_place held_in w.units) (λ unit. held_on book_before host (kept unit)) units held_then in
         let new = same_among (at_place held_in v.units) (λ unit. held_on book_now host (kept unit)) units held_now in

@@ -24,7 +24,7 @@ use Rattle.table_meaning.specs.Places.{instance_at, shows_passing, compares, lie
 use Rattle.table_meaning.specs.Rows.{columns_of, whole}
 use Rattle.table_meaning.specs.Worlds.{contents_of, instance_row, lapse_code}
 use Rattle.table_meaning.proofs.PlacesTests.{equal_numbers, optional_equals, optional_lies_between}
-use Rattle.table_worlds.proofs.TotalsCounted.{held-among}
+use Rattle.sched_book.proofs.PlaceLists.{places_counted}
 use Rattle.table_desk.specs.Asked.{Tell}
 use Rattle.table_desk.proofs.PlacesStand.{places_kept}
 
@@ -138,4 +138,4 @@ module _ (db : Database) (w : World) (tell : Tell db w) where
 
   -- how many were sent on a day
   pub sent_told : (host day : ℕ) → length (table.places_where contents (is_sent_between host (pos (day * 86400)) (pos (day * 86400 + 86400))) (places w)) ≡ sent_on_day w host day
-  sent_told host day = ap length (places_told (is_sent_between host (pos (day * 86400)) (pos (day * 86400 + 86400))) (λ b x. was_sent host day x) (λ b unit number x. sent_is w b unit number x host day)) ∙ held-among (was_sent host day) 1 w.units
+  sent_told host day = ap length (places_told (is_sent_between host (pos (day * 86400)) (pos (day * 86400 + 86400))) (λ b x. was_sent host day x) (λ b unit number x. sent_is w b unit number x host day)) ∙ places_counted (was_sent host day) 1 w.units

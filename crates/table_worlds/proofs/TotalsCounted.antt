@@ -1,19 +1,18 @@
 -- Totals of hosts: one instance more, one workunit more, and what they say of a world.
 use Rattle.std.proofs.Common.{◌≡◌, ℕ, ◌+◌, ◌*◌, Bool, true, false, cond, eqb, ◌&&◌, List, [], ◌∷◌, length, Option, Some, None, refl, sym, ap, ◌∙◌, arith}
 use Rattle.std.proofs.Math.Nat.{mul-add}
-use Rattle.std.proofs.lemmas.List.{length-append}
 use Rattle.std.proofs.lemmas.List.Sums.{sum_by-cons}
-use Rattle.std.specs.Prelude.{replicate, count_by, sum_by, option_map}
+use Rattle.std.specs.Prelude.{replicate, count_by, option_map}
 use Rattle.sched_book.specs.Count.{is_held}
 use Rattle.sched_book.specs.Numbered.{map_from}
-use Rattle.sched_book.specs.Places.{is_owned_by, is_held_by, option_any, places_in, places_among, credit_in}
+use Rattle.sched_book.specs.Places.{is_owned_by, is_held_by, option_any, credit_in}
 use Rattle.sched_book.specs.Reports.{modify_nth}
 use Rattle.sched_book.specs.declared.instance.Instance.{Instance}
 use Rattle.sched_book.specs.declared.instance.Owner.{Owner}
-use Rattle.sched_book.specs.declared.instance.Place.{Place}
 use Rattle.sched_book.specs.declared.instance.UnitBook.{UnitBook}
 use Rattle.sched_book.specs.declared.rows.App.{App}
 use Rattle.sched_book.specs.declared.world.World.{World}
+use Rattle.sched_book.proofs.PlaceLists.{places_counted}
 use Rattle.sched_book.proofs.Numbered.{map_from-same, map_from-then, map_from-none, modify_nth-map_from}
 use Rattle.table_worlds.specs.Totals.{more, with_instance, with_instances, with_unit, with_units, totals_of}
 use Rattle.table_worlds.specs.declared.totals.Total.{Total}
@@ -88,24 +87,6 @@ no_instance_left valid credit ts = map_from-none 1 _ (no_instance_first valid cr
 pub no_unit_left : (apps : List App) (ts : List Total) → map_from 1 (with_units apps []) ts ≡ ts
 no_unit_left apps ts = map_from-none 1 _ (λ n t. nothing_more t) ts
 
--- what a host holds, a workunit at a time
-held-in : (p : Instance → Bool) (unit number : ℕ) (xs : List Instance) → length (places_in unit number p xs) ≡ count_by p xs
-held-in p unit number [] = refl
-held-in p unit number (x ∷ xs) = cases (p x) _ (held-in p unit (number + 1) xs) ∙ sym (sum_by-cons (λ y. cond (p y) 1 0) x xs)
-  where
-    cases : (b : Bool) (ps : List Place) → length ps ≡ count_by p xs
-        → length (cond b ((record { unit = unit; number = number }) ∷ ps) ps) ≡ cond b 1 0 + count_by p xs
-    cases true ps same = omega (arith, same)
-    cases false ps same = omega (arith, same)
-
-pub held-among : (p : Instance → Bool) (unit : ℕ) (bs : List UnitBook) → length (places_among unit (λ b x. p x) bs) ≡ sum_by (λ (b : UnitBook). count_by p b.instances) bs
-held-among p unit [] = refl
-held-among p unit (b ∷ bs) =
-    length-append (places_in unit 0 p b.instances) (places_among (unit + 1) (λ b x. p x) bs)
-    ∙ ap (λ m. m + length (places_among (unit + 1) (λ b x. p x) bs)) (held-in p unit 0 b.instances)
-    ∙ ap (λ m. count_by p b.instances + m) (held-among p (unit + 1) bs)
-    ∙ sym (sum_by-cons (λ (b : UnitBook). count_by p b.instances) b bs)
-
 -- from nothing, all workunits make the totals
 from_replicate : {X Y Z : Type 0} (n : ℕ) (f : ℕ → Y → Z) (y : Y) (xs : List X) → map_from n f (replicate (length xs) y) ≡ map_from n (λ m x. f m y) xs
 from_replicate n f y [] = refl
@@ -114,4 +95,4 @@ from_replicate n f y (x ∷ xs) = ap (λ zs. f n y ∷ zs) (from_replicate (n + 
 pub all_counted : (w : World) → map_from 1 (with_units w.apps w.units) (replicate (length w.hosts) (total 0 0)) ≡ totals_of w
 all_counted w =
     from_replicate 1 (with_units w.apps w.units) (total 0 0) w.hosts
-    ∙ map_from-same 1 _ _ (λ n h. let held = held-among (is_held_by n) 1 w.units in same_total _ _ _ _ (omega (arith, held)) (omega arith)) w.hosts
+    ∙ map_from-same 1 _ _ (λ n h. let held = places_counted (is_held_by n) 1 w.units in same_total _ _ _ _ (omega (arith, held)) (omega arith)) w.hosts
