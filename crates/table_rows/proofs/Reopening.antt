@@ -1,5 +1,6 @@
 -- What the trees list is one schema, so databases with the same trees are one.
 use Rattle.std.proofs.Common.{◌≡◌, ap, ap₂, subst}
+use Rattle.std.specs.Prelude.{unwrap_or}
 use Rattle.sqlite_trees.specs.Tree.{Trees}
 use Rattle.sqlite_trees.specs.Objects.{catalog_tree}
 use Rattle.sqlite_catalog.specs.Listing.{Lists}
@@ -7,8 +8,8 @@ use Rattle.sqlite_catalog.proofs.ReadLemmas.{lists_once}
 use Rattle.sqlite_schema.specs.declared.schema.Schema.{Schema}
 use Rattle.sqlite.specs.Effect.{Database, IsDatabase}
 use Rattle.sqlite.specs.Held.{Held}
-use Rattle.table_rows.specs.declared.opening.Refused.{Refused}
-use Rattle.table_rows.specs.declared.opening.Refused.TheVariants.{NotTables, OldSchema, Unavailable}
+use Rattle.table_rows.specs.declared.opening.Refused.TheVariants.{NotTables}
+use Rattle.table_rows.specs.Refusing.{given_back}
 
 database : Schema → Trees → Database
 database schema trees = record { schema = schema; trees = trees }
@@ -19,10 +20,5 @@ one_database a b trees first second =
     ap₂ database (lists_once (b.trees catalog_tree) a.schema b.schema (subst (λ (t : Trees). Lists (t catalog_tree) a.schema) trees first.lists) second.lists) trees
 
 -- a refused connection is told by its refusal
-abbrev refused : {S : Type 0} → Held S → Refused S → Held S
-refused other (NotTables conn) = conn
-refused other (OldSchema schema conn) = conn
-refused other Unavailable = other
-
 pub one_refused : {S : Type 0} (a b : Held S) → NotTables a ≡ NotTables b → a ≡ b
-one_refused a b same = ap (refused a) same
+one_refused a b same = ap (λ r. unwrap_or (given_back r) a) same

@@ -1,10 +1,45 @@
--- Why a connection is not taken, as a fault.
+-- Why a connection is not taken, as a fault, and what is given back with it.
+use Rattle.std.specs.Prelude.{◌≡◌, ◌≢◌, ℕ, false, Option, Some, None, IsTrue}
+use Rattle.sqlite.specs.Effect.{Database}
+use Rattle.sqlite.specs.Held.{Held}
+use Rattle.sqlite.specs.State.{State}
 use Rattle.table_rows.specs.declared.opening.OpenFault.{OpenFault}
 use Rattle.table_rows.specs.declared.opening.OpenFault.TheVariants as fault
 use Rattle.table_rows.specs.declared.opening.Refused.{Refused}
-use Rattle.table_rows.specs.declared.opening.Refused.TheVariants.{NotTables, OldSchema, Unavailable}
+use Rattle.table_rows.specs.declared.opening.Refused.TheVariants.{NotTables, OldSchema, BadRow, Unavailable}
+
+-- ---- refusals
 
 abbrev pub fault_of : {S : Type 0} → Refused S → OpenFault
 fault_of (NotTables conn) = fault.NotTables
 fault_of (OldSchema schema conn) = fault.OldSchema schema
+fault_of (BadRow conn) = fault.BadRow
 fault_of Unavailable = fault.Unavailable
+
+-- the refusal of a connection for a fault
+abbrev pub refusal_for : {S : Type 0} → OpenFault → Held S → Refused S
+refusal_for fault.NotTables conn = NotTables conn
+refusal_for (fault.OldSchema schema) conn = OldSchema schema conn
+refusal_for fault.BadRow conn = BadRow conn
+refusal_for fault.Unavailable conn = Unavailable
+
+-- the connection that a refusal gives back
+abbrev pub given_back : {S : Type 0} → Refused S → Option (Held S)
+given_back (NotTables conn) = Some conn
+given_back (OldSchema schema conn) = Some conn
+given_back (BadRow conn) = Some conn
+given_back Unavailable = None
+
+-- The connection is open, no transaction is, and what it shows and what was committed is this.
+pub record IsAtRest (db : Database) (s : State) : Type 0 where
+  pub is_open : IsTrue s.is_open
+  pub idle : s.in_transaction ≡ false
+  pub now : s.now ≡ db
+  pub committed : s.committed ≡ db
+
+-- ---- faults
+
+-- It blames a row, memory or the disk, and no schema.
+pub record SparesSchema (e : OpenFault) : Type 0 where
+  pub stored : e ≢ fault.NotTables
+  pub newest : (schema : ℕ) → e ≢ fault.OldSchema schema

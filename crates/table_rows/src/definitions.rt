@@ -1,6 +1,6 @@
 //! The tables, made in an empty database.
 
-ghost use Rattle.std.specs.Prelude.{◌≡◌, ◌≢◌, ◌≤◌, ◌<◌, false, [], length, IsTrue, IfErr, OnOk, OnErr, slice_index_or};
+ghost use Rattle.std.specs.Prelude.{◌≡◌, ◌≢◌, ℕ, ◌≤◌, ◌<◌, false, [], length, IsTrue, IfErr, OnOk, OnErr, slice_index_or};
 ghost use Rattle.sqlite_schema.specs.declared.schema.Schema.{Schema};
 ghost use Rattle.sqlite_trees.specs.Tree.{Trees};
 ghost use Rattle.sqlite.specs.Held.{state};
@@ -135,6 +135,8 @@ pub fn create<S: Alter>(
     ensures made { HasCleanDisk (state S.Store conn.new) → OnOk result (HoldJust (state S.Store conn.new).committed rows.now) }
     ensures rest { HasCleanDisk (state S.Store conn.new) → OnOk result ((state S.Store conn.new).now ≡ (state S.Store conn.new).committed) }
     ensures taken { IfErr result (λ e. e ≡ OpenFault.NotTables → (state S.Store conn.old).now.schema ≢ no_schema) }
+    ensures never_bad { IfErr result (λ e. e ≢ OpenFault.BadRow) }
+    ensures never_old { IfErr result (λ e. (n : ℕ) → e ≢ OpenFault.OldSchema n) }
     ensures neither { HasCleanDisk (state S.Store conn.new) → IsTrue (state S.Store conn.new).is_open
         → OnErr result (((state S.Store conn.new).now ≡ (state S.Store conn.old).now) × ((state S.Store conn.new).committed ≡ (state S.Store conn.old).committed)) }
     ensures crash { Survives (state S.Store conn.old) (state S.Store conn.new) (λ trees. (db : _) × HoldJust db rows.now × (trees ≡ db.trees)) }

@@ -5,20 +5,18 @@ ghost use Rattle.std.specs.List.{AllByRecursion};
 ghost use Rattle.sqlite_trees.specs.declared.store.Shape.TheVariants.{Table as TableTree};
 ghost use Rattle.sqlite_trees.specs.View.{IsShaped};
 ghost use Rattle.sqlite.specs.Held.{Held, state};
-ghost use Rattle.sqlite.specs.Steps.{over_memory};
 ghost use Rattle.sqlite.specs.State.{HasCleanDisk, IsLive, Opens};
 ghost use Rattle.table_meaning.specs.Schema.{stored_schema};
 ghost use Rattle.table_meaning.specs.Schemas.{IsEarlier, AreKnownAt, AreEarlier};
-ghost use Rattle.table_meaning.specs.Steps.{HoldJust};
 ghost use Rattle.table_meaning.specs.Holding.{AreKnown};
+ghost use Rattle.table_rows.specs.Refusing.{given_back, refusal_for, IsAtRest};
 ghost use Rattle.table_rows.specs.declared.opening.Refused.TheVariants as refused;
 
-use crate::definitions::create;
+use crate::connection::test_open;
 use crate::schemas::{says_schema, schema_number};
 use sched_book::Unavailable;
-use sqlite::{Alter, Connection, Error, MemStore};
+use sqlite::{Alter, Connection, Error};
 use std::alloc::{AllocError, Global};
-use table_meaning::rows::StoredRow;
 use table_meaning::tables::NEWEST_SCHEMA;
 
 /// Why tables are not taken.
@@ -73,16 +71,6 @@ impl From<OpenFault> for Unavailable {
     }
 }
 
-/// New tables in memory, with these rows.
-pub fn in_memory(alloc: Global, rows: &[StoredRow]) -> Result<Connection<MemStore>, OpenFault>
-    ensures made { IfOk result (λ c. HoldJust (state over_memory c).now rows.now) }
-    ensures rest { IfOk result (λ c. (state over_memory c).now ≡ (state over_memory c).committed) }
-{
-    let mut conn = Connection::open_in_memory(alloc)?;
-    create(alloc, &mut conn, rows)?;
-    Ok(conn)
-}
-
 /// Why a connection is not taken.
 #[derive(Drop)]
 pub enum Refused<S: Alter> {
@@ -90,8 +78,24 @@ pub enum Refused<S: Alter> {
     NotTables(Connection<S>),
     /// Its tables are those of an older schema, whose number this is. The connection is opened anew.
     OldSchema(u32, Connection<S>),
+    /// A row has not the form of its table, or a value out of its range. The connection is opened anew.
+    BadRow(Connection<S>),
     /// Memory or the disk failed.
     Unavailable,
+}
+
+impl<S: Alter + Drop> Refused<S> {
+    /// The refusal of this connection for this fault. Where memory or the disk failed, the connection is dropped.
+    pub fn of(fault: OpenFault, conn: Connection<S>) -> Refused<S>
+        ensures { result ≡ refusal_for fault conn }
+    {
+        match fault {
+            OpenFault::NotTables => Refused::NotTables(conn),
+            OpenFault::OldSchema(schema) => Refused::OldSchema(schema, conn),
+            OpenFault::BadRow => Refused::BadRow(conn),
+            OpenFault::Unavailable => Refused::Unavailable,
+        }
+    }
 }
 
 impl<S: Alter + Drop> From<Refused<S>> for OpenFault {
@@ -104,6 +108,7 @@ impl<S: Alter + Drop> From<Refused<S>> for OpenFault {
         match refused {
             Refused::NotTables(_) => OpenFault::NotTables,
             Refused::OldSchema(schema, _) => OpenFault::OldSchema(schema),
+            Refused::BadRow(_) => OpenFault::BadRow,
             Refused::Unavailable => OpenFault::Unavailable,
         }
     }
@@ -133,17 +138,26 @@ fn refusal<S: Alter + Drop>(conn: Connection<S>, schema: u32) -> Refused<S>
     ensures old { (n : ℕ) (c : Held S) → result ≡ refused.OldSchema n c → HasCleanDisk (state S.Store c)
         → HasCleanDisk (state S.Store conn) × (AreKnownAt schema (state S.Store conn).now → (n ≡ schema) × AreEarlier n (state S.Store conn).now) }
     ensures other { (c : Held S) → result ≡ refused.NotTables c → HasCleanDisk (state S.Store c) → HasCleanDisk (state S.Store conn) × ¬ AreEarlier schema (state S.Store conn).now }
+    ensures fits { (c : Held S) → result ≢ refused.BadRow c }
+    ensures back { IfSome (given_back result) (λ c. HasCleanDisk (state S.Store c) → HasCleanDisk (state S.Store conn) × (Opens (state S.Store conn) → IsAtRest (state S.Store conn).committed (state S.Store c))) }
 {
     let mut conn = conn;
-    match says_schema(&mut conn, schema) {
-        Ok(true) => Refused::OldSchema(schema, conn),
-        Ok(false) => Refused::NotTables(conn),
-        Err(_) => Refused::Unavailable,
+    let Ok(is_said) = says_schema(&mut conn, schema) else {
+        return Refused::Unavailable;
+    };
+    if test_open(&mut conn).is_err() {
+        return Refused::Unavailable;
+    }
+    if is_said {
+        Refused::OldSchema(schema, conn)
+    } else {
+        Refused::NotTables(conn)
     }
 }
 
 /// The connection, if its tables are the stored ones: then it is at rest, with what was last committed. Where they are
-/// others, or those of an older schema, it is given back in the refusal.
+/// others, or those of an older schema, it is given back in the refusal, at rest as well. No row is looked at but the one
+/// that tells the schema.
 pub fn known<S: Alter + Drop>(
     alloc: Global,
     conn: Connection<S>,
@@ -154,6 +168,8 @@ pub fn known<S: Alter + Drop>(
     ensures old { IfErr result (λ e. (n : ℕ) (c : Held S) → e ≡ refused.OldSchema n c → HasCleanDisk (state S.Store c) → AreEarlier n (state S.Store conn).committed) }
     ensures other { IfErr result (λ e. (c : Held S) → e ≡ refused.NotTables c → HasCleanDisk (state S.Store c) → (state S.Store conn).committed.schema ≢ stored_schema) }
     ensures neither { IfErr result (λ e. (c : Held S) → e ≡ refused.NotTables c → HasCleanDisk (state S.Store c) → (n : ℕ) → ¬ AreEarlier n (state S.Store conn).committed) }
+    ensures fits { IfErr result (λ e. (c : Held S) → e ≢ refused.BadRow c) }
+    ensures back { IfErr result (λ e. IfSome (given_back e) (λ c. HasCleanDisk (state S.Store c) → IsAtRest (state S.Store conn).committed (state S.Store c))) }
 {
     let Some(conn) = reopened(alloc, conn) else {
         return Err(Refused::Unavailable);

@@ -12,6 +12,7 @@ ghost use Rattle.table_meaning.specs.Rows.{whole as sql_whole};
 ghost use Rattle.table_meaning.specs.Holding.{AreKnown};
 ghost use Rattle.table_meaning.specs.Steps.{Moves};
 ghost use Rattle.table_meaning.specs.Upgrades.{schema_row, IsNextCaller, Copies, CopiesNext, CopiesAll, Upgrades};
+ghost use Rattle.table_rows.specs.Refusing.{SparesSchema};
 
 use crate::connection::test_open;
 use crate::definitions::define;
@@ -38,7 +39,7 @@ fn next_caller<S: Alter>(
     ensures next { HasCleanDisk (state S.Store tx.new.conn.now) → AreKnown (state S.Store tx.old.conn.now).now
         → IsShaped TableTree ((state S.Store tx.old.conn.now).now.trees former_kept.tree)
         → IfOk result (λ next. ((state S.Store tx.new.conn.now).now ≡ (state S.Store tx.old.conn.now).now) × IsNextCaller (state S.Store tx.old.conn.now).now.trees from next) }
-    ensures fault { IfErr result (λ e. e ≢ OpenFault.NotTables) }
+    ensures fault { IfErr result SparesSchema }
 {
     let rows = tx.query_all(
         "SELECT host_id FROM kept WHERE host_id >= ?1 ORDER BY host_id LIMIT 1",
@@ -81,7 +82,7 @@ fn copy_next<S: Alter>(
     ensures inside { HasCleanDisk (state S.Store tx.new.conn.now) → IsTrue (state S.Store tx.old.conn.now).in_transaction → OnOk result (IsTrue (state S.Store tx.new.conn.now).in_transaction) }
     ensures copies { HasCleanDisk (state S.Store tx.new.conn.now) → IsTrue (state S.Store tx.old.conn.now).in_transaction
         → IfOk result (λ next. CopiesNext from next (state S.Store tx.old.conn.now).now (state S.Store tx.new.conn.now).now) }
-    ensures fault { IfErr result (λ e. e ≢ OpenFault.NotTables) }
+    ensures fault { IfErr result SparesSchema }
 {
     let Some(host) = next_caller(alloc, tx, from)? else {
         return Ok(None);
@@ -101,7 +102,7 @@ fn copy_calls<S: Alter>(alloc: Global, tx: &mut Transaction<'_, S>) -> Result<()
     ensures inside { HasCleanDisk (state S.Store tx.new.conn.now) → IsTrue (state S.Store tx.old.conn.now).in_transaction → OnOk result (IsTrue (state S.Store tx.new.conn.now).in_transaction) }
     ensures copies { HasCleanDisk (state S.Store tx.new.conn.now) → IsTrue (state S.Store tx.old.conn.now).in_transaction
         → OnOk result (CopiesAll 0 (state S.Store tx.old.conn.now).now (state S.Store tx.new.conn.now).now) }
-    ensures fault { IfErr result (λ e. e ≢ OpenFault.NotTables) }
+    ensures fault { IfErr result SparesSchema }
 {
     let mut from = 0;
     'hosts: for _ in 0..u64::MAX {
@@ -142,7 +143,7 @@ fn upgrade_tables<S: Alter>(
         → OnOk result (Upgrades (state S.Store tx.old.conn.now).now (state S.Store tx.new.conn.now).now) }
     ensures was_open { HasCleanDisk (state S.Store tx.new.conn.now) → OnOk result (IsTrue (state S.Store tx.old.conn.now).is_open) }
     ensures inside { HasCleanDisk (state S.Store tx.new.conn.now) → OnOk result (IsTrue (state S.Store tx.new.conn.now).in_transaction) }
-    ensures fault { IfErr result (λ e. e ≢ OpenFault.NotTables) }
+    ensures fault { IfErr result SparesSchema }
 {
     define(tx, schema, NEWEST_SCHEMA)?;
     copy_calls(alloc, tx)?;
@@ -166,7 +167,7 @@ fn upgrade_from<S: Alter>(
         → OnErr result (((state S.Store conn.new).now ≡ (state S.Store conn.old).now) × ((state S.Store conn.new).committed ≡ (state S.Store conn.old).committed)) }
     ensures crash { Survives (state S.Store conn.old) (state S.Store conn.new)
         (λ trees. IsTrue (state S.Store conn.old).is_open × (db : _) × ((state S.Store conn.old).now.schema ≡ schema_at schema → Upgrades (state S.Store conn.old).now db) × (trees ≡ db.trees)) }
-    ensures fault { IfErr result (λ e. e ≢ OpenFault.NotTables) }
+    ensures fault { IfErr result SparesSchema }
 {
     if !conn.is_autocommit() {
         return Err(OpenFault::Unavailable);
@@ -193,6 +194,7 @@ pub fn upgrade<S: Alter>(alloc: Global, conn: &mut Connection<S>) -> Result<u32,
     ensures rest { HasCleanDisk (state S.Store conn.new) → OnOk result ((state S.Store conn.new).now ≡ (state S.Store conn.new).committed) }
     ensures taken { HasCleanDisk (state S.Store conn.new) → IfErr result (λ e. e ≡ OpenFault.NotTables
         → ((state S.Store conn.old).now.schema ≢ stored_schema) × ((n : ℕ) → ¬ AreEarlier n (state S.Store conn.old).now)) }
+    ensures never_old { IfErr result (λ e. (n : ℕ) → e ≢ OpenFault.OldSchema n) }
     ensures neither { HasCleanDisk (state S.Store conn.new) → IsTrue (state S.Store conn.new).is_open
         → OnErr result (((state S.Store conn.new).now ≡ (state S.Store conn.old).now) × ((state S.Store conn.new).committed ≡ (state S.Store conn.old).committed)) }
     ensures crash { Survives (state S.Store conn.old) (state S.Store conn.new)
