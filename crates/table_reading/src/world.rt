@@ -1,6 +1,6 @@
 //! The sound world that rows stand for.
 
-ghost use Rattle.std.specs.Prelude.{◌≡◌, ◌↔◌, ◌⊎◌, [], List, length, IsTrue, IfOk, IfErr, OnOk};
+ghost use Rattle.std.specs.Prelude.{◌≡◌, ◌≢◌, ◌↔◌, ◌⊎◌, ℕ, [], List, length, IsTrue, IfOk, IfErr, OnOk};
 ghost use Rattle.sqlite.specs.Held.{state};
 ghost use Rattle.sqlite_rules.specs.Lists.{Has};
 ghost use Rattle.sched_book.specs.Sound.{Sound};
@@ -104,6 +104,7 @@ fn world_beside(alloc: Global, reading: &Reading) -> Result<World, OpenFault>
     ensures alone { IfOk result (λ d. d.units ≡ []) }
     ensures refused { (w : Known) → Sound w → AreRowsBeside w reading.now.rows → IfErr result (λ e. e ≡ OpenFault.Unavailable) }
     ensures other_schema { IfErr result (λ e. e ≡ OpenFault.NotTables → ¬ Has reading.now.rows.settings schema_row) }
+    ensures never_old { IfErr result (λ e. (n : ℕ) → e ≢ OpenFault.OldSchema n) }
 {
     match decoded_world(alloc, &reading.rows) {
         Ok(world) => Ok(world),
@@ -135,6 +136,7 @@ pub fn stored_world<S: Alter>(
         → IfErr result (λ e. e ≡ OpenFault.NotTables → HasOtherSchema (state S.Store conn.old).now.trees) }
     ensures bad { WereKnown (state S.Store conn.old) (state S.Store conn.new)
         → IfErr result (λ e. e ≡ OpenFault.BadRow → HasBadTable (state S.Store conn.old).now.trees ⊎ StandForNone (state S.Store conn.old).now.trees) }
+    ensures never_old { IfErr result (λ e. (n : ℕ) → e ≢ OpenFault.OldSchema n) }
 {
     let reading = match read_all(alloc, conn) {
         Ok(reading) => reading,
