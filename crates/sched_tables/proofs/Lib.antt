@@ -3,6 +3,7 @@ pub mod EntriesKept
 pub mod Leads
 pub mod NewTables
 pub mod Opened
+pub mod Refusals
 pub mod Stops
 pub mod Told
 pub mod Upgraded

@@ -2,6 +2,7 @@ pub mod Slots
 pub mod Commits
 pub mod Entries
 pub mod Held
+pub mod Refusals
 pub mod ReadLaws
 pub mod Remembering
 pub mod Stops

@@ -13,6 +13,6 @@ mod tables;
 mod upgrading;
 
 pub use stores::Entry;
-pub use table_rows::OpenFault;
+pub use table_rows::{OpenFault, Refused};
 pub use tables::Tables;
 pub use upgrading::{SCHEMA_1, upgrade};

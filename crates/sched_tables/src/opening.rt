@@ -1,6 +1,6 @@
 //! Tables made anew, and tables opened that were made before.
 
-ghost use Rattle.std.specs.Prelude.{◌≡◌, ◌≢◌, IfOk, IfErr};
+ghost use Rattle.std.specs.Prelude.{◌≡◌, ◌≢◌, ℕ, IfOk, IfErr, IfSome};
 ghost use Rattle.sqlite.specs.Held.{state};
 ghost use Rattle.sqlite.specs.State.{HasCleanDisk};
 ghost use Rattle.sqlite.specs.Steps.{over_memory};
@@ -8,7 +8,9 @@ ghost use Rattle.sched_book.specs.Sound.{Sound};
 ghost use Rattle.stores.specs.Held.{Held, IsLeft, IsNew};
 ghost use Rattle.table_meaning.specs.Schema.{no_schema};
 ghost use Rattle.table_reading.specs.Reading.{ReadFrom};
-ghost use Rattle.sched_tables.specs.Held.{IsHonest};
+ghost use Rattle.table_rows.specs.Refusing.{fault_of, given_back, IsAtRest};
+ghost use Rattle.sched_tables.specs.Held.{IsHonest, NeverFails};
+ghost use Rattle.sched_tables.specs.Refusals.{AreRefusedFor};
 ghost use Rattle.sched_tables.specs.Stops.{MayBeFound};
 ghost use Rattle.sched_tables.specs.Views.{state_of, world_of, held_of, AreKept};
 
@@ -18,7 +20,7 @@ use sched_book::{Settings, copy_of};
 use sqlite::{Alter, Connection, MemStore};
 use std::alloc::Global;
 use table_reading::stored_world;
-use table_rows::{OpenFault, create, known, test_open};
+use table_rows::{OpenFault, Refused, create, known, test_open};
 use table_worlds::setting_rows;
 use texts::Listed;
 
@@ -34,6 +36,8 @@ impl<S: Alter + Drop> Tables<S> {
         ensures held { IfOk result (λ t. HasCleanDisk (state_of S.Store t) → AreKept S.Store t) }
         ensures new { IfOk result (λ t. HasCleanDisk (state_of S.Store t) → IsNew settings.now (held_of S.Store t)) }
         ensures taken { IfErr result (λ e. e ≡ OpenFault.NotTables → (state S.Store conn).now.schema ≢ no_schema) }
+        ensures never_bad { IfErr result (λ e. e ≢ OpenFault.BadRow) }
+        ensures never_old { IfErr result (λ e. (n : ℕ) → e ≢ OpenFault.OldSchema n) }
     {
         let kept = copy_of(settings)?;
         let rows = setting_rows(alloc, settings)?;
@@ -47,12 +51,46 @@ impl<S: Alter + Drop> Tables<S> {
         })
     }
 
+    /// Opens the tables of a database that were made before, or gives the connection back with what its file is refused for.
+    ///
+    /// `OldSchema` where the tables are those of an older schema, whose number it tells; `NotTables` where they are those of
+    /// no schema, or do not say of which; `BadRow` where the rows are not those of a sound world with what may be kept beside
+    /// it, as [`table_reading::stored_world`] says. These exclude one another. A connection that is given back is opened anew:
+    /// it is at rest, and its file is as it was. Where memory or the disk failed, it is dropped. A stop that finds the tables
+    /// opened leaves what they hold.
+    pub fn adopt(alloc: Global, conn: Connection<S>) -> Result<Tables<S>, Refused<S>>
+        ensures open { IfOk result (λ t. HasCleanDisk (state_of S.Store t) → IsHonest (state_of S.Store t)) }
+        ensures sound { IfOk result (λ t. HasCleanDisk (state_of S.Store t) → Sound (world_of S.Store t)) }
+        ensures held { IfOk result (λ t. HasCleanDisk (state_of S.Store t) → AreKept S.Store t) }
+        ensures same { IfOk result (λ t. HasCleanDisk (state_of S.Store t) → (state_of S.Store t).now ≡ (state S.Store conn).committed) }
+        ensures rows { IfOk result (λ t. HasCleanDisk (state_of S.Store t) → ReadFrom (state_of S.Store t).now.trees (world_of S.Store t)) }
+        ensures stop { IfOk result (λ t. HasCleanDisk (state_of S.Store t) → (h : Held) → MayBeFound (state_of S.Store t) h → IsLeft (held_of S.Store t) h) }
+        ensures refused { IfErr result (λ e. IfSome (given_back e) (λ c. HasCleanDisk (state S.Store c) → AreRefusedFor (fault_of e) (state S.Store conn).committed)) }
+        ensures back { IfErr result (λ e. IfSome (given_back e) (λ c. HasCleanDisk (state S.Store c) → IsAtRest (state S.Store conn).committed (state S.Store c))) }
+    {
+        let mut conn = known(alloc, conn)?;
+        let read = stored_world(alloc, &mut conn);
+        if test_open(&mut conn).is_err() {
+            return Err(Refused::Unavailable);
+        }
+        match read {
+            Ok(kept) => Ok(Tables {
+                alloc,
+                conn,
+                settings: kept.settings,
+                apps: kept.apps,
+                remembered: Remembered::new(alloc),
+            }),
+            Err(fault) => Err(Refused::of(fault, conn)),
+        }
+    }
+
     /// Opens the tables of a database that were made before.
     ///
     /// `OldSchema` where the tables are those of an older schema, whose number it tells; `NotTables` where the schema is
     /// none of the stored tables', or no setting tells it; `BadRow` where the rows are not those of a sound world with what
     /// may be kept beside it, as [`table_reading::stored_world`] says. A connection that is refused is dropped, with its
-    /// file as it was. A stop that finds the tables opened leaves what they hold.
+    /// file as it was; [`Tables::adopt`] gives it back. A stop that finds the tables opened leaves what they hold.
     pub fn open(alloc: Global, conn: Connection<S>) -> Result<Tables<S>, OpenFault>
         ensures open { IfOk result (λ t. HasCleanDisk (state_of S.Store t) → IsHonest (state_of S.Store t)) }
         ensures sound { IfOk result (λ t. HasCleanDisk (state_of S.Store t) → Sound (world_of S.Store t)) }
@@ -60,19 +98,9 @@ impl<S: Alter + Drop> Tables<S> {
         ensures same { IfOk result (λ t. HasCleanDisk (state_of S.Store t) → (state_of S.Store t).now ≡ (state S.Store conn).committed) }
         ensures rows { IfOk result (λ t. HasCleanDisk (state_of S.Store t) → ReadFrom (state_of S.Store t).now.trees (world_of S.Store t)) }
         ensures stop { IfOk result (λ t. HasCleanDisk (state_of S.Store t) → (h : Held) → MayBeFound (state_of S.Store t) h → IsLeft (held_of S.Store t) h) }
+        ensures refused { NeverFails S.Store → IfErr result (λ e. AreRefusedFor e (state S.Store conn).committed) }
     {
-        let mut conn = known(alloc, conn)?;
-        let kept = stored_world(alloc, &mut conn)?;
-        if test_open(&mut conn).is_err() {
-            return Err(OpenFault::Unavailable);
-        }
-        Ok(Tables {
-            alloc,
-            conn,
-            settings: kept.settings,
-            apps: kept.apps,
-            remembered: Remembered::new(alloc),
-        })
+        Ok(Tables::adopt(alloc, conn)?)
     }
 }
 
@@ -82,6 +110,7 @@ impl Tables<MemStore> {
         ensures open { IfOk result (λ t. IsHonest (state_of over_memory t)) }
         ensures held { IfOk result (AreKept over_memory) }
         ensures new { IfOk result (λ t. IsNew settings.now (held_of over_memory t)) }
+        ensures unavailable { IfErr result (λ e. e ≡ OpenFault.Unavailable) }
     {
         let conn = Connection::open_in_memory(alloc)?;
         Tables::create(alloc, conn, settings)

@@ -50,6 +50,7 @@ pub fn upgrade<S: Alter>(alloc: Global, conn: &mut Connection<S>) -> Result<u32,
     ensures rest { HasCleanDisk (state S.Store conn.new) → OnOk result ((state S.Store conn.new).now ≡ (state S.Store conn.new).committed) }
     ensures taken { HasCleanDisk (state S.Store conn.new) → IfErr result (λ e. e ≡ OpenFault.NotTables
         → ((state S.Store conn.old).now.schema ≢ stored_schema) × ((n : ℕ) → ¬ AreEarlier n (state S.Store conn.old).now)) }
+    ensures never_old { IfErr result (λ e. (n : ℕ) → e ≢ OpenFault.OldSchema n) }
     ensures neither { HasCleanDisk (state S.Store conn.new) → IsTrue (state S.Store conn.new).is_open
         → OnErr result (((state S.Store conn.new).now ≡ (state S.Store conn.old).now) × ((state S.Store conn.new).committed ≡ (state S.Store conn.old).committed)) }
     ensures crash { Survives (state S.Store conn.old) (state S.Store conn.new)

@@ -1,0 +1,144 @@
+-- Why tables are refused, by what a reading of them says.
+use Rattle.std.proofs.Common.{◌≡◌, ◌≢◌, ◌⊎◌, ℕ, List, [], map, length, codes, Option, Some, None, option_map, Result, Ok, Err, IfErr, refl, sym, ap, ap₂, subst, ◌∙◌, arith}
+use Rattle.std.specs.Prelude.{IfSome}
+use Rattle.std.proofs.lemmas.Option.{none-some}
+use Rattle.sqlite.specs.Effect.{Database}
+use Rattle.sqlite.specs.Held.{Held, state}
+use Rattle.sqlite.specs.State.{HasCleanDisk}
+use Rattle.sqlite_rules.specs.Lists.{Has}
+use Rattle.sqlite_trees.specs.Tree.{Trees}
+use Rattle.sqlite_trees.specs.declared.store.Store.{Ghosts}
+use Rattle.sqlite_value.specs.Order.{Row, column}
+use Rattle.table_decoding.specs.Decoding.{schema_row}
+use Rattle.table_meaning.specs.declared.rows.SettingValue.{SettingValue}
+use Rattle.table_meaning.specs.declared.rows.SettingValue.TheVariants.{Number, Word}
+use Rattle.table_meaning.specs.declared.rows.StoredRow.{StoredRow}
+use Rattle.table_meaning.specs.declared.rows.StoredRow.TheVariants as stored
+use Rattle.table_meaning.specs.declared.tables.TableName.TheVariants as name
+use Rattle.table_meaning.specs.Holding.{AreKnown}
+use Rattle.table_meaning.specs.Rows.{RowKey, setting_key, whole, setting_value, table_at, columns_of, key_of, rows_in, shown, look_up, tree_of}
+use Rattle.table_meaning.specs.Schema.{newest, schema_at, stored_schema}
+use Rattle.table_meaning.specs.Schemas.{AreEarlier, schema_said}
+use Rattle.table_meaning.proofs.RowsHeld.{mapped, source, held_row}
+use Rattle.table_reading.specs.Reading.{HasBadTable, StandForNone, HasOtherSchema}
+use Rattle.table_rows.specs.declared.opening.OpenFault.{OpenFault}
+use Rattle.table_rows.specs.declared.opening.OpenFault.TheVariants as fault
+use Rattle.table_rows.specs.declared.opening.Refused.{Refused}
+use Rattle.table_rows.specs.declared.opening.Refused.TheVariants as refused
+use Rattle.table_rows.specs.Refusing.{fault_of, refusal_for, given_back}
+use Rattle.sched_tables.specs.Held.{NeverFails}
+use Rattle.sched_tables.specs.Refusals.{AreRefusedFor}
+
+-- ---- the row that tells the schema
+
+-- only a setting has two columns
+two_columns : (r : StoredRow) → length (columns_of r) ≡ 2 → table_at (key_of r) ≡ name.Setting
+two_columns (stored.Setting r) is = refl
+two_columns (stored.Account r) is = cc
+two_columns (stored.App r) is = cc
+two_columns (stored.Version r) is = cc
+two_columns (stored.Unit r) is = cc
+two_columns (stored.Host r) is = cc
+two_columns (stored.Instance r) is = cc
+two_columns (stored.Kept r) is = cc
+two_columns (stored.Batch r) is = cc
+
+settings_typed : (trees : Trees) (rows : List StoredRow) → map columns_of rows ≡ rows_in trees name.Setting → (r : StoredRow) → Has rows r → table_at (key_of r) ≡ name.Setting
+settings_typed trees rows read r has =
+    let raw = source (shown name.Setting) (trees (tree_of name.Setting)) (columns_of r) (subst (λ (l : List Row). Has l (columns_of r)) read (mapped columns_of rows r has)) in
+    two_columns r (ap length raw.2)
+
+setting_name : RowKey → List ℕ
+setting_name (setting_key text) = text
+setting_name other = []
+
+tells_newest : (v : SettingValue) → setting_value v ≡ whole newest → v ≡ Number newest
+tells_newest (Number n) is = cc
+tells_newest (Word w) is = cc
+
+is_schema_row : (r : StoredRow) → key_of r ≡ setting_key (codes "schema") → column (columns_of r) 1 ≡ whole newest → r ≡ schema_row
+unfolding setting_name
+is_schema_row (stored.Setting s) key is = ap₂ (λ n v. stored.Setting (record { name = n; value = v })) (ap setting_name key) (tells_newest s.value is)
+is_schema_row (stored.Account r) key is = cc
+is_schema_row (stored.App r) key is = cc
+is_schema_row (stored.Version r) key is = cc
+is_schema_row (stored.Unit r) key is = cc
+is_schema_row (stored.Host r) key is = cc
+is_schema_row (stored.Instance r) key is = cc
+is_schema_row (stored.Kept r) key is = cc
+is_schema_row (stored.Batch r) key is = cc
+
+-- where no setting tells the newest schema, the tables do not say that they are of it
+not_said : (trees : Trees) → HasOtherSchema trees → schema_said trees ≡ Some (whole newest) → ⊥
+not_said trees other said = go (look_up trees (setting_key (codes "schema"))) refl said
+  where
+    go : (o : Option Row) → look_up trees (setting_key (codes "schema")) ≡ o → option_map (λ row. column row 1) o ≡ Some (whole newest) → ⊥
+    go None is tells = none-some (whole newest) tells
+    go (Some row) is tells =
+        let s = held_row trees name.Setting other.0.world.settings other.1.world.settings (settings_typed trees other.0.world.settings other.1.world.settings) (setting_key (codes "schema")) refl row is in
+        let value : column row 1 ≡ whole newest = cc in
+        other.2 (subst (Has other.0.world.settings) (is_schema_row s.0 s.3 (ap (λ (r : Row). column r 1) (sym s.2) ∙ value)) s.1)
+
+-- ---- tables of the newest schema
+
+-- are of no earlier one
+none_earlier : (db : Database) → AreKnown db → (n : ℕ) → ¬ AreEarlier n db
+none_earlier db known n earlier =
+    let one : n ≡ 1 = omega (arith, earlier.earlier.0, earlier.earlier.1) in
+    let fewer : 9 ≡ 10 = ap (λ s. length s.tables) (sym (subst (λ m. db.schema ≡ schema_at m) one earlier.known.schema) ∙ known.schema) in
+    omega (arith, fewer)
+
+-- ---- what a refusal tells
+
+-- one that is given back before any row but that of the schema is looked at
+pub told_by_schema : {S : Type 0} (store : Ghosts S) (db : Database) (r : Refused S) → ((n : ℕ) (c : Held S) → r ≡ refused.OldSchema n c → HasCleanDisk (state store c) → AreEarlier n db)
+    → ((c : Held S) → r ≡ refused.NotTables c → HasCleanDisk (state store c) → db.schema ≢ stored_schema) → ((c : Held S) → r ≡ refused.NotTables c → HasCleanDisk (state store c) → (n : ℕ) → ¬ AreEarlier n db)
+    → ((c : Held S) → r ≢ refused.BadRow c) → IfSome (given_back r) (λ c. HasCleanDisk (state store c) → AreRefusedFor (fault_of r) db)
+told_by_schema store db (refused.NotTables c) old other neither fits = λ clean. record { not_newest = λ newest. other c refl clean newest.known.schema; not_earlier = neither c refl clean }
+told_by_schema store db (refused.OldSchema n c) old other neither fits = old n c refl
+told_by_schema store db (refused.BadRow c) old other neither fits = absurd (fits c refl)
+told_by_schema store db refused.Unavailable old other neither fits = tt
+
+-- one for a fault of reading tables of the newest schema
+pub told_by_rows : {S : Type 0} (store : Ghosts S) (db : Database) (e : OpenFault) (conn : Held S) → ((n : ℕ) → e ≢ fault.OldSchema n) → (HasCleanDisk (state store conn) → AreKnown db)
+    → (HasCleanDisk (state store conn) → e ≡ fault.NotTables → HasOtherSchema db.trees) → (HasCleanDisk (state store conn) → e ≡ fault.BadRow → HasBadTable db.trees ⊎ StandForNone db.trees)
+    → (r : Refused S) → r ≡ refusal_for e conn → IfSome (given_back r) (λ c. HasCleanDisk (state store c) → AreRefusedFor (fault_of r) db)
+told_by_rows {S} store db e conn not_old known other bad r is =
+    subst (λ (r : Refused S). IfSome (given_back r) (λ c. HasCleanDisk (state store c) → AreRefusedFor (fault_of r) db)) (sym is) (cases e not_old other bad)
+  where
+    cases : (e : OpenFault) → ((n : ℕ) → e ≢ fault.OldSchema n) → (HasCleanDisk (state store conn) → e ≡ fault.NotTables → HasOtherSchema db.trees)
+        → (HasCleanDisk (state store conn) → e ≡ fault.BadRow → HasBadTable db.trees ⊎ StandForNone db.trees)
+        → IfSome (given_back (refusal_for e conn)) (λ c. HasCleanDisk (state store c) → AreRefusedFor (fault_of (refusal_for e conn)) db)
+    cases fault.NotTables not_old other bad = λ clean. record { not_newest = λ newest. not_said db.trees (other clean refl) newest.said; not_earlier = none_earlier db (known clean) }
+    cases (fault.OldSchema n) not_old other bad = absurd (not_old n refl)
+    cases fault.BadRow not_old other bad = λ clean. record { known = known clean; rows = bad clean refl }
+    cases fault.Unavailable not_old other bad = tt
+
+-- what holds of the connection of a refusal holds of the one that it gives back
+pub given_same : {S : Type 0} (P : Held S → Type 0) (e : OpenFault) (conn : Held S) → P conn → (r : Refused S) → r ≡ refusal_for e conn → IfSome (given_back r) P
+given_same {S} P e conn holds r is = subst (λ (r : Refused S). IfSome (given_back r) P) (sym is) (cases e)
+  where
+    cases : (e : OpenFault) → IfSome (given_back (refusal_for e conn)) P
+    cases fault.NotTables = holds
+    cases (fault.OldSchema n) = holds
+    cases fault.BadRow = holds
+    cases fault.Unavailable = tt
+
+-- ---- a store that never fails
+
+-- the connection that a refusal gives back has a clean disk, so the refusal tells what the tables are refused for
+pub told_of_all : {S : Type 0} (store : Ghosts S) → NeverFails store → (r : Refused S) (db : Database) → IfSome (given_back r) (λ c. HasCleanDisk (state store c) → AreRefusedFor (fault_of r) db) → AreRefusedFor (fault_of r) db
+told_of_all store never (refused.NotTables c) db told = told (never c.store).1
+told_of_all store never (refused.OldSchema n c) db told = told (never c.store).1
+told_of_all store never (refused.BadRow c) db told = told (never c.store).1
+told_of_all store never refused.Unavailable db told = tt
+
+-- ---- a database in which nothing stands
+
+-- a fault that blames neither a schema nor a row
+pub unavailable_alone : {T A : Type 0} (r : Result T OpenFault) → ¬ A → IfErr r (λ e. e ≡ fault.NotTables → A) → IfErr r (λ e. e ≢ fault.BadRow) → IfErr r (λ e. (n : ℕ) → e ≢ fault.OldSchema n) → IfErr r (λ e. e ≡ fault.Unavailable)
+unavailable_alone (Ok x) free taken bad old = tt
+unavailable_alone (Err fault.NotTables) free taken bad old = absurd (free (taken refl))
+unavailable_alone (Err (fault.OldSchema n)) free taken bad old = absurd (old n refl)
+unavailable_alone (Err fault.BadRow) free taken bad old = absurd (bad refl)
+unavailable_alone (Err fault.Unavailable) free taken bad old = refl

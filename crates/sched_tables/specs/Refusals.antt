@@ -1,0 +1,33 @@
+-- What tables are refused for when they are opened, as they stand in the file.
+use Rattle.std.specs.Prelude.{◌≡◌, ◌⊎◌, ⊤, ℕ, Some}
+use Rattle.sqlite.specs.Effect.{Database}
+use Rattle.table_meaning.specs.Holding.{AreKnown}
+use Rattle.table_meaning.specs.Rows.{whole}
+use Rattle.table_meaning.specs.Schema.{newest}
+use Rattle.table_meaning.specs.Schemas.{AreEarlier, schema_said}
+use Rattle.table_reading.specs.Reading.{HasBadTable, StandForNone}
+use Rattle.table_rows.specs.declared.opening.OpenFault.{OpenFault}
+use Rattle.table_rows.specs.declared.opening.OpenFault.TheVariants.{NotTables, OldSchema, BadRow, Unavailable}
+
+-- The tables are those of the newest schema, and say so.
+pub record AreNewest (db : Database) : Type 0 where
+  pub known : AreKnown db
+  pub said : schema_said db.trees ≡ Some (whole newest)
+
+-- They are those of no schema, or do not say of which.
+pub record AreOthers (db : Database) : Type 0 where
+  pub not_newest : ¬ AreNewest db
+  pub not_earlier : (n : ℕ) → ¬ AreEarlier n db
+
+-- They are those of the newest schema, but a row has not the format of its table, or the rows are those of no sound world with
+-- what may be kept beside it.
+pub record AreSpoiled (db : Database) : Type 0 where
+  pub known : AreKnown db
+  pub rows : HasBadTable db.trees ⊎ StandForNone db.trees
+
+-- This is what they are refused for. Nothing is said of memory and the disk.
+abbrev pub AreRefusedFor : OpenFault → Database → Type 0
+AreRefusedFor NotTables db = AreOthers db
+AreRefusedFor (OldSchema n) db = AreEarlier n db
+AreRefusedFor BadRow db = AreSpoiled db
+AreRefusedFor Unavailable db = ⊤
