@@ -1,8 +1,8 @@
 //! How an order ends.
 
 use replay_lines::Ended;
-use sched_tables::OpenFault;
-use sqlite::{Error, ErrorCode};
+use sched_tables::{OpenFault, Refused};
+use sqlite::{Alter, Error, ErrorCode};
 use std::io::ErrorKind;
 use std::{fmt, io};
 use texts::Memory;
@@ -94,6 +94,12 @@ impl From<OpenFault> for Failure {
             OpenFault::OldSchema(_) => Failure::OldSchema,
             OpenFault::Unavailable => Failure::Unavailable,
         }
+    }
+}
+
+impl<S: Alter + Drop> From<Refused<S>> for Failure {
+    fn from(refused: Refused<S>) -> Failure {
+        Failure::from(OpenFault::from(refused))
     }
 }
 

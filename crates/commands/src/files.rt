@@ -97,7 +97,7 @@ pub(crate) fn open_in<S: Alter + Drop>(
     alloc: Global,
     conn: Connection<S>,
 ) -> Result<Service<Tables<S>>, Failure> {
-    service_over(alloc, Tables::open(alloc, conn)?)
+    service_over(alloc, Tables::adopt(alloc, conn)?)
 }
 
 /// The service over a store.
