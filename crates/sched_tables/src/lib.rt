@@ -12,7 +12,7 @@ mod store;
 mod tables;
 mod upgrading;
 
-pub use stores::Entry;
+pub use stores::{Entry, KeptBatch, Kind, Store};
 pub use table_rows::{OpenFault, Refused};
 pub use tables::Tables;
 pub use upgrading::{SCHEMA_1, upgrade};
