@@ -16,19 +16,12 @@ use Rattle.table_meaning.specs.declared.rows.StoredRow.{StoredRow}
 use Rattle.table_meaning.specs.declared.rows.StoredRow.TheVariants as stored
 use Rattle.table_meaning.specs.Schema.{newest}
 use Rattle.table_meaning.specs.Worlds.{account_row, app_row, version_row, unit_row, host_row}
-use Rattle.table_decoding.specs.declared.fault.DecodeFault.{DecodeFault}
-use Rattle.table_decoding.specs.declared.fault.DecodeFault.TheVariants as decode
 use Rattle.table_decoding.specs.declared.fault.RowFault.{RowFault}
-use Rattle.table_decoding.specs.declared.fault.RowFault.TheVariants.{BadRow, Unavailable}
+use Rattle.table_decoding.specs.declared.fault.RowFault.TheVariants.{Unavailable}
 
 -- just this is given, or memory was wanting
 abbrev pub Gives : {A : Type 0} → Result A RowFault → A → Type 0
 Gives result x = MatchResult result (λ d. d ≡ x) (λ e. e ≡ Unavailable)
-
--- a fault of a row, as one of the tables
-abbrev pub fault_of : RowFault → DecodeFault
-fault_of BadRow = decode.BadRow
-fault_of Unavailable = decode.Unavailable
 
 -- the row that tells the schema of the stored tables
 abbrev pub schema_row : StoredRow

@@ -1,14 +1,14 @@
 //! The world that rows of the tables stand for.
 
-ghost use Rattle.std.specs.Prelude.{◌≡◌, [], Err, IfOk, IfErr};
+ghost use Rattle.std.specs.Prelude.{◌≡◌, [], Some, None, Ok, IfOk, IfErr, IfSome};
 ghost use Rattle.sqlite_rules.specs.Lists.{Has};
 ghost use Rattle.sched_book.specs.Sound.{Sound};
 ghost use Rattle.sched_book.specs.declared.world.World.{World};
 ghost use Rattle.table_worlds.specs.RowsOf.{AreRowsBeside, without_units};
 ghost use Rattle.table_decoding.specs.Decoding.{Gives, schema_row};
-ghost use Rattle.table_decoding.specs.declared.fault.DecodeFault.TheVariants as fault;
+ghost use Rattle.table_decoding.specs.declared.fault.RowFault.TheVariants as fault;
 
-use crate::fault::{DecodeFault, RowFault};
+use crate::fault::RowFault;
 use crate::rows::{accounts, apps, hosts, versions};
 use crate::settings::{settings, tells_schema};
 use sched_book::World;
@@ -36,18 +36,19 @@ fn world_of(alloc: Global, rows: &TableRows) -> Result<World, RowFault>
     })
 }
 
-/// The world whose rows these are, without its workunits, if they are those of a sound world.
+/// The world whose rows these are, without its workunits, if they are those of a sound world; none where no row tells the
+/// schema of the stored tables.
 ///
 /// Nothing is promised of other rows: they may be told as some world, or refused.
-pub fn decoded_world(alloc: Global, rows: &TableRows) -> Result<World, DecodeFault>
-    ensures decoded { (w : World) → Sound w → AreRowsBeside w rows.now → IfOk result (λ d. d ≡ without_units w) }
+pub fn decoded_world(alloc: Global, rows: &TableRows) -> Result<Option<World>, RowFault>
+    ensures decoded { (w : World) → Sound w → AreRowsBeside w rows.now → IfOk result (λ d. d ≡ Some (without_units w)) }
     ensures refused { (w : World) → Sound w → AreRowsBeside w rows.now → IfErr result (λ e. e ≡ fault.Unavailable) }
-    ensures alone { IfOk result (λ d. d.units ≡ []) }
-    ensures no_schema { ¬ Has rows.now.settings schema_row → result ≡ Err fault.NotTables }
-    ensures other_schema { IfErr result (λ e. e ≡ fault.NotTables → ¬ Has rows.now.settings schema_row) }
+    ensures alone { IfOk result (λ d. IfSome d (λ world. world.units ≡ [])) }
+    ensures no_schema { ¬ Has rows.now.settings schema_row → result ≡ Ok None }
+    ensures other_schema { IfOk result (λ d. d ≡ None → ¬ Has rows.now.settings schema_row) }
 {
     if !tells_schema(rows.settings.as_slice()) {
-        return Err(DecodeFault::NotTables);
+        return Ok(None);
     }
-    Ok(world_of(alloc, rows)?)
+    Ok(Some(world_of(alloc, rows)?))
 }

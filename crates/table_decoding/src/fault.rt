@@ -1,27 +1,29 @@
-//! Why rows are not those of a world.
+//! Why a row is not that of a world.
 
 use sched_book::Unavailable;
 use std::alloc::AllocError;
+use std::error::Error;
+use std::fmt;
 
-/// Why rows are not those of a world.
-#[derive(Clone, Copy, Debug)]
-pub enum DecodeFault {
-    /// No row tells the schema of the stored tables.
-    NotTables,
-    /// A row has not the form of its table, or a value out of its range.
-    BadRow,
-    /// Memory is wanting.
-    Unavailable,
-}
-
-/// Why rows are not those of a world, where one tells the schema.
-#[derive(Clone, Copy)]
+/// Why a row is not that of a world.
+#[derive(Clone, Copy, Debug, PartialEq, Eq)]
 pub enum RowFault {
     /// The row has not the form of its table, or a value out of its range.
     BadRow,
     /// Memory is wanting.
     Unavailable,
 }
+
+impl fmt::Display for RowFault {
+    fn fmt<W: fmt::Write>(&self, f: &mut fmt::Formatter<W>) -> fmt::Result {
+        match self {
+            RowFault::BadRow => write!(f, "a row is not that of a world"),
+            RowFault::Unavailable => write!(f, "unavailable"),
+        }
+    }
+}
+
+impl Error for RowFault {}
 
 impl From<AllocError> for RowFault {
     ghost use Rattle.std.specs.Prelude.{◌≡◌};
@@ -37,19 +39,5 @@ impl From<AllocError> for RowFault {
 impl From<RowFault> for Unavailable {
     fn from(_: RowFault) -> Unavailable {
         Unavailable
-    }
-}
-
-impl From<RowFault> for DecodeFault {
-    ghost use Rattle.std.specs.Prelude.{◌≡◌};
-    ghost use Rattle.table_decoding.specs.Decoding.{fault_of};
-
-    ghost from_gives = { λ row fault. fault ≡ fault_of row };
-
-    fn from(fault: RowFault) -> DecodeFault {
-        match fault {
-            RowFault::BadRow => DecodeFault::BadRow,
-            RowFault::Unavailable => DecodeFault::Unavailable,
-        }
     }
 }

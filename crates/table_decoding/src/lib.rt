@@ -11,7 +11,7 @@ mod settings;
 mod units;
 
 pub use decoded::decoded_world;
-pub use fault::{DecodeFault, RowFault};
+pub use fault::RowFault;
 pub use instances::instance;
 pub use rows::{account, host};
 pub use units::{unit_book, workunit};

@@ -22,7 +22,7 @@ use sched_book::limits::MOST_WORKUNITS;
 use sched_book::{App, Settings, Unavailable, World};
 use sqlite::{Alter, Connection};
 use std::alloc::Global;
-use table_decoding::{DecodeFault, decoded_world};
+use table_decoding::{RowFault, decoded_world};
 use table_rows::OpenFault;
 use table_worlds::{are_rows_beside, no_totals};
 use texts::Listed;
@@ -107,10 +107,10 @@ fn world_beside(alloc: Global, reading: &Reading) -> Result<World, OpenFault>
     ensures never_old { IfErr result (λ e. (n : ℕ) → e ≢ OpenFault.OldSchema n) }
 {
     match decoded_world(alloc, &reading.rows) {
-        Ok(world) => Ok(world),
-        Err(DecodeFault::NotTables) => Err(OpenFault::NotTables),
-        Err(DecodeFault::BadRow) => Err(OpenFault::BadRow),
-        Err(DecodeFault::Unavailable) => Err(OpenFault::Unavailable),
+        Ok(Some(world)) => Ok(world),
+        Ok(None) => Err(OpenFault::NotTables),
+        Err(RowFault::BadRow) => Err(OpenFault::BadRow),
+        Err(RowFault::Unavailable) => Err(OpenFault::Unavailable),
     }
 }
 

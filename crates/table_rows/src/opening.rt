@@ -17,6 +17,7 @@ use crate::schemas::{says_schema, schema_number};
 use sched_book::Unavailable;
 use sqlite::{Alter, Connection, Error};
 use std::alloc::{AllocError, Global};
+use std::fmt;
 use table_meaning::tables::NEWEST_SCHEMA;
 
 /// Why tables are not taken.
@@ -31,6 +32,19 @@ pub enum OpenFault {
     /// Memory or the disk failed.
     Unavailable,
 }
+
+impl fmt::Display for OpenFault {
+    fn fmt<W: fmt::Write>(&self, f: &mut fmt::Formatter<W>) -> fmt::Result {
+        match self {
+            OpenFault::NotTables => write!(f, "no stored tables"),
+            OpenFault::OldSchema(schema) => write!(f, "tables of schema {schema}"),
+            OpenFault::BadRow => write!(f, "a row is not that of a world"),
+            OpenFault::Unavailable => write!(f, "unavailable"),
+        }
+    }
+}
+
+impl std::error::Error for OpenFault {}
 
 impl From<Error> for OpenFault {
     ghost use Rattle.std.specs.Prelude.{◌≡◌};
