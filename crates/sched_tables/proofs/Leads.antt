@@ -23,7 +23,7 @@ use Rattle.sched_tables.specs.Held.{IsHonest}
 
 -- contents that are the same at each key
 pub held_same : (db : Database) (f g : Contents) → ((key : RowKey) → f key ≡ g key) → Hold db f → Hold db g
-held_same db f g same holds = record { known = holds.known; rows = λ key. holds.rows key ∙ ap (option_map columns_of) (same key) }
+held_same db f g same holds = record { known = holds.known; rows = λ key. holds.rows key ∙ ap (option_map columns_of) (same key); keyed = holds.keyed }
 
 leads : (w : World) (cs : List Change) (rows all : List StoredRow) (more : Option StoredRow) (old new : Database) → AreChanges w (applied w cs) rows → all ≡ rows ++ cons_option more [] → PutsRows old new all → LeadsTo w cs more old new
 leads w cs rows all more old new changes pushed puts = λ calls calls' batches batches' keeps holds.

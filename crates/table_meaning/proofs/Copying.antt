@@ -26,7 +26,7 @@ use Rattle.sqlite_typed.proofs.TestLemmas.{at_ints, last_term}
 use Rattle.sqlite_sql.specs.declared.ops.CompareOp.TheVariants.{Eq}
 use Rattle.sqlite_value.proofs.OrderLemmas.{value_cmp-Int}
 use Rattle.sqlite_tied.specs.Compute.{everything}
-use Rattle.sqlite.specs.Effect.{Database}
+use Rattle.sqlite.specs.Effect.{Database, IsDatabase}
 use Rattle.sqlite.specs.State.{State, Executes}
 use Rattle.sqlite.specs.Listing.{understood}
 use Rattle.sqlite.proofs.Callers.{IsPlain, command_of}
@@ -39,7 +39,7 @@ use Rattle.table_meaning.specs.Layouts.{former_kept, places_in}
 use Rattle.table_meaning.specs.Schema.{newest, stored_schema, table_by, place_of}
 use Rattle.table_meaning.specs.Rows.{tree_of, key_places, shown, columns_of, RowKey, setting_key, account_key, app_key, version_key, unit_key, host_key, instance_key, kept_key, batch_key, whole, table_at, key_columns, slots_of, has_key, same_key, look_up}
 use Rattle.table_meaning.specs.ByKey.{key_tests}
-use Rattle.table_meaning.specs.Holding.{AreApart, Contents, Hold, with_row}
+use Rattle.table_meaning.specs.Holding.{AreApart, Contents, HaveKeys, Hold, with_row}
 use Rattle.table_meaning.specs.Worlds.{SlotCalls, call_row}
 use Rattle.table_meaning.specs.Schemas.{only_at}
 use Rattle.table_meaning.specs.Making.{IsLeft, rows_at}
@@ -59,7 +59,7 @@ use Rattle.table_meaning.proofs.TypedRows.{typed, row_key_shown}
 -- ---- contents that agree at each key
 
 pub hold_same : (db : Database) (one other : Contents) → ((key : RowKey) → one key ≡ other key) → Hold db one → Hold db other
-hold_same db one other same holds = record { known = holds.known; rows = λ key. holds.rows key ∙ ap (option_map columns_of) (same key) }
+hold_same db one other same holds = record { known = holds.known; rows = λ key. holds.rows key ∙ ap (option_map columns_of) (same key); keyed = holds.keyed }
 
 -- the calls alone differ
 calls_same : (contents : Contents) (one other : SlotCalls) → ((host slot : ℕ) → one host slot ≡ other host slot) → (key : RowKey) → with_calls contents one key ≡ with_calls contents other key
@@ -137,9 +137,9 @@ none_copied contents calls (kept_key host slot) =
     rw low (elim (slot == 0) as (λ b. None ≡ option_map (λ k. Kept (call_row host slot k)) (cond b None None)) [ true ↦ refl | false ↦ refl ])
 none_copied contents calls (batch_key kind name) = refl
 
-pub begun : (old new : Database) → IsLeft stored_schema (rows_at 1 old.trees) [] new → (contents : Contents) (calls : HostCalls) → HoldFirst old contents calls → Copied 0 new contents calls
-begun old new left contents calls first = record {
-  holds = hold_same new _ _ (none_copied contents calls) (hold_made 1 old new left contents first.held);
+pub begun : (old new : Database) → IsLeft stored_schema (rows_at 1 old.trees) [] new → IsDatabase new → (contents : Contents) (calls : HostCalls) → HoldFirst old contents calls → Copied 0 new contents calls
+begun old new left sound contents calls first = record {
+  holds = hold_same new _ _ (none_copied contents calls) (hold_made 1 old new left sound contents first.held);
   kept = keeps_calls old.trees new.trees calls (stays_made 1 old new left former_kept.tree refl refl) first.kept;
 }
 
@@ -160,15 +160,17 @@ unfolding understood everything
 copy_is = (refl, (refl, refl))
 
 -- no row is put
-hold_unchanged : (old new : Database) → new.schema ≡ stored_schema → Applies stored_schema Enforced old.trees (edit_of old.trees (table_by table.Kept) [] Chosen 0 []) new.trees → (contents : Contents)
+hold_unchanged : (old new : Database) → new.schema ≡ stored_schema → IsDatabase new → Applies stored_schema Enforced old.trees (edit_of old.trees (table_by table.Kept) [] Chosen 0 []) new.trees → (contents : Contents)
     → Hold old contents → Hold new contents
-hold_unchanged old new schema applies contents holds = record {
+hold_unchanged old new schema sound applies contents holds = record {
   known = record {
     schema = schema;
+    sound = sound;
     ordered = λ t. subst (IsShaped TableTree) (sym (same t)) (holds.known.ordered t);
     apart = λ t. subst (AreApart (key_places t)) (sym (same t)) (holds.known.apart t);
   };
   rows = λ key. ap (λ rows. option_map (shown (table_at key)) (find (has_key key) rows)) (same (table_at key)) ∙ holds.rows key;
+  keyed = λ t. subst (HaveKeys t) (sym (same t)) (holds.keyed t);
 }
   where
     same : (t : TableName) → new.trees (tree_of t) ≡ old.trees (tree_of t)
@@ -215,15 +217,15 @@ module _ (host : ℕ) (old new : State) (count : ℕ) (h : Executes copy_text (w
   abbrev trees : Trees
   trees = old.now.trees
 
-  ran : (new.now.schema ≡ stored_schema) × (rows : List Row) × (rows ≡ map (λ r. as_copied (map (column r) (places_in former_kept))) (filter (is_of host) (trees former_kept.tree)))
+  ran : (new.now.schema ≡ stored_schema) × IsDatabase new.now × (rows : List Row) × (rows ≡ map (λ r. as_copied (map (column r) (places_in former_kept))) (filter (is_of host) (trees former_kept.tree)))
       × Applies stored_schema Enforced trees (edit_of trees (table_by table.Kept) [] Chosen 0 rows) new.now.trees
   ran =
       let params = whole host ∷ [] in
       let known = copied.holds.known.schema in
       let went = inserts copy_text params old new known (place_of table.Kept) (table_by table.Kept) copy_query copy_is.0 copy_is.1 refl refl refl count h in
       let rows = projected_rows trees 14 (key_tests 0 (0 ∷ [])) params (is_of host) refl copied.kept.ordered (λ n. tests_key (0 ∷ []) 0 params (as_row n)) copy_terms
-      (Binary ∷ Binary ∷ Binary ∷ Binary ∷ Binary ∷ Binary ∷ []) (lit (Int (negsuc 0))) went.1 went.2 in
-      (went.0, went.1, rows, went.3)
+      (Binary ∷ Binary ∷ Binary ∷ Binary ∷ Binary ∷ Binary ∷ []) (lit (Int (negsuc 0))) went.2 went.3 in
+      (went.0, went.1, went.2, rows, went.4)
 
   -- the calls of the first schema stay where they are
   still_kept : AllByRecursion (λ t. t.tree ≢ tree_of table.Kept → new.now.trees t.tree ≡ trees t.tree) stored_schema.tables → KeepCalls new.now.trees calls
@@ -233,11 +235,11 @@ module _ (host : ℕ) (old new : State) (count : ℕ) (h : Executes copy_text (w
 
   copied_none : find (is_of host) (trees former_kept.tree) ≡ None → ((x : Row) → Has (trees former_kept.tree) x → is_of host x ≡ false) → Copied (host + 1) new.now contents calls
   copied_none none each =
-      let rows : ran.1 ≡ [] = ran.2 ∙ ap (map (λ r. as_copied (map (column r) (places_in former_kept)))) (filter_none (is_of host) _ (all_from (λ x. is_of host x ≡ false) _ each)) in
-      let applies = subst (λ all. Applies stored_schema Enforced trees (edit_of trees (table_by table.Kept) [] Chosen 0 all) new.now.trees) rows ran.3 in
+      let rows : ran.2 ≡ [] = ran.3 ∙ ap (map (λ r. as_copied (map (column r) (places_in former_kept)))) (filter_none (is_of host) _ (all_from (λ x. is_of host x ≡ false) _ each)) in
+      let applies = subst (λ all. Applies stored_schema Enforced trees (edit_of trees (table_by table.Kept) [] Chosen 0 all) new.now.trees) rows ran.4 in
       let no = no_call trees calls copied.kept host (ap (option_map (λ row. map (column row) (places_in former_kept))) none) in
       record {
-        holds = hold_calls new.now contents (below host calls) (below (host + 1) calls) (next_none host calls no) (hold_unchanged old.now new.now ran.0 applies _ copied.holds);
+        holds = hold_calls new.now contents (below host calls) (below (host + 1) calls) (next_none host calls no) (hold_unchanged old.now new.now ran.0 ran.1 applies _ copied.holds);
         kept = still_kept applies.tables;
       }
 
@@ -255,13 +257,13 @@ module _ (host : ℕ) (old new : State) (count : ℕ) (h : Executes copy_text (w
         | inr one ↦ none-some _ (sym none ∙ ap (option_map (shown table.Kept)) one.1)
       ])
 
-  copied_one : (k : Call) → calls host ≡ Some k → ran.1 ≡ source_by (key_by table.Kept) (columns_of (Kept (call_row host 0 k))) ∷ [] → Copied (host + 1) new.now contents calls
+  copied_one : (k : Call) → calls host ≡ Some k → ran.2 ≡ source_by (key_by table.Kept) (columns_of (Kept (call_row host 0 k))) ∷ [] → Copied (host + 1) new.now contents calls
   copied_one k is rows =
       let row = Kept (call_row host 0 k) in
-      let applies = subst (λ all. Applies stored_schema Enforced trees (edit_of trees (table_by table.Kept) [] Chosen 0 all) new.now.trees) rows ran.3 in
+      let applies = subst (λ all. Applies stored_schema Enforced trees (edit_of trees (table_by table.Kept) [] Chosen 0 all) new.now.trees) rows ran.4 in
       let puts = one_inserted table.Kept (columns_of row) (facts table.Kept (columns_of row) (typed row)) old.now copied.holds.known new.now.trees applies (λ id named. is_free k id) in
       record {
-        holds = hold_same new.now _ _ (call_more host calls k is contents) (hold_put row old.now new.now copied.holds.known ran.0 puts _ copied.holds);
+        holds = hold_same new.now _ _ (call_more host calls k is contents) (hold_put row old.now new.now copied.holds.known ran.0 ran.1 puts _ copied.holds);
         kept = still_kept applies.tables;
       }
 
@@ -274,7 +276,7 @@ module _ (host : ℕ) (old new : State) (count : ℕ) (h : Executes copy_text (w
       ap (λ o. unwrap_or o []) (sym (ap (option_map (λ row. map (column row) (places_in former_kept))) first) ∙ copied.kept.kept host ∙ ap (option_map (former_columns host)) is) in
       let number : rowid r ≡ whole host = ap (λ c. column c 0) columns in
       let alone : filter (is_of host) (trees former_kept.tree) ≡ r ∷ [] = only [] (trees former_kept.tree) r (pos host) copied.kept.ordered has number (is_of host) (compares number) in
-      copied_one k is (ran.2 ∙ ap (map (λ r. as_copied (map (column r) (places_in former_kept)))) alone ∙ ap (λ c. as_copied c ∷ []) columns)
+      copied_one k is (ran.3 ∙ ap (map (λ r. as_copied (map (column r) (places_in former_kept)))) alone ∙ ap (λ c. as_copied c ∷ []) columns)
     where
       compares : rowid r ≡ whole host → (x : Row) → Has (trees former_kept.tree) x → is_of host x ≡ is_eq (value_cmp (rowid x) (rowid r))
       compares number x has =

@@ -16,7 +16,7 @@ use Rattle.sqlite_schema.specs.Rules.{agree}
 use Rattle.sqlite_rules.specs.declared.error.Rowids.TheVariants.{Chosen, Above}
 use Rattle.sqlite_rules.specs.Edit.{Edit, is_taken, edit_of, Applies}
 use Rattle.sqlite_rules.specs.Lists.{Has}
-use Rattle.sqlite.specs.Effect.{Database, Answers}
+use Rattle.sqlite.specs.Effect.{Database, IsDatabase, Answers}
 use Rattle.sqlite.specs.Does.{Tally, Does, AtPlace, OnRows}
 use Rattle.sqlite.specs.Rows.{Task, Written, count_of, stamped}
 use Rattle.sqlite.specs.State.{State, mode_of, Executes}
@@ -37,7 +37,7 @@ copy_command place q = Insert place (source.Query (record { lets = []; body = q 
 
 module _ (sql : List ℕ) (params : Row) (old new : State) (known : old.now.schema ≡ stored_schema) (place : ℕ) (table : Table) (q : Query) (is : command_of (understood stored_schema sql) ≡ copy_command place q)
     (plain : IsPlain (understood stored_schema sql)) (listed : slice_get stored_schema.tables place ≡ Some table) (uncounted : table.is_counted ≡ false) (unstamped : stamped table params ≡ params) where
-  pub inserts : (count : ℕ) → Executes sql params old new (Ok count) → (new.now.schema ≡ stored_schema) × (rows : List Row) × IsAnswer q (overlay old.now.trees []) params rows
+  pub inserts : (count : ℕ) → Executes sql params old new (Ok count) → (new.now.schema ≡ stored_schema) × IsDatabase new.now × (rows : List Row) × IsAnswer q (overlay old.now.trees []) params rows
       × Applies stored_schema Enforced old.now.trees (edit_of old.now.trees table [] Chosen 0 rows) new.now.trees
   inserts count h =
       let db = old.now.trees in
@@ -58,7 +58,7 @@ module _ (sql : List ℕ) (params : Row) (old new : State) (known : old.now.sche
       let ran = subst (λ b. Applies stored_schema Enforced db (edit_of db table [] (cond b (Above (count_of counted.0)) Chosen) 0 rows) edited.0) uncounted (applied task refl refl db edited.0 edit edited.1) in
       let trees : new.now.trees ≡ edited.0 =
       ap (λ (d : Database). d.trees) now ∙ ap (λ (it : Written). it.trees) (same_value ended.2) ∙ not_counted task refl refl uncounted edited.0 ended.0 counted.0 _ ended.1 in
-      (ap (λ (d : Database). d.schema) now, rows, answers.answer Null, subst (Applies stored_schema Enforced db (edit_of db table [] Chosen 0 rows)) (sym trees) ran)
+      (ap (λ (d : Database). d.schema) now, w.sound, rows, answers.answer Null, subst (Applies stored_schema Enforced db (edit_of db table [] Chosen 0 rows)) (sym trees) ran)
 
 -- ---- one row
 

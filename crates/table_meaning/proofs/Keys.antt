@@ -71,11 +71,11 @@ same_columns (v ∷ v' ∷ []) (u ∷ u' ∷ u'' ∷ more) p q h = absurd (true�
 
 -- ---- a key from its table and columns
 
-abbrev number_in : Value → ℕ
+abbrev pub number_in : Value → ℕ
 number_in (Int (pos n)) = n
 number_in _ = 0
 
-abbrev key_from : TableName → Row → RowKey
+abbrev pub key_from : TableName → Row → RowKey
 key_from Setting cols = setting_key (bytes_of (column cols 0))
 key_from Account cols = account_key (number_in (column cols 0))
 key_from App cols = app_key (number_in (column cols 0))

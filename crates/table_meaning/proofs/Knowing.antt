@@ -83,6 +83,7 @@ apart_by (by_first n) count others rows shaped unique a b is_a is_b same = no_cl
 pub known_at_from : (n : ℕ) → IsSchema n → (db : Database) → db.schema ≡ schema_at n → IsDatabase db → AllByRecursion (λ t. IsShaped TableTree (db.trees t.tree)) db.schema.tables → AreKnownAt n db
 known_at_from n is db schema sound rising = record {
   schema = schema;
+  sound = sound;
   ordered = ordered;
   apart = λ t has.
       let l = layout_of t in

@@ -1,6 +1,7 @@
 pub mod ByComputing
 pub mod ByKey
 pub mod Columns
+pub mod ColumnsTold
 pub mod Copying
 pub mod Definitions
 pub mod EachTable
@@ -26,6 +27,7 @@ pub mod PutRows
 pub mod Putting
 pub mod Reading
 pub mod RowsHeld
+pub mod RowsKeyed
 pub mod SchemaSaid
 pub mod SchemaTables
 pub mod Statements

@@ -18,7 +18,8 @@ use Rattle.sqlite_schema.specs.declared.command.Command.TheVariants.{Select}
 use Rattle.sqlite_schema.specs.Rules.{agree}
 use Rattle.sqlite_rules.proofs.ListLemmas.{all_from, has_filtered}
 use Rattle.sqlite_keyed.specs.Keyed.{IsKeyedBy, get_by}
-use Rattle.sqlite_keyed.proofs.ListLemmas.{map-map, filter-map, map_same, ascending-filter, all_weaker}
+use Rattle.sqlite_rules.specs.Lists.{Has}
+use Rattle.sqlite_keyed.proofs.ListLemmas.{map-map, filter_all, filter-map, map_same, ascending-filter, all_weaker}
 use Rattle.sqlite_keyed.proofs.KeyedLemmas.{key-get_by, none_past, get_by-filter}
 use Rattle.sqlite_typed.proofs.TestLemmas.{at_ints, then_term, last_term}
 use Rattle.sqlite_tied.specs.Compute.{everything}
@@ -29,7 +30,7 @@ use Rattle.sqlite.proofs.Callers.{IsPlain, command_of, reads_as}
 use Rattle.table_meaning.specs.declared.tables.TableName.{TableName}
 use Rattle.table_meaning.specs.declared.tables.TableName.TheVariants.{Account, App, Version, Unit, Host}
 use Rattle.table_meaning.specs.Schema.{stored_schema}
-use Rattle.table_meaning.specs.Rows.{tree_of, shown, whole, columns_of, RowKey, account_key, app_key, version_key, unit_key, host_key, look_up}
+use Rattle.table_meaning.specs.Rows.{tree_of, shown, rows_in, whole, columns_of, RowKey, account_key, app_key, version_key, unit_key, host_key, look_up}
 use Rattle.table_meaning.specs.Holding.{AreKnown, Contents, Hold}
 use Rattle.table_meaning.specs.Listings.{is_numbered, rows_where, standing, listing_query, is_first, credits_text, is_of_user, credit_in}
 use Rattle.table_meaning.proofs.Reading.{Numbered, as_row, parted, as_rows, numbers_rise, own_rows, passing_rows}
@@ -183,6 +184,14 @@ module _ (t : TableName) (key : ℕ → RowKey) (by : IsByNumber t key) (db : Da
       ap (map (shown t)) (filter-passed (λ r. test (shown t r)) is_numbered (db.trees (tree_of t))) ∙ sym (filter-map test (shown t) (filter is_numbered (db.trees (tree_of t))))
       ∙ ap (filter test) (ap (λ l. map (shown t) (filter is_numbered l)) is ∙ ap (map (shown t)) (filter-map is_numbered as_row xs) ∙ map-map (shown t) as_row (filter passes xs)
       ∙ in_turn _ _ count 1 (filter passes xs) _ finds ∙ sym (map-filter_map columns_of (λ n. contents (key n)) (range_with_len 1 count)))
+
+  -- and where each row has such a number, these are all.
+  pub all_listed : ((raw : Row) → Has (db.trees (tree_of t)) raw → is_numbered raw ≡ true) → rows_in db.trees t ≡ map columns_of (standing contents key 1 count)
+  all_listed numbered =
+      let tree = db.trees (tree_of t) in
+      let every = map columns_of (standing contents key 1 count) in
+      ap (map (shown t)) (sym (filter_all (λ row. is_numbered row && true) tree (all_from _ tree (λ raw has. ap (λ b. b && true) (numbered raw has)))))
+      ∙ listed (λ row. true) ∙ filter_all (λ row. true) every (all_from (λ row. true ≡ true) every (λ row has. refl))
 
 -- ---- what a statement lists
 

@@ -92,12 +92,16 @@ module _ (places : List ℕ) (xs ys : List Row) (n : Row) (puts : Puts places xs
   pub puts_shaped : IsShaped TableTree ys
   puts_shaped = subst (IsShaped TableTree) (sym puts.put) (IsTable-put_row n puts.left puts.shaped.0, all-put_row (λ r. IsTrue (is_int (rowid r))) n puts.left puts.numbered puts.shaped.1)
 
-  pub puts_apart : AreApart places xs → AreApart places ys
-  puts_apart old a b is_a is_b same = go (from a is_a) (from b is_b)
-    where
-      from : (x : Row) → Has ys x → (x ≡ n) ⊎ Has puts.left x
-      from x has = put_has n puts.left x (subst (λ l. Has l x) puts.put has)
+  -- each row is the new one, or was there
+  puts_left : (x : Row) → Has ys x → (x ≡ n) ⊎ Has puts.left x
+  puts_left x has = put_has n puts.left x (subst (λ l. Has l x) puts.put has)
 
+  pub puts_from : (x : Row) → Has ys x → (x ≡ n) ⊎ Has xs x
+  puts_from x has = elim (puts_left x has) [ inl new ↦ inl new | inr left ↦ inr (puts.was x left) ]
+
+  pub puts_apart : AreApart places xs → AreApart places ys
+  puts_apart old a b is_a is_b same = go (puts_left a is_a) (puts_left b is_b)
+    where
       go : (a ≡ n) ⊎ Has puts.left a → (b ≡ n) ⊎ Has puts.left b → a ≡ b
       go (inl p) (inl q) = p ∙ sym q
       go (inl p) (inr q) = absurd (both_ways _ (puts.apart b q) (agree_back plain places places n b (subst (λ x. agree plain places x places b ≡ true) p same)))

@@ -21,7 +21,7 @@ use Rattle.sqlite_rules.specs.Lists.{Has}
 use Rattle.sqlite_rules.proofs.KeyLemmas.{agree_back, agree_chain}
 use Rattle.sqlite_rules.proofs.ListLemmas.{all_has}
 use Rattle.sqlite_rules.proofs.TableLemmas.{int_is}
-use Rattle.sqlite.specs.Effect.{value_rows}
+use Rattle.sqlite.specs.Effect.{IsDatabase, value_rows}
 use Rattle.sqlite.specs.Rows.{stamped, shown as shown_by}
 use Rattle.sqlite.specs.State.{State, Executes}
 use Rattle.sqlite.specs.Listing.{understood}
@@ -116,9 +116,9 @@ module _ (t : TableName) (c : Row) (f : Facts t c) (old new : State) (known : Ar
       let put = replaced (key_places t) rows r id (known.ordered t) met.1 is over refl (subst (λ m. is_taken left m ≡ false) news free) (known.apart t) same in
       (id, keyed.0, subst (λ ys. Puts (key_places t) rows ys over) (sym (applied.rows ∙ ap (λ m. put_row m left) news)) put, applied.tables)
 
-  pub puts : (count : ℕ) → Executes (put_text t) c old new (Ok count) → (new.now.schema ≡ stored_schema) × PutsColumns t c db new.now.trees
+  pub puts : (count : ℕ) → Executes (put_text t) c old new (Ok count) → (new.now.schema ≡ stored_schema) × IsDatabase new.now × PutsColumns t c db new.now.trees
   puts count h =
       let first = f.begins rows in
       let ran = settles (put_text t) c old new known.schema (place_of t) (table_by t) (put_terms (key_by t) (count_of t)) (count_of t + 1) (key_places t) (count_of t) columns f.is f.plain_text f.listed refl
       (source_by (key_by t) c) f.values count h in
-      (ran.0, ends new.now.trees first.0 first.1 (subst (λ m. Settles db (table_by t) (key_places t) c clause m new.now.trees) first.2 ran.1))
+      (ran.0, ran.1, ends new.now.trees first.0 first.1 (subst (λ m. Settles db (table_by t) (key_places t) c clause m new.now.trees) first.2 ran.2))

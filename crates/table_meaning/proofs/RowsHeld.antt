@@ -10,6 +10,7 @@ use Rattle.sqlite_schema.specs.Rules.{agree}
 use Rattle.sqlite_rules.specs.Lists.{Has}
 use Rattle.table_meaning.specs.declared.tables.TableName.{TableName}
 use Rattle.table_meaning.specs.declared.rows.StoredRow.{StoredRow}
+use Rattle.table_meaning.specs.Holding.{HaveKeys}
 use Rattle.table_meaning.specs.Rows.{tree_of, key_places, shown, rows_in, columns_of, RowKey, table_at, key_columns, key_of, slots_of, has_key, same_key, look_up}
 use Rattle.table_meaning.proofs.PutRows.{agree_from}
 use Rattle.table_meaning.proofs.Keys.{one_key, key_itself}
@@ -45,6 +46,10 @@ has_key_is s raw key is same =
     ∙ agree_from plain (key_places (table_at (key_of s))) (slots_of (key_of s)) (slots_of key) raw (key_columns (key_of s)) (key_columns key) (row_key_shown s raw is)
     ∙ sym (ap (λ b. b && agree plain (slots_of (key_of s)) (key_columns (key_of s)) (slots_of key) (key_columns key)) (eq-eqb (tree_of (table_at key)) (tree_of (table_at (key_of s))) (ap tree_of same)))
 
+-- a row of the tree has the key of the row that it shows
+pub has_own_key : (s : StoredRow) (raw : Row) → shown (table_at (key_of s)) raw ≡ columns_of s → has_key (key_of s) raw ≡ true
+has_own_key s raw is = has_key_is s raw (key_of s) is refl ∙ key_itself (key_of s)
+
 module _ (trees : Trees) (t : TableName) (rows : List StoredRow) (read : map columns_of rows ≡ rows_in trees t) (of_table : (r : StoredRow) → Has rows r → table_at (key_of r) ≡ t) where
   -- a row of the tree is one that was read, and the other way round
   read_of : (raw : Row) → Has (trees (tree_of t)) raw → (s : StoredRow) × Has rows s × (shown t raw ≡ columns_of s)
@@ -55,6 +60,12 @@ module _ (trees : Trees) (t : TableName) (rows : List StoredRow) (read : map col
 
   key_test : (s : StoredRow) (raw : Row) (key : RowKey) → table_at key ≡ t → Has rows s → shown t raw ≡ columns_of s → has_key key raw ≡ same_key key (key_of s)
   key_test s raw key at has is = has_key_is s raw key (subst (λ u. shown u raw ≡ columns_of s) (sym (of_table s has)) is) (at ∙ sym (of_table s has))
+
+  -- each row of the tree has a key
+  pub keyed_by : HaveKeys t (trees (tree_of t))
+  keyed_by raw has =
+      let s = read_of raw has in
+      (key_of s.0, of_table s.0 s.1, has_own_key s.0 raw (subst (λ u. shown u raw ≡ columns_of s.0) (sym (of_table s.0 s.1)) s.2))
 
   -- where what stands is among the rows, and each row with the key is what stands
   pub held_at : (key : RowKey) → table_at key ≡ t → (o : Option StoredRow) → ((r : StoredRow) → o ≡ Some r → Has rows r × (key_of r ≡ key)) → ((r : StoredRow) → Has rows r → key_of r ≡ key → o ≡ Some r)

@@ -5,13 +5,13 @@ use Rattle.std.specs.List.{AllByRecursion, list_any}
 use Rattle.std.proofs.lemmas.Bool.{cases_Bool, eqb-true}
 use Rattle.sqlite_trees.specs.declared.store.Shape.TheVariants.{Table as TableTree}
 use Rattle.sqlite_trees.specs.View.{IsShaped}
-use Rattle.sqlite.specs.Effect.{Database}
+use Rattle.sqlite.specs.Effect.{Database, IsDatabase}
 use Rattle.table_meaning.specs.declared.tables.TableName.{TableName}
 use Rattle.table_meaning.specs.declared.tables.TableName.TheVariants.{Setting, Account, App, Version, Unit, Host, Instance, Kept, Batch}
 use Rattle.table_meaning.specs.Layouts.{Layout}
 use Rattle.table_meaning.specs.Schema.{newest, layouts_at, sql_table, schema_at, stored_schema, table_by, place_of}
 use Rattle.table_meaning.specs.Rows.{tree_of, key_places, shown, columns_of, RowKey, table_at, has_key}
-use Rattle.table_meaning.specs.Holding.{AreApart, AreKnown, Contents, Hold}
+use Rattle.table_meaning.specs.Holding.{AreApart, AreKnown, Contents, HaveKeys, Hold}
 use Rattle.table_meaning.specs.Schemas.{IsSchema, has_tree, has_table, AreKnownAt, HoldAt, only_at}
 use Rattle.table_meaning.specs.Making.{IsLeft, rows_at}
 use Rattle.table_meaning.proofs.ByComputing.{computed}
@@ -55,6 +55,7 @@ newest_has t = elim t as (λ t. has_table newest t ≡ true) [ Setting ↦ refl 
 pub known_newest : (db : Database) → AreKnownAt newest db → AreKnown db
 known_newest db known = record {
   schema = known.schema;
+  sound = known.sound;
   ordered = λ t. at_tree newest (λ tree. IsShaped TableTree (db.trees tree)) known.ordered (tree_of t) (newest_has t);
   apart = λ t. known.apart t (newest_has t);
 }
@@ -70,14 +71,16 @@ module _ (n : ℕ) (old new : Database) (left : IsLeft stored_schema (rows_at n 
   stays_made tree is had = rows_are tree is ∙ ap (λ b. cond b (old.trees tree) []) had
 
   -- the tables of the earlier schema have what they had, and the others nothing
-  pub hold_made : (contents : Contents) → HoldAt n old contents → Hold new (only_at n contents)
-  hold_made contents holds = record {
+  pub hold_made : IsDatabase new → (contents : Contents) → HoldAt n old contents → Hold new (only_at n contents)
+  hold_made sound contents holds = record {
     known = record {
       schema = left.whole;
+      sound = sound;
       ordered = λ t. subst (IsShaped TableTree) (sym (rows_are (tree_of t) (newest_has t))) (ordered t (has_table n t) refl);
       apart = λ t. subst (AreApart (key_places t)) (sym (rows_are (tree_of t) (newest_has t))) (apart t (has_table n t) refl);
     };
     rows = λ key. ap (λ rows. option_map (shown (table_at key)) (find (has_key key) rows)) (rows_are (tree_of (table_at key)) (newest_has (table_at key))) ∙ found key (has_table n (table_at key)) refl;
+    keyed = λ t. subst (HaveKeys t) (sym (rows_are (tree_of t) (newest_has t))) (keyed t (has_table n t) refl);
   }
     where
       ordered : (t : TableName) (had : Bool) → has_table n t ≡ had → IsShaped TableTree (cond had (old.trees (tree_of t)) [])
@@ -87,6 +90,10 @@ module _ (n : ℕ) (old new : Database) (left : IsLeft stored_schema (rows_at n 
       apart : (t : TableName) (had : Bool) → has_table n t ≡ had → AreApart (key_places t) (cond had (old.trees (tree_of t)) [])
       apart t true is = holds.known.apart t is
       apart t false is = λ a b is_a is_b same. absurd is_a
+
+      keyed : (t : TableName) (had : Bool) → has_table n t ≡ had → HaveKeys t (cond had (old.trees (tree_of t)) [])
+      keyed t true is = holds.keyed t is
+      keyed t false is = λ row has. absurd has
 
       found : (key : RowKey) (had : Bool) → has_table n (table_at key) ≡ had
           → option_map (shown (table_at key)) (find (has_key key) (cond had (old.trees (tree_of (table_at key))) [])) ≡ option_map columns_of (cond had (contents key) None)

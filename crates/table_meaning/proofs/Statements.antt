@@ -29,7 +29,7 @@ use Rattle.sqlite_rules.proofs.ListLemmas.{all_has}
 use Rattle.sqlite_rules.proofs.TableLemmas.{int_is}
 use Rattle.sqlite_typed.proofs.TestLemmas.{at_ints, last_term}
 use Rattle.sqlite_schema.specs.Rules.{equal, parent_key}
-use Rattle.sqlite.specs.Effect.{Database, Answers, value_rows}
+use Rattle.sqlite.specs.Effect.{Database, IsDatabase, Answers, value_rows}
 use Rattle.sqlite.specs.Does.{Tally, Does, AtPlace, OnRows}
 use Rattle.sqlite.specs.Rows.{Task, Written, Tries, TriesEach, Upserts, Puts as PutsNew, Clears, Counts, CountsIn, Gives, count_of, sequence, nothing, rowids_for, stamped, shown}
 use Rattle.sqlite.specs.State.{State, mode_of, Executes}
@@ -141,7 +141,7 @@ module _ (sql : List ℕ) (params : Row) (old new : State) (known : old.now.sche
     (listed : slice_get stored_schema.tables place ≡ Some table) (uncounted : table.is_counted ≡ false)
     (source : Row) (values : value_rows (stamped table params) width (length terms / width) terms ≡ source ∷ []) where
   pub settles : (count : ℕ) → Executes sql params old new (Ok count)
-      → (new.now.schema ≡ stored_schema) × Settles old.now.trees table target params (update_at target table.tree slot columns) (with_rowid Chosen (old.now.trees table.tree) (cast_row table source)) new.now.trees
+      → (new.now.schema ≡ stored_schema) × IsDatabase new.now × Settles old.now.trees table target params (update_at target table.tree slot columns) (with_rowid Chosen (old.now.trees table.tree) (cast_row table source)) new.now.trees
   settles count h =
       let db = old.now.trees in
       let clause = update_at target table.tree slot columns in
@@ -165,4 +165,4 @@ module _ (sql : List ℕ) (params : Row) (old new : State) (known : old.now.sche
       let trees : new.now.trees ≡ one.0.trees =
       ap (λ (d : Database). d.trees) now ∙ ap (λ (it : Written). it.trees) (same_value ended.2) ∙ not_counted task refl refl uncounted each.0.0.trees ended.0 counted.0 each.0.1 ended.1
       ∙ ap (λ (p : Written × ℤ). p.0.trees) (same_value one.2) in
-      (ap (λ (d : Database). d.schema) now, subst (Settles db table target params clause first) (sym trees) ran)
+      (ap (λ (d : Database). d.schema) now, w.sound, subst (Settles db table target params clause first) (sym trees) ran)

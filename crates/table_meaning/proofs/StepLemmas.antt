@@ -15,7 +15,7 @@ use Rattle.sqlite_catalog.specs.Change.{created, indexed, KeepsRows}
 use Rattle.sqlite_catalog.specs.Calls.{CreatesTable, CreatesIndex}
 use Rattle.sqlite_keyed.proofs.ListLemmas.{all-append, all_both}
 use Rattle.sqlite.specs.declared.error.Error.{Error}
-use Rattle.sqlite.specs.Effect.{Database}
+use Rattle.sqlite.specs.Effect.{Database, IsDatabase}
 use Rattle.sqlite.specs.Does.{Tally, lacks_sequence, AtPlace, Defines, MakesIndex, MakesSequence}
 use Rattle.sqlite.specs.Held.{Held, state}
 use Rattle.sqlite.specs.State.{State, HasCleanDisk, IsUnchanged, IsRolledBack, KeepsCommit, Survives, Writes, Executes, ExecutesInside, Fails, IsNotRun, FailsToQuery, FailsToShow, Shown, ShowsRows, IsTooLate, mode_of}
@@ -53,7 +53,7 @@ moved_more a b c rows row first one =
 pub row_moved : (row : StoredRow) (old new : State) (count : ℕ) → ExecutesInside 0 (put_text (table_of row)) (columns_of row) old new (Ok count) → Moves old new (row ∷ [])
 row_moved row old new count h = record {
   inside = h.1.mode;
-  puts = λ contents holds. let ran = puts (table_of row) (columns_of row) (facts _ _ (typed row)) old new holds.known count h.0 in hold_put row old.now new.now holds.known ran.0 ran.1 contents holds;
+  puts = λ contents holds. let ran = puts (table_of row) (columns_of row) (facts _ _ (typed row)) old new holds.known count h.0 in hold_put row old.now new.now holds.known ran.0 ran.1 ran.2 contents holds;
 }
 
 -- ---- nothing is committed on the way
@@ -211,34 +211,35 @@ module _ (wanted : Schema) (rows : Trees) where
       left_with old new text (made_index index) more left (it.is ∙ ap (indexed old.schema (table_by Instance)) index_is) (still_same rows old.schema.tables old.trees new.trees left.same it.rows)
 
   made_more : (text : List ℕ) (made : Made) (more : List (List ℕ × Made)) (old new : State) (count : ℕ) → IsLeft wanted rows ((text, made) ∷ more) old.now → Executes text [] old new (Ok count)
-      → IsLeft wanted rows more new.now
+      → IsLeft wanted rows more new.now × IsDatabase new.now
   made_more text (made_table table) more old new count left h =
       let w = subst (λ t. Writes old new None CreateTable t [] count) left.makes.1 (runs_as text [] old new old.now.schema refl CreateTable left.makes.0.0 left.makes.2 count h) in
       let all = went w.changed in
       let first = went all.1 in
       let now : new.now ≡ all.0 = ap (λ (p : Tally × Database). p.1) (same_value all.2) in
-      table_more text table more old.now first.0 new.now left first.1 (subst (λ d. MakesSequence first.0 (Ok d)) (sym now) first.2)
+      (table_more text table more old.now first.0 new.now left first.1 (subst (λ d. MakesSequence first.0 (Ok d)) (sym now) first.2), w.sound)
   made_more text (made_index index) more old new count left h =
       let w = subst (λ t. Writes old new None (CreateIndex (place_of Instance)) t [] count) left.makes.1 (runs_as text [] old new old.now.schema refl (CreateIndex (place_of Instance)) left.makes.0.0 left.makes.2 count h) in
       let all = went (subst (λ o. AtPlace (λ table. Defines (mode_of old) (MakesIndex text old.now table)) o (Ok (w.tally, new.now))) left.makes.0.1 w.changed) in
       let now : new.now ≡ all.0 = ap (λ (p : Tally × Database). p.1) (same_value all.2) in
-      index_more text index more old.now new.now left (subst (λ d. CreatesIndex old.now.schema (table_by Instance) text old.now.trees d.schema d.trees) (sym now) all.1)
+      (index_more text index more old.now new.now left (subst (λ d. CreatesIndex old.now.schema (table_by Instance) text old.now.trees d.schema d.trees) (sym now) all.1), w.sound)
 
   -- the text at a place among the first of them, of which it is the next
   pub defined_more : (count at : ℕ) (text : List ℕ) (old new : State) (changed : ℕ) → at < length definitions → at < count → text ≡ slice_index_or definition_texts at []
-      → IsLeft wanted rows (drop at (take count definitions)) old.now → ExecutesInside 0 text [] old new (Ok changed) → IsTrue new.in_transaction × IsLeft wanted rows (drop (at + 1) (take count definitions)) new.now
+      → IsLeft wanted rows (drop at (take count definitions)) old.now → ExecutesInside 0 text [] old new (Ok changed) → IsTrue new.in_transaction × IsLeft wanted rows (drop (at + 1) (take count definitions)) new.now × IsDatabase new.now
   defined_more count at text old new changed within below is left h =
       let next = next_made definitions count at within below in
       let one : suc at ≡ at + 1 = omega arith in
       let here : IsLeft wanted rows ((text, next.0) ∷ drop (suc at) (take count definitions)) old.now =
       subst (λ t. IsLeft wanted rows ((t, next.0) ∷ drop (suc at) (take count definitions)) old.now) (sym is) (subst (λ ds. IsLeft wanted rows ds old.now) next.1 left) in
-      (h.1.mode, subst (λ n. IsLeft wanted rows (drop n (take count definitions)) new.now) one (made_more text next.0 (drop (suc at) (take count definitions)) old new changed here h.0))
+      let more = made_more text next.0 (drop (suc at) (take count definitions)) old new changed here h.0 in
+      (h.1.mode, subst (λ n. IsLeft wanted rows (drop n (take count definitions)) new.now) one more.0, more.1)
 
   -- none is left behind the last
   pub all_defined : (count at : ℕ) (db : Database) → count ≤ at → IsLeft wanted rows (drop at (take count definitions)) db → IsLeft wanted rows [] db
   all_defined count at db past = subst (λ ds. IsLeft wanted rows ds db) (drop_all at (take count definitions) (omega (arith, past, length-take count definitions)))
 
-pub all_made : (db : Database) → IsLeft stored_schema no_rows [] db → AreNew db
-all_made db left =
+pub all_made : (db : Database) → IsLeft stored_schema no_rows [] db → IsDatabase db → AreNew db
+all_made db left sound =
     let empty = subst (λ s. AllByRecursion (λ t. db.trees t.tree ≡ []) s.tables) left.whole left.same in
-    record { schema = left.whole; empty = of_each (λ t. db.trees t.tree ≡ []) empty }
+    record { schema = left.whole; sound = sound; empty = of_each (λ t. db.trees t.tree ≡ []) empty }

@@ -6,12 +6,12 @@ use Rattle.sqlite_value.specs.Order.{column}
 use Rattle.sqlite_trees.specs.declared.store.Shape.TheVariants.{Table as TableTree}
 use Rattle.sqlite_trees.specs.Tree.{Trees}
 use Rattle.sqlite_trees.specs.View.{IsShaped}
-use Rattle.sqlite.specs.Effect.{Database}
+use Rattle.sqlite.specs.Effect.{Database, IsDatabase}
 use Rattle.table_meaning.specs.declared.tables.TableName.{TableName}
 use Rattle.table_meaning.specs.Schema.{parts_at, newest, layouts_at, schema_at}
 use Rattle.table_meaning.specs.Texts.{Made, definitions}
 use Rattle.table_meaning.specs.Rows.{tree_of, key_places, columns_of, whole, RowKey, setting_key, table_at, look_up}
-use Rattle.table_meaning.specs.Holding.{AreApart, Contents}
+use Rattle.table_meaning.specs.Holding.{AreApart, Contents, HaveKeys}
 
 -- a schema has this number
 abbrev pub IsSchema : ℕ → Type 0
@@ -28,16 +28,18 @@ has_tree n tree = list_any (λ l. l.tree == tree) (layouts_at n)
 abbrev pub has_table : ℕ → TableName → Bool
 has_table n t = has_tree n (tree_of t)
 
--- The schema is the one of this number, the numbers of the rows of each of its tables rise, and no key comes twice.
+-- The schema is the one of this number, and the database tells it; the numbers of the rows of each of its tables rise, and no key comes twice.
 pub record AreKnownAt (n : ℕ) (db : Database) : Type 0 where
   pub schema : db.schema ≡ schema_at n
+  pub sound : IsDatabase db
   pub ordered : AllByRecursion (λ t. IsShaped TableTree (db.trees t.tree)) (schema_at n).tables
   pub apart : (t : TableName) → has_table n t ≡ true → AreApart (key_places t) (db.trees (tree_of t))
 
--- the tables are such ones, and at each key of them stands just this
+-- the tables are such ones, at each key of them stands just this, and each of their rows has a key
 pub record HoldAt (n : ℕ) (db : Database) (contents : Contents) : Type 0 where
   pub known : AreKnownAt n db
   pub rows : (key : RowKey) → has_table n (table_at key) ≡ true → look_up db.trees key ≡ option_map columns_of (contents key)
+  pub keyed : (t : TableName) → has_table n t ≡ true → HaveKeys t (db.trees (tree_of t))
 
 -- the contents of the tables that the schema has
 abbrev pub only_at : ℕ → Contents → Contents

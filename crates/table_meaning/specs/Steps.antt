@@ -1,6 +1,6 @@
 -- What the steps of a transaction make of the tables.
 use Rattle.std.specs.Prelude.{◌≡◌, List, [], None, IsTrue}
-use Rattle.sqlite.specs.Effect.{Database}
+use Rattle.sqlite.specs.Effect.{Database, IsDatabase}
 use Rattle.sqlite.specs.State.{State}
 use Rattle.table_meaning.specs.declared.tables.TableName.{TableName}
 use Rattle.table_meaning.specs.declared.rows.StoredRow.{StoredRow}
@@ -20,6 +20,7 @@ pub record Moves (old new : State) (rows : List StoredRow) : Type 0 where
 -- the nine tables, each with no row
 pub record AreNew (db : Database) : Type 0 where
   pub schema : db.schema ≡ stored_schema
+  pub sound : IsDatabase db
   pub empty : (t : TableName) → db.trees (tree_of t) ≡ []
 
 -- the tables hold these rows, put in order, and nothing else

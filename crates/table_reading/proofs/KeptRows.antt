@@ -14,8 +14,8 @@ use Rattle.table_meaning.specs.Holding.{AreKnown}
 use Rattle.table_meaning.specs.Kept.{call_of, batch_of, calls_in, batches_in}
 use Rattle.table_meaning.specs.Rows.{RowKey, kept_key, batch_key, table_at, columns_of, key_of, rows_in, look_up}
 use Rattle.table_meaning.specs.Worlds.{call_row, contents_of, HoldWorld}
-use Rattle.table_meaning.proofs.RowsHeld.{held_row}
-use Rattle.table_worlds.proofs.RowsHold.{world_held}
+use Rattle.table_meaning.proofs.RowsHeld.{held_row, keyed_by}
+use Rattle.table_worlds.proofs.RowsHold.{world_held, world_keyed}
 use Rattle.table_reading.specs.Reading.{AllRows, AreAllRead, StandFor, is_call_of, is_import}
 
 -- ---- what passes is of its table
@@ -127,4 +127,7 @@ pub held_by_rows : (db : Database) (w : World) (all : AllRows) → AreKnown db �
 held_by_rows db w all known read stand = record {
   known = known;
   rows = world_held db.trees w all.world read.world stand.rows (calls_in db.trees) (batches_in db.trees) (calls_stand db.trees w all.calls read.calls stand.calls) (imports_stand db.trees w all.batches read.batches stand.batches);
+  keyed = world_keyed db.trees w all.world read.world stand.rows
+      (keyed_by db.trees name.Kept all.calls read.calls (λ r has. call_table w r (each_passes (is_call_of w) all.calls r stand.calls has)))
+      (keyed_by db.trees name.Batch all.batches read.batches (λ r has. import_table r (each_passes is_import all.batches r stand.batches has)));
 }

@@ -4,7 +4,8 @@ ghost use Rattle.std.specs.Prelude.{◌≡◌, ◌≢◌, ℕ, ◌≤◌, ◌<�
 ghost use Rattle.sqlite_schema.specs.declared.schema.Schema.{Schema};
 ghost use Rattle.sqlite_trees.specs.Tree.{Trees};
 ghost use Rattle.sqlite.specs.Held.{state};
-ghost use Rattle.sqlite.specs.State.{HasCleanDisk, KeepsCommit, Survives};
+ghost use Rattle.sqlite.specs.Effect.{IsDatabase};
+ghost use Rattle.sqlite.specs.State.{HasCleanDisk, IsLive, KeepsCommit, Survives};
 ghost use Rattle.table_meaning.specs.Schema.{no_schema, parts_at, newest, schema_at};
 ghost use Rattle.table_meaning.specs.Schemas.{definitions_between};
 ghost use Rattle.table_meaning.specs.Making.{IsLeft};
@@ -66,6 +67,7 @@ fn size_of(schema: u32) -> usize
 fn is_empty<S: Alter>(conn: &Connection<S>) -> bool
     ensures empty { IsTrue result → (state S.Store conn.now).now.schema ≡ no_schema }
     ensures other { result ≡ false → (state S.Store conn.now).now.schema ≢ no_schema }
+    ensures live { IsLive (state S.Store conn.now) }
 {
     let schema = conn.schema();
     schema.tables.as_slice().is_empty()
@@ -82,7 +84,7 @@ pub(crate) fn define<S: Alter>(tx: &mut Transaction<'_, S>, from: u32, to: u32) 
     ensures kept { HasCleanDisk (state S.Store tx.new.conn.now) → KeepsCommit (state S.Store tx.old.conn.now) (state S.Store tx.new.conn.now) }
     ensures made { HasCleanDisk (state S.Store tx.new.conn.now) → IsTrue (state S.Store tx.old.conn.now).in_transaction
         → (wanted : Schema) (rows : Trees) → IsLeft wanted rows (definitions_between from to) (state S.Store tx.old.conn.now).now
-        → OnOk result (IsLeft wanted rows [] (state S.Store tx.new.conn.now).now) }
+        → OnOk result (IsLeft wanted rows [] (state S.Store tx.new.conn.now).now × (IsDatabase (state S.Store tx.old.conn.now).now → IsDatabase (state S.Store tx.new.conn.now).now)) }
     ensures inside { HasCleanDisk (state S.Store tx.new.conn.now) → IsTrue (state S.Store tx.old.conn.now).in_transaction → OnOk result (IsTrue (state S.Store tx.new.conn.now).in_transaction) }
     ensures ran { HasCleanDisk (state S.Store tx.new.conn.now) → length (parts_at from) < length (parts_at to)
         → OnOk result (IsTrue (state S.Store tx.old.conn.now).is_open × IsTrue (state S.Store tx.new.conn.now).in_transaction) }
@@ -102,8 +104,9 @@ fn make_tables<S: Alter>(
     ensures same_reference { tx.new.conn.ghost_name ≡ tx.old.conn.ghost_name }
     ensures survives { Survives (state S.Store tx.old.conn.now) (state S.Store tx.new.conn.now) (λ _. ⊥) }
     ensures kept { HasCleanDisk (state S.Store tx.new.conn.now) → KeepsCommit (state S.Store tx.old.conn.now) (state S.Store tx.new.conn.now) }
+    ensures was_open { HasCleanDisk (state S.Store tx.new.conn.now) → OnOk result (IsTrue (state S.Store tx.old.conn.now).is_open) }
     ensures made { HasCleanDisk (state S.Store tx.new.conn.now) → IsTrue (state S.Store tx.old.conn.now).in_transaction → (state S.Store tx.old.conn.now).now.schema ≡ no_schema
-        → OnOk result (IsTrue (state S.Store tx.new.conn.now).in_transaction × HoldJust (state S.Store tx.new.conn.now).now rows.now) }
+        → IsDatabase (state S.Store tx.old.conn.now).now → OnOk result (IsTrue (state S.Store tx.new.conn.now).in_transaction × HoldJust (state S.Store tx.new.conn.now).now rows.now) }
 {
     define(tx, 0, NEWEST_SCHEMA)?;
     put_each(alloc, tx, rows)

@@ -1,40 +1,20 @@
 -- A list whose items stand in a table, each at its number, is what is found at the numbers up to the greatest there.
-use Rattle.std.proofs.Common.{◌≡◌, ◌≤◌, ◌<◌, ℕ, zero, suc, ◌+◌, Bool, true, false, cond, List, [], ◌∷◌, find, length, Option, Some, None, option_map, refl, sym, ap, subst, ◌∙◌, arith, inl, inr}
+use Rattle.std.proofs.Common.{◌≡◌, ◌≤◌, ◌<◌, ℕ, zero, suc, ◌+◌, List, [], ◌∷◌, length, Option, Some, None, option_map, refl, sym, ap, subst, ◌∙◌, arith, inl, inr}
 use Rattle.std.specs.Prelude.{filter_map, slice_get}
 use Rattle.std.specs.List.{range_with_len, cons_option}
-use Rattle.std.proofs.lemmas.Option.{none-some, same_Some}
 use Rattle.sqlite_rules.specs.Lists.{Has}
 use Rattle.sqlite_trees.specs.Tree.{Trees}
 use Rattle.sqlite_value.specs.Order.{Row}
 use Rattle.sched_book.specs.Places.{nth}
 use Rattle.table_meaning.specs.declared.rows.StoredRow.{StoredRow}
 use Rattle.table_meaning.specs.declared.tables.TableName.{TableName}
-use Rattle.table_meaning.specs.Rows.{RowKey, tree_of, shown, rows_in, columns_of, table_at, has_key, look_up}
-use Rattle.table_meaning.proofs.RowsHeld.{mapped}
+use Rattle.table_meaning.specs.Rows.{RowKey, rows_in, columns_of, table_at, look_up}
+use Rattle.table_meaning.proofs.RowsKeyed.{row_has}
 use Rattle.table_worlds.specs.ReadBack.{number_at}
 use Rattle.table_worlds.specs.StoredWorld.{greatest, numbers_in}
 use Rattle.table_worlds.proofs.ByPlace.{nth_next}
 
 -- ---- numbers of rows
-
--- what is found is one of the list
-found_has : {X : Type 0} (p : X → Bool) (xs : List X) (x : X) → find p xs ≡ Some x → Has xs x
-found_has p [] x is = absurd (none-some x is)
-found_has {X} p (y ∷ ys) x is = go (p y) is (found_has p ys x)
-  where
-    go : (b : Bool) → cond b (Some y) (find p ys) ≡ Some x → (find p ys ≡ Some x → Has ys x) → Has (y ∷ ys) x
-    go true here later = inl (sym (same_Some y x here))
-    go false there later = inr (later there)
-
--- what stands at a key is a row of its table
-row_has : (trees : Trees) (key : RowKey) (row : Row) → look_up trees key ≡ Some row → Has (rows_in trees (table_at key)) row
-row_has trees key row is = go (find (has_key key) (trees (tree_of (table_at key)))) refl is
-  where
-    go : (o : Option Row) → find (has_key key) (trees (tree_of (table_at key))) ≡ o → option_map (shown (table_at key)) o ≡ Some row → Has (rows_in trees (table_at key)) row
-    go None found shows = absurd (none-some row shows)
-    go (Some raw) found shows =
-        subst (Has (rows_in trees (table_at key))) (same_Some (shown (table_at key) raw) row shows)
-        (mapped (shown (table_at key)) (trees (tree_of (table_at key))) raw (found_has (has_key key) (trees (tree_of (table_at key))) raw found))
 
 -- no row has a number above the greatest
 at_most : (at : ℕ) (rows : List Row) (row : Row) → Has rows row → number_at row at ≤ greatest at rows

@@ -11,6 +11,7 @@ pub mod NewWorld
 pub mod NothingGoes
 pub mod OneWorld
 pub mod ReadBack
+pub mod RowsAre
 pub mod RowsFound
 pub mod RowsHold
 pub mod StaysReadable

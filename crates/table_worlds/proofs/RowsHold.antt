@@ -16,10 +16,11 @@ use Rattle.table_meaning.specs.declared.rows.StoredRow.{StoredRow}
 use Rattle.table_meaning.specs.declared.rows.StoredRow.TheVariants as stored
 use Rattle.table_meaning.specs.declared.tables.TableName.{TableName}
 use Rattle.table_meaning.specs.declared.tables.TableName.TheVariants as name
-use Rattle.table_meaning.specs.Rows.{RowKey, setting_key, account_key, app_key, version_key, unit_key, host_key, instance_key, kept_key, batch_key, table_at, key_of, columns_of, rows_in, look_up, same_key}
+use Rattle.table_meaning.specs.Holding.{HaveKeys}
+use Rattle.table_meaning.specs.Rows.{RowKey, tree_of, setting_key, account_key, app_key, version_key, unit_key, host_key, instance_key, kept_key, batch_key, table_at, key_of, columns_of, rows_in, look_up, same_key}
 use Rattle.table_meaning.specs.Worlds.{BatchText, SlotCalls, setting_in, contents_of}
 use Rattle.table_meaning.proofs.Keys.{is_put, one_key}
-use Rattle.table_meaning.proofs.RowsHeld.{held_at, mapped, source}
+use Rattle.table_meaning.proofs.RowsHeld.{held_at, keyed_by, mapped, source}
 use Rattle.table_worlds.specs.declared.keys.NumberedTable.{NumberedTable}
 use Rattle.table_worlds.specs.declared.keys.NumberedTable.TheVariants as table
 use Rattle.table_worlds.specs.declared.keys.WorldKey.{WorldKey}
@@ -51,14 +52,14 @@ given_by {X} {Y} f (z ∷ xs) y has = go (f z) refl has (given_by f xs y)
 
 -- ---- the keys of a table
 
-abbrev table_name : NumberedTable → TableName
+abbrev pub table_name : NumberedTable → TableName
 table_name table.Account = name.Account
 table_name table.App = name.App
 table_name table.Version = name.Version
 table_name table.Unit = name.Unit
 table_name table.Host = name.Host
 
-table_of_key : (t : NumberedTable) (id : ℕ) → table_at (row_key (keyed t id)) ≡ table_name t
+pub table_of_key : (t : NumberedTable) (id : ℕ) → table_at (row_key (keyed t id)) ≡ table_name t
 table_of_key table.Account id = refl
 table_of_key table.App id = refl
 table_of_key table.Version id = refl
@@ -92,6 +93,17 @@ module _ (trees : Trees) (w : World) where
       (λ k has. let from = source Instance (places w) k has in ap (λ j. table_at (row_key j)) from.2)
       (Instance p) refl (elim (instance_listed w p.unit p.number) [ inl gone ↦ inl gone | inr has ↦ inr (mapped Instance (places w) p has) ])
 
+  -- each of their rows has a key
+  rows_keyed : (t : TableName) (keys : List WorldKey) (rows : List StoredRow) → map columns_of rows ≡ rows_in trees t → ((r : StoredRow) → Has rows r → Has (filter_map (row_in w) keys) r)
+      → ((k : WorldKey) → Has keys k → table_at (row_key k) ≡ t) → HaveKeys t (trees (tree_of t))
+  rows_keyed t keys rows read in_rows of_table =
+      keyed_by trees t rows read (λ r has. let k = given_by (row_in w) keys r (in_rows r has) in ap table_at (row_has_key w k.0 r k.2) ∙ of_table k.0 k.1)
+
+  numbered_keyed : (t : NumberedTable) (count : ℕ) (rows : List StoredRow) → map columns_of rows ≡ rows_in trees (table_name t) → rows ≡ filter_map (row_in w) (numbered t count) → HaveKeys (table_name t) (trees (tree_of (table_name t)))
+  numbered_keyed t count rows read are =
+      rows_keyed (table_name t) (numbered t count) rows read (λ r. subst (λ l. Has l r) are)
+      (λ k has. let from = source (keyed t) (range_with_len 1 count) k has in ap (λ j. table_at (row_key j)) from.2 ∙ table_of_key t from.0)
+
 -- ---- settings
 
 has_where : (p : StoredRow → Bool) (rows : List StoredRow) → list_any p rows ≡ true → (r : StoredRow) × Has rows r × (p r ≡ true)
@@ -102,7 +114,7 @@ has_where p (r ∷ rows) is = go (p r) refl is (has_where p rows)
     go true here any more = (r, inl refl, here)
     go false here any more = let one = more any in (one.0, inr one.1, one.2)
 
-all_have : (P : StoredRow → Type 0) (rows : List StoredRow) (r : StoredRow) → AllByRecursion P rows → Has rows r → P r
+pub all_have : (P : StoredRow → Type 0) (rows : List StoredRow) (r : StoredRow) → AllByRecursion P rows → Has rows r → P r
 all_have P [] r all has = absurd has
 all_have P (s ∷ rows) r all (inl same) = subst P (sym same) all.0
 all_have P (s ∷ rows) r all (inr later) = all_have P rows r all.1 later
@@ -112,7 +124,7 @@ module _ (s : Settings) where
   empty = contents_of (empty_world s) (λ _ _. None) (λ _ _. None)
 
   -- a setting that stands is one of the eight
-  setting_listed : (key : RowKey) (r : StoredRow) → empty key ≡ Some r → Has (setting_rows s) r
+  pub setting_listed : (key : RowKey) (r : StoredRow) → empty key ≡ Some r → Has (setting_rows s) r
   setting_listed key r is = elim (cases_Bool (is_put (setting_rows s) key)) [
     | inl put ↦
         let one = has_where (λ row. same_key key (key_of row)) (setting_rows s) put in
@@ -122,7 +134,7 @@ module _ (s : Settings) where
     | inr other ↦ absurd (none-some r (others_none s key other ∙ is))
   ]
 
-  table_of_setting : (r : StoredRow) → Has (setting_rows s) r → table_at (key_of r) ≡ name.Setting
+  pub table_of_setting : (r : StoredRow) → Has (setting_rows s) r → table_at (key_of r) ≡ name.Setting
   table_of_setting r has = all_have (λ q. table_at (key_of q) ≡ name.Setting) (setting_rows s) r (refl, (refl, (refl, (refl, (refl, (refl, (refl, (refl, tt)))))))) has
 
   settings_at : (trees : Trees) (rows : List StoredRow) → map columns_of rows ≡ rows_in trees name.Setting → HaveSame rows (setting_rows s) → (text : List ℕ)
@@ -151,3 +163,17 @@ world_held trees w rows read are calls batches kept imports (host_key id) = numb
 world_held trees w rows read are calls batches kept imports (instance_key unit num) = instances_at trees w rows.instances read.instances are.instances (record { unit = unit; number = num })
 world_held trees w rows read are calls batches kept imports (kept_key host slot) = kept host slot
 world_held trees w rows read are calls batches kept imports (batch_key kind text) = imports kind text
+
+-- each row of each table has a key, where what is kept has
+pub world_keyed : (trees : Trees) (w : World) (rows : WorldRows) → AreRead trees rows → AreRowsOf w rows → HaveKeys name.Kept (trees (tree_of name.Kept)) → HaveKeys name.Batch (trees (tree_of name.Batch))
+    → (t : TableName) → HaveKeys t (trees (tree_of t))
+world_keyed trees w rows read are calls imports name.Setting = keyed_by trees name.Setting rows.settings read.settings (λ r has. table_of_setting w.settings r (are.settings.0 r has))
+world_keyed trees w rows read are calls imports name.Account = numbered_keyed trees w table.Account (length w.accounts) rows.accounts read.accounts are.accounts
+world_keyed trees w rows read are calls imports name.App = numbered_keyed trees w table.App (length w.apps) rows.apps read.apps are.apps
+world_keyed trees w rows read are calls imports name.Version = numbered_keyed trees w table.Version (length w.versions) rows.versions read.versions are.versions
+world_keyed trees w rows read are calls imports name.Unit = numbered_keyed trees w table.Unit (length w.units) rows.units read.units are.units
+world_keyed trees w rows read are calls imports name.Host = numbered_keyed trees w table.Host (length w.hosts) rows.hosts read.hosts are.hosts
+world_keyed trees w rows read are calls imports name.Instance =
+    rows_keyed trees w name.Instance (map Instance (places w)) rows.instances read.instances are.instances.0 (λ k has. let from = source Instance (places w) k has in ap (λ j. table_at (row_key j)) from.2)
+world_keyed trees w rows read are calls imports name.Kept = calls
+world_keyed trees w rows read are calls imports name.Batch = imports

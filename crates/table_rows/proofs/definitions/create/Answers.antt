@@ -16,7 +16,8 @@ returns-clause-made g c clean =
     let same : end ≡ c.conn-2-1.given.0 = search rules in
     let late : HasCleanDisk (state g.S.Store end) = search rules in
     let early : HasCleanDisk (state g.S.Store mid) = omega (arith, c.commit.ensures.survives.clean) in
-    let made = (rw begun at c.in_ok-make_tables.ensures.made) early refl (search rules) in
+    let sound = (c.is_empty.ensures.live ((rw begun at c.in_ok-make_tables.ensures.was_open) early)).0 in
+    let made = (rw begun at c.in_ok-make_tables.ensures.made) early refl (search rules) sound in
     subst (λ h. HoldJust (state g.S.Store h).committed c.args.rows.now) same (subst (λ db. HoldJust db c.args.rows.now) (sym (c.in_ok-commit.ensures.ok late).1.committed_is) made.1)
 
 pub returns-clause-crash : goal.returns-clause-crash
@@ -28,7 +29,10 @@ returns-clause-crash g c =
     let same : end ≡ c.conn-2-1.given.0 = search rules in
     let P = λ (trees : Trees). (db : Database) × HoldJust db c.args.rows.now × (trees ≡ db.trees) in
     let whole = survives_then (state g.S.Store old) (state g.S.Store mid) (state g.S.Store end) _ _ P (λ _ db none. absurd none)
-    (λ clean db is. (_, ((rw begun at c.in_ok-make_tables.ensures.made) (omega (arith, c.commit.ensures.survives.clean)) refl (search rules)).1, is))
+    (λ clean db is.
+    let early : HasCleanDisk (state g.S.Store mid) = omega (arith, c.commit.ensures.survives.clean) in
+    let sound = (c.is_empty.ensures.live ((rw begun at c.in_ok-make_tables.ensures.was_open) early)).0 in
+    (_, ((rw begun at c.in_ok-make_tables.ensures.made) early refl (search rules) sound).1, is))
     (survives_begin g.S.Store old (state g.S.Store mid) _ (rw begun at c.make_tables.ensures.survives)) c.commit.ensures.survives in
     subst (λ h. Survives (state g.S.Store old) (state g.S.Store h) P) same whole
 
@@ -41,6 +45,9 @@ returns-in_err-commit-clause-crash g c =
     let same : end ≡ c.conn-2-1.given.0 = search rules in
     let P = λ (trees : Trees). (db : Database) × HoldJust db c.args.rows.now × (trees ≡ db.trees) in
     let whole = survives_then (state g.S.Store old) (state g.S.Store mid) (state g.S.Store end) _ _ P (λ _ db none. absurd none)
-    (λ clean db is. (_, ((rw begun at c.in_ok-make_tables.ensures.made) (omega (arith, c.commit.ensures.survives.clean)) refl (search rules)).1, is))
+    (λ clean db is.
+    let early : HasCleanDisk (state g.S.Store mid) = omega (arith, c.commit.ensures.survives.clean) in
+    let sound = (c.is_empty.ensures.live ((rw begun at c.in_ok-make_tables.ensures.was_open) early)).0 in
+    (_, ((rw begun at c.in_ok-make_tables.ensures.made) early refl (search rules) sound).1, is))
     (survives_begin g.S.Store old (state g.S.Store mid) _ (rw begun at c.make_tables.ensures.survives)) c.commit.ensures.survives in
     subst (λ h. Survives (state g.S.Store old) (state g.S.Store h) P) same whole

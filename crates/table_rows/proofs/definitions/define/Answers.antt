@@ -22,12 +22,15 @@ loop-at-preserved g c =
       survives_on first before after kept.1 c.execute.ensures.survives,
       search (rules, keeps_then),
       λ clean inside. (c.in_ok-execute.ensures.runs clean begun).1.mode,
-      λ clean inside wanted rows left. (defined_more wanted rows (length (parts_at c.args.to)) c.loop-at.at c.definition.result.now before after c.in_ok-execute.field-0 within below c.definition.ensures
-          (kept.4 (early clean) inside wanted rows left) (c.in_ok-execute.ensures.runs clean begun)).1,
+      λ clean inside wanted rows left.
+          let more = defined_more wanted rows (length (parts_at c.args.to)) c.loop-at.at c.definition.result.now before after c.in_ok-execute.field-0 within below c.definition.ensures
+          (kept.4 (early clean) inside wanted rows left).0 (c.in_ok-execute.ensures.runs clean begun) in
+          (more.1, λ _. more.2),
       λ clean some. let ran = (c.in_ok-execute.ensures.runs clean begun).1 in ((kept.2 (early clean)).was_open ran.was_open, ran.mode),
     )
 
 pub returns-clause-made : goal.returns-clause-made
 returns-clause-made g c clean inside wanted rows left =
     let past : length (parts_at c.args.to) ≤ c.loop-at.at = search rules in
-    all_defined wanted rows (length (parts_at c.args.to)) c.loop-at.at (state g.S.Store c.loop-at.tx.conn.now).now past (c.loop-at.invariant.4 clean inside wanted rows left)
+    let made = c.loop-at.invariant.4 clean inside wanted rows left in
+    (all_defined wanted rows (length (parts_at c.args.to)) c.loop-at.at (state g.S.Store c.loop-at.tx.conn.now).now past made.0, made.1)

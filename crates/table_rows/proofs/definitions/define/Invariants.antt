@@ -1,6 +1,7 @@
 use Rattle.std.proofs.Common.{◌≡◌, ◌<◌, IsTrue, length, drop, take}
 use Rattle.sqlite_schema.specs.declared.schema.Schema.{Schema}
 use Rattle.sqlite_trees.specs.Tree.{Trees}
+use Rattle.sqlite.specs.Effect.{IsDatabase}
 use Rattle.sqlite.specs.Held.{state}
 use Rattle.sqlite.specs.State.{HasCleanDisk, KeepsCommit, Survives}
 use Rattle.table_meaning.specs.Schema.{parts_at}
@@ -16,5 +17,5 @@ invariant-loop-at g l =
     (l.tx.conn.ghost_name ≡ l.initial.tx.conn.ghost_name) × Survives old now (λ _. ⊥) × (HasCleanDisk now → KeepsCommit old now)
     × (HasCleanDisk now → IsTrue old.in_transaction → IsTrue now.in_transaction)
     × (HasCleanDisk now → IsTrue old.in_transaction → (wanted : Schema) (rows : Trees) → IsLeft wanted rows (definitions_between l.from l.to) old.now
-    → IsLeft wanted rows (drop l.at (take (length (parts_at l.to)) definitions)) now.now)
+    → IsLeft wanted rows (drop l.at (take (length (parts_at l.to)) definitions)) now.now × (IsDatabase old.now → IsDatabase now.now))
     × (HasCleanDisk now → length (parts_at l.from) < l.at → IsTrue old.is_open × IsTrue now.in_transaction)

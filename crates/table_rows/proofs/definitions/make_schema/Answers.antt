@@ -18,5 +18,5 @@ returns g c = record {
       let late : HasCleanDisk (state g.S.Store end) = search rules in
       let early : HasCleanDisk (state g.S.Store mid) = omega (arith, c.commit.ensures.survives.clean) in
       let left = (rw begun at c.in_ok-define.ensures.made) early refl (schema_at n) no_rows (none_made n c.requires (state g.S.Store c.args.conn.now).now none) in
-      subst (λ h. (state g.S.Store h).now.schema ≡ schema_at n) same (ap (λ (db : Database). db.schema) (c.in_ok-commit.ensures.ok late).1.now_is ∙ left.whole);
+      subst (λ h. (state g.S.Store h).now.schema ≡ schema_at n) same (ap (λ (db : Database). db.schema) (c.in_ok-commit.ensures.ok late).1.now_is ∙ left.0.whole);
 }

@@ -17,7 +17,7 @@ returns-clause-upgrades g c clean inside is contents calls first =
     let early : HasCleanDisk (state g.S.Store made) = omega (arith, later, c.copy_calls.ensures.survives.clean) in
     let left = c.in_ok-define.ensures.made early inside stored_schema (rows_at n old.trees) (earlier_made n c.requires old is) in
     let one : n ≡ 1 = omega (arith, c.requires.0, c.requires.1) in
-    let start = begun old (state g.S.Store made).now (subst (λ m. IsLeft stored_schema (rows_at m old.trees) [] (state g.S.Store made).now) one left) contents calls first in
+    let start = begun old (state g.S.Store made).now (subst (λ m. IsLeft stored_schema (rows_at m old.trees) [] (state g.S.Store made).now) one left.0) (left.1 first.held.known.sound) contents calls first in
     let within = c.in_ok-define.ensures.inside early inside in
     let all = c.in_ok-copy_calls.ensures.copies later within contents calls start in
     (c.in_ok-put_schema.ensures.moves clean (c.in_ok-copy_calls.ensures.inside later within)).puts _ all
