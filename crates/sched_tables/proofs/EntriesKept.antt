@@ -41,7 +41,7 @@ use Rattle.sched_tables.proofs.FourKept.{slots_keep_the_latest}
 
 -- ---- the row of an entry
 
-same_bytes : (a b : List ℕ) → bytes_eq a b ≡ true → a ≡ b
+pub same_bytes : (a b : List ℕ) → bytes_eq a b ≡ true → a ≡ b
 same_bytes a b = (bytes_eq-Decides a b).0
 
 itself : (a : List ℕ) → bytes_eq a a ≡ true
@@ -51,11 +51,11 @@ other_key : (a b : RowKey) → (same_key a b || false) ≡ false → a ≡ b →
 other_key a b apart same = absurd (true≢false (sym (ap (λ k. same_key k b || false) same ∙ ap (λ c. c || false) (key_itself b)) ∙ apart))
 
 -- the calls in slots with one more
-abbrev with_call : ℕ → ℕ → Kept → SlotCalls → SlotCalls
+abbrev pub with_call : ℕ → ℕ → Kept → SlotCalls → SlotCalls
 with_call host slot k calls id other = cond (eqb host id) (with_slot slot k (calls id) other) (calls id other)
 
 -- the imports with one more
-abbrev with_import : Kind → List ℕ → KeptBatch → Imports → Imports
+abbrev pub with_import : Kind → List ℕ → KeptBatch → Imports → Imports
 with_import kind name b batches k n = cond (bytes_eq (kind_name kind) k && bytes_eq name n) (Some (b.text, b.answer)) (batches k n)
 
 -- what a store would say of calls in slots, and of imports

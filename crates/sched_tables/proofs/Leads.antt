@@ -1,5 +1,5 @@
 -- Rows put lead from tables that hold a world to tables that hold the next one.
-use Rattle.std.proofs.Common.{◌≡◌, IsTrue, List, [], ◌++◌, Option, false, true≢false, Result, Ok, Err, is_err, OnOk, OnErr, sym, ap, subst, ◌∙◌, option_map, arith}
+use Rattle.std.proofs.Common.{◌≡◌, IsTrue, List, [], ◌++◌, Option, true, false, true≢false, Result, Ok, Err, is_err, OnOk, OnErr, sym, ap, subst, ◌∙◌, option_map, arith}
 use Rattle.std.specs.List.{cons_option}
 use Rattle.sqlite.specs.Effect.{Database}
 use Rattle.sqlite.specs.State.{State, Survives}
@@ -58,6 +58,10 @@ leaves_made old mid new w cs e rows Kept reads put puts rests =
 pub was_ok : {T E : Type 0} (r : Result T E) (P : Type 0) → is_err r ≡ false → OnOk r P → P
 was_ok (Ok x) P good holds = holds
 was_ok (Err e) P good holds = absurd (true≢false good)
+
+pub was_err : {T E : Type 0} (r : Result T E) (P : Type 0) → is_err r ≡ true → OnErr r P → P
+was_err (Ok x) P bad holds = absurd (true≢false (sym bad))
+was_err (Err e) P bad holds = holds
 
 pub all_ok : {T E : Type 0} (r : Result T E) (A B C D : Type 0) → OnOk r A → OnOk r B → OnOk r C → (A → B → C → D) → OnOk r D
 all_ok (Ok x) A B C D a b c f = f a b c

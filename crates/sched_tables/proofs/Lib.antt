@@ -4,6 +4,7 @@ pub mod Leads
 pub mod NewTables
 pub mod Opened
 pub mod Refusals
+pub mod Reopened
 pub mod Stops
 pub mod Told
 pub mod Upgraded

@@ -82,7 +82,7 @@ not_said trees other said = go (look_up trees (setting_key (codes "schema"))) re
 -- ---- tables of the newest schema
 
 -- are of no earlier one
-none_earlier : (db : Database) → AreKnown db → (n : ℕ) → ¬ AreEarlier n db
+pub none_earlier : (db : Database) → AreKnown db → (n : ℕ) → ¬ AreEarlier n db
 none_earlier db known n earlier =
     let one : n ≡ 1 = omega (arith, earlier.earlier.0, earlier.earlier.1) in
     let fewer : 9 ≡ 10 = ap (λ s. length s.tables) (sym (subst (λ m. db.schema ≡ schema_at m) one earlier.known.schema) ∙ known.schema) in

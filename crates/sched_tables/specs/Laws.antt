@@ -5,8 +5,14 @@ use Rattle.sched_book.specs.Sound.{Sound}
 use Rattle.sqlite.specs.Effect.{Database}
 use Rattle.sched_book.specs.declared.world.World.{World}
 use Rattle.stores.specs.Held.{Held, IsLeft}
+use Rattle.table_meaning.specs.Kept.{calls_in, batches_in}
+use Rattle.table_meaning.specs.Reads.{Reads}
 use Rattle.table_meaning.specs.Upgrades.{HostCalls, HoldFirstWorld, UpgradesWorld}
+use Rattle.table_meaning.specs.Worlds.{SlotCalls, HoldWorld}
+use Rattle.table_reading.specs.Reading.{AreUtf8, MayStandBeside}
+use Rattle.table_worlds.specs.StoredWorld.{world_in}
 use Rattle.sched_tables.specs.Commits.{Imports}
+use Rattle.sched_tables.specs.Reopening.{AreTaken, CanBeOpened, Reopens}
 use Rattle.sched_tables.specs.Upgrading.{first_held}
 use Rattle.sched_tables.specs.Stops.{MayBeFound}
 use Rattle.sched_tables.specs.Views.{state_of, world_of, held_of, AreKept}
@@ -17,6 +23,18 @@ abbrev pub ReopenedHolds : {S R : Type 0} → Ghosts S → Ghosts R → Type 0
 ReopenedHolds {S} {R} before after =
     (old : Tables S) (t : Tables R) → AreKept after t → Sound (world_of after t) → (h : Held) → (found : MayBeFound (state_of before old) h)
     → found.trees ≡ (state_of after t).now.trees → IsLeft (held_of after t) h
+
+-- Tables that hold a sound world, with what may be kept beside it, can be opened again.
+abbrev pub HeldCanBeOpened : Type 0
+HeldCanBeOpened = (db : Database) (w : World) (calls : SlotCalls) (batches : Imports) → Sound w → MayStandBeside w calls batches → HoldWorld db w calls batches → CanBeOpened db
+
+-- Tables that can be opened again are taken, where their texts are UTF-8.
+abbrev pub OpenedAreTaken : Type 0
+OpenedAreTaken = (db : Database) → CanBeOpened db → AreUtf8 (world_in db.trees) (calls_in db.trees) (batches_in db.trees) → AreTaken db
+
+-- A read leaves what can be opened again so.
+abbrev pub ReadsReopen : {S : Type 0} → Ghosts S → Type 0
+ReadsReopen {S} store = (old new : Tables S) → Reads (state_of store old) (state_of store new) → AreKept store old → Reopens (state_of store old) → Reopens (state_of store new)
 
 -- Tables that were upgraded hold what those of the first schema held.
 abbrev pub UpgradedHolds : {S : Type 0} → Ghosts S → Type 0

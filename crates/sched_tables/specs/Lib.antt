@@ -5,6 +5,7 @@ pub mod Held
 pub mod Refusals
 pub mod ReadLaws
 pub mod Remembering
+pub mod Reopening
 pub mod Stops
 pub mod StopLaws
 pub mod Views

@@ -7,9 +7,12 @@ ghost use Rattle.sched_tables.specs.Entries.{ArePutWith, IsRowOf, MakesWith};
 ghost use Rattle.table_meaning.specs.Holding.{AreKnown};
 ghost use Rattle.table_meaning.specs.Kept.{calls_in};
 ghost use Rattle.sqlite.specs.Held.{state};
+ghost use Rattle.sched_book.specs.Delta.{applied};
+ghost use Rattle.sched_book.specs.Sound.{Sound};
 ghost use Rattle.sched_book.specs.declared.world.World.{World};
 ghost use Rattle.sched_tables.specs.Held.{IsHonest};
 ghost use Rattle.sched_tables.specs.Remembering.{AreRemembered};
+ghost use Rattle.sched_tables.specs.Reopening.{Reopens, MayBeKept};
 ghost use Rattle.sched_tables.specs.Views.{state_of, world_of, AreKept};
 ghost use Rattle.table_meaning.specs.Reads.{Reads};
 
@@ -82,7 +85,9 @@ impl<S: Alter> Tables<S> {
     /// Makes these changes and keeps what the entry tells, in one transaction: where it is unavailable, neither is done, unless
     /// a fault has shut the connection. Where it is good, the connection is open. It puts the rows that the changes touch, and
     /// looks at no others. What was read before is forgotten, so that each later look-up sees the rows that were put. A stop
-    /// at any moment leaves what a stop could leave before, or the whole, and this only where the connection was open.
+    /// at any moment leaves what a stop could leave before, or the whole, and this only where the connection was open. Where
+    /// the changes leave a sound world, and what the entry keeps may stand beside it, tables that could be opened again still
+    /// can, and so can whatever a stop leaves.
     pub fn commit(&mut self, delta: &Delta, entry: &Entry) -> Result<(), Unavailable>
         ensures honest { IsHonest (state_of S.Store self.new) → IsHonest (state_of S.Store self.old) }
         ensures open { HasCleanDisk (state_of S.Store self.new) → OnOk result (IsTrue (state_of S.Store self.new).is_open) }
@@ -99,6 +104,8 @@ impl<S: Alter> Tables<S> {
         ensures crash { Survives (state_of S.Store self.old) (state_of S.Store self.new)
             (λ trees. IsTrue (state_of S.Store self.old).is_open × (AreKept S.Store self.old
             → (db : _) × MakesWith (world_of S.Store self.old) delta.now entry.now (state_of S.Store self.old).now db × (trees ≡ db.trees))) }
+        ensures reopens { AreKept S.Store self.old → Sound (applied (world_of S.Store self.old) delta.now) → MayBeKept (applied (world_of S.Store self.old) delta.now) entry.now
+            → Reopens (state_of S.Store self.old) → Reopens (state_of S.Store self.new) }
     {
         let rows = self.rows_with(delta, entry);
         self.remembered.forget();

@@ -2,7 +2,7 @@
 
 ghost use Rattle.sqlite.specs.Steps.{over_memory};
 ghost use Rattle.sched_tables.specs.Held.{NeverFails};
-ghost use Rattle.sched_tables.specs.Laws.{ReopenedHolds, UpgradedHolds};
+ghost use Rattle.sched_tables.specs.Laws.{HeldCanBeOpened, OpenedAreTaken, ReadsReopen, ReopenedHolds, UpgradedHolds};
 
 use sqlite::Alter;
 
@@ -20,4 +20,21 @@ pub fn reopened_holds<S: Alter, R: Alter>()
 /// call.
 pub fn upgraded_holds<S: Alter>()
     ensures { UpgradedHolds S.Store }
+{}
+
+/// Tables that hold a sound world, with calls and imports that may be kept beside it, can be opened again: they are those of
+/// the newest schema, which say so, and their rows are those of a sound world with what may be kept beside it.
+pub fn held_can_be_opened()
+    ensures { HeldCanBeOpened }
+{}
+
+/// Tables that can be opened again are taken by an opening, where their texts are UTF-8, as each text of the program is: only
+/// memory or the disk refuses them.
+pub fn opened_are_taken()
+    ensures { OpenedAreTaken }
+{}
+
+/// A read leaves tables that can be opened again so.
+pub fn reads_reopen<S: Alter>()
+    ensures { ReadsReopen S.Store }
 {}

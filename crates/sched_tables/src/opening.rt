@@ -5,12 +5,14 @@ ghost use Rattle.sqlite.specs.Held.{state};
 ghost use Rattle.sqlite.specs.State.{HasCleanDisk};
 ghost use Rattle.sqlite.specs.Steps.{over_memory};
 ghost use Rattle.sched_book.specs.Sound.{Sound};
+ghost use Rattle.sched_book.specs.Step.{empty_world};
 ghost use Rattle.stores.specs.Held.{Held, IsLeft, IsNew};
 ghost use Rattle.table_meaning.specs.Schema.{no_schema};
 ghost use Rattle.table_reading.specs.Reading.{ReadFrom};
 ghost use Rattle.table_rows.specs.Refusing.{fault_of, given_back, IsAtRest};
 ghost use Rattle.sched_tables.specs.Held.{IsHonest, NeverFails};
 ghost use Rattle.sched_tables.specs.Refusals.{AreRefusedFor};
+ghost use Rattle.sched_tables.specs.Reopening.{Reopens};
 ghost use Rattle.sched_tables.specs.Stops.{MayBeFound};
 ghost use Rattle.sched_tables.specs.Views.{state_of, world_of, held_of, AreKept};
 
@@ -26,7 +28,7 @@ use texts::Listed;
 
 impl<S: Alter + Drop> Tables<S> {
     /// Makes the tables in a database that has none, with these settings and in one transaction: the world in which nothing
-    /// stands, of which nothing was heard.
+    /// stands, of which nothing was heard. Where that is sound, they can be opened again.
     pub fn create(
         alloc: Global,
         mut conn: Connection<S>,
@@ -38,6 +40,7 @@ impl<S: Alter + Drop> Tables<S> {
         ensures taken { IfErr result (λ e. e ≡ OpenFault.NotTables → (state S.Store conn).now.schema ≢ no_schema) }
         ensures never_bad { IfErr result (λ e. e ≢ OpenFault.BadRow) }
         ensures never_old { IfErr result (λ e. (n : ℕ) → e ≢ OpenFault.OldSchema n) }
+        ensures reopens { Sound (empty_world settings.now) → IfOk result (λ t. Reopens (state_of S.Store t)) }
     {
         let kept = copy_of(settings)?;
         let rows = setting_rows(alloc, settings)?;
@@ -57,7 +60,7 @@ impl<S: Alter + Drop> Tables<S> {
     /// no schema, or do not say of which; `BadRow` where the rows are not those of a sound world with what may be kept beside
     /// it, as [`table_reading::stored_world`] says. These exclude one another. A connection that is given back is opened anew:
     /// it is at rest, and its file is as it was. Where memory or the disk failed, it is dropped. A stop that finds the tables
-    /// opened leaves what they hold.
+    /// opened leaves what they hold, and that can be opened again.
     pub fn adopt(alloc: Global, conn: Connection<S>) -> Result<Tables<S>, Refused<S>>
         ensures open { IfOk result (λ t. HasCleanDisk (state_of S.Store t) → IsHonest (state_of S.Store t)) }
         ensures sound { IfOk result (λ t. HasCleanDisk (state_of S.Store t) → Sound (world_of S.Store t)) }
@@ -65,6 +68,7 @@ impl<S: Alter + Drop> Tables<S> {
         ensures same { IfOk result (λ t. HasCleanDisk (state_of S.Store t) → (state_of S.Store t).now ≡ (state S.Store conn).committed) }
         ensures rows { IfOk result (λ t. HasCleanDisk (state_of S.Store t) → ReadFrom (state_of S.Store t).now.trees (world_of S.Store t)) }
         ensures stop { IfOk result (λ t. HasCleanDisk (state_of S.Store t) → (h : Held) → MayBeFound (state_of S.Store t) h → IsLeft (held_of S.Store t) h) }
+        ensures reopens { IfOk result (λ t. Reopens (state_of S.Store t)) }
         ensures refused { IfErr result (λ e. IfSome (given_back e) (λ c. HasCleanDisk (state S.Store c) → AreRefusedFor (fault_of e) (state S.Store conn).committed)) }
         ensures back { IfErr result (λ e. IfSome (given_back e) (λ c. HasCleanDisk (state S.Store c) → IsAtRest (state S.Store conn).committed (state S.Store c))) }
     {
@@ -98,6 +102,7 @@ impl<S: Alter + Drop> Tables<S> {
         ensures same { IfOk result (λ t. HasCleanDisk (state_of S.Store t) → (state_of S.Store t).now ≡ (state S.Store conn).committed) }
         ensures rows { IfOk result (λ t. HasCleanDisk (state_of S.Store t) → ReadFrom (state_of S.Store t).now.trees (world_of S.Store t)) }
         ensures stop { IfOk result (λ t. HasCleanDisk (state_of S.Store t) → (h : Held) → MayBeFound (state_of S.Store t) h → IsLeft (held_of S.Store t) h) }
+        ensures reopens { IfOk result (λ t. Reopens (state_of S.Store t)) }
         ensures refused { NeverFails S.Store → IfErr result (λ e. AreRefusedFor e (state S.Store conn).committed) }
     {
         Ok(Tables::adopt(alloc, conn)?)

@@ -20,12 +20,12 @@ use Rattle.table_reading.specs.Reading.{AllRows, AreAllRead, StandFor, is_call_o
 
 -- ---- what passes is of its table
 
-each_passes : {X : Type 0} (p : X → Bool) (xs : List X) (x : X) → list_all p xs ≡ true → Has xs x → p x ≡ true
+pub each_passes : {X : Type 0} (p : X → Bool) (xs : List X) (x : X) → list_all p xs ≡ true → Has xs x → p x ≡ true
 each_passes p [] x all has = absurd has
 each_passes p (y ∷ ys) x all (inl same) = ap p same ∙ (and_parts (p y) (list_all p ys) all).0
 each_passes p (y ∷ ys) x all (inr later) = each_passes p ys x (and_parts (p y) (list_all p ys) all).1 later
 
-call_table : (w : World) (r : StoredRow) → is_call_of w r ≡ true → table_at (key_of r) ≡ name.Kept
+pub call_table : (w : World) (r : StoredRow) → is_call_of w r ≡ true → table_at (key_of r) ≡ name.Kept
 call_table w (stored.Kept k) is = refl
 call_table w (stored.Setting r) is = absurd (true≢false (sym is))
 call_table w (stored.Account r) is = absurd (true≢false (sym is))
@@ -36,7 +36,7 @@ call_table w (stored.Host r) is = absurd (true≢false (sym is))
 call_table w (stored.Instance r) is = absurd (true≢false (sym is))
 call_table w (stored.Batch r) is = absurd (true≢false (sym is))
 
-import_table : (r : StoredRow) → is_import r ≡ true → table_at (key_of r) ≡ name.Batch
+pub import_table : (r : StoredRow) → is_import r ≡ true → table_at (key_of r) ≡ name.Batch
 import_table (stored.Batch b) is = refl
 import_table (stored.Setting r) is = absurd (true≢false (sym is))
 import_table (stored.Account r) is = absurd (true≢false (sym is))
@@ -53,7 +53,7 @@ import_table (stored.Kept r) is = absurd (true≢false (sym is))
 abbrev shown_call : ℕ → ℕ → Row → StoredRow
 shown_call host slot row = stored.Kept (call_row host slot (call_of row))
 
-abbrev import_row : List ℕ → List ℕ → Row → StoredRow
+abbrev pub import_row : List ℕ → List ℕ → Row → StoredRow
 import_row kind text row = stored.Batch (record { kind = kind; name = text; text = (batch_of row).0; answer = (batch_of row).1 })
 
 host_in : RowKey → ℕ
@@ -72,7 +72,7 @@ name_in : RowKey → List ℕ
 name_in (batch_key kind text) = text
 name_in other = []
 
-call_shown : (w : World) (host slot : ℕ) (s : StoredRow) → is_call_of w s ≡ true → key_of s ≡ kept_key host slot → columns_of s ≡ columns_of (shown_call host slot (columns_of s))
+pub call_shown : (w : World) (host slot : ℕ) (s : StoredRow) → is_call_of w s ≡ true → key_of s ≡ kept_key host slot → columns_of s ≡ columns_of (shown_call host slot (columns_of s))
 unfolding host_in slot_in
 call_shown w host slot (stored.Kept k) is key =
     ap (λ h. columns_of (stored.Kept (record k { host_id = h }))) (ap host_in key)
@@ -86,7 +86,7 @@ call_shown w host slot (stored.Host r) is key = absurd (true≢false (sym is))
 call_shown w host slot (stored.Instance r) is key = absurd (true≢false (sym is))
 call_shown w host slot (stored.Batch r) is key = absurd (true≢false (sym is))
 
-import_shown : (kind text : List ℕ) (s : StoredRow) → is_import s ≡ true → key_of s ≡ batch_key kind text → columns_of s ≡ columns_of (import_row kind text (columns_of s))
+pub import_shown : (kind text : List ℕ) (s : StoredRow) → is_import s ≡ true → key_of s ≡ batch_key kind text → columns_of s ≡ columns_of (import_row kind text (columns_of s))
 unfolding kind_in name_in
 import_shown kind text (stored.Batch b) is key =
     ap (λ k. columns_of (stored.Batch (record { kind = k; name = b.name; text = b.text; answer = b.answer }))) (ap kind_in key)

@@ -1,5 +1,7 @@
 pub mod CallsTested
 pub mod CountsNoted
+pub mod Formatted
+pub mod HeldRows
 pub mod KeptRows
 pub mod ReadsOn
 pub mod RowsTaken

@@ -1,11 +1,17 @@
-use Rattle.std.proofs.Common.{◌≡◌, sym, subst, rules, arith}
+use Rattle.std.proofs.Common.{◌≡◌, sym, subst, ◌∙◌, inl, inr, rules, arith}
 use Rattle.sqlite.specs.Held.{state}
-use Rattle.sqlite.specs.State.{HasCleanDisk}
+use Rattle.sqlite.specs.State.{State, HasCleanDisk}
 use Rattle.table_meaning.specs.Steps.{PutsRows}
 use Rattle.table_meaning.specs.Kept.{calls_in}
 use Rattle.sched_tables.specs.Entries.{ArePutWith}
 use Rattle.sched_tables.specs.Views.{world_of, AreKept}
-use Rattle.sched_tables.proofs.Leads.{puts_all, leaves_made, was_ok}
+use Rattle.table_meaning.specs.Reads.{Reads}
+use Rattle.table_worlds.specs.StoredWorld.{world_in}
+use Rattle.sched_tables.specs.Held.{IsHonest, AreWellKept}
+use Rattle.sched_tables.specs.ReadLaws.{was_honest}
+use Rattle.sched_tables.specs.Reopening.{Reopens}
+use Rattle.sched_tables.proofs.Leads.{puts_all, leaves_made, was_ok, was_err}
+use Rattle.sched_tables.proofs.Reopened.{reads_reopen, commit_reopens}
 use Rattle.sched_tables.proofs.tables.Tables.commit.Goals as goal
 
 pub returns-clause-made : goal.returns-clause-made
@@ -37,3 +43,36 @@ returns-then-is_err-clause-crash g c =
     leaves_made (state g.S.Store before.conn) (state g.S.Store c.rows_with-rows.new.self.conn) (state g.S.Store c.put_rows.new.conn) (world_of g.S.Store before) cs c.args.entry.now c.as_slice.result.now
     (AreKept g.S.Store before) c.rows_with-rows.ensures.reads c.put_rows.ensures.crash
     (λ honest kept. subst (ArePutWith (world_of g.S.Store before) cs (calls_in (state g.S.Store before.conn).now.trees) c.args.entry.now) (sym c.as_slice.ensures) (c.in_ok-rows.ensures.rows honest kept)) (λ kept. kept.0.rests)
+
+-- where nothing was put
+reads_left : (old new : State) → Reads old new → AreWellKept old (world_in old.now.trees) → Reopens old → Reopens new
+reads_left old new reads kept reopens = reads_reopen old new reads kept.rests reopens
+
+pub returns-in_err-rows-clause-reopens : goal.returns-in_err-rows-clause-reopens
+returns-in_err-rows-clause-reopens g c = λ kept sound may reopens. reads_left _ _ c.rows_with-rows.ensures.reads kept.0 reopens
+
+pub returns-in_err-apps-clause-reopens : goal.returns-in_err-apps-clause-reopens
+returns-in_err-apps-clause-reopens g c = λ kept sound may reopens. reads_left _ _ c.rows_with-rows.ensures.reads kept.0 reopens
+
+pub returns-then-is_err-clause-reopens : goal.returns-then-is_err-clause-reopens
+returns-then-is_err-clause-reopens g c = λ kept sound may reopens.
+    let before = c.args.self.now in
+    let old = state g.S.Store before.conn in
+    let mid = state g.S.Store c.rows_with-rows.new.self.conn in
+    let new = state g.S.Store c.put_rows.new.conn in
+    let reads = c.rows_with-rows.ensures.reads in
+    let early = λ (honest : IsHonest new). let clean : HasCleanDisk mid = omega (arith, c.put_rows.ensures.crash.clean, honest.0) in let h : IsHonest mid = (clean, c.put_rows.ensures.was_open honest.0 honest.1) in h in
+    commit_reopens old new c.args.delta.now c.args.entry.now kept.0 sound may reopens (AreKept g.S.Store before) kept (returns-then-is_err-clause-crash g c)
+    (λ honest. was_honest old mid reads (early honest))
+    (λ honest. inr ((was_err c.put_rows.result _ (search rules) (c.put_rows.ensures.neither honest.0 honest.1)).0 ∙ (reads.same (early honest).0 (early honest).1 kept.0.rests).0))
+
+pub returns-clause-reopens : goal.returns-clause-reopens
+returns-clause-reopens g c = λ kept sound may reopens.
+    let before = c.args.self.now in
+    let old = state g.S.Store before.conn in
+    let mid = state g.S.Store c.rows_with-rows.new.self.conn in
+    let new = state g.S.Store c.put_rows.new.conn in
+    let early = λ (honest : IsHonest new). let clean : HasCleanDisk mid = omega (arith, c.put_rows.ensures.crash.clean, honest.0) in let h : IsHonest mid = (clean, c.put_rows.ensures.was_open honest.0 honest.1) in h in
+    commit_reopens old new c.args.delta.now c.args.entry.now kept.0 sound may reopens (AreKept g.S.Store before) kept (returns-clause-crash g c)
+    (λ honest. was_honest old mid c.rows_with-rows.ensures.reads (early honest))
+    (λ honest. inl (returns-clause-made g c honest kept))

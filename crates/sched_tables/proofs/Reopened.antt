@@ -1,0 +1,187 @@
+-- What can be opened again, and what a read and a commit leave of that.
+use Rattle.std.proofs.Common.{◌≡◌, ◌⊎◌, ◌≤◌, ℕ, ◌<◌, Bool, true, ◌&&◌, cond, eqb, List, Option, Some, None, codes, option_map, length, refl, sym, ap, subst, ◌∙◌, inl, inr, arith, IsTrue}
+use Rattle.std.specs.Prelude.{IfSome, is_some, nat_le, nat_lt}
+use Rattle.std.specs.Str.{bytes_eq}
+use Rattle.std.proofs.lemmas.Bool.{and_from, and_parts, eqb-true}
+use Rattle.std.proofs.lemmas.Option.{none-some}
+use Rattle.sqlite.specs.Effect.{Database, IsDatabase}
+use Rattle.sqlite.specs.State.{State, HasCleanDisk, Survives}
+use Rattle.sqlite_trees.specs.Tree.{Trees}
+use Rattle.sqlite_value.specs.Order.{column}
+use Rattle.reply_register.specs.declared.kept.Kept.{Kept}
+use Rattle.reply_register.specs.Keeping.{most_kept}
+use Rattle.texts.specs.Words.{is_word}
+use Rattle.sched_book.specs.Delta.{applied}
+use Rattle.sched_book.specs.Places.{host_at}
+use Rattle.sched_book.specs.Sound.{Sound}
+use Rattle.sched_book.specs.declared.delta.Change.{Change}
+use Rattle.sched_book.specs.declared.rows.HostRow.{HostRow}
+use Rattle.sched_book.specs.declared.world.World.{World}
+use Rattle.stores.specs.Kinds.{kind_name, kind_of}
+use Rattle.stores.specs.declared.batch.KeptBatch.{KeptBatch}
+use Rattle.stores.specs.declared.entry.Entry.{Entry}
+use Rattle.stores.specs.declared.entry.Entry.TheVariants as entry
+use Rattle.stores.specs.declared.kind.Kind.{Kind}
+use Rattle.stores.specs.declared.kind.Kind.TheVariants.{Accounts, Apps, Versions, Workunits}
+use Rattle.table_meaning.specs.declared.rows.StoredRow.{StoredRow}
+use Rattle.table_meaning.specs.declared.rows.StoredRow.TheVariants as stored
+use Rattle.table_meaning.specs.Kept.{calls_in, batches_in}
+use Rattle.table_meaning.specs.Reads.{Reads}
+use Rattle.table_meaning.specs.Rows.{setting_key}
+use Rattle.table_meaning.specs.Worlds.{BatchText, SlotCalls, call_row, contents_of, HoldWorld}
+use Rattle.table_reading.specs.Reading.{ReadFrom, MayStandBeside, is_call_of, is_import, last_seqno, most_import_bytes}
+use Rattle.table_reading.proofs.Formatted.{have_formats}
+use Rattle.table_reading.proofs.HeldRows.{read_beside, formed, held_is_read, stands_for_one}
+use Rattle.table_reading.proofs.KeptRows.{held_by_rows}
+use Rattle.table_rows.specs.declared.opening.OpenFault.TheVariants.{NotTables, OldSchema, BadRow, Unavailable}
+use Rattle.table_rows.proofs.Reopening.{one_database}
+use Rattle.table_worlds.specs.declared.keys.WorldKey.TheVariants.{Host}
+use Rattle.table_worlds.specs.StoredWorld.{world_in}
+use Rattle.table_worlds.proofs.NothingGoes.{none_goes}
+use Rattle.table_worlds.proofs.StaysReadable.{sound_is_readable}
+use Rattle.table_worlds.proofs.WorldReadBack.{held_is_read_back}
+use Rattle.sched_tables.specs.Commits.{Imports}
+use Rattle.sched_tables.specs.Entries.{IsRowOf, MakesWith}
+use Rattle.sched_tables.specs.Held.{IsHonest, AreWellKept}
+use Rattle.sched_tables.specs.Laws.{HeldCanBeOpened, OpenedAreTaken}
+use Rattle.sched_tables.specs.Slots.{with_slot}
+use Rattle.sched_tables.specs.ReadLaws.{was_honest, was_clean}
+use Rattle.sched_tables.specs.Reopening.{CanBeOpened, Reopens, MayBeKept}
+use Rattle.sched_tables.proofs.EntriesKept.{same_bytes, are_kept_then, now_held}
+use Rattle.sched_tables.proofs.Refusals.{none_earlier}
+
+-- ---- tables that hold a sound world
+
+pub held_can_be_opened : HeldCanBeOpened
+held_can_be_opened db w calls batches sound beside holds = record {
+  newest = record { known = holds.known; said = ap (option_map (λ row. column row 1)) (holds.rows (setting_key (codes "schema"))) };
+  rows = subst (ReadFrom db.trees) (sym (held_is_read_back db w calls batches holds (sound_is_readable w sound))) (held_is_read db w calls batches holds sound beside);
+}
+
+pub opened_are_taken : OpenedAreTaken
+opened_are_taken db can utf8 NotTables others = absurd (others.not_newest can.newest)
+opened_are_taken db can utf8 (OldSchema n) earlier = absurd (none_earlier db can.newest.known n earlier)
+opened_are_taken db can utf8 BadRow spoiled =
+    let w = world_in db.trees in
+    let calls = calls_in db.trees in
+    let batches = batches_in db.trees in
+    let read = can.rows.1 in
+    let stand = can.rows.2 in
+    let holds = held_by_rows db w can.rows.0 can.newest.known read stand in
+    let beside = read_beside db w can.rows.0 read stand in
+    absurd (elim spoiled.rows [
+      | inl bad ↦ formed db (contents_of w calls batches) holds (have_formats w calls batches stand.sound beside utf8) bad
+      | inr none ↦ stands_for_one db w calls batches holds stand.sound beside none
+    ])
+opened_are_taken db can utf8 Unavailable refused = refl
+
+-- ---- at rest, and behind a read
+
+-- another database with the same rows is the same
+same_can_be_opened : (db other : Database) → IsDatabase other → other.trees ≡ db.trees → CanBeOpened db → CanBeOpened other
+same_can_be_opened db other sound same can = subst CanBeOpened (sym (one_database other db same sound can.newest.known.sound)) can
+
+pub rest_reopens : (s : State) → (HasCleanDisk s → IsTrue s.is_open) → (HasCleanDisk s → s.now ≡ s.committed) → ((trees : Trees) → IsTrue s.is_open → s.may_leave trees → trees ≡ s.committed.trees) → (HasCleanDisk s → CanBeOpened s.now)
+    → Reopens s
+rest_reopens s is_open rests settled can = record {
+  now = λ honest. can honest.0;
+  stop = λ clean db sound left. same_can_be_opened s.now db sound (settled db.trees (is_open clean) left ∙ ap (λ (d : Database). d.trees) (sym (rests clean))) (can clean);
+}
+
+pub reads_reopen : (old new : State) → Reads old new → old.now ≡ old.committed → Reopens old → Reopens new
+reads_reopen old new reads rests reopens = record {
+  now = λ honest. subst CanBeOpened (sym (reads.same honest.0 honest.1 rests).0) (reopens.now (was_honest old new reads honest));
+  stop = λ clean db sound left. elim (reads.survives.crash clean db.trees left) [
+    | inl before ↦ reopens.stop (was_clean old new reads clean) db sound before
+    | inr none ↦ absurd none
+  ];
+}
+
+-- ---- what is kept beside a world with changes made
+
+host_stays : (w : World) (cs : List Change) (host : ℕ) → is_some (host_at w host) ≡ true → is_some (host_at (applied w cs) host) ≡ true
+host_stays w cs host stands = go (host_at (applied w cs) host) refl
+  where
+    none_there : {X : Type 0} (f : HostRow → X) (o : Option HostRow) → option_map f o ≡ None → is_some o ≡ true → ⊥
+    none_there f None none some = cc
+    none_there f (Some h) none some = cc
+
+    go : (o : Option HostRow) → host_at (applied w cs) host ≡ o → is_some o ≡ true
+    go None gone = absurd (none_there _ (host_at w host) (none_goes w cs (Host host) (ap (option_map _) gone)) stands)
+    go (Some h) there = refl
+
+beside_changes : (w : World) (cs : List Change) (calls : SlotCalls) (batches : Imports) → MayStandBeside w calls batches → MayStandBeside (applied w cs) calls batches
+beside_changes w cs calls batches beside = record { calls_fit = λ host slot. go host slot (calls host slot) (beside.calls_fit host slot); imports_fit = beside.imports_fit }
+  where
+    go : (host slot : ℕ) (o : Option Kept) → IfSome o (λ k. IsTrue (is_call_of w (stored.Kept (call_row host slot k)))) → IfSome o (λ k. IsTrue (is_call_of (applied w cs) (stored.Kept (call_row host slot k))))
+    go host slot None fits = tt
+    go host slot (Some k) fits =
+        let parts = and_parts (is_some (host_at w host)) (nat_lt slot most_kept && nat_le k.seqno last_seqno) fits in
+        and_from (is_some (host_at (applied w cs) host)) (nat_lt slot most_kept && nat_le k.seqno last_seqno) (host_stays w cs host parts.0) parts.1
+
+kind_told : (kind : Kind) → is_some (kind_of (kind_name kind)) ≡ true
+kind_told Accounts = refl
+kind_told Apps = refl
+kind_told Versions = refl
+kind_told Workunits = refl
+
+-- with what an entry keeps
+beside_entry : (w : World) (e : Entry) (row : Option StoredRow) (calls : SlotCalls) (batches : Imports) (is : IsRowOf calls e row) → MayBeKept w e → MayStandBeside w calls batches
+    → MayStandBeside w (are_kept_then w e row calls batches is).calls' (are_kept_then w e row calls batches is).batches'
+unfolding are_kept_then
+beside_entry w (entry.Kept host k) row calls batches is may beside =
+    record { calls_fit = λ id other. go id other (eqb host id) refl (eqb is.0 other) refl; imports_fit = beside.imports_fit }
+  where
+    go : (id other : ℕ) (b : Bool) → eqb host id ≡ b → (c : Bool) → eqb is.0 other ≡ c
+        → IfSome (cond b (cond c (Some k) (calls id other)) (calls id other)) (λ k. IsTrue (is_call_of w (stored.Kept (call_row id other k))))
+    go id other true one true two =
+        let slot : nat_lt is.0 most_kept ≡ true = grind (arith, is.1.within) in
+        let number : nat_le k.seqno last_seqno ≡ true = grind (arith, may.1) in
+        subst (λ n. is_call_of w (stored.Kept (call_row n other k)) ≡ true) (eqb-true host id one)
+        (subst (λ n. is_call_of w (stored.Kept (call_row host n k)) ≡ true) (eqb-true is.0 other two)
+        (and_from (is_some (host_at w host)) (nat_lt is.0 most_kept && nat_le k.seqno last_seqno) may.0 (and_from (nat_lt is.0 most_kept) (nat_le k.seqno last_seqno) slot number)))
+    go id other true one false two = beside.calls_fit id other
+    go id other false one c two = beside.calls_fit id other
+beside_entry w (entry.Batch kind text b) row calls batches is may beside =
+    record { calls_fit = beside.calls_fit; imports_fit = λ k n. go k n (bytes_eq (kind_name kind) k) refl (bytes_eq text n) refl }
+  where
+    go : (k n : List ℕ) (c : Bool) → bytes_eq (kind_name kind) k ≡ c → (d : Bool) → bytes_eq text n ≡ d
+        → IfSome (cond (c && d) (Some (b.text, b.answer)) (batches k n)) (λ t. IsTrue (is_import (stored.Batch (record { kind = k; name = n; text = t.0; answer = t.1 }))))
+    go k n true one true two =
+        let short : nat_le (length b.text) most_import_bytes ≡ true = grind (arith, may.1) in
+        subst (λ u. is_import (stored.Batch (record { kind = u; name = n; text = b.text; answer = b.answer })) ≡ true) (same_bytes (kind_name kind) k one)
+        (subst (λ u. is_import (stored.Batch (record { kind = kind_name kind; name = u; text = b.text; answer = b.answer })) ≡ true) (same_bytes text n two)
+        (and_from (is_some (kind_of (kind_name kind))) (is_word text && nat_le (length b.text) most_import_bytes) (kind_told kind) (and_from (is_word text) (nat_le (length b.text) most_import_bytes) may.0 short)))
+    go k n true one false two = beside.imports_fit k n
+    go k n false one d two = beside.imports_fit k n
+beside_entry w entry.Nothing row calls batches is may beside = beside
+
+-- ---- a commit
+
+module _ (old new : State) (cs : List Change) (e : Entry) (kept : AreWellKept old (world_in old.now.trees)) (sound : Sound (applied (world_in old.now.trees) cs)) (may : MayBeKept (applied (world_in old.now.trees) cs) e) (reopens : Reopens old) where
+  abbrev w : World
+  w = world_in old.now.trees
+
+  -- what it makes can be opened again
+  made_can_be_opened : IsHonest old → (db : Database) → MakesWith w cs e old.now db → CanBeOpened db
+  made_can_be_opened honest db made =
+      let rows = (reopens.now honest).rows in
+      let calls = calls_in old.now.trees in
+      let batches = batches_in old.now.trees in
+      let beside = beside_entry (applied w cs) e made.0 calls batches made.1 may (beside_changes w cs calls batches (read_beside old.now w rows.0 rows.1 rows.2)) in
+      held_can_be_opened db (applied w cs) _ _ sound beside (now_held old.now db w cs e kept.holds made)
+
+  pub commit_reopens : (Kept : Type 0) → Kept → Survives old new (λ trees. IsTrue old.is_open × (Kept → (db : Database) × MakesWith w cs e old.now db × (trees ≡ db.trees))) → (IsHonest new → IsHonest old)
+      → (IsHonest new → MakesWith w cs e old.now new.now ⊎ (new.now ≡ old.now)) → Reopens new
+  commit_reopens Kept well survives was_honest made = record {
+    now = λ honest. elim (made honest) [
+      | inl went ↦ made_can_be_opened (was_honest honest) new.now went
+      | inr left ↦ subst CanBeOpened (sym left) (reopens.now (was_honest honest))
+    ];
+    stop = λ clean db is left.
+        let early : HasCleanDisk old = omega (arith, survives.clean, clean) in
+        elim (survives.crash clean db.trees left) [
+          | inl before ↦ reopens.stop early db is before
+          | inr ahead ↦ let went = ahead.1 well in same_can_be_opened went.0 db is went.2 (made_can_be_opened (early, ahead.0) went.0 went.1)
+        ];
+  }
