@@ -8,6 +8,7 @@ use Rattle.sched_tables.specs.Views.{held_in}
 use Rattle.std.proofs.lemmas.List.Elements.{All-nil}
 use Rattle.sqlite.specs.Effect.{Database}
 use Rattle.sqlite.specs.State.{State}
+use Rattle.sched_book.specs.Sound.{Sound}
 use Rattle.sched_book.specs.Step.{empty_world}
 use Rattle.sched_book.specs.declared.rows.App.{App}
 use Rattle.sched_book.specs.declared.settings.Settings.{Settings}
@@ -21,10 +22,12 @@ use Rattle.table_worlds.proofs.NewWorld.{new_world}
 use Rattle.sched_book.specs.declared.world.World.{World}
 use Rattle.sched_tables.specs.Held.{AreWellKept, AreBeside}
 use Rattle.sched_tables.specs.Remembering.{AreRemembered}
+use Rattle.sched_tables.specs.Reopening.{CanBeOpened}
 use Rattle.sched_tables.specs.declared.remembered.Remembered.{Remembered}
 use Rattle.table_meaning.specs.Kept.{calls_in, batches_in}
 use Rattle.sched_tables.proofs.EntriesKept.{calls_back, batches_back, held_with_kept}
 use Rattle.sched_tables.proofs.Leads.{held_same}
+use Rattle.sched_tables.proofs.Reopened.{held_can_be_opened}
 
 nothing_held : (s : Settings) (db : Database) → HoldJust db (setting_rows s) → HoldWorld db (empty_world s) (λ _ _. None) (λ _ _. None)
 nothing_held s db just = held_same db _ _ (new_world s) just
@@ -48,6 +51,10 @@ module _ (s : Settings) (st : State) (rests : st.now ≡ st.committed) (just : H
     holds = subst (λ v. HoldWorld st.now v (calls_in st.now.trees) (batches_in st.now.trees)) (sym new_world_is) (held_with_kept st.now (empty_world s) (λ _ _. None) (λ _ _. None) held);
     readable = subst IsReadable (sym new_world_is) (empty_readable s);
   }
+
+  -- where that world is sound, they can be opened again
+  pub new_can_be_opened : Sound (empty_world s) → CanBeOpened st.now
+  new_can_be_opened sound = held_can_be_opened st.now (empty_world s) (λ _ _. None) (λ _ _. None) sound (record { calls_fit = λ host slot. tt; imports_fit = λ kind text. tt }) held
 
   pub new_beside : (settings : Settings) (apps : List App) (read : Remembered) → settings ≡ s → apps ≡ [] → ((w : World) → AreRemembered w read) → AreBeside (world_in st.now.trees) settings apps read
   new_beside settings apps read same none nothing = record { settings_are = same ∙ sym (ap (λ w. w.settings) new_world_is); apps_are = none ∙ sym (ap (λ w. w.apps) new_world_is); rows_are = nothing _ }

@@ -46,15 +46,20 @@ use Rattle.sched_tables.specs.Held.{IsHonest, AreWellKept}
 use Rattle.sched_tables.specs.Laws.{HeldCanBeOpened, OpenedAreTaken}
 use Rattle.sched_tables.specs.Slots.{with_slot}
 use Rattle.sched_tables.specs.ReadLaws.{was_honest, was_clean}
+use Rattle.sched_tables.specs.Refusals.{AreNewest}
 use Rattle.sched_tables.specs.Reopening.{CanBeOpened, Reopens, MayBeKept}
 use Rattle.sched_tables.proofs.EntriesKept.{same_bytes, are_kept_then, now_held}
 use Rattle.sched_tables.proofs.Refusals.{none_earlier}
 
 -- ---- tables that hold a sound world
 
+-- they say of which schema they are
+says_newest : (db : Database) (w : World) (calls : SlotCalls) (batches : Imports) → HoldWorld db w calls batches → AreNewest db
+says_newest db w calls batches holds = record { known = holds.known; said = ap (option_map (λ row. column row 1)) (holds.rows (setting_key (codes "schema"))) }
+
 pub held_can_be_opened : HeldCanBeOpened
 held_can_be_opened db w calls batches sound beside holds = record {
-  newest = record { known = holds.known; said = ap (option_map (λ row. column row 1)) (holds.rows (setting_key (codes "schema"))) };
+  newest = says_newest db w calls batches holds;
   rows = subst (ReadFrom db.trees) (sym (held_is_read_back db w calls batches holds (sound_is_readable w sound))) (held_is_read db w calls batches holds sound beside);
 }
 
@@ -76,6 +81,10 @@ opened_are_taken db can utf8 BadRow spoiled =
 opened_are_taken db can utf8 Unavailable refused = refl
 
 -- ---- at rest, and behind a read
+
+-- well kept tables whose rows were read can be opened again
+pub kept_can_be_opened : (s : State) → AreWellKept s (world_in s.now.trees) → ReadFrom s.now.trees (world_in s.now.trees) → CanBeOpened s.now
+kept_can_be_opened s kept read = record { newest = says_newest s.now (world_in s.now.trees) _ _ kept.holds; rows = read }
 
 -- another database with the same rows is the same
 same_can_be_opened : (db other : Database) → IsDatabase other → other.trees ≡ db.trees → CanBeOpened db → CanBeOpened other

@@ -48,9 +48,9 @@ module _ (row : StoredRow) (old new : Database) (known : AreKnown old) (schema :
   put_row_keyed : ((name : TableName) → HaveKeys name (old.trees (tree_of name))) → (name : TableName) → HaveKeys name (new.trees (tree_of name))
   put_row_keyed had name = elim (tells (tree_of name) (tree_of t)) [
     | inl same ↦ subst (λ m. HaveKeys m (new.trees (tree_of m))) (sym (same_table name t same)) (λ x has. elim (puts_from (key_places t) _ _ n ran.2 x has) [
-        | inl new ↦ (key_of row, refl, ap (has_key (key_of row)) new ∙ has_own_key row n (shows ran.0 ran.1))
-        | inr was ↦ had t x was
-      ])
+      | inl new ↦ (key_of row, refl, ap (has_key (key_of row)) new ∙ has_own_key row n (shows ran.0 ran.1))
+      | inr was ↦ had t x was
+    ])
     | inr other ↦ subst (HaveKeys name) (sym (others name other)) (had name)
   ]
 

@@ -208,13 +208,25 @@ module _ (w : World) (sound : Sound w) where
       let delay : s.request_delay < 4294967296 = omega (arith, limits.delay) in
       let resend : (if s.resend_lost_results then 1 else 0) < 4294967296 = elim s.resend_lost_results as (λ b. (if b then 1 else 0) < 4294967296) [ true ↦ omega arith | false ↦ omega arith ] in (
         (refl, (of_word (codes "schema") refl, (inl (of_number 2 (omega arith)), tt))),
-        ((refl, (of_word (codes "daily_result_quota") refl, (inl (of_number s.daily_result_quota quota), tt))),
-        ((refl, (of_word (codes "max_hosts") refl, (inl (of_number s.max_hosts hosts), tt))),
-        ((refl, (of_word (codes "max_wus_in_progress") refl, (inl (of_number s.max_wus_in_progress in_progress), tt))),
-        ((refl, (of_word (codes "max_wus_to_send") refl, (inl (of_number s.max_wus_to_send to_send), tt))),
-        ((refl, (of_word (codes "operator_key") refl, (inr (of_word s.operator_key limits.key), tt))),
-        ((refl, (of_word (codes "request_delay") refl, (inl (of_number s.request_delay delay), tt))),
-        ((refl, (of_word (codes "resend_lost_results") refl, (inl (of_number (if s.resend_lost_results then 1 else 0) resend), tt))), tt))))))),
+        (
+          (refl, (of_word (codes "daily_result_quota") refl, (inl (of_number s.daily_result_quota quota), tt))),
+          (
+            (refl, (of_word (codes "max_hosts") refl, (inl (of_number s.max_hosts hosts), tt))),
+            (
+              (refl, (of_word (codes "max_wus_in_progress") refl, (inl (of_number s.max_wus_in_progress in_progress), tt))),
+              (
+                (refl, (of_word (codes "max_wus_to_send") refl, (inl (of_number s.max_wus_to_send to_send), tt))),
+                (
+                  (refl, (of_word (codes "operator_key") refl, (inr (of_word s.operator_key limits.key), tt))),
+                  (
+                    (refl, (of_word (codes "request_delay") refl, (inl (of_number s.request_delay delay), tt))),
+                    ((refl, (of_word (codes "resend_lost_results") refl, (inl (of_number (if s.resend_lost_results then 1 else 0) resend), tt))), tt),
+                  ),
+                ),
+              ),
+            ),
+          ),
+        ),
       )
 
   account_format : (id : ℕ) (a : Account) → nth w.accounts id ≡ Some a → IsUtf8 a.name → IsStored name.Account (columns_of (stored.Account (account_row id a)))

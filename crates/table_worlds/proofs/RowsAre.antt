@@ -16,7 +16,6 @@ use Rattle.sched_book.specs.declared.instance.Place.{Place}
 use Rattle.sched_book.specs.declared.world.World.{World}
 use Rattle.sched_book.proofs.PlacesOf.{nth-suc}
 use Rattle.table_meaning.specs.declared.rows.StoredRow.{StoredRow}
-use Rattle.table_meaning.specs.declared.rows.StoredRow.TheVariants as stored
 use Rattle.table_meaning.specs.declared.tables.TableName.{TableName}
 use Rattle.table_meaning.specs.declared.tables.TableName.TheVariants as name
 use Rattle.table_meaning.specs.Holding.{Contents}
@@ -29,7 +28,6 @@ use Rattle.table_meaning.proofs.RowsHeld.{mapped, source}
 use Rattle.table_meaning.proofs.RowsKeyed.{all_told, shown_stands, rows_stand, all_are_read}
 use Rattle.table_worlds.specs.declared.keys.NumberedTable.{NumberedTable}
 use Rattle.table_worlds.specs.declared.keys.NumberedTable.TheVariants as table
-use Rattle.table_worlds.specs.declared.keys.WorldKey.{WorldKey}
 use Rattle.table_worlds.specs.declared.keys.WorldKey.TheVariants.{Instance}
 use Rattle.table_worlds.specs.Keys.{row_key, row_in, keyed, numbered}
 use Rattle.table_worlds.specs.RowsOf.{setting_rows, HaveSame, WorldRows, AreRowsOf, AreRead}

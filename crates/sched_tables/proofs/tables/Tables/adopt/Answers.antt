@@ -8,6 +8,7 @@ use Rattle.table_reading.proofs.ReadsOn.{refused_on}
 use Rattle.table_rows.specs.Refusing.{IsAtRest}
 use Rattle.sched_tables.specs.Held.{IsHonest}
 use Rattle.sched_tables.proofs.Refusals.{told_by_schema, told_by_rows, given_same}
+use Rattle.sched_tables.proofs.Reopened.{rest_reopens, kept_can_be_opened}
 use Rattle.table_meaning.proofs.StepLemmas.{reads_on}
 use Rattle.sched_tables.specs.ReadLaws.{was_honest}
 use Rattle.sched_tables.specs.StopLaws.{found_is_committed}
@@ -75,6 +76,12 @@ pub returns-in-Ok-clause-stop : goal.returns-in-Ok-clause-stop
 returns-in-Ok-clause-stop g c = λ clean h found.
     found_is_committed (state g.S.Store c.test_open.new.conn) _ h (returns-in-Ok-clause-held g c clean).0
     (returns-in-Ok-clause-sound g c clean) (λ trees left. g.met.S.Store.settled c.test_open.new.conn.store trees (returns-in-Ok-clause-open g c clean).1 left) found
+
+pub returns-in-Ok-clause-reopens : goal.returns-in-Ok-clause-reopens
+returns-in-Ok-clause-reopens g c =
+    let after = state g.S.Store c.test_open.new.conn in
+    rest_reopens after (λ clean. (returns-in-Ok-clause-open g c clean).1) (λ clean. (returns-in-Ok-clause-held g c clean).0.rests) (g.met.S.Store.settled c.test_open.new.conn.store)
+    (λ clean. kept_can_be_opened after (returns-in-Ok-clause-held g c clean).0 (returns-in-Ok-clause-rows g c clean))
 
 pub returns-in_err-conn-clause-refused : goal.returns-in_err-conn-clause-refused
 returns-in_err-conn-clause-refused g c =

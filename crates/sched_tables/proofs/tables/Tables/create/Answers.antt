@@ -1,7 +1,8 @@
 use Rattle.std.proofs.Common.{subst, ◌∙◌}
 use Rattle.sqlite.specs.Held.{state}
 use Rattle.table_meaning.specs.Steps.{HoldJust}
-use Rattle.sched_tables.proofs.NewTables.{new_held, new_kept, new_beside}
+use Rattle.sched_tables.proofs.NewTables.{new_held, new_kept, new_beside, new_can_be_opened}
+use Rattle.sched_tables.proofs.Reopened.{rest_reopens}
 use Rattle.sched_tables.proofs.tables.Tables.create.Goals as goal
 
 pub returns-clause-new : goal.returns-clause-new
@@ -15,3 +16,9 @@ returns-clause-held g c = λ clean.
     let rest = c.in_ok-create.ensures.rest clean in
     let just = subst (HoldJust new.committed) (c.as_slice.ensures ∙ c.in_ok-rows.ensures) (c.in_ok-create.ensures.made clean) in
     (new_kept c.args.settings.now new rest just c.in_ok-create.ensures.idle, new_beside c.args.settings.now new rest just c.in_ok-kept.kept c.new.result c.new-2.result c.in_ok-kept.ensures c.new.ensures c.new-2.ensures)
+
+pub returns-clause-reopens : goal.returns-clause-reopens
+returns-clause-reopens g c = λ sound.
+    let new = state g.S.Store c.create.new.conn in
+    rest_reopens new (c.in_ok-create.ensures.open) (c.in_ok-create.ensures.rest) (g.met.S.Store.settled c.create.new.conn.store)
+    (λ clean. new_can_be_opened c.args.settings.now new (c.in_ok-create.ensures.rest clean) (subst (HoldJust new.committed) (c.as_slice.ensures ∙ c.in_ok-rows.ensures) (c.in_ok-create.ensures.made clean)) sound)
