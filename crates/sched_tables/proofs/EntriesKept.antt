@@ -1,8 +1,9 @@
 -- A commit keeps its entry, and all else as it was.
-use Rattle.std.proofs.Common.{◌≡◌, ℕ, Bool, true, false, ◌&&◌, ◌||◌, cond, eqb, List, [], ◌∷◌, Option, Some, None, option_map, take, refl, sym, ap, ap₂, subst, ◌∙◌, true≢false}
+use Rattle.std.proofs.Common.{◌≡◌, ℕ, Bool, true, false, ◌&&◌, ◌||◌, cond, eqb, List, [], ◌∷◌, Option, Some, None, option_map, take, length, refl, sym, ap, ap₂, subst, ◌∙◌, true≢false, arith, IsTrue}
 use Rattle.std.specs.Str.{bytes_eq}
+use Rattle.std.specs.Prelude.{IfSome, is_some, nat_le, nat_lt}
 use Rattle.std.specs.List.{cons_option}
-use Rattle.std.proofs.lemmas.Bool.{eq-eqb, eqb-true}
+use Rattle.std.proofs.lemmas.Bool.{and_from, eq-eqb, eqb-true}
 use Rattle.std.proofs.lemmas.Slice.Eq.{bytes_eq-Decides}
 use Rattle.sqlite.specs.Effect.{Database}
 use Rattle.sqlite.specs.State.{State}
@@ -11,8 +12,14 @@ use Rattle.stores.specs.Held.{Calls, Batches, put_call, calls_with, batches_with
 use Rattle.stores.specs.declared.batch.KeptBatch.{KeptBatch}
 use Rattle.stores.specs.declared.entry.Entry.{Entry}
 use Rattle.stores.specs.declared.entry.Entry.TheVariants as entry
-use Rattle.stores.specs.Kinds.{kind_name}
+use Rattle.stores.specs.Kinds.{kind_name, kind_of}
 use Rattle.stores.specs.declared.kind.Kind.{Kind}
+use Rattle.stores.specs.declared.kind.Kind.TheVariants.{Accounts, Apps, Versions, Workunits}
+use Rattle.texts.specs.Words.{is_word}
+use Rattle.reply_register.specs.Keeping.{most_kept}
+use Rattle.sched_book.specs.Places.{host_at}
+use Rattle.table_reading.specs.Reading.{MayStandBeside, is_call_of, is_import, last_seqno, most_import_bytes}
+use Rattle.sched_tables.specs.Reopening.{MayBeKept}
 use Rattle.reply_register.specs.Calls.{is_above_all}
 use Rattle.reply_register.specs.declared.kept.Kept.{Kept}
 use Rattle.sched_book.specs.Delta.{applied_one, applied}
@@ -149,6 +156,45 @@ are_kept_then w entry.Nothing row calls batches is = record {
   calls_then = λ _ host. refl;
   batches_then = λ kind name. refl;
 }
+
+-- ---- what an entry keeps may stand beside a world
+
+kind_told : (kind : Kind) → is_some (kind_of (kind_name kind)) ≡ true
+kind_told Accounts = refl
+kind_told Apps = refl
+kind_told Versions = refl
+kind_told Workunits = refl
+
+-- beside what was kept before
+pub beside_entry : (w : World) (e : Entry) (row : Option StoredRow) (calls : SlotCalls) (batches : Imports) (is : IsRowOf calls e row) → MayBeKept w e → MayStandBeside w calls batches
+    → MayStandBeside w (are_kept_then w e row calls batches is).calls' (are_kept_then w e row calls batches is).batches'
+unfolding are_kept_then
+beside_entry w (entry.Kept host k) row calls batches is may beside =
+    record { calls_fit = λ id other. go id other (eqb host id) refl (eqb is.0 other) refl; imports_fit = beside.imports_fit }
+  where
+    go : (id other : ℕ) (b : Bool) → eqb host id ≡ b → (c : Bool) → eqb is.0 other ≡ c
+        → IfSome (cond b (cond c (Some k) (calls id other)) (calls id other)) (λ k. IsTrue (is_call_of w (stored.Kept (call_row id other k))))
+    go id other true one true two =
+        let slot : nat_lt is.0 most_kept ≡ true = grind (arith, is.1.within) in
+        let number : nat_le k.seqno last_seqno ≡ true = grind (arith, may.1) in
+        subst (λ n. is_call_of w (stored.Kept (call_row n other k)) ≡ true) (eqb-true host id one)
+        (subst (λ n. is_call_of w (stored.Kept (call_row host n k)) ≡ true) (eqb-true is.0 other two)
+        (and_from (is_some (host_at w host)) (nat_lt is.0 most_kept && nat_le k.seqno last_seqno) may.0 (and_from (nat_lt is.0 most_kept) (nat_le k.seqno last_seqno) slot number)))
+    go id other true one false two = beside.calls_fit id other
+    go id other false one c two = beside.calls_fit id other
+beside_entry w (entry.Batch kind text b) row calls batches is may beside =
+    record { calls_fit = beside.calls_fit; imports_fit = λ k n. go k n (bytes_eq (kind_name kind) k) refl (bytes_eq text n) refl }
+  where
+    go : (k n : List ℕ) (c : Bool) → bytes_eq (kind_name kind) k ≡ c → (d : Bool) → bytes_eq text n ≡ d
+        → IfSome (cond (c && d) (Some (b.text, b.answer)) (batches k n)) (λ t. IsTrue (is_import (stored.Batch (record { kind = k; name = n; text = t.0; answer = t.1 }))))
+    go k n true one true two =
+        let short : nat_le (length b.text) most_import_bytes ≡ true = grind (arith, may.1) in
+        subst (λ u. is_import (stored.Batch (record { kind = u; name = n; text = b.text; answer = b.answer })) ≡ true) (same_bytes (kind_name kind) k one)
+        (subst (λ u. is_import (stored.Batch (record { kind = kind_name kind; name = u; text = b.text; answer = b.answer })) ≡ true) (same_bytes text n two)
+        (and_from (is_some (kind_of (kind_name kind))) (is_word text && nat_le (length b.text) most_import_bytes) (kind_told kind) (and_from (is_word text) (nat_le (length b.text) most_import_bytes) may.0 short)))
+    go k n true one false two = beside.imports_fit k n
+    go k n false one d two = beside.imports_fit k n
+beside_entry w entry.Nothing row calls batches is may beside = beside
 
 -- ---- what tables keep is what they hold
 

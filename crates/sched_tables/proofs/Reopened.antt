@@ -1,38 +1,30 @@
 -- What can be opened again, and what a read and a commit leave of that.
-use Rattle.std.proofs.Common.{◌≡◌, ◌⊎◌, ◌≤◌, ℕ, ◌<◌, Bool, true, ◌&&◌, cond, eqb, List, Option, Some, None, codes, option_map, length, refl, sym, ap, subst, ◌∙◌, inl, inr, arith, IsTrue}
+use Rattle.std.proofs.Common.{◌≡◌, ◌⊎◌, ℕ, true, ◌&&◌, List, Option, Some, None, codes, option_map, refl, sym, ap, subst, ◌∙◌, inl, inr, arith, IsTrue}
 use Rattle.std.specs.Prelude.{IfSome, is_some, nat_le, nat_lt}
-use Rattle.std.specs.Str.{bytes_eq}
-use Rattle.std.proofs.lemmas.Bool.{and_from, and_parts, eqb-true}
-use Rattle.std.proofs.lemmas.Option.{none-some}
+use Rattle.std.proofs.lemmas.Bool.{and_from, and_parts}
 use Rattle.sqlite.specs.Effect.{Database, IsDatabase}
 use Rattle.sqlite.specs.State.{State, HasCleanDisk, Survives}
 use Rattle.sqlite_trees.specs.Tree.{Trees}
 use Rattle.sqlite_value.specs.Order.{column}
 use Rattle.reply_register.specs.declared.kept.Kept.{Kept}
 use Rattle.reply_register.specs.Keeping.{most_kept}
-use Rattle.texts.specs.Words.{is_word}
 use Rattle.sched_book.specs.Delta.{applied}
 use Rattle.sched_book.specs.Places.{host_at}
 use Rattle.sched_book.specs.Sound.{Sound}
 use Rattle.sched_book.specs.declared.delta.Change.{Change}
 use Rattle.sched_book.specs.declared.rows.HostRow.{HostRow}
 use Rattle.sched_book.specs.declared.world.World.{World}
-use Rattle.stores.specs.Kinds.{kind_name, kind_of}
-use Rattle.stores.specs.declared.batch.KeptBatch.{KeptBatch}
 use Rattle.stores.specs.declared.entry.Entry.{Entry}
-use Rattle.stores.specs.declared.entry.Entry.TheVariants as entry
-use Rattle.stores.specs.declared.kind.Kind.{Kind}
-use Rattle.stores.specs.declared.kind.Kind.TheVariants.{Accounts, Apps, Versions, Workunits}
-use Rattle.table_meaning.specs.declared.rows.StoredRow.{StoredRow}
 use Rattle.table_meaning.specs.declared.rows.StoredRow.TheVariants as stored
 use Rattle.table_meaning.specs.Kept.{calls_in, batches_in}
 use Rattle.table_meaning.specs.Reads.{Reads}
 use Rattle.table_meaning.specs.Rows.{setting_key}
-use Rattle.table_meaning.specs.Worlds.{BatchText, SlotCalls, call_row, contents_of, HoldWorld}
-use Rattle.table_reading.specs.Reading.{ReadFrom, MayStandBeside, is_call_of, is_import, last_seqno, most_import_bytes}
+use Rattle.table_meaning.specs.Worlds.{SlotCalls, call_row, contents_of, HoldWorld}
+use Rattle.table_reading.specs.Reading.{ReadFrom, MayStandBeside, is_call_of, last_seqno}
 use Rattle.table_reading.proofs.Formatted.{have_formats}
 use Rattle.table_reading.proofs.HeldRows.{read_beside, formed, held_is_read, stands_for_one}
 use Rattle.table_reading.proofs.KeptRows.{held_by_rows}
+use Rattle.table_rows.specs.declared.opening.OpenFault.{OpenFault}
 use Rattle.table_rows.specs.declared.opening.OpenFault.TheVariants.{NotTables, OldSchema, BadRow, Unavailable}
 use Rattle.table_rows.proofs.Reopening.{one_database}
 use Rattle.table_worlds.specs.declared.keys.WorldKey.TheVariants.{Host}
@@ -41,14 +33,13 @@ use Rattle.table_worlds.proofs.NothingGoes.{none_goes}
 use Rattle.table_worlds.proofs.StaysReadable.{sound_is_readable}
 use Rattle.table_worlds.proofs.WorldReadBack.{held_is_read_back}
 use Rattle.sched_tables.specs.Commits.{Imports}
-use Rattle.sched_tables.specs.Entries.{IsRowOf, MakesWith}
+use Rattle.sched_tables.specs.Entries.{MakesWith}
 use Rattle.sched_tables.specs.Held.{IsHonest, AreWellKept}
 use Rattle.sched_tables.specs.Laws.{HeldCanBeOpened, OpenedAreTaken}
-use Rattle.sched_tables.specs.Slots.{with_slot}
 use Rattle.sched_tables.specs.ReadLaws.{was_honest, was_clean}
-use Rattle.sched_tables.specs.Refusals.{AreNewest}
+use Rattle.sched_tables.specs.Refusals.{AreNewest, AreRefusedFor}
 use Rattle.sched_tables.specs.Reopening.{CanBeOpened, Reopens, MayBeKept}
-use Rattle.sched_tables.proofs.EntriesKept.{same_bytes, are_kept_then, now_held}
+use Rattle.sched_tables.proofs.EntriesKept.{beside_entry, now_held}
 use Rattle.sched_tables.proofs.Refusals.{none_earlier}
 
 -- ---- tables that hold a sound world
@@ -64,21 +55,24 @@ held_can_be_opened db w calls batches sound beside holds = record {
 }
 
 pub opened_are_taken : OpenedAreTaken
-opened_are_taken db can utf8 NotTables others = absurd (others.not_newest can.newest)
-opened_are_taken db can utf8 (OldSchema n) earlier = absurd (none_earlier db can.newest.known n earlier)
-opened_are_taken db can utf8 BadRow spoiled =
-    let w = world_in db.trees in
-    let calls = calls_in db.trees in
-    let batches = batches_in db.trees in
-    let read = can.rows.1 in
-    let stand = can.rows.2 in
-    let holds = held_by_rows db w can.rows.0 can.newest.known read stand in
-    let beside = read_beside db w can.rows.0 read stand in
-    absurd (elim spoiled.rows [
-      | inl bad ↦ formed db (contents_of w calls batches) holds (have_formats w calls batches stand.sound beside utf8) bad
-      | inr none ↦ stands_for_one db w calls batches holds stand.sound beside none
-    ])
-opened_are_taken db can utf8 Unavailable refused = refl
+opened_are_taken db can utf8 = go
+  where
+    go : (e : OpenFault) → AreRefusedFor e db → e ≡ Unavailable
+    go NotTables others = absurd (others.not_newest can.newest)
+    go (OldSchema n) earlier = absurd (none_earlier db can.newest.known n earlier)
+    go BadRow spoiled =
+        let w = world_in db.trees in
+        let calls = calls_in db.trees in
+        let batches = batches_in db.trees in
+        let read = can.rows.1 in
+        let stand = can.rows.2 in
+        let holds = held_by_rows db w can.rows.0 can.newest.known read stand in
+        let beside = read_beside db w can.rows.0 read stand in
+        absurd (elim spoiled.rows [
+          | inl bad ↦ formed db (contents_of w calls batches) holds (have_formats w calls batches stand.sound beside utf8) bad
+          | inr none ↦ stands_for_one db w calls batches holds stand.sound beside none
+        ])
+    go Unavailable refused = refl
 
 -- ---- at rest, and behind a read
 
@@ -128,43 +122,6 @@ beside_changes w cs calls batches beside = record { calls_fit = λ host slot. go
         let parts = and_parts (is_some (host_at w host)) (nat_lt slot most_kept && nat_le k.seqno last_seqno) fits in
         and_from (is_some (host_at (applied w cs) host)) (nat_lt slot most_kept && nat_le k.seqno last_seqno) (host_stays w cs host parts.0) parts.1
 
-kind_told : (kind : Kind) → is_some (kind_of (kind_name kind)) ≡ true
-kind_told Accounts = refl
-kind_told Apps = refl
-kind_told Versions = refl
-kind_told Workunits = refl
-
--- with what an entry keeps
-beside_entry : (w : World) (e : Entry) (row : Option StoredRow) (calls : SlotCalls) (batches : Imports) (is : IsRowOf calls e row) → MayBeKept w e → MayStandBeside w calls batches
-    → MayStandBeside w (are_kept_then w e row calls batches is).calls' (are_kept_then w e row calls batches is).batches'
-unfolding are_kept_then
-beside_entry w (entry.Kept host k) row calls batches is may beside =
-    record { calls_fit = λ id other. go id other (eqb host id) refl (eqb is.0 other) refl; imports_fit = beside.imports_fit }
-  where
-    go : (id other : ℕ) (b : Bool) → eqb host id ≡ b → (c : Bool) → eqb is.0 other ≡ c
-        → IfSome (cond b (cond c (Some k) (calls id other)) (calls id other)) (λ k. IsTrue (is_call_of w (stored.Kept (call_row id other k))))
-    go id other true one true two =
-        let slot : nat_lt is.0 most_kept ≡ true = grind (arith, is.1.within) in
-        let number : nat_le k.seqno last_seqno ≡ true = grind (arith, may.1) in
-        subst (λ n. is_call_of w (stored.Kept (call_row n other k)) ≡ true) (eqb-true host id one)
-        (subst (λ n. is_call_of w (stored.Kept (call_row host n k)) ≡ true) (eqb-true is.0 other two)
-        (and_from (is_some (host_at w host)) (nat_lt is.0 most_kept && nat_le k.seqno last_seqno) may.0 (and_from (nat_lt is.0 most_kept) (nat_le k.seqno last_seqno) slot number)))
-    go id other true one false two = beside.calls_fit id other
-    go id other false one c two = beside.calls_fit id other
-beside_entry w (entry.Batch kind text b) row calls batches is may beside =
-    record { calls_fit = beside.calls_fit; imports_fit = λ k n. go k n (bytes_eq (kind_name kind) k) refl (bytes_eq text n) refl }
-  where
-    go : (k n : List ℕ) (c : Bool) → bytes_eq (kind_name kind) k ≡ c → (d : Bool) → bytes_eq text n ≡ d
-        → IfSome (cond (c && d) (Some (b.text, b.answer)) (batches k n)) (λ t. IsTrue (is_import (stored.Batch (record { kind = k; name = n; text = t.0; answer = t.1 }))))
-    go k n true one true two =
-        let short : nat_le (length b.text) most_import_bytes ≡ true = grind (arith, may.1) in
-        subst (λ u. is_import (stored.Batch (record { kind = u; name = n; text = b.text; answer = b.answer })) ≡ true) (same_bytes (kind_name kind) k one)
-        (subst (λ u. is_import (stored.Batch (record { kind = kind_name kind; name = u; text = b.text; answer = b.answer })) ≡ true) (same_bytes text n two)
-        (and_from (is_some (kind_of (kind_name kind))) (is_word text && nat_le (length b.text) most_import_bytes) (kind_told kind) (and_from (is_word text) (nat_le (length b.text) most_import_bytes) may.0 short)))
-    go k n true one false two = beside.imports_fit k n
-    go k n false one d two = beside.imports_fit k n
-beside_entry w entry.Nothing row calls batches is may beside = beside
-
 -- ---- a commit
 
 module _ (old new : State) (cs : List Change) (e : Entry) (kept : AreWellKept old (world_in old.now.trees)) (sound : Sound (applied (world_in old.now.trees) cs)) (may : MayBeKept (applied (world_in old.now.trees) cs) e) (reopens : Reopens old) where
@@ -182,15 +139,15 @@ module _ (old new : State) (cs : List Change) (e : Entry) (kept : AreWellKept ol
 
   pub commit_reopens : (Kept : Type 0) → Kept → Survives old new (λ trees. IsTrue old.is_open × (Kept → (db : Database) × MakesWith w cs e old.now db × (trees ≡ db.trees))) → (IsHonest new → IsHonest old)
       → (IsHonest new → MakesWith w cs e old.now new.now ⊎ (new.now ≡ old.now)) → Reopens new
-  commit_reopens Kept well survives was_honest made = record {
+  commit_reopens Kept well survives before made = record {
     now = λ honest. elim (made honest) [
-      | inl went ↦ made_can_be_opened (was_honest honest) new.now went
-      | inr left ↦ subst CanBeOpened (sym left) (reopens.now (was_honest honest))
+      | inl went ↦ made_can_be_opened (before honest) new.now went
+      | inr left ↦ subst CanBeOpened (sym left) (reopens.now (before honest))
     ];
     stop = λ clean db is left.
         let early : HasCleanDisk old = omega (arith, survives.clean, clean) in
         elim (survives.crash clean db.trees left) [
-          | inl before ↦ reopens.stop early db is before
+          | inl earlier ↦ reopens.stop early db is earlier
           | inr ahead ↦ let went = ahead.1 well in same_can_be_opened went.0 db is went.2 (made_can_be_opened (early, ahead.0) went.0 went.1)
         ];
   }

@@ -1,5 +1,5 @@
 -- Tables that can be opened again.
-use Rattle.std.specs.Prelude.{ℕ, ◌≤◌, ⊤, IsTrue, length, is_some}
+use Rattle.std.specs.Prelude.{◌≡◌, ◌≤◌, ⊤, IsTrue, length, is_some}
 use Rattle.rpc_records.specs.Ranges.{IsWord}
 use Rattle.sqlite.specs.Effect.{Database, IsDatabase}
 use Rattle.sqlite.specs.State.{State, HasCleanDisk}

@@ -1,7 +1,6 @@
 //! Workunits and their instances, by their keys.
 
-ghost use Rattle.std.specs.Prelude.{◌≡◌, ◌≤◌, length, map, IfOk, IfSome};
-ghost use Rattle.std.specs.List.{AllByRecursion};
+ghost use Rattle.std.specs.Prelude.{◌≡◌, ◌≤◌, length, map, All, IfOk, IfSome};
 ghost use Rattle.sqlite.specs.Held.{state};
 ghost use Rattle.sched_book.specs.Desk.{instances_at as instances_within, workunit_at};
 ghost use Rattle.sched_book.specs.Limits.{most_instances, IsUnitInLimits, IsInstanceInLimits};
@@ -72,7 +71,7 @@ pub fn instance_at<S: Alter>(
 /// The instances of these rows.
 fn instances(alloc: Global, rows: &[StoredInstance]) -> Result<Listed<Instance>, Unavailable>
     ensures all { IfOk result (λ all. all ≡ map (λ row. job_in (columns_of (stored.Instance row))) rows.now) }
-    ensures limits { IfOk result (λ all. AllByRecursion IsInstanceInLimits all) }
+    ensures limits { IfOk result (λ all. All IsInstanceInLimits all) }
 {
     let mut all = Listed::new(alloc);
     for row in rows {
@@ -90,7 +89,7 @@ pub fn instances_at<S: Alter>(
 ) -> Result<Listed<Instance>, Unavailable>
     ensures reads { Reads (state S.Store conn.old) (state S.Store conn.new) }
     ensures few { IfOk result (λ r. length r ≤ most_instances) }
-    ensures limits { IfOk result (λ r. AllByRecursion IsInstanceInLimits r) }
+    ensures limits { IfOk result (λ r. All IsInstanceInLimits r) }
     ensures answer { Asked S.Store conn.old conn.new (λ w. IfOk result (λ r. r ≡ instances_within w unit)) }
 {
     let rows = instances_in(alloc, conn, unit)?;

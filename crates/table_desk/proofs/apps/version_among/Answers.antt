@@ -28,7 +28,7 @@ returns-in-Some-clause-answer g c =
     (c.in_ok-numbers.ensures.numbers clean later.holds.known) (Some c.in-Some.version_num) some in
     let app : c.in_ok-clone.field-0 ≡ c.args.app.now = search rules in
     let platform : c.in_ok-clone-2.field-0 ≡ c.as_str.result.now = search rules in
-    ap₂ (λ (a b : List ℕ). Some (record { app = a; platform = b; version_num = c.in-Some.version_num })) app platform ∙ sym told
+    ap Some c.in_ok-in_limits.ensures.same ∙ ap₂ (λ (a b : List ℕ). Some (record { app = a; platform = b; version_num = c.in-Some.version_num })) app platform ∙ sym told
 
 pub loop-platform-preserved : goal.loop-platform-preserved
 loop-platform-preserved g c =

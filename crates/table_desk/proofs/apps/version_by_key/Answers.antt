@@ -26,4 +26,4 @@ returns-clause-answer g c = λ clean is_open rests w tell same.
     let some : list_any (λ m. m == c.args.version_num) c.in_ok-numbers.numbers ≡ true = search rules in
     let app = c.in_ok-copied.ensures in
     let platform = c.in_ok-copied-2.ensures in
-    (λ i. Some (record { app = app i; platform = platform i; version_num = c.args.version_num })) ∙ sym (listed ∙ ap (λ b. cond b (Some (made c.args.app.now c.args.platform.now c.args.version_num)) None) some)
+    ap Some c.in_ok-in_limits.ensures.same ∙ (λ i. Some (record { app = app i; platform = platform i; version_num = c.args.version_num })) ∙ sym (listed ∙ ap (λ b. cond b (Some (made c.args.app.now c.args.platform.now c.args.version_num)) None) some)

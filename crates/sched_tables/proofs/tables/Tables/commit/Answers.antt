@@ -1,15 +1,12 @@
 use Rattle.std.proofs.Common.{◌≡◌, sym, subst, ◌∙◌, inl, inr, rules, arith}
 use Rattle.sqlite.specs.Held.{state}
-use Rattle.sqlite.specs.State.{State, HasCleanDisk}
+use Rattle.sqlite.specs.State.{HasCleanDisk}
 use Rattle.table_meaning.specs.Steps.{PutsRows}
 use Rattle.table_meaning.specs.Kept.{calls_in}
 use Rattle.sched_tables.specs.Entries.{ArePutWith}
 use Rattle.sched_tables.specs.Views.{world_of, AreKept}
-use Rattle.table_meaning.specs.Reads.{Reads}
-use Rattle.table_worlds.specs.StoredWorld.{world_in}
-use Rattle.sched_tables.specs.Held.{IsHonest, AreWellKept}
+use Rattle.sched_tables.specs.Held.{IsHonest}
 use Rattle.sched_tables.specs.ReadLaws.{was_honest}
-use Rattle.sched_tables.specs.Reopening.{Reopens}
 use Rattle.sched_tables.proofs.Leads.{puts_all, leaves_made, was_ok, was_err}
 use Rattle.sched_tables.proofs.Reopened.{reads_reopen, commit_reopens}
 use Rattle.sched_tables.proofs.tables.Tables.commit.Goals as goal
@@ -44,15 +41,11 @@ returns-then-is_err-clause-crash g c =
     (AreKept g.S.Store before) c.rows_with-rows.ensures.reads c.put_rows.ensures.crash
     (λ honest kept. subst (ArePutWith (world_of g.S.Store before) cs (calls_in (state g.S.Store before.conn).now.trees) c.args.entry.now) (sym c.as_slice.ensures) (c.in_ok-rows.ensures.rows honest kept)) (λ kept. kept.0.rests)
 
--- where nothing was put
-reads_left : (old new : State) → Reads old new → AreWellKept old (world_in old.now.trees) → Reopens old → Reopens new
-reads_left old new reads kept reopens = reads_reopen old new reads kept.rests reopens
-
 pub returns-in_err-rows-clause-reopens : goal.returns-in_err-rows-clause-reopens
-returns-in_err-rows-clause-reopens g c = λ kept sound may reopens. reads_left _ _ c.rows_with-rows.ensures.reads kept.0 reopens
+returns-in_err-rows-clause-reopens g c = λ kept sound may reopens. reads_reopen (state g.S.Store c.args.self.now.conn) (state g.S.Store c.rows_with-rows.new.self.conn) c.rows_with-rows.ensures.reads kept.0.rests reopens
 
 pub returns-in_err-apps-clause-reopens : goal.returns-in_err-apps-clause-reopens
-returns-in_err-apps-clause-reopens g c = λ kept sound may reopens. reads_left _ _ c.rows_with-rows.ensures.reads kept.0 reopens
+returns-in_err-apps-clause-reopens g c = λ kept sound may reopens. reads_reopen (state g.S.Store c.args.self.now.conn) (state g.S.Store c.rows_with-rows.new.self.conn) c.rows_with-rows.ensures.reads kept.0.rests reopens
 
 pub returns-then-is_err-clause-reopens : goal.returns-then-is_err-clause-reopens
 returns-then-is_err-clause-reopens g c = λ kept sound may reopens.
