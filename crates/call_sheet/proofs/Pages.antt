@@ -7,6 +7,7 @@ use Rattle.std.specs.Map.{lookup}
 use Rattle.std.specs.Ordering.{nat_cmp}
 use Rattle.std.specs.Str.{bytes_eq}
 use Rattle.std.proofs.lemmas.List.Sums.{fold-append}
+use Rattle.sched_book.specs.Classes.{with_class}
 use Rattle.sched_book.specs.Desk.{workunit_at, agreement_at, instances_at}
 use Rattle.sched_book.specs.Places.{unit_at, host_at, unit_named, agreement_by, agreement_of}
 use Rattle.sched_book.specs.Reports.{modify_nth}
@@ -17,12 +18,13 @@ use Rattle.sched_book.specs.declared.instance.Instance.{Instance}
 use Rattle.sched_book.specs.declared.instance.Place.{Place}
 use Rattle.sched_book.specs.declared.instance.UnitBook.{UnitBook}
 use Rattle.sched_book.specs.declared.rows.Agreement.{Agreement}
+use Rattle.sched_book.specs.declared.rows.ClassRule.{ClassRule}
 use Rattle.sched_book.specs.declared.rows.HostRow.{HostRow}
 use Rattle.sched_book.specs.declared.rows.Workunit.{Workunit}
 use Rattle.sched_book.specs.declared.settings.Settings.{Settings}
 use Rattle.sched_book.specs.declared.world.World.{World}
 use Rattle.sched_book.proofs.PlacesOf.{nth-modify_nth, place_where-modify_nth}
-use Rattle.call_sheet.specs.Sheets.{IsLeafOf, IsLeafAt, IsReadAt, IsHostAt, IsPageOf, HasPlace, with_put, ArePut}
+use Rattle.call_sheet.specs.Sheets.{IsLeafOf, IsLeafAt, IsReadAt, IsHostAt, IsPageOf, HasPlace, book_before, book_now, with_put, ArePut, with_granted, AreClassed}
 use Rattle.call_sheet.specs.declared.leaf.Leaf.{Leaf}
 use Rattle.call_sheet.specs.declared.page.Page.{Page}
 use Rattle.call_sheet.proofs.SetRows.{nth-put, nth_found}
@@ -87,41 +89,70 @@ taken_back xs x =
 one_more : (w : World) (cs : List Change) (c : Change) → applied w (cs ++ c ∷ []) ≡ applied_one (applied w cs) c
 one_more w cs c = fold-append applied_one w cs (c ∷ [])
 
--- what a leaf is after an instance was put
-leaf_put : (entry present after : World) (unit : ℕ) (p : Place) (x : Instance) (b : Bool) (o : Option Leaf) → (b ≡ true → IsSome o)
-    → unit_at after unit ≡ cond b (option_map (with_instance p.number x) (unit_at present unit)) (unit_at present unit)
-    → IsLeafAt entry present unit o → IsLeafAt entry after unit (cond b (option_map (with_put p x) o) o)
-leaf_put entry present after unit p x false None some is leaf = is ∙ leaf
-leaf_put entry present after unit p x false (Some k) some is leaf = record { before = leaf.before; here = is ∙ leaf.here; agreement = leaf.agreement }
-leaf_put entry present after unit p x true None some is leaf = let never = some refl in absurd cc
-leaf_put entry present after unit p x true (Some k) some is leaf =
-    record { before = leaf.before; here = is ∙ ap (option_map (with_instance p.number x)) leaf.here; agreement = leaf.agreement }
+-- what is done to a workunit and to its leaf alike
+record AreAlike (f : UnitBook → UnitBook) (g : Leaf → Leaf) : Type 0 where
+  name : (b : UnitBook) → (f b).unit.name ≡ b.unit.name
+  now : (k : Leaf) → f (book_now k) ≡ book_now (g k)
+  before : (k : Leaf) → book_before k ≡ book_before (g k)
+  agreement : (k : Leaf) → k.agreement ≡ (g k).agreement
+
+-- what a leaf is behind it
+leaf_done : (f : UnitBook → UnitBook) (g : Leaf → Leaf) → AreAlike f g → (entry present after : World) (unit : ℕ) (b : Bool) (o : Option Leaf) → (b ≡ true → IsSome o)
+    → unit_at after unit ≡ cond b (option_map f (unit_at present unit)) (unit_at present unit)
+    → IsLeafAt entry present unit o → IsLeafAt entry after unit (cond b (option_map g o) o)
+leaf_done f g alike entry present after unit false None some is leaf = is ∙ leaf
+leaf_done f g alike entry present after unit false (Some k) some is leaf = record { before = leaf.before; here = is ∙ leaf.here; agreement = leaf.agreement }
+leaf_done f g alike entry present after unit true None some is leaf = let never = some refl in absurd cc
+leaf_done f g alike entry present after unit true (Some k) some is leaf = record {
+  before = leaf.before ∙ ap (λ (b : UnitBook). Some b) (alike.before k);
+  here = is ∙ ap (option_map f) leaf.here ∙ ap (λ (b : UnitBook). Some b) (alike.now k);
+  agreement = ap (λ (b : UnitBook). agreement_by entry.apps b.unit.app) (sym (alike.before k)) ∙ leaf.agreement ∙ alike.agreement k;
+}
+
+-- it is done to the leaf of the workunit at a place, and is the last change
+unit_done : (f : UnitBook → UnitBook) (g : Leaf → Leaf) → AreAlike f g → (w : World) (old new : Page) (place : ℕ) (c : Change)
+    → ((v : World) → applied_one v c ≡ record v { units = modify_nth f v.units place })
+    → new.settings ≡ old.settings → new.hosts ≡ old.hosts → new.delta ≡ old.delta ++ c ∷ []
+    → IsSome (get nat_cmp old.leaves place)
+    → ((unit : ℕ) → get nat_cmp new.leaves unit ≡ cond (eqb place unit) (option_map g (get nat_cmp old.leaves unit)) (get nat_cmp old.leaves unit))
+    → IsPageOf w old → IsPageOf w new
+unit_done f g alike w old new place c makes settings hosts delta there leaves page = record {
+  settings = settings ∙ page.settings;
+  leaves = λ unit. subst (λ (o : Option Leaf). IsLeafAt w (applied w new.delta) unit o) (sym (leaves unit))
+      (leaf_done f g alike w (applied w old.delta) (applied w new.delta) unit (eqb place unit) (get nat_cmp old.leaves unit) (some unit) (units unit) (page.leaves unit));
+  hosts = λ number. subst (λ (v : World). IsHostAt w v number (get nat_cmp new.hosts number)) (sym after)
+      (subst (λ (m : BTreeMap ℕ HostRow). IsHostAt w (applied w old.delta) number (get nat_cmp m number)) (sym hosts) (page.hosts number));
+  rest = subst (λ (v : World). v ≡ record w { units = v.units; hosts = v.hosts }) (sym after)
+      (ap (λ (v : World). record v { units = modify_nth f (applied w old.delta).units place }) page.rest);
+  names = λ name. ap (λ v. unit_named v name) after
+      ∙ place_where-modify_nth (λ (b : UnitBook). bytes_eq b.unit.name name) f (λ b. ap (λ n. bytes_eq n name) (alike.name b)) (applied w old.delta).units place
+      ∙ page.names name;
+}
+  where
+    after : applied w new.delta ≡ record (applied w old.delta) { units = modify_nth f (applied w old.delta).units place }
+    after = ap (applied w) delta ∙ one_more w old.delta c ∙ makes (applied w old.delta)
+
+    units : (unit : ℕ) → unit_at (applied w new.delta) unit
+        ≡ cond (eqb place unit) (option_map f (unit_at (applied w old.delta) unit)) (unit_at (applied w old.delta) unit)
+    units unit = ap (λ v. unit_at v unit) after ∙ nth-modify_nth f (applied w old.delta).units place unit
+
+    some : (unit : ℕ) → eqb place unit ≡ true → IsSome (get nat_cmp old.leaves unit)
+    some unit same = subst (λ (n : ℕ). IsSome (get nat_cmp old.leaves n)) (eqb-true place unit same) there
 
 -- an instance is put on its workunit's leaf, and is the last change
 pub instance_put : (w : World) (old new : Page) (p : Place) (x y : Instance) → y ≡ x → new.settings ≡ old.settings → new.hosts ≡ old.hosts
     → new.delta ≡ old.delta ++ change.Instance p x ∷ [] → ArePut old.leaves new.leaves p y → IsPageOf w old → IsPageOf w new
-instance_put w old new p x y copy settings hosts delta puts page = record {
-  settings = settings ∙ page.settings;
-  leaves = λ unit. subst (λ (o : Option Leaf). IsLeafAt w (applied w new.delta) unit o) (sym (puts.1 unit ∙ ap (λ (z : Instance). cond (eqb p.unit unit) (option_map (with_put p z) (get nat_cmp old.leaves unit)) (get nat_cmp old.leaves unit)) copy))
-      (leaf_put w (applied w old.delta) (applied w new.delta) unit p x (eqb p.unit unit) (get nat_cmp old.leaves unit) (some unit) (units unit) (page.leaves unit));
-  hosts = λ number. subst (λ (v : World). IsHostAt w v number (get nat_cmp new.hosts number)) (sym after)
-      (subst (λ (m : BTreeMap ℕ HostRow). IsHostAt w (applied w old.delta) number (get nat_cmp m number)) (sym hosts) (page.hosts number));
-  rest = subst (λ (v : World). v ≡ record w { units = v.units; hosts = v.hosts }) (sym after)
-      (ap (λ (v : World). record v { units = modify_nth (with_instance p.number x) (applied w old.delta).units p.unit }) page.rest);
-  names = λ name. ap (λ v. unit_named v name) after
-      ∙ place_where-modify_nth (λ (b : UnitBook). bytes_eq b.unit.name name) (with_instance p.number x) (λ b. refl) (applied w old.delta).units p.unit
-      ∙ page.names name;
-}
-  where
-    after : applied w new.delta ≡ applied_one (applied w old.delta) (change.Instance p x)
-    after = ap (applied w) delta ∙ one_more w old.delta (change.Instance p x)
+instance_put w old new p x y copy settings hosts delta puts page =
+    let same : ArePut old.leaves new.leaves p x = subst (λ (z : Instance). ArePut old.leaves new.leaves p z) copy puts in
+    unit_done (with_instance p.number x) (with_put p x) (record { name = λ b. refl; now = λ k. refl; before = λ k. refl; agreement = λ k. refl })
+    w old new p.unit (change.Instance p x) (λ v. refl) settings hosts delta same.0 same.1 page
 
-    units : (unit : ℕ) → unit_at (applied w new.delta) unit
-        ≡ cond (eqb p.unit unit) (option_map (with_instance p.number x) (unit_at (applied w old.delta) unit)) (unit_at (applied w old.delta) unit)
-    units unit = ap (λ v. unit_at v unit) after ∙ nth-modify_nth (with_instance p.number x) (applied w old.delta).units p.unit unit
-
-    some : (unit : ℕ) → eqb p.unit unit ≡ true → IsSome (get nat_cmp old.leaves unit)
-    some unit same = subst (λ (n : ℕ). IsSome (get nat_cmp old.leaves n)) (eqb-true p.unit unit same) puts.0
+-- a version of a class is granted on its workunit's leaf, which is the last change
+pub class_put : (w : World) (old new : Page) (unit : ℕ) (class copied : List ℕ) → copied ≡ class → new.settings ≡ old.settings → new.hosts ≡ old.hosts
+    → new.delta ≡ old.delta ++ change.Class unit copied ∷ [] → AreClassed old.leaves new.leaves unit class → IsPageOf w old → IsPageOf w new
+class_put w old new unit class copied copy settings hosts delta puts page =
+    unit_done (with_class class) (with_granted class) (record { name = λ b. refl; now = λ k. refl; before = λ k. refl; agreement = λ k. refl })
+    w old new unit (change.Class unit class) (λ v. refl) settings hosts (delta ∙ ap (λ c. old.delta ++ change.Class unit c ∷ []) copy) puts.0 puts.1 page
 
 -- a host is put, and is the last change
 pub host_put : (w : World) (old new : Page) (number : ℕ) (h k : HostRow) → k ≡ h → HasPlace (applied w old.delta) number → new.settings ≡ old.settings → new.leaves ≡ old.leaves
@@ -154,7 +185,7 @@ host_put w old new number h k copy place settings leaves delta hosts page = reco
     cases n false None is host = is ∙ host
     cases n false (Some k) is host = is ∙ host
 
-pub ruleset page_steps = (new_page, same_page, leaf_more, taken_back, instance_put, host_put)
+pub ruleset page_steps = (new_page, same_page, leaf_more, taken_back, instance_put, class_put, host_put)
 
 -- a number that a host has is a place
 pub stands_there : (w : World) (number : ℕ) (h : HostRow) → host_at w number ≡ Some h → HasPlace w number
@@ -167,16 +198,16 @@ asked entry present unit None same read = (same ∙ read.0, read.0)
 asked entry present unit (Some k) same read = record { before = read.before; here = same ∙ read.here; agreement = read.agreement }
 
 -- a workunit, its agreement and its instances, read one after another
-pub read_in_turn : (w v u : World) (unit : ℕ) (row : Workunit) (a : Agreement) (before present : List Instance) → v ≡ w → u ≡ v
-    → Some row ≡ workunit_at w unit → Some a ≡ agreement_at v unit → before ≡ instances_at u unit → present ≡ before
-    → IsReadAt w w unit (Some (record { unit = row; agreement = a; before = before; present = present }))
-read_in_turn w v u unit row a before present same next is agrees lists copy =
+pub read_in_turn : (w v u : World) (unit : ℕ) (row : Workunit) (rule : ClassRule) (a : Agreement) (before present : List Instance) → v ≡ w → u ≡ v
+    → Some row ≡ workunit_at w unit → Some a ≡ agreement_at v unit → before ≡ instances_at u unit → present ≡ before → rule ≡ row.class_rule
+    → IsReadAt w w unit (Some (record { unit = row; rule = rule; agreement = a; before = before; present = present }))
+read_in_turn w v u unit row rule a before present same next is agrees lists copy ruled =
     found (unit_at w unit) refl is (agrees ∙ ap (λ (x : World). agreement_at x unit) same)
     (lists ∙ ap (λ (x : World). instances_at x unit) (next ∙ same))
   where
     found : (o : Option UnitBook) → unit_at w unit ≡ o → Some row ≡ option_map (λ (b : UnitBook). b.unit) o → Some a ≡ option_map (agreement_of w) o
         → before ≡ unwrap_or (option_map (λ (b : UnitBook). b.instances) o) []
-        → IsLeafOf w w unit (record { unit = row; agreement = a; before = before; present = present })
+        → IsLeafOf w w unit (record { unit = row; rule = rule; agreement = a; before = before; present = present })
     found None stands is agrees lists = absurd cc
     found (Some b) stands is agrees lists =
         let unit_is : b.unit ≡ row = cc in
@@ -185,7 +216,9 @@ read_in_turn w v u unit row a before present same next is agrees lists copy =
         ap (λ (r : Workunit). record { unit = r; instances = b.instances }) unit_is ∙ ap (λ (xs : List Instance). record { unit = row; instances = xs }) (sym lists) in
         record {
           before = stands ∙ ap (λ (b : UnitBook). Some b) whole;
-          here = stands ∙ ap (λ (b : UnitBook). Some b) (whole ∙ ap (λ (xs : List Instance). record { unit = row; instances = xs }) (sym copy));
+          here = stands
+              ∙ ap (λ (b : UnitBook). Some b) (whole ∙ ap (λ (xs : List Instance). record { unit = row; instances = xs }) (sym copy)
+              ∙ ap (λ (r : ClassRule). record { unit = record row { class_rule = r }; instances = present }) (sym ruled));
           agreement = ap (λ (r : Workunit). agreement_by w.apps r.app) (sym unit_is) ∙ agreed;
         }
 

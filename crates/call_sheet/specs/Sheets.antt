@@ -1,8 +1,9 @@
--- What a page holds of a world, and what a sheet may be asked.
+-- Words. What a page holds of a world, and what a sheet may be asked.
 use Rattle.std.specs.Prelude.{◌≡◌, ℕ, ◌+◌, ◌<◌, ◌≤◌, ◌==◌, if◌then◌else◌, List, [], ◌∷◌, length, Option, None, Some, option_map, is_some, IsSome, slice_get}
 use Rattle.std.specs.BTreeMap.{BTreeMap, get}
 use Rattle.std.specs.List.{list_any}
 use Rattle.std.specs.Ordering.{nat_cmp}
+use Rattle.sched_book.specs.Classes.{rule_after}
 use Rattle.sched_book.specs.Count.{status}
 use Rattle.sched_book.specs.Places.{unit_at, host_at, unit_named, agreement_by}
 use Rattle.sched_book.specs.Delta.{applied, set_at}
@@ -16,12 +17,12 @@ use Rattle.sched_book.specs.declared.world.World.{World}
 use Rattle.call_sheet.specs.declared.leaf.Leaf.{Leaf}
 use Rattle.call_sheet.specs.declared.page.Page.{Page}
 
--- the workunit of a leaf with its instances before the call, and now
+-- the workunit of a leaf, with the rule of its class and its instances: before the call, and now
 abbrev pub book_before : Leaf → UnitBook
 book_before k = record { unit = k.unit; instances = k.before }
 
 abbrev pub book_now : Leaf → UnitBook
-book_now k = record { unit = k.unit; instances = k.present }
+book_now k = record { unit = record k.unit { class_rule = k.rule }; instances = k.present }
 
 -- The leaf of a workunit: the world before the call has it as it was before, and the present one as it is now.
 pub record IsLeafOf (entry present : World) (unit : ℕ) (k : Leaf) : Type 0 where
@@ -44,8 +45,8 @@ abbrev pub IsHostAt : World → World → ℕ → Option HostRow → Type 0
 IsHostAt entry present number None = host_at present number ≡ host_at entry number
 IsHostAt entry present number (Some h) = host_at present number ≡ Some h
 
--- A page of a call which found this world: the changes of the page are changes of workunits' instances and of hosts
--- alone, and each leaf and each host is that of the world with the changes made.
+-- A page of a call which found this world: the changes of the page are changes of workunits' instances, of their classes
+-- and of hosts alone, and each leaf and each host is that of the world with the changes made.
 pub record IsPageOf (entry : World) (p : Page) : Type 0 where
   pub settings : p.settings ≡ entry.settings
   pub leaves : (unit : ℕ) → IsLeafAt entry (applied entry p.delta) unit (get nat_cmp p.leaves unit)
@@ -65,6 +66,15 @@ with_put p x k = record k { present = set_at k.present p.number x }
 abbrev pub ArePut : BTreeMap ℕ Leaf → BTreeMap ℕ Leaf → Place → Instance → Type 0
 ArePut old new p x = IsSome (get nat_cmp old p.unit)
     × ((unit : ℕ) → get nat_cmp new unit ≡ if p.unit == unit then option_map (with_put p x) (get nat_cmp old unit) else get nat_cmp old unit)
+
+-- a leaf of which a version of a class was granted
+abbrev pub with_granted : List ℕ → Leaf → Leaf
+with_granted class k = record k { rule = rule_after k.rule class }
+
+-- these leaves are those with a class granted on the one of a workunit
+abbrev pub AreClassed : BTreeMap ℕ Leaf → BTreeMap ℕ Leaf → ℕ → List ℕ → Type 0
+AreClassed old new place class = IsSome (get nat_cmp old place)
+    × ((unit : ℕ) → get nat_cmp new unit ≡ if place == unit then option_map (with_granted class) (get nat_cmp old unit) else get nat_cmp old unit)
 
 -- all of these are greater than m
 abbrev pub AreAbove : ℕ → List ℕ → Type 0

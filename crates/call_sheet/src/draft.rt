@@ -18,7 +18,7 @@ use sched_book::{
     Account, App, HostRow, Instance, Place, Placed, Settings, Unavailable, Units, Version,
 };
 use std::alloc::Global;
-use texts::{Listed, Memory};
+use texts::{Listed, Memory, Text};
 
 /// Who stands for the world that a call found with the changes that the call makes.
 ///
@@ -66,6 +66,13 @@ pub trait Draft: Units {
         ensures put { Trusted Self.Units self.old self.new (
             OnOk result (Self.world self.new ≡ applied_one (Self.world self.old) (change.Instance place row.now))) }
         ensures delta { OnOk result (delta self.new ≡ delta self.old ++ change.Instance place row.now ∷ []) };
+
+    /// Has a version of a class granted for a workunit, which was read: with its first it takes the class, if it is marked.
+    fn put_class(&mut self, unit: u32, class: &Text) -> Result<(), Unavailable>
+        ensures works { works self.old self.new }
+        ensures put { Trusted Self.Units self.old self.new (
+            OnOk result (Self.world self.new ≡ applied_one (Self.world self.old) (change.Class unit class.now))) }
+        ensures delta { OnOk result (delta self.new ≡ delta self.old ++ change.Class unit class.now ∷ []) };
 
     /// Puts a host in the place of the one that has this number. It is unavailable where none has.
     fn put_host(&mut self, alloc: Global, number: u32, row: &HostRow) -> Result<(), Unavailable>
@@ -127,7 +134,7 @@ pub trait Draft: Units {
     // It stands for the world that the call found with the changes made.
     ghost is_applied: { (s : Self) → Self.world s ≡ applied (entry s) (delta s) };
 
-    // The changes are of workunits' instances and of hosts alone, and no workunit gets another name.
+    // The changes are of workunits' instances, of their classes and of hosts alone, and no workunit gets another name.
     ghost rest_stays: { (s : Self) → Self.well_kept s → Self.world s ≡ record (entry s) { units = (Self.world s).units; hosts = (Self.world s).hosts } };
 
     ghost names_stay: { (s : Self) → Self.well_kept s → (name : List ℕ) → unit_named (Self.world s) name ≡ unit_named (entry s) name };

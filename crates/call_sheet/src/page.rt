@@ -7,13 +7,13 @@ ghost use Rattle.std.specs.Ordering.{nat_cmp};
 ghost use Rattle.sched_book.specs.Delta.{applied};
 ghost use Rattle.sched_book.specs.declared.delta.Change.TheVariants as change;
 ghost use Rattle.sched_book.specs.declared.world.World.{World};
-ghost use Rattle.call_sheet.specs.Sheets.{IsPageOf, IsLeafAt, IsHostAt, HasPlace, ArePut, AreAllOf};
+ghost use Rattle.call_sheet.specs.Sheets.{IsPageOf, IsLeafAt, IsHostAt, HasPlace, ArePut, AreClassed, AreAllOf};
 
 use crate::leaf::Leaf;
 use sched_book::{Change, Delta, HostRow, Instance, Place, Settings, Unavailable, copy_of};
 use std::alloc::Global;
 use std::collections::BTreeMap;
-use texts::{Listed, Memory};
+use texts::{Listed, Memory, Text};
 
 /// The settings, the workunits and the hosts that a call has read, as they are now, and its changes in their order.
 #[derive(Drop)]
@@ -109,6 +109,44 @@ impl Page {
         let put = copy_of(row)?;
         self.delta.push(Change::Instance { place, row: pushed })?;
         match self.put_on_leaf(place, put) {
+            Ok(()) => Ok(()),
+            Err(failed) => {
+                self.delta.drop_last();
+                Err(failed)
+            }
+        }
+    }
+
+    /// Has a version of a class granted on the leaf of a workunit.
+    pub(crate) fn class_on_leaf(&mut self, unit: u32, class: &Text) -> Result<(), Unavailable>
+        ensures ok { OnOk result (AreClassed self.old.leaves self.new.leaves unit class.now) }
+        ensures err { OnErr result ((other : ℕ) → get nat_cmp self.new.leaves other ≡ get nat_cmp self.old.leaves other) }
+        ensures hosts { self.new.hosts ≡ self.old.hosts }
+        ensures settings { self.new.settings ≡ self.old.settings }
+        ensures delta { self.new.delta ≡ self.old.delta }
+    {
+        match self.leaves.get_mut(&unit) {
+            None => Err(Unavailable),
+            Some(leaf) => {
+                leaf.rule = leaf.rule.after(class)?;
+                Ok(())
+            }
+        }
+    }
+
+    /// Has a version of a class granted for a workunit, which has to have a leaf.
+    #[tactic(auto, using(crate::proofs::Pages::page_steps))]
+    pub fn put_class(&mut self, unit: u32, class: &Text) -> Result<(), Unavailable>
+        ensures page { (w : World) → IsPageOf w self.old → IsPageOf w self.new }
+        ensures ok { OnOk result (self.new.delta ≡ self.old.delta ++ change.Class unit class.now ∷ []) }
+        ensures err { OnErr result (self.new.delta ≡ self.old.delta) }
+    {
+        let pushed = copy_of(class)?;
+        self.delta.push(Change::Class {
+            unit,
+            class: pushed,
+        })?;
+        match self.class_on_leaf(unit, class) {
             Ok(()) => Ok(()),
             Err(failed) => {
                 self.delta.drop_last();

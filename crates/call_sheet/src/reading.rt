@@ -28,8 +28,10 @@ fn ask_leaf<D: Desk>(alloc: Global, desk: &mut D, unit: u32) -> Result<Option<Le
     };
     let before = Instances::of(desk.instances_of(alloc, unit)?);
     let present = before.copied()?;
+    let rule = copy_of(&row.class_rule)?;
     Ok(Some(Leaf {
         unit: row,
+        rule,
         agreement,
         before,
         present,

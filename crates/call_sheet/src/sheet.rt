@@ -11,7 +11,7 @@ use sched_book::{
     Version, Workunit, copy_of,
 };
 use std::alloc::Global;
-use texts::{Listed, Memory};
+use texts::{Listed, Memory, Text};
 
 /// A view of a desk and of the page of a call over it, for the length of a step.
 pub struct Sheet<'a, D> {
@@ -52,7 +52,7 @@ impl<'a, D: Desk> Units for Sheet<'a, D> {
         read_leaf(alloc, self.desk, self.page, unit)?;
         match self.page.leaf(unit) {
             None => Ok(None),
-            Some(leaf) => Ok(Some(copy_of(&leaf.unit)?)),
+            Some(leaf) => Ok(Some(leaf.unit_now()?)),
         }
     }
 
@@ -139,6 +139,11 @@ impl<'a, D: Desk> Draft for Sheet<'a, D> {
     #[tactic(auto, using(crate::proofs::Pages::put_steps))]
     fn put_instance(&mut self, place: Place, row: &Instance) -> Result<(), Unavailable> {
         self.page.put_instance(place, row)
+    }
+
+    #[tactic(auto, using(crate::proofs::Pages::put_steps))]
+    fn put_class(&mut self, unit: u32, class: &Text) -> Result<(), Unavailable> {
+        self.page.put_class(unit, class)
     }
 
     #[tactic(auto, using(crate::proofs::Pages::put_steps))]

@@ -67,7 +67,7 @@ fn put_row<S: Draft>(
     }
 }
 
-/// Makes one change, of an instance or of a host; any other is refused.
+/// Makes one change, of an instance, of a class or of a host; any other is refused.
 fn put_change<S: Draft>(alloc: Global, sheet: &mut S, change: &Change) -> Result<(), Unavailable>
     ensures works { S.works sheet.old sheet.new }
     ensures put { Trusted S.Units sheet.old sheet.new (
@@ -79,12 +79,16 @@ fn put_change<S: Draft>(alloc: Global, sheet: &mut S, change: &Change) -> Result
             sheet.read(alloc, place.unit)?;
             sheet.put_instance(*place, row)
         }
+        Change::Class { unit, class } => {
+            sheet.read(alloc, *unit)?;
+            sheet.put_class(*unit, class)
+        }
         Change::Host { number, row } => put_row(alloc, sheet, *number, row),
         _ => Err(Unavailable),
     }
 }
 
-/// Makes changes of instances and of hosts in turn; any other is refused.
+/// Makes changes of instances, of classes and of hosts in turn; any other is refused.
 pub fn put_all<S: Draft>(
     alloc: Global,
     sheet: &mut S,

@@ -1,4 +1,4 @@
--- When a grant of one world is one of another.
+-- Rule. When a grant of one world is one of another.
 use Rattle.std.specs.Prelude.{◌≡◌, List}
 use Rattle.sched_book.specs.Fits.{is_eligible, estimate_at}
 use Rattle.sched_book.specs.Grant.{Asking, IsGrant, sent_today, end_word}

@@ -1,4 +1,4 @@
--- What a choice of jobs is.
+-- Rule. What a choice of jobs is.
 use Rattle.std.specs.Prelude.{◌≡◌, List, map, All, Some, option_map, option_and_then}
 use Rattle.sched_book.specs.Fits.{estimate, version_for}
 use Rattle.sched_book.specs.Grant.{Asking, IsGrant, end_word}

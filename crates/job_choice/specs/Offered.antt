@@ -1,4 +1,4 @@
--- What is read of a desk before the choice, and what is chosen then.
+-- Rule. What is read of a desk before the choice, and what is chosen then.
 use Rattle.std.specs.Prelude.{◌≡◌, ◌⊎◌, ℕ, ◌-◌, ◌==◌, nat_eq, true, false, if◌then◌else◌, List, [], ◌∷◌, ◌++◌, All, None}
 use Rattle.std.specs.List.{list_any}
 use Rattle.sched_book.specs.Desk.{units_of_user}

@@ -1,4 +1,4 @@
--- What the fates of lost jobs do to a world.
+-- Rule. What the fates of lost jobs do to a world.
 use Rattle.std.specs.Prelude.{◌≡◌, ℕ, List, map, Option, Some, None, option_map}
 use Rattle.sched_book.specs.Places.{instance_at}
 use Rattle.sched_book.specs.Reports.{with_changed}

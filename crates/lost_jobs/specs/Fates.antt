@@ -1,4 +1,4 @@
--- What becomes of lost jobs of a host, as it is told now.
+-- Rule. What becomes of lost jobs of a host, as it is told now.
 use Rattle.std.specs.Prelude.{ℕ, Option, Some, None, if◌then◌else◌}
 use Rattle.sched_book.specs.Fits.{estimate_at}
 use Rattle.sched_book.specs.Lost.{is_resent, delay_at, deadline_after}

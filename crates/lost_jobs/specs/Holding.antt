@@ -1,4 +1,4 @@
--- What a host holds, and what of it its client does not list.
+-- Rule. What a host holds, and what of it its client does not list.
 use Rattle.std.specs.Prelude.{◌≡◌, ℕ, Bool, true, not, ◌&&◌, List}
 use Rattle.std.specs.Str.{bytes_eq}
 use Rattle.sched_book.specs.Places.{passes, is_held_by, name_at}

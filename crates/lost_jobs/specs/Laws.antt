@@ -1,4 +1,4 @@
--- What the definitions come to.
+-- Rule. What the definitions come to.
 use Rattle.std.specs.Prelude.{◌≡◌, ℕ, List, map, fold, Option}
 use Rattle.rpc_records.specs.declared.request.Report.{Report}
 use Rattle.sched_book.specs.Reports.{recorded}

@@ -1,4 +1,4 @@
--- What the leaf of a workunit says of its jobs.
+-- Words. What the leaf of a workunit says of its jobs.
 use Rattle.std.specs.Prelude.{ℕ, Bool, not, ◌&&◌, if◌then◌else◌, List, [], Option, Some, None, option_map, unwrap_or, slice_get}
 use Rattle.std.specs.Str.{bytes_eq}
 use Rattle.sched_book.specs.Count.{is_open, status}

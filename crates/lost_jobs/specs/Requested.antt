@@ -1,4 +1,4 @@
--- What a request lost, in the world that it finds: the jobs that its host held, that it neither reports nor lists.
+-- Rule. What a request lost, in the world that it finds: the jobs that its host held, that it neither reports nor lists.
 use Rattle.std.specs.Prelude.{◌≡◌, ℕ, true, List, All, AllPairs, Contains, Some}
 use Rattle.rpc_records.specs.declared.request.Report.{Report}
 use Rattle.rpc_records.specs.declared.request.Request.{Request}

@@ -1,7 +1,8 @@
--- Changes that leave all tables but those of workunits and hosts, and as many workunits, put hosts and instances alone.
+-- Changes that leave all tables but those of workunits and hosts, and as many workunits, put hosts, instances and classes alone.
 use Rattle.std.proofs.Common.{◌≡◌, ℕ, suc, ◌+◌, ◌≤◌, true, List, [], ◌∷◌, ◌++◌, length, Option, Some, None, sym, refl, ap, ◌∙◌, length-append, arith}
 use Rattle.std.specs.Prelude.{is_some, slice_get}
 use Rattle.std.specs.List.{list_all}
+use Rattle.sched_book.specs.Classes.{with_class}
 use Rattle.sched_book.specs.Places.{nth, unit_at}
 use Rattle.sched_book.specs.Imports.{new_unit}
 use Rattle.sched_book.specs.Delta.{with_instance, applied_one, applied}
@@ -27,6 +28,7 @@ grow_one w (change.Version v) = let long = one_longer w.versions v in omega arit
 grow_one w (change.Workunit u) = let long = one_longer w.units (new_unit u) in omega arith
 grow_one w (change.Host number h) = omega arith
 grow_one w (change.Instance p x) = let long = length-modify_nth (with_instance p.number x) w.units p.unit in omega arith
+grow_one w (change.Class unit class) = let long = length-modify_nth (with_class class) w.units unit in omega arith
 
 grow : (w : World) (cs : List Change) → row_count w ≤ row_count (applied w cs)
 grow w [] = omega arith
@@ -50,6 +52,9 @@ none_added w (change.Host number h ∷ cs) same = none_added (applied_one w (cha
 none_added w (change.Instance p x ∷ cs) same =
     none_added (applied_one w (change.Instance p x)) cs
     (same ∙ ap (λ n. length w.accounts + length w.apps + length w.versions + n) (sym (length-modify_nth (with_instance p.number x) w.units p.unit)))
+none_added w (change.Class unit class ∷ cs) same =
+    none_added (applied_one w (change.Class unit class)) cs
+    (same ∙ ap (λ n. length w.accounts + length w.apps + length w.versions + n) (sym (length-modify_nth (with_class class) w.units unit)))
 
 -- as many stand where something is found at the same places
 same_length_at : {X : Type 0} (xs ys : List X) → ((i : ℕ) → is_some (slice_get xs i) ≡ is_some (slice_get ys i)) → length xs ≡ length ys

@@ -7,8 +7,9 @@ use Rattle.std.proofs.Math.Seq.{drop-append_seam}
 use Rattle.std.proofs.lemmas.List.Folds.{list_all-append}
 use Rattle.std.proofs.lemmas.List.Sums.{fold-append}
 use Rattle.sched_book.specs.Places.{nth, unit_at}
+use Rattle.sched_book.specs.Reports.{modify_nth}
 use Rattle.sched_book.specs.Delta.{with_instance, applied_one, applied, FitsOne, Fits}
-use Rattle.sched_book.specs.Desk.{workunit_at}
+use Rattle.sched_book.specs.Classes.{imported, with_class}
 use Rattle.sched_book.specs.Limits.{IsHostInLimits, IsUnitInLimits}
 use Rattle.sched_book.specs.Settle.{grown, with_grown, charges, merits, next_quota, with_quota, settled}
 use Rattle.sched_book.specs.Sound.{IsSoundUnit, IsSoundHost, Sound}
@@ -16,8 +17,10 @@ use Rattle.sched_book.specs.declared.delta.Change.{Change}
 use Rattle.sched_book.specs.declared.delta.Change.TheVariants as change
 use Rattle.sched_book.specs.declared.instance.UnitBook.{UnitBook}
 use Rattle.sched_book.specs.declared.rows.HostRow.{HostRow}
+use Rattle.sched_book.specs.declared.rows.Workunit.{Workunit}
 use Rattle.sched_book.specs.declared.settings.Settings.{Settings}
 use Rattle.sched_book.specs.declared.world.World.{World}
+use Rattle.sched_book.proofs.Classes.{first_stays, imported_in_limits}
 use Rattle.sched_book.proofs.PlacesOf.{nth-suc, nth-modify_nth, nth-within}
 use Rattle.sched_book.proofs.Settling.{settlement_is_pointwise}
 use Rattle.quorum_credit.specs.Marks.{charges_in, merits_in, unit_charges, unit_merits}
@@ -46,7 +49,7 @@ both_false : (a b : Bool) → (a || b) ≡ false → (a ≡ false) × (b ≡ fal
 both_false true b is = absurd cc
 both_false false b is = (refl, is)
 
--- what changes that put hosts and instances leave
+-- what changes that put hosts, instances and classes leave
 apps_stay : (w : World) (c : Change) → puts_row c ≡ true → (applied_one w c).apps ≡ w.apps
 apps_stay w (change.Account a) puts = absurd cc
 apps_stay w (change.App a) puts = absurd cc
@@ -54,6 +57,7 @@ apps_stay w (change.Version v) puts = absurd cc
 apps_stay w (change.Workunit u) puts = absurd cc
 apps_stay w (change.Host number h) puts = refl
 apps_stay w (change.Instance p x) puts = refl
+apps_stay w (change.Class unit class) puts = refl
 
 unit_stays : (w : World) (c : Change) (unit : ℕ) → puts_row c ≡ true → touches unit c ≡ false → unit_at (applied_one w c) unit ≡ unit_at w unit
 unit_stays w (change.Account a) unit puts other = absurd cc
@@ -64,6 +68,9 @@ unit_stays w (change.Host number h) unit puts other = refl
 unit_stays w (change.Instance p x) unit puts other =
     nth-modify_nth (with_instance p.number x) w.units p.unit unit
     ∙ ap (λ b. cond b (option_map (with_instance p.number x) (nth w.units unit)) (nth w.units unit)) other
+unit_stays w (change.Class place class) unit puts other =
+    nth-modify_nth (with_class class) w.units place unit
+    ∙ ap (λ b. cond b (option_map (with_class class) (nth w.units unit)) (nth w.units unit)) other
 
 pub all_apps_stay : (w : World) (cs : List Change) → list_all puts_row cs ≡ true → (applied w cs).apps ≡ w.apps
 all_apps_stay w [] puts = refl
@@ -145,6 +152,7 @@ hosts_one w (change.App a) puts limits fits = absurd cc
 hosts_one w (change.Version v) puts limits fits = absurd cc
 hosts_one w (change.Workunit u) puts limits fits = absurd cc
 hosts_one w (change.Instance p x) puts limits fits = limits
+hosts_one w (change.Class unit class) puts limits fits = limits
 hosts_one w (change.Host number h) puts limits fits = λ host k stands. cases host k (eqb number 0) (eqb (number_got (length w.hosts) number) host) refl (sym (nth-set_nth w.hosts number h host) ∙ stands)
   where
     cases : (host : ℕ) (k : HostRow) (a b : Bool) → eqb (number_got (length w.hosts) number) host ≡ b → cond a (nth w.hosts host) (cond b (Some h) (nth w.hosts host)) ≡ Some k
@@ -164,35 +172,44 @@ hosts_in_limits w (c ∷ cs) puts limits fits =
     let parts = both_true (puts_row c) (list_all puts_row cs) puts in
     hosts_in_limits (applied_one w c) cs parts.1 (hosts_one w c parts.0 limits fits.0) fits.1
 
--- the rows of workunits stay
-row_stays : (w : World) (c : Change) (unit : ℕ) → puts_row c ≡ true → workunit_at (applied_one w c) unit ≡ workunit_at w unit
+-- the row of a workunit but for its class
+abbrev plain : Option UnitBook → Option Workunit
+plain o = option_map (λ (b : UnitBook). imported b.unit) o
+
+-- it stays where one workunit is changed and it does
+plain_stays : (f : UnitBook → UnitBook) → ((b : UnitBook) → imported (f b).unit ≡ imported b.unit) → (xs : List UnitBook) (place unit : ℕ)
+    → plain (nth (modify_nth f xs place) unit) ≡ plain (nth xs unit)
+plain_stays f keeps xs place unit = ap plain (nth-modify_nth f xs place unit) ∙ cases (eqb place unit) (nth xs unit)
+  where
+    cases : (e : Bool) (o : Option UnitBook) → plain (cond e (option_map f o) o) ≡ plain o
+    cases true None = refl
+    cases true (Some b) = ap Some (keeps b)
+    cases false o = refl
+
+-- so the rows stay but for their classes
+row_stays : (w : World) (c : Change) (unit : ℕ) → puts_row c ≡ true → plain (unit_at (applied_one w c) unit) ≡ plain (unit_at w unit)
 row_stays w (change.Account a) unit puts = absurd cc
 row_stays w (change.App a) unit puts = absurd cc
 row_stays w (change.Version v) unit puts = absurd cc
 row_stays w (change.Workunit u) unit puts = absurd cc
 row_stays w (change.Host number h) unit puts = refl
-row_stays w (change.Instance p x) unit puts =
-    ap (option_map (λ (b : UnitBook). b.unit)) (nth-modify_nth (with_instance p.number x) w.units p.unit unit) ∙ cases (eqb p.unit unit) (nth w.units unit)
-  where
-    cases : (e : Bool) (o : Option UnitBook)
-        → option_map (λ (b : UnitBook). b.unit) (cond e (option_map (with_instance p.number x) o) o) ≡ option_map (λ (b : UnitBook). b.unit) o
-    cases true None = refl
-    cases true (Some b) = refl
-    cases false o = refl
+row_stays w (change.Instance p x) unit puts = plain_stays (with_instance p.number x) (λ b. refl) w.units p.unit unit
+row_stays w (change.Class place class) unit puts =
+    plain_stays (with_class class) (λ b. ap (λ rule. record b.unit { class_rule = rule }) (first_stays b.unit.class_rule class)) w.units place unit
 
-rows_stay : (w : World) (cs : List Change) (unit : ℕ) → list_all puts_row cs ≡ true → workunit_at (applied w cs) unit ≡ workunit_at w unit
+rows_stay : (w : World) (cs : List Change) (unit : ℕ) → list_all puts_row cs ≡ true → plain (unit_at (applied w cs) unit) ≡ plain (unit_at w unit)
 rows_stay w [] unit puts = refl
 rows_stay w (c ∷ cs) unit puts =
     let parts = both_true (puts_row c) (list_all puts_row cs) puts in rows_stay (applied_one w c) cs unit parts.1 ∙ row_stays w c unit parts.0
 
 pub units_in_limits : (w : World) (cs : List Change) → Sound w → list_all puts_row cs ≡ true → AreUnitsInLimits (applied w cs)
-units_in_limits w cs sound puts unit b stands = cases (unit_at w unit) refl (sym (rows_stay w cs unit puts) ∙ ap (option_map (λ (c : UnitBook). c.unit)) stands)
+units_in_limits w cs sound puts unit b stands = cases (unit_at w unit) refl (sym (rows_stay w cs unit puts) ∙ ap plain stands)
   where
-    cases : (o : Option UnitBook) → unit_at w unit ≡ o → option_map (λ (c : UnitBook). c.unit) o ≡ Some b.unit → IsUnitInLimits b.unit
+    cases : (o : Option UnitBook) → unit_at w unit ≡ o → plain o ≡ Some (imported b.unit) → IsUnitInLimits (imported b.unit)
     cases None is none = absurd cc
     cases (Some c) is row =
-        let same : c.unit ≡ b.unit = cc in
-        subst IsUnitInLimits same (all_nth (IsSoundUnit w.hosts w.apps) w.units unit c sound.units is).well.limits
+        let same : imported c.unit ≡ imported b.unit = cc in
+        subst IsUnitInLimits same (imported_in_limits c.unit (all_nth (IsSoundUnit w.hosts w.apps) w.units unit c sound.units is).well.limits)
 
 -- The three steps of settlement from a world w of a call that found world e: to v by new instances, marks, and to u by
 -- quotas; and the changes before and after.

@@ -1,15 +1,16 @@
--- What of credit stays from a world to a later one.
+-- Words. What of credit stays from a world to a later one.
 use Rattle.std.specs.Prelude.{◌≡◌, ℕ, true, Some, slice_get}
+use Rattle.sched_book.specs.Classes.{imported}
 use Rattle.sched_book.specs.Count.{is_valid}
 use Rattle.sched_book.specs.Places.{unit_at, host_of, book_verdict}
 use Rattle.sched_book.specs.declared.instance.Instance.{Instance}
 use Rattle.sched_book.specs.declared.instance.UnitBook.{UnitBook}
 use Rattle.sched_book.specs.declared.world.World.{World}
 
--- A workunit with its instances goes on as another: under the same row, each instance with a valid result stays so, with
+-- A workunit with its instances goes on as another: under the same row but for its class, each instance with a valid result stays so, with
 -- its host.
 pub record UnitGoesOn (old new : World) (b c : UnitBook) : Type 0 where
-  pub row : c.unit ≡ b.unit
+  pub row : imported c.unit ≡ imported b.unit
   pub valid : (number : ℕ) (x : Instance) → slice_get b.instances number ≡ Some x → is_valid (book_verdict old.apps b x) ≡ true
       → (y : Instance) × (slice_get c.instances number ≡ Some y) × (is_valid (book_verdict new.apps c y) ≡ true) × (host_of y ≡ host_of x)
 

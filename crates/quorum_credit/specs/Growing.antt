@@ -1,4 +1,4 @@
--- The changes that give workunits the instances that they need.
+-- Words. The changes that give workunits the instances that they need.
 use Rattle.std.specs.Prelude.{ℕ, zero, suc, ◌+◌, List, [], ◌∷◌, ◌++◌, length, option_map, unwrap_or}
 use Rattle.sched_book.specs.Places.{unit_at, agreement_of}
 use Rattle.sched_book.specs.Settle.{fresh}

@@ -1,4 +1,4 @@
--- What a deadline that went by makes of an instance, and of several.
+-- Words. What a deadline that went by makes of an instance, and of several.
 use Rattle.std.specs.Prelude.{ℕ, if◌then◌else◌, List, fold, Option, None, option_map, slice_get}
 use Rattle.sched_book.specs.Count.{is_held}
 use Rattle.sched_book.specs.Places.{option_any}

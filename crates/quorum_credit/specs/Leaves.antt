@@ -1,4 +1,4 @@
--- What the leaf of a workunit says of its reports, its new instances and its marks.
+-- Words. What the leaf of a workunit says of its reports, its new instances and its marks.
 use Rattle.std.specs.Prelude.{ℕ, List, [], length, Option, None, Some}
 use Rattle.rpc_records.specs.declared.request.Report.{Report}
 use Rattle.sched_book.specs.Count.{has_failed}

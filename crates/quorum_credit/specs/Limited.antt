@@ -1,4 +1,4 @@
--- Changes that fit, in a world whose instances keep within limits.
+-- Words. Changes that fit, in a world whose instances keep within limits.
 use Rattle.std.specs.Prelude.{◌≡◌, ℕ, ◌≤◌, List, length, Some}
 use Rattle.sched_book.specs.Places.{unit_at, instance_at}
 use Rattle.sched_book.specs.Limits.{most_instances, IsInstanceInLimits}

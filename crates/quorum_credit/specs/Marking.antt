@@ -1,4 +1,4 @@
--- The marks of workunits after changes, as they are made: instance by instance, workunit by workunit.
+-- Words. The marks of workunits after changes, as they are made: instance by instance, workunit by workunit.
 use Rattle.std.specs.Prelude.{ℕ, ◌+◌, ◌==◌, ◌&&◌, if◌then◌else◌, List, [], ◌∷◌, ◌++◌, map, Option, None, Some, option_map, option_and_then, unwrap_or, slice_get}
 use Rattle.sched_book.specs.Count.{verdict}
 use Rattle.sched_book.specs.Places.{unit_at, agreement_of}

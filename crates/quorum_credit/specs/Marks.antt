@@ -1,4 +1,4 @@
--- What settlement counts for the hosts of instances, and against them, and the credit that it brings them.
+-- Words. What settlement counts for the hosts of instances, and against them, and the credit that it brings them.
 use Rattle.std.specs.Prelude.{ℕ, ◌+◌, ◌==◌, Bool, true, false, not, ◌&&◌, if◌then◌else◌, List, sum_by, Option, None, option_map, unwrap_or, slice_get}
 use Rattle.sched_book.specs.Count.{tells_error, is_valid, is_invalid}
 use Rattle.sched_book.specs.Desk.{instances_at}

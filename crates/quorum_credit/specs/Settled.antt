@@ -1,4 +1,4 @@
--- What a workunit comes to with the reports that it has.
+-- Words. What a workunit comes to with the reports that it has.
 use Rattle.std.specs.Prelude.{ℕ, if◌then◌else◌, List, map, Option}
 use Rattle.sched_book.specs.Count.{status, is_open, need, verdict}
 use Rattle.sched_book.specs.declared.rows.Agreement.{Agreement}

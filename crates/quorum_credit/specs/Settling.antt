@@ -1,6 +1,7 @@
--- The steps from the world with its changes to the settled one. Of the workunits only those that the changes touch are looked at.
+-- Words. The steps from the world with its changes to the settled one. Of the workunits only those that the changes touch are looked at.
 use Rattle.std.specs.Prelude.{◌≡◌, ℕ, ◌≤◌, ◌==◌, ◌++◌, Bool, true, false, if◌then◌else◌, List, length, drop, map, Some, is_some, IsTrue}
 use Rattle.std.specs.List.{enumerate_from, list_any}
+use Rattle.sched_book.specs.Classes.{imported}
 use Rattle.sched_book.specs.Delta.{applied, Fits}
 use Rattle.sched_book.specs.Limits.{IsUnitInLimits, IsHostInLimits}
 use Rattle.sched_book.specs.Places.{nth, unit_at, host_at}
@@ -21,7 +22,7 @@ use Rattle.quorum_credit.specs.declared.marks.Mark.{Mark}
 abbrev pub is_among : List ℕ → ℕ → Bool
 is_among units unit = list_any (λ n. n == unit) units
 
--- the change puts a host or an instance, as those of a call and of a tick do
+-- the change puts a host or an instance or has a workunit take a class, as those of a call and of a tick do
 abbrev pub puts_row : Change → Bool
 puts_row (change.Account a) = false
 puts_row (change.App a) = false
@@ -29,6 +30,7 @@ puts_row (change.Version v) = false
 puts_row (change.Workunit u) = false
 puts_row (change.Host number h) = true
 puts_row (change.Instance p x) = true
+puts_row (change.Class unit class) = true
 
 -- Between two worlds no workunit is touched but these, whose places rise.
 pub record TouchJust (units : List ℕ) (old changed : World) : Type 0 where
@@ -52,7 +54,7 @@ with_grown_among units w = record w { units = map (grown_among w.apps units) (en
 
 -- each workunit's numbers are within limits
 abbrev pub AreUnitsInLimits : World → Type 0
-AreUnitsInLimits w = (unit : ℕ) (b : UnitBook) → unit_at w unit ≡ Some b → IsUnitInLimits b.unit
+AreUnitsInLimits w = (unit : ℕ) (b : UnitBook) → unit_at w unit ≡ Some b → IsUnitInLimits (imported b.unit)
 
 -- each host is within limits, and its account stands
 abbrev pub AreHostsInLimits : World → Type 0

@@ -1,4 +1,4 @@
--- What a call's reports change, and which workunits they touch.
+-- Words. What a call's reports change, and which workunits they touch.
 use Rattle.std.specs.Prelude.{◌≡◌, ℕ, ◌+◌, Bool, false, ◌==◌, if◌then◌else◌, List, count_by, Option, Some, None, option_map, slice_get}
 use Rattle.std.specs.List.{list_any}
 use Rattle.rpc_records.specs.declared.request.Report.{Report}
@@ -21,7 +21,7 @@ reported_in host r failed xs number =
     then option_map (with_report r (place_among failed xs)) (slice_get xs number)
     else None
 
--- the change is of an instance of the workunit
+-- the change is of an instance of the workunit, or of its class
 abbrev pub touches : ℕ → Change → Bool
 touches unit (change.Account a) = false
 touches unit (change.App a) = false
@@ -29,8 +29,9 @@ touches unit (change.Version v) = false
 touches unit (change.Workunit u) = false
 touches unit (change.Host number h) = false
 touches unit (change.Instance p x) = p.unit == unit
+touches unit (change.Class place class) = place == unit
 
--- These are the places of the workunits of which the changes put an instance, in their order and each once.
+-- These are the places of the workunits that the changes touch, in their order and each once.
 pub record AreTouched (changes : List Change) (units : List ℕ) : Type 0 where
   pub rising : AreRising units
   pub just : (unit : ℕ) → list_any (λ n. n == unit) units ≡ list_any (touches unit) changes

@@ -1,4 +1,4 @@
--- The hosts that marks speak of, and the quotas that these leave them.
+-- Words. The hosts that marks speak of, and the quotas that these leave them.
 use Rattle.std.specs.Prelude.{◌≡◌, ℕ, ◌+◌, min, Bool, false, ◌==◌, if◌then◌else◌, List, [], ◌∷◌, filter_map, All, Option, None, Some, option_map}
 use Rattle.std.specs.BTreeMap as tree
 use Rattle.std.specs.BTreeMap.{BTreeMap}

@@ -109,7 +109,7 @@ pub struct Taken {
     pub touched: Listed<u32>,
 }
 
-/// The places of the workunits of which the changes put an instance, in their order and each once.
+/// The places of the workunits that the changes touch, in their order and each once.
 ///
 /// # Errors
 ///
@@ -119,8 +119,14 @@ fn touched_by(alloc: Global, changes: &[Change]) -> Result<Listed<u32>, Memory>
 {
     let mut units = BTreeSet::new(alloc);
     for change in changes {
-        if let Change::Instance { place, row: _ } = change {
-            units.insert(place.unit)?;
+        match change {
+            Change::Instance { place, row: _ } => {
+                units.insert(place.unit)?;
+            }
+            Change::Class { unit, class: _ } => {
+                units.insert(*unit)?;
+            }
+            _ => {}
         }
     }
     Ok(Listed::of(units.iter().copied().collect(alloc)?))
@@ -190,7 +196,7 @@ fn behind(alloc: Global, delta: Delta, count: usize) -> Result<Delta, Memory>
 /// Settles the workunits that changes touch, which stand at these places: the further changes that give each open
 /// one the instances that it lacks, and each of their hosts the quota that follows from what is new.
 ///
-/// The changes are those of a call or a tick, which put hosts and instances; others are refused.
+/// The changes are those of a call or a tick, which put hosts, instances and classes; others are refused.
 ///
 /// # Errors
 ///

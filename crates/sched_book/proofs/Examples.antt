@@ -16,6 +16,7 @@ use Rattle.sched_book.specs.Imports.{fault_of_rows, empty_shelf}
 use Rattle.sched_book.specs.Step.{empty_world}
 use Rattle.sched_book.specs.declared.rows.Account.{Account}
 use Rattle.sched_book.specs.declared.rows.Agreement.TheVariants.{Exact, Within}
+use Rattle.sched_book.specs.declared.rows.ClassRule.TheVariants.{Any}
 use Rattle.sched_book.specs.declared.rows.Rows.TheVariants as rows
 use Rattle.sched_book.specs.declared.rows.Version.{Version}
 use Rattle.sched_book.specs.declared.rows.Workunit.{Workunit}
@@ -41,6 +42,7 @@ unit_of quorum target total = record {
   rsc_memory_bound = 1000;
   rsc_disk_bound = 1000;
   credit = 5000;
+  class_rule = Any;
 }
 
 -- an instance of a host, sent at 1000 and due at 8200
@@ -191,7 +193,7 @@ after_the_deadline = refl
 
 -- The greater version number is the newer.
 abbrev version_of : ℕ → Version
-version_of number = record { app = codes "dock"; platform = codes "linux"; version_num = number }
+version_of number = record { app = codes "dock"; platform = codes "linux"; version_num = number; class = codes "linux" }
 
 newest_of_two : newest (version_of 101 ∷ version_of 102 ∷ []) ≡ Some (version_of 102)
 newest_of_two = refl

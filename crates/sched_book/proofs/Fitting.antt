@@ -4,6 +4,7 @@ use Rattle.std.specs.Prelude.{All, replicate}
 use Rattle.std.proofs.lemmas.List.{length-set, length-replicate}
 use Rattle.std.proofs.lemmas.List.Elements.{All-append}
 use borrow.Author.Tests.{ltb-false}
+use Rattle.sched_book.specs.Classes.{with_class}
 use Rattle.sched_book.specs.Settle.{fresh}
 use Rattle.sched_book.specs.Imports.{new_unit}
 use Rattle.sched_book.specs.Limits.{most_accounts, most_apps, most_versions, most_workunits, most_hosts, most_instances, IsBounded}
@@ -111,6 +112,14 @@ fitting_keeps_one w (change.Instance p x) limit bounded fits = record {
   versions = bounded.versions;
   hosts = bounded.hosts;
 }
+fitting_keeps_one w (change.Class unit class) limit bounded fits = record {
+  units = let same : length (modify_nth (with_class class) w.units unit) ≡ length w.units = length-modify_nth (with_class class) w.units unit in omega (arith, bounded.units);
+  instances = all_changed_nth HasFew (with_class class) (λ b few. few) w.units unit bounded.instances;
+  accounts = bounded.accounts;
+  apps = bounded.apps;
+  versions = bounded.versions;
+  hosts = bounded.hosts;
+}
 
 -- the settings stay
 pub settings_stay : (w : World) (c : Change) → (applied_one w c).settings ≡ w.settings
@@ -120,6 +129,7 @@ settings_stay w (change.Version v) = refl
 settings_stay w (change.Workunit u) = refl
 settings_stay w (change.Host number h) = refl
 settings_stay w (change.Instance p x) = refl
+settings_stay w (change.Class unit class) = refl
 
 pub fitting_keeps_bounds : FittingKeepsBounds
 fitting_keeps_bounds w [] limit bounded fits = bounded

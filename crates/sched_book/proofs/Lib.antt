@@ -22,5 +22,6 @@ pub mod EachName
 pub mod GoodReports
 pub mod PlaceChanges
 pub mod LostPlaces
+pub mod Classes
 pub mod Bounded
 pub mod Firsts

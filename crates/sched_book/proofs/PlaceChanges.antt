@@ -30,7 +30,7 @@ map_changed_at g f keeps [] i = refl
 map_changed_at g f keeps (x ∷ xs) zero = ap (λ y. y ∷ map g xs) (keeps x)
 map_changed_at g f keeps (x ∷ xs) (suc i) = ap (λ ys. g x ∷ ys) (map_changed_at g f keeps xs i)
 
-map_changed_nth : {X Y : Type 0} (g : X → Y) (f : X → X) → ((x : X) → g (f x) ≡ g x) → (xs : List X) (n : ℕ) → map g (modify_nth f xs n) ≡ map g xs
+pub map_changed_nth : {X Y : Type 0} (g : X → Y) (f : X → X) → ((x : X) → g (f x) ≡ g x) → (xs : List X) (n : ℕ) → map g (modify_nth f xs n) ≡ map g xs
 map_changed_nth {X} g f keeps xs n = cases (eqb n 0)
   where
     cases : (b : Bool) → map g (cond b xs (modify_at f xs (n - 1))) ≡ map g xs

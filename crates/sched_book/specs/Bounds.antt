@@ -1,4 +1,4 @@
--- What a bounded world has at most: 200,000 workunits of 100 instances each. A sound world is bounded.
+-- Rule. What a bounded world has at most: 200,000 workunits of 100 instances each. A sound world is bounded.
 use Rattle.std.specs.Prelude.{ℕ, ◌≤◌, length}
 use Rattle.sched_book.specs.Limits.{IsBounded}
 use Rattle.sched_book.specs.Places.{places, held_by, overdue}

@@ -1,4 +1,4 @@
--- What a call may tell.
+-- Rule. What a call may tell.
 use Rattle.rpc_records.specs.Ranges.{IsInRange}
 use Rattle.sched_book.specs.declared.machine.Call.{Call}
 use Rattle.sched_book.specs.declared.machine.Call.TheVariants as call

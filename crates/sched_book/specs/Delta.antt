@@ -1,5 +1,7 @@
--- Changes of a world.
+-- Rule. Changes of a world.
 use Rattle.std.specs.Prelude.{ℕ, ◌+◌, ◌-◌, ◌<◌, ◌≤◌, ◌==◌, IsTrue, nat_lt, if◌then◌else◌, List, [], ◌∷◌, ◌++◌, length, fold, slice_set, is_some, IfSome}
+use Rattle.rpc_records.specs.Ranges.{IsWord}
+use Rattle.sched_book.specs.Classes.{with_class}
 use Rattle.sched_book.specs.Places.{nth, unit_at}
 use Rattle.sched_book.specs.Reports.{modify_nth}
 use Rattle.sched_book.specs.Imports.{new_unit, has_app}
@@ -31,6 +33,7 @@ applied_one w (change.Version v) = record w { versions = w.versions ++ v ∷ [] 
 applied_one w (change.Workunit u) = record w { units = w.units ++ new_unit u ∷ [] }
 applied_one w (change.Host number h) = record w { hosts = set_nth w.hosts number h }
 applied_one w (change.Instance p x) = record w { units = modify_nth (with_instance p.number x) w.units p.unit }
+applied_one w (change.Class unit class) = record w { units = modify_nth (with_class class) w.units unit }
 
 -- the world after changes, of which later ones count over earlier ones
 abbrev pub applied : World → List Change → World
@@ -49,6 +52,7 @@ FitsOne w (change.Host number h) =
 FitsOne w (change.Instance p x) =
     IsTrue (is_some (unit_at w p.unit)) × (p.number < most_instances) × IfSome (unit_at w p.unit) (λ b. p.number ≤ length b.instances)
     × HasOwnerAmong w.hosts x × IsBare x × IsInstanceInLimits x
+FitsOne w (change.Class unit class) = IsTrue (is_some (unit_at w unit)) × IsWord class
 
 -- changes fit, each the world that those before it leave
 abbrev pub Fits : World → List Change → Type 0

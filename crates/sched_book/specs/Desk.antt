@@ -1,4 +1,4 @@
--- What a desk is asked, beside the words of places, counts and fits.
+-- Rule. What a desk is asked, beside the words of places, counts and fits.
 use Rattle.std.specs.Prelude.{ℕ, ◌+◌, Bool, if◌then◌else◌, List, [], ◌∷◌, length, find, Option, option_map, option_and_then, unwrap_or}
 use Rattle.std.specs.Str.{bytes_eq}
 use Rattle.sched_book.specs.Places.{nth, place_where, unit_at, user_had, agreement_of, status_of}

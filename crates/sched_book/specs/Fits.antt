@@ -1,9 +1,10 @@
--- What a host can run. The bounds are those of BOINC's workunits; how they are compared is this profile's.
+-- Rule. What a host can run. The bounds are those of BOINC's workunits; how they are compared is this profile's.
 use Rattle.std.specs.Prelude.{ℕ, ◌+◌, ◌-◌, ◌/◌, max, Bool, not, ◌&&◌, nat_le, if◌then◌else◌, List, [], ◌∷◌, filter, fold, Option, Some, None, option_and_then, option_map, is_some, is_none, unwrap_or}
 use Rattle.std.specs.List.{list_any}
 use Rattle.std.specs.Str.{bytes_eq}
 use Rattle.sched_book.specs.Count.{is_open}
-use Rattle.sched_book.specs.Places.{nth, unit_at, status_of, user_had, passes}
+use Rattle.sched_book.specs.Classes.{suits}
+use Rattle.sched_book.specs.Places.{nth, option_any, unit_at, status_of, user_had, passes}
 use Rattle.sched_book.specs.declared.rows.HostRow.{HostRow}
 use Rattle.sched_book.specs.declared.rows.Version.{Version}
 use Rattle.sched_book.specs.declared.rows.Workunit.{Workunit}
@@ -47,11 +48,15 @@ version_for w h app = if list_any (λ a. bytes_eq a.name app) w.apps then versio
 abbrev pub version_at : World → HostRow → ℕ → Option Version
 version_at w h app = option_and_then (λ a. version_among w.versions a.name h.platforms) (nth w.apps app)
 
--- the host has the memory, the disk, the speed and a version for the work
+-- the version that the host runs of the application of the workunit at a place
+abbrev pub version_at_unit : World → HostRow → ℕ → Option Version
+version_at_unit w h unit = option_and_then (λ (b : UnitBook). version_for w h b.unit.app) (unit_at w unit)
+
+-- the host has the memory, the disk, the speed and a version for the work, of the class that the workunit keeps to
 abbrev pub fits : HostRow → Workunit → Option Version → Bool
 fits h u version =
     nat_le u.rsc_memory_bound h.m_nbytes && nat_le u.rsc_disk_bound h.d_free
-    && nat_le (estimate u.rsc_fpops_est h.p_fpops) u.delay_bound && is_some version
+    && nat_le (estimate u.rsc_fpops_est h.p_fpops) u.delay_bound && option_any (suits u.class_rule) version
 
 abbrev pub unit_fits : World → HostRow → UnitBook → Bool
 unit_fits w h b = fits h b.unit (version_for w h b.unit.app)

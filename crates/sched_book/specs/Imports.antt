@@ -1,9 +1,10 @@
--- What an import adds, and why it is refused. The formats and the order of the refusals are this profile's.
+-- Rule. What an import adds, and why it is refused. The formats and the order of the refusals are this profile's.
 use Rattle.std.specs.Prelude.{◌≡◌, ℕ, ◌+◌, Bool, true, false, not, ◌&&◌, ◌==◌, nat_le, if◌then◌else◌, List, [], ◌∷◌, ◌++◌, length, map, replicate, Option, Some, None}
 use Rattle.std.specs.List.{list_any}
 use Rattle.std.specs.Str.{bytes_eq}
 use Rattle.rpc_records.specs.declared.fault.Fault.{Fault}
 use Rattle.rpc_records.specs.declared.fault.Fault.TheVariants.{DuplicateName, UnknownReference, TableFull}
+use Rattle.sched_book.specs.Classes.{imported}
 use Rattle.sched_book.specs.Limits.{most_accounts, most_apps, most_versions, most_workunits, AreRowsInLimits}
 use Rattle.sched_book.specs.Places.{place_where}
 use Rattle.sched_book.specs.Settle.{fresh}
@@ -27,7 +28,7 @@ abbrev pub empty_shelf : Shelf
 empty_shelf = record { accounts = []; apps = []; versions = []; units = [] }
 
 abbrev pub shelf_of : World → Shelf
-shelf_of w = record { accounts = w.accounts; apps = w.apps; versions = w.versions; units = map (λ (b : UnitBook). b.unit) w.units }
+shelf_of w = record { accounts = w.accounts; apps = w.apps; versions = w.versions; units = map (λ (b : UnitBook). imported b.unit) w.units }
 
 -- the shelf with more rows behind its own
 abbrev pub shelved : Shelf → Rows → Shelf

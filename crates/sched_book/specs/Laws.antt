@@ -1,4 +1,4 @@
--- What the definitions that compute come to, in the subject's own words.
+-- Rule. What the definitions that compute come to, in the subject's own words.
 use Rattle.std.specs.Prelude.{◌⊎◌, not, is_some, ◌≡◌, ℕ, ◌<◌, ◌≤◌, true, false, List, ◌∷◌, ◌++◌, length, take, Contains, Option, Some, None, option_map, MatchOption}
 use Rattle.sched_book.specs.Count.{good, leader, majority, canonical}
 use Rattle.sched_book.specs.Places.{unit_at, host_at}

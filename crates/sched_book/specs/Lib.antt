@@ -12,6 +12,8 @@ pub mod Limits
 pub mod Imports
 pub mod Step
 pub mod Calls
+pub mod Classes
+pub mod Former
 pub mod Sound
 pub mod Offers
 pub mod Delta

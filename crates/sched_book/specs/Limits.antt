@@ -1,8 +1,9 @@
--- The ranges of the values of a world. They are this profile's, and stand here alone: rows that are read, changes that
+-- Rule. The ranges of the values of a world. They are this profile's, and stand here alone: rows that are read, changes that
 -- fit and worlds that are sound cite them.
-use Rattle.std.specs.Prelude.{ℕ, ◌^◌, ◌≤◌, Bool, ◌&&◌, nat_le, IsTrue, List, length, All, IfSome}
+use Rattle.std.specs.Prelude.{◌≡◌, ℕ, ◌^◌, ◌≤◌, Bool, ◌&&◌, nat_le, IsTrue, List, length, All, IfSome}
 use Rattle.rpc_records.specs.Members.{is_output}
 use Rattle.rpc_records.specs.Ranges.{IsWord}
+use Rattle.sched_book.specs.Classes.{class_of, imported}
 use Rattle.sched_book.specs.declared.instance.Instance.{Instance}
 use Rattle.sched_book.specs.declared.instance.UnitBook.{UnitBook}
 use Rattle.sched_book.specs.declared.rows.Account.{Account}
@@ -113,6 +114,7 @@ pub record IsVersionInLimits (v : Version) : Type 0 where
   pub app : IsWord v.app
   pub platform : IsWord v.platform
   pub number : (1 ≤ v.version_num) × (v.version_num ≤ most_version_num)
+  pub class : IsWord v.class
 
 pub record IsUnitInLimits (u : Workunit) : Type 0 where
   pub name : IsWord u.name
@@ -127,13 +129,19 @@ pub record IsUnitInLimits (u : Workunit) : Type 0 where
   pub memory : u.rsc_memory_bound ≤ most_amount
   pub disk : u.rsc_disk_bound ≤ most_amount
   pub credit : u.credit ≤ most_credit
+  pub rule : IfSome (class_of u.class_rule) IsWord
+
+-- a workunit as an import may bring it, which has no class yet
+pub record IsNewUnit (u : Workunit) : Type 0 where
+  pub limits : IsUnitInLimits u
+  pub first : imported u ≡ u
 
 -- the rows of an import
 abbrev pub AreRowsInLimits : Rows → Type 0
 AreRowsInLimits (rows.Accounts xs) = All IsAccountInLimits xs
 AreRowsInLimits (rows.Apps xs) = All IsAppInLimits xs
 AreRowsInLimits (rows.Versions xs) = All IsVersionInLimits xs
-AreRowsInLimits (rows.Workunits xs) = All IsUnitInLimits xs
+AreRowsInLimits (rows.Workunits xs) = All IsNewUnit xs
 
 -- a host, under a limit of its quota
 pub record IsHostInLimits (limit : ℕ) (h : HostRow) : Type 0 where

@@ -1,4 +1,4 @@
--- The names of instances, as BOINC makes them: the workunit's name, an underscore and the instance's number.
+-- Rule. The names of instances, as BOINC makes them: the workunit's name, an underscore and the instance's number.
 use Rattle.std.specs.Prelude.{ℕ, ◌-◌, ◌&&◌, ◌==◌, nat_le, if◌then◌else◌, List, [], ◌∷◌, ◌++◌, Option, Some, None, option_map, decimal}
 use Rattle.std.specs.Char.{is_ascii_digit}
 use Rattle.std.specs.List.{before_last, after_last, list_any}

@@ -1,4 +1,4 @@
--- A list made of another.
+-- Rule. A list made of another.
 use Rattle.std.specs.Prelude.{ℕ, ◌+◌, List, [], ◌∷◌}
 
 -- each element by its number

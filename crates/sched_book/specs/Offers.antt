@@ -1,4 +1,4 @@
--- How a taker is offered candidates, one at a time and in their order.
+-- Rule. How a taker is offered candidates, one at a time and in their order.
 use Rattle.std.specs.Prelude.{◌≡◌, ◌⊎◌, ℕ, ◌+◌, not, ◌&&◌, if◌then◌else◌, List, [], ◌∷◌, ◌++◌, is_none}
 use Rattle.sched_book.specs.Count.{is_open}
 use Rattle.sched_book.specs.Places.{status_of, is_before}

@@ -1,4 +1,4 @@
--- What lists of places and of reports hold, and what the parts of a step change: each place by place, and nothing else.
+-- Rule. What lists of places and of reports hold, and what the parts of a step change: each place by place, and nothing else.
 use Rattle.std.specs.Prelude.{◌⊎◌, ◌≡◌, ◌≢◌, ℕ, ◌<◌, Bool, true, false, if◌then◌else◌, ◌+◌, List, [], map, fold, filter_map, All, AllPairs, Contains, Option, Some, option_map, slice_get}
 use Rattle.rpc_records.specs.declared.request.Report.{Report}
 use Rattle.sched_book.specs.Count.{tells_success, report_of, place_of, good}

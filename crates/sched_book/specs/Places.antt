@@ -1,4 +1,4 @@
--- Workunits, hosts and instances of a world by their places, and what is counted over all of them.
+-- Rule. Workunits, hosts and instances of a world by their places, and what is counted over all of them.
 -- Places of rows and numbers of hosts count from 1, the numbers of a workunit's instances from 0.
 use Rattle.std.specs.Prelude.{true, ℕ, ◌+◌, ◌-◌, ◌*◌, ◌/◌, Bool, false, ◌&&◌, ◌||◌, ◌==◌, nat_lt, if◌then◌else◌, List, [], ◌∷◌, ◌++◌, find, position, count_by, sum_by, Option, Some, None, option_and_then, option_map, unwrap_or, slice_get}
 use Rattle.std.specs.List.{enumerate_from, list_any}

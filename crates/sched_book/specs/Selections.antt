@@ -1,4 +1,4 @@
--- Which of a world's instances are meant, as the plain desk selects them.
+-- Words. Which of a world's instances are meant, as the plain desk selects them.
 use Rattle.std.specs.Prelude.{ℕ, ◌*◌, Bool, ◌&&◌, List, count_by}
 use Rattle.sched_book.specs.Count.{is_valid}
 use Rattle.sched_book.specs.Places.{is_owned_by, is_held_by, was_sent, is_of_user, is_overdue, book_verdict}

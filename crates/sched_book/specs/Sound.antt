@@ -1,4 +1,4 @@
--- What holds of every world that a run reaches.
+-- Rule. What holds of every world that a run reaches.
 use Rattle.std.specs.Prelude.{◌≡◌, ◌≢◌, ℕ, ◌+◌, ◌<◌, ◌≤◌, Bool, ◌==◌, IsTrue, List, length, count_by, All, AllPairs, is_some, None, IfSome}
 use Rattle.std.specs.List.{list_any}
 use Rattle.sched_book.specs.Count.{is_open, need, is_judged, report_place}
@@ -8,6 +8,7 @@ use Rattle.sched_book.specs.Imports.{has_app, same_version}
 use Rattle.sched_book.specs.declared.instance.Instance.{Instance}
 use Rattle.sched_book.specs.declared.instance.UnitBook.{UnitBook}
 use Rattle.sched_book.specs.declared.rows.App.{App}
+use Rattle.sched_book.specs.declared.rows.ClassRule.TheVariants.{OfFirst}
 use Rattle.sched_book.specs.declared.rows.HostRow.{HostRow}
 use Rattle.sched_book.specs.declared.rows.Version.{Version}
 use Rattle.sched_book.specs.declared.world.World.{World}
@@ -23,6 +24,10 @@ IsBare x = x.owner ≡ None → (x.lapse ≡ None) × (x.report ≡ None)
 -- the host that it was given to stands
 abbrev pub HasOwnerAmong : List HostRow → Instance → Type 0
 HasOwnerAmong hosts x = IfSome (host_of x) (λ host. IsTrue (is_some (nth hosts host)))
+
+-- a workunit that is still to take a class has no instance that was given out
+abbrev pub HasClassOnceGiven : UnitBook → Type 0
+HasClassOnceGiven b = b.unit.class_rule ≡ OfFirst → All (λ x. x.owner ≡ None) b.instances
 
 -- some judged report has the place n
 abbrev pub has_place : List Instance → ℕ → Bool
@@ -42,10 +47,16 @@ pub record IsWellUnit (hosts : List HostRow) (apps : List App) (b : UnitBook) : 
   pub limits : IsUnitInLimits b.unit
   pub instances : All IsInstanceInLimits b.instances
 
--- A sound workunit is a well one that has all instances that it needs while it is open.
+-- A settled workunit is a well one that has all instances that it needs while it is open.
+pub record IsSettledUnit (hosts : List HostRow) (apps : List App) (b : UnitBook) : Type 0 where
+  pub well : IsWellUnit hosts apps b
+  pub satisfied : IsTrue (is_open (book_status apps b)) → need b.unit b.instances ≡ 0
+
+-- A sound workunit is a settled one that has its class, if it is marked and any of its instances was given out.
 pub record IsSoundUnit (hosts : List HostRow) (apps : List App) (b : UnitBook) : Type 0 where
   pub well : IsWellUnit hosts apps b
   pub satisfied : IsTrue (is_open (book_status apps b)) → need b.unit b.instances ≡ 0
+  pub classed : HasClassOnceGiven b
 
 -- A host, where there are so many accounts, and its quota has this limit.
 pub record IsSoundHost (accounts limit : ℕ) (h : HostRow) : Type 0 where
@@ -84,6 +95,11 @@ pub record AreRowsSound (w : World) : Type 0 where
 pub record IsWell (w : World) : Type 0 where
   pub rows : AreRowsSound w
   pub units : All (IsWellUnit w.hosts w.apps) w.units
+
+-- what holds within a step once all is settled
+pub record IsSettled (w : World) : Type 0 where
+  pub rows : AreRowsSound w
+  pub units : All (IsSettledUnit w.hosts w.apps) w.units
 
 -- what holds between two steps
 pub record Sound (w : World) : Type 0 where

@@ -1,4 +1,4 @@
--- One step of the job machine, and runs of it. The machine hears each call once: no sequence number decides
+-- Rule. One step of the job machine, and runs of it. The machine hears each call once: no sequence number decides
 -- anything here. A step is: the host renewed or made, reports, lost jobs, settlement, grant, reply.
 use Rattle.std.specs.Prelude.{◌≡◌, ℕ, ◌+◌, ◌<◌, Bool, true, false, List, [], ◌∷◌, ◌++◌, length, map, filter, fold, sum_by, filter_map, Option, Some, None, option_map, option_and_then, unwrap_or}
 use Rattle.rpc_records.specs.declared.reply.Job.{Job}
@@ -6,7 +6,8 @@ use Rattle.rpc_records.specs.declared.reply.Reply.{Reply}
 use Rattle.rpc_records.specs.declared.request.Report.{Report}
 use Rattle.rpc_records.specs.declared.request.Request.{Request}
 use Rattle.sched_book.specs.Places.{nth, unit_at, instance_at, held_by, host_at, overdue, deadline_of, name_at, host_credit, user_credit, account_place, known_host}
-use Rattle.sched_book.specs.Fits.{estimate, version_for, estimate_at}
+use Rattle.sched_book.specs.Classes.{with_class}
+use Rattle.sched_book.specs.Fits.{estimate, version_for, version_at_unit, estimate_at}
 use Rattle.sched_book.specs.Grant.{Asking, IsGrant, end_word}
 use Rattle.sched_book.specs.Reports.{modify_nth, with_changed, recorded, first_reports}
 use Rattle.sched_book.specs.Lost.{lost, is_resent, resend_or_drop, delay_at, aborts, with_lapse}
@@ -111,6 +112,21 @@ grant_one host now w p = with_changed (with_owner (record { host = host; sent = 
 abbrev pub granted : World → ℕ → ℕ → List Place → World
 granted w host now jobs = fold (grant_one host now) w jobs
 
+-- after a grant each workunit of which a job was granted keeps to the class of the version granted, if it is its first; a
+-- version is the one that the host, as it is told now, runs in the world that the call found
+abbrev pub class_granted : World → ℕ → List ℕ → World
+class_granted w unit class = record w { units = modify_nth (with_class class) w.units unit }
+
+abbrev pub class_one : World → HostRow → World → Place → World
+class_one entry h w p = unwrap_or (option_map (λ (v : Version). class_granted w p.unit v.class) (version_at_unit entry h p.unit)) w
+
+abbrev pub classed : World → HostRow → World → List Place → World
+classed entry h w jobs = fold (class_one entry h) w jobs
+
+-- the world that a call leaves which is granted these jobs
+abbrev pub after_grant : World → Caller → Request → ℕ → List Place → World
+after_grant w c r now jobs = classed w (host_at_entry w c r) (granted (after_settlement w c r now) (host_number w c) now jobs) jobs
+
 -- what a reply says of a job of this name and deadline
 abbrev pub job_of : List ℕ → ℕ → HostRow → Bool → Workunit → Version → Job
 job_of name deadline h resent u v = record {
@@ -145,7 +161,7 @@ pub record RpcStep (w : World) (c : Caller) (r : Request) (now : ℕ) (after : W
   pub room : HasRoom w c
   pub jobs : List Place
   pub grant : IsGrant (after_settlement w c r now) (asking_of w c r now) jobs
-  pub left : after ≡ granted (after_settlement w c r now) (host_number w c) now jobs
+  pub left : after ≡ after_grant w c r now jobs
   pub answer : reply ≡ record {
     end_word = end_word (after_settlement w c r now) (asking_of w c r now) jobs;
     host_total_credit = host_credit after (host_number w c);

@@ -1,4 +1,4 @@
--- What a desk's answer says only where the desk can be trusted.
+-- Rule. What a desk's answer says only where the desk can be trusted.
 use Rattle.sched_book.specs.declared.desk.Units as units
 
 -- what an answer of a desk means: where the desk is honest after it and was well kept before

@@ -1,5 +1,6 @@
--- What changes make of the workunit at one place.
+-- Words. What changes make of the workunit at one place.
 use Rattle.std.specs.Prelude.{ℕ, ◌+◌, ◌==◌, if◌then◌else◌, List, [], ◌∷◌, Option, Some, option_map}
+use Rattle.sched_book.specs.Classes.{with_class}
 use Rattle.sched_book.specs.Imports.{new_unit}
 use Rattle.sched_book.specs.Delta.{with_instance}
 use Rattle.sched_book.specs.declared.delta.Change.{Change}
@@ -14,6 +15,7 @@ count_after count (change.Version v) = count
 count_after count (change.Workunit u) = count + 1
 count_after count (change.Host number h) = count
 count_after count (change.Instance p x) = count
+count_after count (change.Class unit class) = count
 
 -- the workunit at a place after a change, where `count` workunits stand and `b` is the one at the place
 abbrev pub book_by : ℕ → ℕ → Option UnitBook → Change → Option UnitBook
@@ -23,6 +25,7 @@ book_by unit count b (change.Version v) = b
 book_by unit count b (change.Workunit u) = if count + 1 == unit then Some (new_unit u) else b
 book_by unit count b (change.Host number h) = b
 book_by unit count b (change.Instance p x) = if p.unit == unit then option_map (with_instance p.number x) b else b
+book_by unit count b (change.Class place class) = if place == unit then option_map (with_class class) b else b
 
 -- the same after several changes
 abbrev pub book_after : ℕ → ℕ → Option UnitBook → List Change → Option UnitBook

@@ -1,4 +1,4 @@
--- Texts that say whole numbers, by which an application may compare its outputs. The form is this profile's.
+-- Rule. Texts that say whole numbers, by which an application may compare its outputs. The form is this profile's.
 use Rattle.std.specs.Prelude.{ℕ, ◌+◌, ◌*◌, ◌-◌, Bool, false, ◌&&◌, ◌==◌, nat_le, if◌then◌else◌, List, [], ◌∷◌, length, fold, Option, Some, None, option_map, ℤ, pos, neg_ℤ, ◌-ℤ◌, nat_abs}
 use Rattle.std.specs.Char.{is_ascii_digit}
 use Rattle.std.specs.Str.{bytes_eq}

@@ -2,15 +2,16 @@
 
 ghost use Rattle.std.specs.Prelude.{◌≡◌, IfOk, OnOk};
 ghost use Rattle.sched_book.specs.Delta.{set_at, set_nth, with_instance, applied_one, applied};
+ghost use Rattle.sched_book.specs.Classes.{with_class};
 ghost use Rattle.sched_book.specs.Reports.{modify_nth};
 
-use crate::delta::{Change, Delta, changed_book, new_book};
+use crate::delta::{Change, Delta, changed_book, classed_book, new_book};
 use crate::desk::Unavailable;
 use crate::instance::{Instance, Place, UnitBook};
 use crate::look_ups::copy_of;
 use crate::world::World;
 use std::alloc::Global;
-use texts::{Listed, Memory};
+use texts::{Listed, Memory, Text};
 
 /// Puts a row at an index: in the place of what stands there, or else behind the others.
 pub(crate) fn put<T: Drop>(rows: &mut Listed<T>, index: usize, row: T) -> Result<(), Memory>
@@ -50,6 +51,23 @@ fn put_instance(books: &mut Listed<UnitBook>, place: Place, row: Instance) -> Re
     Ok(())
 }
 
+/// Has a version of a class granted for the workunit at a place; where none stands there nothing changes.
+#[tactic(auto, using(crate::proofs::Changes::changed_nth_steps))]
+fn put_class(books: &mut Listed<UnitBook>, unit: u32, class: &Text) -> Result<(), Memory>
+    ensures { OnOk result (books.new ≡ modify_nth (with_class class.now) books.old unit) }
+{
+    if unit == 0 {
+        return Ok(());
+    }
+    let index = unit as usize - 1;
+    if index >= books.len() {
+        return Ok(());
+    }
+    let book = classed_book(&books.as_slice()[index], class)?;
+    books.replace(index, book);
+    Ok(())
+}
+
 /// Makes one change.
 fn make(alloc: Global, world: &mut World, change: &Change) -> Result<(), Unavailable>
     ensures { OnOk result (world.new ≡ applied_one world.old change.now) }
@@ -61,6 +79,7 @@ fn make(alloc: Global, world: &mut World, change: &Change) -> Result<(), Unavail
         Change::Workunit(unit) => world.units.push(new_book(alloc, unit)?)?,
         Change::Host { number, row } => set_nth(&mut world.hosts, *number, copy_of(row)?)?,
         Change::Instance { place, row } => put_instance(&mut world.units, *place, copy_of(row)?)?,
+        Change::Class { unit, class } => put_class(&mut world.units, *unit, class)?,
     }
     Ok(())
 }

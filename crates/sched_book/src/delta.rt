@@ -6,6 +6,7 @@ ghost use Rattle.sched_book.specs.Limits.{IsBounded};
 ghost use Rattle.sched_book.specs.Imports.{new_unit};
 ghost use Rattle.sched_book.specs.declared.instance.UnitBook.{UnitBook};
 ghost use Rattle.sched_book.specs.Delta.{with_instance};
+ghost use Rattle.sched_book.specs.Classes.{with_class};
 
 use crate::changing::put;
 use crate::desk::Unavailable;
@@ -13,10 +14,11 @@ use crate::instance::{Instance, Place, UnitBook};
 use crate::limits::{
     MOST_ACCOUNTS, MOST_APPS, MOST_HOSTS, MOST_INSTANCES, MOST_VERSIONS, MOST_WORKUNITS,
 };
+use crate::look_ups::copy_of;
 use crate::rows::{Account, App, HostRow, Version, Workunit};
 use crate::world::World;
 use std::alloc::Global;
-use texts::{Listed, Memory};
+use texts::{Listed, Memory, Text};
 
 /// One change of a world.
 #[derive(Drop)]
@@ -33,6 +35,8 @@ pub enum Change {
     Host { number: u32, row: HostRow },
     /// An instance put at a place: over the one that stands there, or as the next of its workunit.
     Instance { place: Place, row: Instance },
+    /// A version of this class granted for the workunit at a place: with its first it takes the class, if it is marked.
+    Class { unit: u32, class: Text },
 }
 
 /// Changes in their order, of which later ones count over earlier ones.
@@ -74,6 +78,15 @@ pub(crate) fn changed_book(book: &UnitBook, number: u32, row: Instance) -> Resul
     let mut changed = book.clone()?;
     put(&mut changed.instances, number as usize, row)?;
     Ok(changed)
+}
+
+/// A copy of the workunit, of which a version of this class was granted.
+pub(crate) fn classed_book(book: &UnitBook, class: &Text) -> Result<UnitBook, Memory>
+    ensures { IfOk result (λ classed. classed ≡ with_class class.now book.now) }
+{
+    let mut classed = copy_of(book)?;
+    classed.unit.class_rule = book.unit.class_rule.after(class)?;
+    Ok(classed)
 }
 
 fn are_books_bounded(books: &[UnitBook]) -> bool

@@ -37,7 +37,7 @@ pub use look_ups::{copy_of, nth};
 pub use machine::{Answered, Call, Caller};
 pub use moment::Moment;
 pub use names::{instance_name, split_name};
-pub use rows::{Account, Agreement, App, HostRow, Rows, Version, Workunit};
+pub use rows::{Account, Agreement, App, ClassRule, HostRow, Rows, Version, Workunit};
 pub use settings::Settings;
 pub use standing::{place_named, status_at};
 pub use world::World;

@@ -1,6 +1,10 @@
 //! The rows of a world and of an import.
 
-use texts::{Listed, Same, Text};
+ghost use Rattle.std.specs.Prelude.{◌≡◌, IfOk};
+ghost use Rattle.sched_book.specs.Classes.{rule_after};
+
+use crate::look_ups::copy_of;
+use texts::{Listed, Memory, Same, Text};
 
 /// How two outputs of an application are compared.
 #[derive(Clone, Copy, Debug, PartialEq, Eq)]
@@ -35,6 +39,34 @@ pub struct Version {
     pub platform: Text,
     /// 1 to 1,000,000.
     pub version_num: u32,
+    /// The class that it is of, a word. A workunit may keep to the versions of one class.
+    pub class: Text,
+}
+
+/// Which versions may do a workunit. This is this profile's own rule: BOINC's homogeneous redundancy has classes of hosts, and
+/// its homogeneous app version keeps to one version.
+#[derive(Clone, Drop)]
+pub enum ClassRule {
+    /// Versions of any class: the workunit is not marked.
+    Any,
+    /// It is marked, and takes the class of the version with which its first instance is granted.
+    OfFirst,
+    /// It is marked, and keeps to versions of this class.
+    Only(Text),
+}
+
+impl ClassRule {
+    /// The rule once a version of this class was granted: with its first the workunit takes the class, and it keeps one that
+    /// it has.
+    pub fn after(&self, class: &Text) -> Result<ClassRule, Memory>
+        ensures { IfOk result (λ after. after ≡ rule_after self.now class.now) }
+    {
+        match self {
+            ClassRule::Any => Ok(ClassRule::Any),
+            ClassRule::OfFirst => Ok(ClassRule::Only(copy_of(class)?)),
+            ClassRule::Only(own) => Ok(ClassRule::Only(copy_of(own)?)),
+        }
+    }
 }
 
 /// A workunit: a piece of work that is done several times, once by each of its instances.
@@ -63,6 +95,8 @@ pub struct Workunit {
     pub rsc_disk_bound: u64,
     /// Millicredits for each valid result: up to 100,000,000.
     pub credit: u32,
+    /// Which versions may do it.
+    pub class_rule: ClassRule,
 }
 
 /// A host, with what it last told of itself.
@@ -109,6 +143,12 @@ impl Same for Version {
     ghost use Rattle.std.proofs.Common.{rules};
 
     ghost exact = { λ version copy is_copy. Prim.search rules };
+}
+
+impl Same for ClassRule {
+    ghost use Rattle.std.proofs.Common.{rules};
+
+    ghost exact = { λ rule copy is_copy. Prim.search rules };
 }
 
 impl Same for Workunit {

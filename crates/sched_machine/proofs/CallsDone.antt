@@ -6,7 +6,6 @@ use Rattle.rpc_records.specs.declared.reply.Job.{Job}
 use Rattle.rpc_records.specs.declared.reply.Reply.{Reply}
 use Rattle.rpc_records.specs.declared.request.Report.{Report}
 use Rattle.rpc_records.specs.declared.request.Request.{Request}
-use Rattle.sched_book.specs.Calls.{IsCallInLimits}
 use Rattle.sched_book.specs.Delta.{applied}
 use Rattle.sched_book.specs.Grant.{IsGrant, end_word}
 use Rattle.sched_book.specs.Limits.{last_moment}
@@ -14,30 +13,30 @@ use Rattle.sched_book.specs.Lost.{aborts}
 use Rattle.sched_book.specs.Places.{host_at, host_credit, user_credit}
 use Rattle.sched_book.specs.Reports.{first_reports}
 use Rattle.sched_book.specs.Sound.{Sound}
-use Rattle.sched_book.specs.Step.{RpcStep, Step, host_number, host_at_entry, after_settlement, asking_of, granted, resent_of, job_at, user_name}
+use Rattle.sched_book.specs.Step.{RpcStep, host_number, host_at_entry, after_settlement, asking_of, granted, classed, after_grant, resent_of, job_at, user_name}
 use Rattle.sched_book.specs.declared.delta.Change.{Change}
 use Rattle.sched_book.specs.declared.instance.Place.{Place}
-use Rattle.sched_book.specs.declared.machine.Answered.{Answered}
-use Rattle.sched_book.specs.declared.machine.Call.{Call}
-use Rattle.sched_book.specs.declared.machine.Call.TheVariants as call
 use Rattle.sched_book.specs.declared.machine.Caller.{Caller}
 use Rattle.sched_book.specs.declared.rows.HostRow.{HostRow}
 use Rattle.sched_book.specs.declared.world.World.{World}
 use Rattle.sched_book.proofs.PlaceChanges.{grants_are_by_place}
+use Rattle.job_choice.specs.Chosen.{places_of}
+use Rattle.job_choice.specs.declared.granted.Granted.{Granted}
 use Rattle.quorum_credit.specs.Limited.{IsLimited}
 use Rattle.quorum_credit.specs.Marks.{credits_in}
 use Rattle.quorum_credit.specs.Settling.{AreMarks}
 use Rattle.quorum_credit.proofs.FitReports.{limited_from_sound}
 use Rattle.quorum_credit.proofs.SettledAll.{units_in_limits}
-use Rattle.sched_machine.specs.Calling.{MayBeHeard}
-use Rattle.sched_machine.specs.Granting.{FitWithHost}
+use Rattle.sched_machine.specs.Granting.{with_classes, AreRunBy, CanTake, FitWithHost}
 use Rattle.sched_machine.specs.Prepared.{IsReady}
 use Rattle.sched_machine.specs.Replying.{IsTold, IsGranted, reply_of}
 use Rattle.sched_machine.specs.Totals.{user_credits_in}
 use Rattle.sched_machine.specs.declared.preparing.Ready.{Ready}
 use Rattle.sched_machine.specs.declared.reply.Told.{Told}
+use Rattle.sched_machine.proofs.Classed.{IsLike, classed_like, credits_same, user_same}
+use Rattle.sched_machine.proofs.ClassesTaken.{can_take, taken_is}
 use Rattle.sched_machine.proofs.CreditMarked.{totals_known}
-use Rattle.sched_machine.proofs.StepsSound.{settled_sound, host_stands, step_keeps_sound}
+use Rattle.sched_machine.proofs.StepsSound.{settled_sound, host_stands}
 
 -- A call that is ready for its grant.
 module _ (w v : World) (r : Request) (now : ℕ) (ready : Ready) (changes : List Change) (is : IsReady w r now ready v changes) (soon : now ≤ last_moment) where
@@ -53,19 +52,25 @@ module _ (w v : World) (r : Request) (now : ℕ) (ready : Ready) (changes : List
       ∙ ap is_some (host_stands w ready.call.caller r now is.calling.sound is.calling.admitted.caller is.calling.room is.calling.admitted.limits soon)
 
   -- the grant, and what is told of it
-  pub granted_is : (u : World) (after : List Change) (jobs : List Place) (told : Told) (word : EndWord)
+  pub granted_is : (u : World) (after : List Change) (chosen : List Granted) (jobs : List Place) (told : Told) (word : EndWord)
+      → AreRunBy w ready.call.host chosen → places_of chosen ≡ jobs
       → IsGrant (after_settlement w ready.call.caller r now) (asking_of w ready.call.caller r now) jobs
       → word ≡ end_word (after_settlement w ready.call.caller r now) (asking_of w ready.call.caller r now) jobs
-      → u ≡ granted v ready.call.number now jobs
-      → v ≡ applied w changes → (FitWithHost w ready.call.number changes → FitWithHost w ready.call.number after)
+      → u ≡ with_classes (granted v ready.call.number now (places_of chosen)) chosen
+      → v ≡ applied w changes → (CanTake w chosen → FitWithHost w ready.call.number changes → FitWithHost w ready.call.number after)
       → IsTold w u ready jobs told
       → IsGranted w r now ready u after told word
-  granted_is u after jobs told word grant ends given here fits said = record {
+  granted_is u after chosen jobs told word runs places grant ends given here fits said = record {
     jobs = jobs;
     grant = grant;
     ends = ends;
-    left = given ∙ ap₂ (λ (z : World) n. granted z n now jobs) is.settled.left is.calling.number;
-    fits = (fits (record {
+    left =
+        given
+        ∙ taken_is w ready.call.host chosen (granted v ready.call.number now (places_of chosen)) runs
+        ∙ ap (λ (h : HostRow). classed w h (granted v ready.call.number now (places_of chosen)) (places_of chosen)) is.calling.host
+        ∙ ap₂ (λ (z : World) n. classed w (host_at_entry w ready.call.caller r) (granted z n now (places_of chosen)) (places_of chosen)) is.settled.left is.calling.number
+        ∙ ap (after_grant w ready.call.caller r now) places;
+    fits = (fits (can_take w ready.call.host chosen is.calling.sound runs) (record {
       units = units_in_limits w [] is.calling.sound refl;
       within = record { fits = is.settled.fits; limited = subst IsLimited here (limited_from_sound v ready_sound) };
       stands = subst (λ z. IsTrue (is_some (host_at z ready.call.number))) here ready_has_host;
@@ -81,6 +86,13 @@ module _ (w v : World) (r : Request) (now : ℕ) (ready : Ready) (changes : List
     abbrev number : ℕ
     number = host_number w caller
 
+    -- the classes that are taken leave credit and hosts
+    abbrev given : World
+    given = granted (after_settlement w caller r now) number now done.jobs
+
+    like : IsLike given (after_grant w caller r now done.jobs)
+    like = classed_like w (host_at_entry w caller r) done.jobs given
+
     totals : ((n : ℕ) → host_credit (granted (after_settlement w caller r now) number now done.jobs) n ≡ host_credit w n + credits_in ready.settled.marks n)
         × ((account : ℕ) → user_credit (granted (after_settlement w caller r now) number now done.jobs) account
         ≡ user_credit w account + user_credits_in (after_settlement w caller r now).hosts account ready.settled.marks)
@@ -93,15 +105,17 @@ module _ (w v : World) (r : Request) (now : ℕ) (ready : Ready) (changes : List
         done.tells.host_credit
         ∙ ap (λ n. host_credit w n + credits_in ready.settled.marks n) is.calling.number
         ∙ sym (totals.0 number)
+        ∙ sym (ap (λ (f : ℕ → ℕ). f number) (credits_same given (after_grant w caller r now done.jobs) like))
         ∙ ap (λ (z : World). host_credit z number) (sym done.left)
 
     user_total : told.user_credit ≡ user_credit u caller.account
     user_total =
         done.tells.user_credit
-        ∙ ap (λ (z : World). user_credit w caller.account + user_credits_in z.hosts caller.account ready.settled.marks) done.left
+        ∙ ap (λ (z : World). user_credit w caller.account + user_credits_in z.hosts caller.account ready.settled.marks) (done.left ∙ like.rest)
         ∙ ap (λ hosts. user_credit w caller.account + user_credits_in hosts caller.account ready.settled.marks)
         (grants_are_by_place (after_settlement w caller r now) number now done.jobs).rest.hosts
         ∙ sym (totals.1 caller.account)
+        ∙ sym (user_same given (after_grant w caller r now done.jobs) like caller.account)
         ∙ ap (λ (z : World). user_credit z caller.account) (sym done.left)
 
     abbrev said : HostRow → List Place → List Job

@@ -3,6 +3,7 @@ use Rattle.std.proofs.Common.{◌≡◌, ℕ, zero, suc, ◌+◌, ◌<◌, ◌�
 use Rattle.std.specs.Prelude.{◌&&◌, ◌||◌, ◌==◌, fold, map, count_by, is_some, is_none, option_map, option_and_then, unwrap_or, replicate, slice_get}
 use Rattle.rpc_records.specs.declared.request.Report.{Report}
 use Rattle.sched_book.specs.Count.{tells_success, is_judged, told_place, is_live, is_held, is_open, has_failed, need, status}
+use Rattle.sched_book.specs.Classes.{imported}
 use Rattle.sched_book.specs.Fits.{estimate_at}
 use Rattle.sched_book.specs.Lost.{with_deadline, with_lapse, deadline_after, delay_at, is_resent, resend_or_drop}
 use Rattle.sched_book.specs.Places.{nth, unit_at, passes, place_named, agreement_by, book_status, status_at, option_any, is_owned_by}
@@ -27,9 +28,9 @@ use Rattle.sched_machine.proofs.DecidedGood.{IsLate, BecameAt, AllBecame}
 use Rattle.sched_machine.proofs.DecidedUnits.{judged_became, status_stays}
 use Rattle.sched_machine.proofs.UnitsReported.{unreported}
 
--- A workunit and what became of it: nothing but its instances changes, and where it had failed they stay as many.
+-- A workunit and what became of it: nothing but its instances and its class changes, and where it had failed they stay as many.
 pub record UnitBecame (apps : List App) (b c : UnitBook) : Type 0 where
-  pub row : c.unit ≡ b.unit
+  pub row : imported c.unit ≡ imported b.unit
   pub became : AllBecame (count_by is_judged b.instances) (has_failed (book_status apps b)) b.instances c.instances
   pub many : has_failed (book_status apps b) ≡ true → length c.instances ≡ length b.instances
 

@@ -1,18 +1,18 @@
 -- What a step makes of the workunits and the hosts of a sound world.
-use Rattle.std.proofs.Common.{◌≡◌, ℕ, ◌+◌, ◌<◌, ◌≤◌, List, [], ◌∷◌, ◌++◌, get_or, All, AllPairs, Option, Some, None, sym, refl, ap, ◌∙◌, subst, arith}
+use Rattle.std.proofs.Common.{◌≡◌, ℕ, ◌+◌, ◌<◌, ◌≤◌, List, [], ◌∷◌, ◌++◌, length, get_or, All, AllPairs, Option, Some, None, sym, refl, ap, ◌∙◌, subst, arith}
 use Rattle.std.specs.Prelude.{IsTrue, map, count_by, option_map, option_and_then, unwrap_or, slice_get, IfSome}
 use Rattle.std.specs.List.{enumerate_from}
 use Rattle.std.proofs.lemmas.List.Elements.{All-head, All-tail}
 use Rattle.rpc_records.specs.declared.reply.Reply.{Reply}
 use Rattle.rpc_records.specs.declared.request.Request.{Request}
-use Rattle.sched_book.specs.Count.{is_judged, report_place, told_place}
+use Rattle.sched_book.specs.Count.{is_judged, has_failed, report_place, told_place}
 use Rattle.sched_book.specs.Imports.{has_app, new_unit, with_rows}
 use Rattle.sched_book.specs.Lost.{delay_at}
-use Rattle.sched_book.specs.Places.{nth, agreement_by, overdue}
+use Rattle.sched_book.specs.Places.{nth, agreement_by, book_status, overdue}
 use Rattle.sched_book.specs.Reports.{first_reports}
 use Rattle.sched_book.specs.Settle.{grown, with_grown, with_quota, settled}
 use Rattle.sched_book.specs.Sound.{IsSoundUnit, Sound}
-use Rattle.sched_book.specs.Step.{IsCaller, RpcStep, TickStep, Step, at_entry, after_reports, after_lost, after_settlement, host_number, host_at_entry, lost_of, asking_of, lapsed, with_owner, grant_one, granted}
+use Rattle.sched_book.specs.Step.{IsCaller, RpcStep, TickStep, Step, at_entry, after_reports, after_lost, after_settlement, host_number, host_at_entry, lost_of, asking_of, lapsed, with_owner, grant_one, granted, after_grant}
 use Rattle.sched_book.specs.declared.instance.Instance.{Instance}
 use Rattle.sched_book.specs.declared.instance.Outcome.{Outcome}
 use Rattle.sched_book.specs.declared.instance.Owner.{Owner}
@@ -31,6 +31,8 @@ use Rattle.sched_book.specs.declared.world.World.{World}
 use Rattle.sched_book.proofs.PlaceChanges.{grants_are_by_place, lapses_are_by_place}
 use Rattle.quorum_credit.proofs.ByPlace.{all_get, all_nth, nth-map_places}
 use Rattle.sched_machine.proofs.AlikeSettled.{before_settlement}
+use Rattle.sched_machine.proofs.Classed.{plain, IsLike, classed_like, plain_same}
+use Rattle.sched_machine.proofs.DecidedGood.{AllBecame}
 use Rattle.sched_machine.proofs.RowsEntry.{AccountsStay, accounts_at_entry}
 use Rattle.sched_machine.proofs.RunKept.{IsFree, elsewhere, eligible_is_free, front_nth}
 use Rattle.sched_book.proofs.Rising.{pairs_head, pairs_tail}
@@ -90,6 +92,26 @@ pub accounts_settled : (old new : World) (hosts : List HostRow) → AccountsStay
 accounts_settled old new hosts n h stands =
     (with_quota old new (n, h), nth-map_places (with_quota old new) hosts n ∙ ap (option_map (λ k. with_quota old new (n, k))) stands, refl)
 
+-- with classes that workunits take
+became_like : (w v u : World) → IsLike v u → WorldBecame w v → WorldBecame w u
+became_like w v u like became = record {
+  units = λ k. cases (nth w.units k) (nth v.units k) (nth u.units k) (plain_same v u like k) (became.units k);
+  hosts = subst (AccountsStay w.hosts) (sym (ap (λ (z : World). z.hosts) like.rest)) became.hosts;
+  agreements = λ name known. ap (λ (z : World). agreement_by z.apps name) like.rest ∙ became.agreements name known;
+}
+  where
+    cases : (p o q : Option UnitBook) → option_map plain q ≡ option_map plain o → UnitBecameAt w.apps p o → UnitBecameAt w.apps p q
+    cases None o q alike was = tt
+    cases (Some b) None q alike was = absurd was
+    cases (Some b) (Some c) None alike was = absurd cc
+    cases (Some b) (Some c) (Some d) alike was =
+        let same : plain c ≡ plain d = cc in
+        record {
+          row = ap (λ (z : UnitBook). z.unit) (sym same) ∙ was.row;
+          became = subst (λ (z : UnitBook). AllBecame (count_by is_judged b.instances) (has_failed (book_status w.apps b)) b.instances z.instances) same was.became;
+          many = λ failed. ap (λ (z : UnitBook). length z.instances) (sym same) ∙ was.many failed;
+        }
+
 -- a call
 module _ (w : World) (c : Caller) (r : Request) (now : ℕ) (sound : Sound w) (caller : IsCaller w c r) where
   abbrev entry : World
@@ -118,8 +140,9 @@ module _ (w : World) (c : Caller) (r : Request) (now : ℕ) (sound : Sound w) (c
   call_became after reply step =
       let settlement : World = after_settlement w c r now in
       let rest = (grants_are_by_place settlement (host_number w c) now step.jobs).rest in
+      let given : World = granted settlement (host_number w c) now step.jobs in
       subst (WorldBecame w) (sym step.left)
-      (record {
+      (became_like w given (after_grant w c r now step.jobs) (classed_like w (host_at_entry w c r) step.jobs given) (record {
         units = grant_kept w.apps w.units (host_number w c) now step.jobs settlement units_settled step.grant.rising
             (λ k d within. eligible_is_free settlement (asking_of w c r now).host (get_or step.jobs k d) (step.grant.eligible k d within));
         hosts = subst (AccountsStay w.hosts) (sym rest.hosts)
@@ -127,7 +150,7 @@ module _ (w : World) (c : Caller) (r : Request) (now : ℕ) (sound : Sound w) (c
             (subst (AccountsStay w.hosts) (sym hosts_left) (accounts_at_entry w c r caller))
             (accounts_settled entry (with_grown left) left.hosts));
         agreements = λ name known. ap (λ apps. agreement_by apps name) (rest.apps ∙ apps_left);
-      })
+      }))
 
 -- a tick
 pub tick_became : (w after : World) (now count : ℕ) → Sound w → TickStep w now after count → WorldBecame w after

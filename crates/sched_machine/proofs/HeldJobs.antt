@@ -5,6 +5,7 @@ use Rattle.std.specs.List.{list_any}
 use Rattle.std.specs.Str.{bytes_eq}
 use Rattle.std.proofs.lemmas.List.Elements.{All-contains}
 use Rattle.std.proofs.lemmas.Bool.{and_parts}
+use Rattle.rpc_records.specs.declared.reply.Reply.{Reply}
 use Rattle.rpc_records.specs.declared.request.Request.{Request}
 use Rattle.sched_book.specs.Count.{is_held}
 use Rattle.sched_book.specs.Fits.{is_eligible, is_for}
@@ -13,7 +14,7 @@ use Rattle.sched_book.specs.Names.{instance_name}
 use Rattle.sched_book.specs.Places.{instance_at, held_by, is_held_by, is_owned_by, name_at, option_any}
 use Rattle.sched_book.specs.Reports.{first_reports}
 use Rattle.sched_book.specs.Sound.{IsBare, IsSoundUnit, Sound}
-use Rattle.sched_book.specs.Step.{after_lost, after_reports, after_settlement, asking_of, at_entry, granted, host_number, host_at_entry, lost_of, resent_of}
+use Rattle.sched_book.specs.Step.{RpcStep, after_grant, after_lost, after_reports, after_settlement, asking_of, at_entry, granted, host_number, host_at_entry, lost_of, resent_of}
 use Rattle.sched_book.specs.declared.instance.Instance.{Instance}
 use Rattle.sched_book.specs.declared.instance.Owner.{Owner}
 use Rattle.sched_book.specs.declared.instance.Place.{Place}
@@ -31,6 +32,7 @@ use Rattle.sched_machine.proofs.AlikeCalls.{from_reports}
 use Rattle.sched_machine.proofs.AlikeLists.{along_nth, along_same}
 use Rattle.sched_machine.proofs.AlikeSettled.{the_settled_world_is_like_the_first}
 use Rattle.sched_machine.proofs.AlikeUnits.{IsFrom, IsKept, kept_self}
+use Rattle.sched_machine.proofs.Classed.{classed_like, holds_same}
 use Rattle.sched_machine.proofs.HeldGranted.{IsUnspoiled, grant_gives, grant_keeps, granted_is_held}
 use Rattle.sched_machine.proofs.HeldLists.{held_is_listed, listed_is_held}
 use Rattle.sched_machine.proofs.HeldLost.{lost_elsewhere, lost_held, lost_resent}
@@ -190,28 +192,51 @@ module _ (w : World) (c : Caller) (r : Request) where
               (sym (passes-is reported (is_held_by host) p ∙ ap (is_held_in host) there) ∙ lost_was_held p lost))
               ∙ there
 
--- the law: a grant adds its jobs, and takes away nothing
-pub held_jobs_by_place : HeldByPlaces
-held_jobs_by_place w after c r now reply names step sound resends lists p =
-    subst (λ v. IsHeldByPlace w v c r names step.jobs p) (sym step.left) (record {
-      from = λ held. elim (grant_gives (host_number w c) now p step.jobs settlement held) [
-        | inr job ↦ inr (inr job)
-        | inl before ↦ elim (settled_from w c r names resends lists now p before) [
-          | inl kept ↦ inl kept
-          | inr sent ↦ inr (inl sent)
-        ]
-      ];
-      retained = λ kept. keeps (settled_retained w c r names resends lists now p kept);
-      resent = λ sent. keeps (settled_resent w c r names resends lists now p sent);
-      granted = λ job.
-          granted_is_held (host_number w c) now p step.jobs settlement job
-          (eligible_is_unspoiled w c r names resends lists now sound p
-          (sym ((the_settled_world_is_like_the_first w c r now sound step.caller step.room).eligible p)
-          ∙ All-contains (λ q. is_eligible settlement (asking_of w c r now).host q ≡ true) step.jobs p step.grant.eligible job));
-    })
+-- the classes that workunits take leave what a host holds
+pub holds_classed : (w : World) (c : Caller) (r : Request) (now : ℕ) (jobs : List Place) (p : Place)
+    → holds (after_grant w c r now jobs) (host_number w c) p ≡ holds (granted (after_settlement w c r now) (host_number w c) now jobs) (host_number w c) p
+holds_classed w c r now jobs p =
+    let given : World = granted (after_settlement w c r now) (host_number w c) now jobs in
+    holds_same given (after_grant w c r now jobs) (classed_like w (host_at_entry w c r) jobs given) (host_number w c) p
+
+-- a grant adds its jobs, and takes away nothing
+pub held_by_grant : (w after : World) (c : Caller) (r : Request) (now : ℕ) (reply : Reply) (names : List (List ℕ)) (step : RpcStep w c r now after reply)
+    → Sound w → w.settings.resend_lost_results ≡ true → r.other_results ≡ Some names → (p : Place)
+    → IsHeldByPlace w (granted (after_settlement w c r now) (host_number w c) now step.jobs) c r names step.jobs p
+held_by_grant w after c r now reply names step sound resends lists p = record {
+  from = λ held. elim (grant_gives (host_number w c) now p step.jobs settlement held) [
+    | inr job ↦ inr (inr job)
+    | inl before ↦ elim (settled_from w c r names resends lists now p before) [
+      | inl kept ↦ inl kept
+      | inr sent ↦ inr (inl sent)
+    ]
+  ];
+  retained = λ kept. keeps (settled_retained w c r names resends lists now p kept);
+  resent = λ sent. keeps (settled_resent w c r names resends lists now p sent);
+  granted = λ job.
+      granted_is_held (host_number w c) now p step.jobs settlement job
+      (eligible_is_unspoiled w c r names resends lists now sound p
+      (sym ((the_settled_world_is_like_the_first w c r now sound step.caller step.room).eligible p)
+      ∙ All-contains (λ q. is_eligible settlement (asking_of w c r now).host q ≡ true) step.jobs p step.grant.eligible job));
+}
   where
     settlement : World
     settlement = after_settlement w c r now
 
     keeps : holds settlement (host_number w c) p ≡ true → holds (granted settlement (host_number w c) now step.jobs) (host_number w c) p ≡ true
     keeps = grant_keeps (host_number w c) now p step.jobs settlement
+
+-- the law: the classes that workunits take leave what is held
+pub held_jobs_by_place : HeldByPlaces
+held_jobs_by_place w after c r now reply names step sound resends lists p = record {
+  from = λ held. given.from (same ∙ held);
+  retained = λ kept. sym same ∙ given.retained kept;
+  resent = λ sent. sym same ∙ given.resent sent;
+  granted = λ job. sym same ∙ given.granted job;
+}
+  where
+    given : IsHeldByPlace w (granted (after_settlement w c r now) (host_number w c) now step.jobs) c r names step.jobs p
+    given = held_by_grant w after c r now reply names step sound resends lists p
+
+    same : holds (granted (after_settlement w c r now) (host_number w c) now step.jobs) (host_number w c) p ≡ holds after (host_number w c) p
+    same = sym (ap (λ (v : World). holds v (host_number w c) p) step.left ∙ holds_classed w c r now step.jobs p)

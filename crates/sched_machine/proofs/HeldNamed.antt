@@ -1,5 +1,5 @@
 -- What a host holds after its call, in the words of the request and of the reply.
-use Rattle.std.proofs.Common.{◌≡◌, ◌≢◌, ◌⊎◌, inl, inr, ℕ, zero, suc, ◌+◌, ◌<◌, ◌≤◌, true, false, List, [], ◌++◌, length, Option, Some, None, sym, refl, ap, ◌∙◌, subst, arith}
+use Rattle.std.proofs.Common.{◌≡◌, ◌≢◌, ◌⊎◌, inl, inr, ℕ, zero, suc, ◌+◌, ◌<◌, ◌≤◌, Bool, true, false, List, [], ◌++◌, length, Option, Some, None, sym, refl, ap, ◌∙◌, subst, arith}
 use Rattle.std.specs.Prelude.{◌&&◌, AllPairs, Contains, filter_map, is_none, is_some, option_map, option_and_then, slice_get, unwrap_or}
 use Rattle.std.proofs.lemmas.List.Elements.{All-contains, Contains-append_cases, Contains-append_left, Contains-append_right}
 use Rattle.std.proofs.lemmas.Option.{slice_get_within}
@@ -12,7 +12,7 @@ use Rattle.sched_book.specs.Limits.{most_instances}
 use Rattle.sched_book.specs.Names.{instance_name, name_parts}
 use Rattle.sched_book.specs.Places.{instance_at, is_held_by, name_at, unit_at}
 use Rattle.sched_book.specs.Sound.{IsSoundUnit, Sound}
-use Rattle.sched_book.specs.Step.{after_settlement, asking_of, at_entry, granted, host_number, host_at_entry, job_at, lost_of, resent_of}
+use Rattle.sched_book.specs.Step.{after_grant, after_settlement, asking_of, at_entry, granted, host_number, host_at_entry, job_at, lost_of, resent_of}
 use Rattle.sched_book.specs.declared.instance.Instance.{Instance}
 use Rattle.sched_book.specs.declared.instance.Place.{Place}
 use Rattle.sched_book.specs.declared.instance.UnitBook.{UnitBook}
@@ -27,8 +27,9 @@ use Rattle.quorum_credit.proofs.ByPlace.{all_nth}
 use Rattle.sched_machine.specs.Asked.{holds}
 use Rattle.sched_machine.specs.Held.{HoldsWhatIsListedOrNamed, IsHeldByPlace, IsNamed, IsRetained}
 use Rattle.sched_machine.proofs.AlikeSettled.{the_settled_world_is_like_the_first}
+use Rattle.sched_machine.proofs.Classed.{classed_like, job_same}
 use Rattle.sched_machine.proofs.HeldGranted.{grant_gives}
-use Rattle.sched_machine.proofs.HeldJobs.{held_jobs_by_place}
+use Rattle.sched_machine.proofs.HeldJobs.{held_by_grant, holds_classed}
 use Rattle.sched_machine.proofs.HeldSaid.{eligible_runs, gave, given_by, resent_runs, said_name, said_of}
 use Rattle.sched_machine.proofs.RowsListed.{pairs_get}
 use Rattle.sched_machine.proofs.SettledHolds.{after_settlement_holds, is_held_in}
@@ -201,10 +202,15 @@ a_host_holds_what_is_listed_or_named w after c r now reply names step sound rese
     left : World
     left = granted (after_settlement w c r now) (host_number w c) now step.jobs
 
+    -- what is said of jobs is blind to classes
+    said : (resent : Bool) → job_at (after_grant w c r now step.jobs) (host_at_entry w c r) resent ≡ job_at left (host_at_entry w c r) resent
+    said resent = λ i p. job_same left (after_grant w c r now step.jobs) (classed_like w (host_at_entry w c r) step.jobs left) (host_at_entry w c r) resent p i
+
     results : reply.results ≡ filter_map (job_at left (host_at_entry w c r) true) (resent_of w c r) ++ filter_map (job_at left (host_at_entry w c r) false) step.jobs
     results =
         ap (λ (z : Reply). z.results) step.answer
         ∙ ap (λ v. filter_map (job_at v (host_at_entry w c r) true) (resent_of w c r) ++ filter_map (job_at v (host_at_entry w c r) false) step.jobs) step.left
+        ∙ (λ i. filter_map (said true i) (resent_of w c r) ++ filter_map (said false i) step.jobs)
 
     eligible : (p : Place) → Contains step.jobs p → is_eligible w (asking_of w c r now).host p ≡ true
     eligible p job =
@@ -212,11 +218,10 @@ a_host_holds_what_is_listed_or_named w after c r now reply names step sound rese
         ∙ All-contains (λ q. is_eligible (after_settlement w c r now) (asking_of w c r now).host q ≡ true) step.jobs p step.grant.eligible job
 
     by_place : (p : Place) → IsHeldByPlace w left c r names step.jobs p
-    by_place p =
-        subst (λ v. IsHeldByPlace w v c r names step.jobs p) step.left (held_jobs_by_place w after c r now reply names step sound resends lists p)
+    by_place p = held_by_grant w after c r now reply names step sound resends lists p
 
     as_left : (p : Place) → holds after (host_number w c) p ≡ true → holds left (host_number w c) p ≡ true
-    as_left p held = subst (λ v. holds v (host_number w c) p ≡ true) step.left held
+    as_left p held = sym (ap (λ (v : World). holds v (host_number w c) p) step.left ∙ holds_classed w c r now step.jobs p) ∙ held
 
     as_after : (p : Place) → holds left (host_number w c) p ≡ true → holds after (host_number w c) p ≡ true
-    as_after p held = subst (λ v. holds v (host_number w c) p ≡ true) (sym step.left) held
+    as_after p held = ap (λ (v : World). holds v (host_number w c) p) step.left ∙ holds_classed w c r now step.jobs p ∙ held

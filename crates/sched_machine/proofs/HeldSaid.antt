@@ -1,17 +1,18 @@
 -- What a reply tells of the jobs that a call sends again and grants: each has the name of its instance.
 use Rattle.std.proofs.Common.{◌≡◌, ◌⊎◌, inl, inr, ℕ, ◌+◌, Bool, true, false, cond, eq-eqb, List, [], ◌∷◌, length, Option, Some, None, sym, refl, ap, ◌∙◌, subst}
 use Rattle.std.proofs.lemmas.Bool.{and_parts}
-use Rattle.std.specs.Prelude.{◌&&◌, Contains, filter_map, is_none, is_some, nat_le, not, option_map, option_and_then, unwrap_or}
+use Rattle.std.specs.Prelude.{◌&&◌, Contains, filter_map, is_none, nat_le, not, option_map, option_and_then, unwrap_or}
 use Rattle.std.specs.List.{cons_option, list_any}
 use Rattle.std.specs.Str.{bytes_eq}
 use Rattle.rpc_records.specs.declared.reply.Job.{Job}
 use Rattle.rpc_records.specs.declared.request.Request.{Request}
+use Rattle.sched_book.specs.Classes.{suits}
 use Rattle.sched_book.specs.Count.{is_open}
 use Rattle.sched_book.specs.Desk.{workunit_at}
 use Rattle.sched_book.specs.Fits.{estimate, is_eligible, is_for, unit_fits, version_among, version_for}
 use Rattle.sched_book.specs.Lost.{is_resent}
 use Rattle.sched_book.specs.Names.{instance_name}
-use Rattle.sched_book.specs.Places.{host_at, name_at, nth, status_at, status_of, unit_at, user_had}
+use Rattle.sched_book.specs.Places.{host_at, name_at, nth, option_any, status_at, status_of, unit_at, user_had}
 use Rattle.sched_book.specs.PlaceLaws.{ChangesInstancesAlone}
 use Rattle.sched_book.specs.Settle.{with_grown, with_quota}
 use Rattle.sched_book.specs.Step.{after_lost, after_settlement, asking_of, at_entry, deadline_at, granted, host_number, host_at_entry, hosts_at_entry, job_at, job_of, row_of_call}
@@ -19,6 +20,7 @@ use Rattle.sched_book.specs.declared.instance.Place.{Place}
 use Rattle.sched_book.specs.declared.instance.UnitBook.{UnitBook}
 use Rattle.sched_book.specs.declared.machine.Caller.{Caller}
 use Rattle.sched_book.specs.declared.rows.App.{App}
+use Rattle.sched_book.specs.declared.rows.ClassRule.{ClassRule}
 use Rattle.sched_book.specs.declared.rows.HostRow.{HostRow}
 use Rattle.sched_book.specs.declared.rows.Version.{Version}
 use Rattle.sched_book.specs.declared.rows.Workunit.{Workunit}
@@ -65,10 +67,10 @@ gave {X} {Y} f (z ∷ xs) y there = cases (f z) refl there (gave f xs y)
       | inr further ↦ later (more further)
     ]
 
--- an option that has something
-some_of : {X : Type 0} (o : Option X) → is_some o ≡ true → (x : X) × (o ≡ Some x)
-some_of None is = absurd cc
-some_of (Some x) is = (x, refl)
+-- a version that a workunit of this rule may be done by
+some_suited : (rule : ClassRule) (o : Option Version) → option_any (suits rule) o ≡ true → (v : Version) × (o ≡ Some v) × (suits rule v ≡ true)
+some_suited rule None is = absurd cc
+some_suited rule (Some v) is = (v, refl, is)
 
 module _ (w : World) (c : Caller) (r : Request) (now : ℕ) (jobs : List Place) where
   -- the world that the call leaves
@@ -80,7 +82,7 @@ module _ (w : World) (c : Caller) (r : Request) (now : ℕ) (jobs : List Place) 
   rest = (grants_are_by_place (after_settlement w c r now) (host_number w c) now jobs).rest
 
   -- so does a whole call
-  row_stays : (n : ℕ) → workunit_at after n ≡ workunit_at w n
+  pub row_stays : (n : ℕ) → workunit_at after n ≡ workunit_at w n
   row_stays n =
       sym (nth-map (λ (b : UnitBook). b.unit) after.units n)
       ∙ ap (λ us. nth us n) rest.units
@@ -104,12 +106,13 @@ module _ (w : World) (c : Caller) (r : Request) (now : ℕ) (jobs : List Place) 
       cases None is = name_none after p (row_stays p.unit ∙ is) ∙ sym (name_none w p is)
       cases (Some u) is = name_some after p u (row_stays p.unit ∙ is) ∙ sym (name_some w p u is)
 
-  -- the workunit at a place stands, and the host runs a version of its application
+  -- the workunit at a place stands, and the host runs a version of its application that may do it
   pub record Runs (h : HostRow) (p : Place) : Type 0 where
     pub unit : Workunit
     pub version : Version
     pub stands : workunit_at w p.unit ≡ Some unit
     pub found : version_for w h unit.app ≡ Some version
+    pub suited : suits unit.class_rule version ≡ true
 
   -- so a reply tells of it, with its name
   pub said_of : (h : HostRow) (resent : Bool) (p : Place) → Runs h p
@@ -136,11 +139,11 @@ module _ (w : World) (c : Caller) (r : Request) (now : ℕ) (jobs : List Place) 
   -- the host runs what fits it
   fits_runs : (h : HostRow) (p : Place) (b : UnitBook) → unit_at w p.unit ≡ Some b → unit_fits w h b ≡ true → Runs h p
   fits_runs h p b stands fits =
-      let found = some_of (version_for w h b.unit.app)
+      let found = some_suited b.unit.class_rule (version_for w h b.unit.app)
       (and_parts (nat_le b.unit.rsc_memory_bound h.m_nbytes && nat_le b.unit.rsc_disk_bound h.d_free
       && nat_le (estimate b.unit.rsc_fpops_est h.p_fpops) b.unit.delay_bound)
-      (is_some (version_for w h b.unit.app)) fits).1 in
-      record { unit = b.unit; version = found.0; stands = ap (option_map (λ (b : UnitBook). b.unit)) stands; found = found.1 }
+      (option_any (suits b.unit.class_rule) (version_for w h b.unit.app)) fits).1 in
+      record { unit = b.unit; version = found.0; stands = ap (option_map (λ (b : UnitBook). b.unit)) stands; found = found.1; suited = found.2 }
 
   -- what is sent again to it
   pub resent_runs : (p : Place) → is_resent (at_entry w c r) (host_at_entry w c r) p ≡ true → Runs (host_at_entry w c r) p
@@ -202,6 +205,7 @@ module _ (w : World) (c : Caller) (r : Request) (now : ℕ) (jobs : List Place) 
         ap (λ platforms. cond (list_any (λ (a : App). bytes_eq a.name runs.unit.app) w.apps) (version_among w.versions runs.unit.app platforms) None)
         (sym platforms_stay)
         ∙ runs.found;
+    suited = runs.suited;
   }
     where
       asks : HostRow

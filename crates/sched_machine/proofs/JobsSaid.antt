@@ -1,8 +1,8 @@
 -- What a reply says of jobs, by the leaves of their workunits.
-use Rattle.std.proofs.Common.{◌≡◌, ℕ, Bool, Option, Some, None, sym, refl, ap, ◌∙◌}
+use Rattle.std.proofs.Common.{◌≡◌, ℕ, Bool, List, Option, Some, None, sym, refl, ap, ◌∙◌}
 use Rattle.std.specs.Prelude.{option_map, option_and_then}
 use Rattle.sched_book.specs.Desk.{workunit_at}
-use Rattle.sched_book.specs.Fits.{version_for}
+use Rattle.sched_book.specs.Fits.{version_for, version_at_unit}
 use Rattle.sched_book.specs.Names.{instance_name}
 use Rattle.sched_book.specs.Places.{unit_at, name_at}
 use Rattle.sched_book.specs.Step.{deadline_at, job_of, job_at}
@@ -15,7 +15,6 @@ use Rattle.sched_book.specs.declared.world.World.{World}
 use Rattle.call_sheet.specs.Sheets.{IsLeafAt}
 use Rattle.call_sheet.specs.declared.leaf.Leaf.{Leaf}
 use Rattle.lost_jobs.proofs.Standing.{name_some}
-use Rattle.sched_machine.specs.Granting.{version_at_unit}
 
 -- of a workunit and a version that were found
 pub job_at_some : (w : World) (h : HostRow) (resent : Bool) (p : Place) (u : Workunit) (v : Version) → workunit_at w p.unit ≡ Some u
@@ -32,24 +31,33 @@ job_at_some w h resent p u v stands found =
         ap (λ (x : Workunit). option_map (job_of (name_at w p) (deadline_at w p) h resent x) (version_for w h x.app)) same
         ∙ ap (option_map (job_of (name_at w p) (deadline_at w p) h resent u)) found
 
--- the rows of workunits stay through a call
-pub row_before : (entry present : World) (unit : ℕ) (o : Option Leaf) → IsLeafAt entry present unit o → workunit_at present unit ≡ workunit_at entry unit
-row_before entry present unit None leaf = ap (option_map (λ (b : UnitBook). b.unit)) leaf
-row_before entry present unit (Some k) leaf =
-    ap (option_map (λ (b : UnitBook). b.unit)) leaf.here ∙ sym (ap (option_map (λ (b : UnitBook). b.unit)) leaf.before)
+-- the applications of workunits stay through a call
+abbrev app_in : Option UnitBook → Option (List ℕ)
+app_in o = option_map (λ (b : UnitBook). b.unit.app) o
 
--- the version that the host runs, by the row of the workunit
-pub version_none : (w : World) (h : HostRow) (unit : ℕ) → workunit_at w unit ≡ None → None ≡ version_at_unit w h unit
-version_none w h unit none = cases (unit_at w unit) none
-  where
-    cases : (o : Option UnitBook) → option_map (λ (b : UnitBook). b.unit) o ≡ None → None ≡ option_and_then (λ (b : UnitBook). version_for w h b.unit.app) o
-    cases None is = refl
-    cases (Some b) is = absurd cc
+app_before : (entry present : World) (unit : ℕ) (o : Option Leaf) → IsLeafAt entry present unit o → app_in (unit_at present unit) ≡ app_in (unit_at entry unit)
+app_before entry present unit None leaf = ap app_in leaf
+app_before entry present unit (Some k) leaf = ap app_in leaf.here ∙ sym (ap app_in leaf.before)
 
-pub version_some : (w : World) (h : HostRow) (unit : ℕ) (u : Workunit) → workunit_at w unit ≡ Some u → version_for w h u.app ≡ version_at_unit w h unit
-version_some w h unit u some = cases (unit_at w unit) some
-  where
-    cases : (o : Option UnitBook) → option_map (λ (b : UnitBook). b.unit) o ≡ Some u
-        → version_for w h u.app ≡ option_and_then (λ (b : UnitBook). version_for w h b.unit.app) o
-    cases None is = absurd cc
-    cases (Some b) is = let same : u ≡ b.unit = cc in ap (λ (x : Workunit). version_for w h x.app) same
+-- the version that the host runs, by the row of the workunit as it is now
+module _ (entry present : World) (h : HostRow) (unit : ℕ) (o : Option Leaf) (leaf : IsLeafAt entry present unit o) where
+  pub version_none : workunit_at present unit ≡ None → None ≡ version_at_unit entry h unit
+  version_none none = cases (unit_at present unit) none (unit_at entry unit) (app_before entry present unit o leaf)
+    where
+      cases : (q : Option UnitBook) → option_map (λ (b : UnitBook). b.unit) q ≡ None → (p : Option UnitBook) → app_in q ≡ app_in p
+          → None ≡ option_and_then (λ (b : UnitBook). version_for entry h b.unit.app) p
+      cases None is None same = refl
+      cases None is (Some b) same = absurd cc
+      cases (Some b) is p same = absurd cc
+
+  pub version_some : (u : Workunit) → workunit_at present unit ≡ Some u → version_for entry h u.app ≡ version_at_unit entry h unit
+  version_some u some = cases (unit_at present unit) some (unit_at entry unit) (app_before entry present unit o leaf)
+    where
+      cases : (q : Option UnitBook) → option_map (λ (b : UnitBook). b.unit) q ≡ Some u → (p : Option UnitBook) → app_in q ≡ app_in p
+          → version_for entry h u.app ≡ option_and_then (λ (b : UnitBook). version_for entry h b.unit.app) p
+      cases None is p same = absurd cc
+      cases (Some b) is None same = absurd cc
+      cases (Some b) is (Some d) same =
+          let row : b.unit ≡ u = cc in
+          let app : b.unit.app ≡ d.unit.app = cc in
+          ap (version_for entry h) (ap (λ (x : Workunit). x.app) (sym row) ∙ app)

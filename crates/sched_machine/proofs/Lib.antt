@@ -60,3 +60,11 @@ pub mod ReadyChoice
 pub mod CreditBounds
 pub mod ResentBounds
 pub mod RunStretches
+pub mod ClassWords
+pub mod Classed
+pub mod ClassesTaken
+pub mod ClassesKept
+pub mod OwnersBefore
+pub mod ClassOwners
+pub mod ClassesSound
+pub mod ClassRuns

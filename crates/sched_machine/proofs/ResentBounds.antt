@@ -1,6 +1,6 @@
 -- How long the jobs that a call sends again take together.
 use Rattle.std.proofs.Common.{◌≡◌, ℕ, ◌*◌, ◌≤◌, Bool, true, false, cond, List, [], length, not, Option, Some, None, refl, ap, arith}
-use Rattle.std.specs.Prelude.{◌&&◌, All, filter, is_some, nat_le, option_map, sum_by, unwrap_or}
+use Rattle.std.specs.Prelude.{◌&&◌, All, filter, nat_le, option_map, sum_by, unwrap_or}
 use Rattle.std.proofs.lemmas.Bool.{and_parts}
 use Rattle.std.proofs.lemmas.List.Elements.{All-weaker, filter_passes}
 use Rattle.std.proofs.lemmas.List.Sums.{count_by-le-length, length-filter, sum_by-le}
@@ -9,7 +9,8 @@ use Rattle.rpc_records.specs.declared.request.Request.{Request}
 use Rattle.sched_book.specs.Count.{is_open}
 use Rattle.sched_book.specs.Fits.{estimate, unit_fits, version_for, estimate_at}
 use Rattle.sched_book.specs.Lost.{is_listed, is_resent, unlisted}
-use Rattle.sched_book.specs.Places.{held_by, is_held_by, passes, status_at, unit_at}
+use Rattle.sched_book.specs.Classes.{suits}
+use Rattle.sched_book.specs.Places.{held_by, is_held_by, option_any, passes, status_at, unit_at}
 use Rattle.sched_book.specs.Sound.{IsSoundUnit, Sound}
 use Rattle.sched_book.specs.Step.{after_reports, at_entry, host_number, host_at_entry, lost_of, resent_of}
 use Rattle.sched_book.specs.declared.instance.Place.{Place}
@@ -57,7 +58,7 @@ module _ (w : World) (c : Caller) (r : Request) (sound : Sound w) where
           let time : Bool = nat_le (estimate b.unit.rsc_fpops_est known.p_fpops) b.unit.delay_bound in
           let fits : unit_fits entry known b ≡ true = (and_parts (is_open (status_at entry p.unit)) (unit_fits entry known b) resent).1 in
           let in_time : time ≡ true =
-          (and_parts (memory && disk) time (and_parts (memory && disk && time) (is_some (version_for entry known b.unit.app)) fits).0).1 in
+          (and_parts (memory && disk) time (and_parts (memory && disk && time) (option_any (suits b.unit.class_rule) (version_for entry known b.unit.app)) fits).0).1 in
           let within : estimate b.unit.rsc_fpops_est known.p_fpops ≤ b.unit.delay_bound = leb-true _ _ in_time in
           let most : b.unit.delay_bound ≤ 100000000 = (all_nth (IsSoundUnit w.hosts w.apps) w.units p.unit b sound.units stands).well.limits.delay.1 in
           omega arith

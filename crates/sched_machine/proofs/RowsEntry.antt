@@ -56,6 +56,7 @@ module _ (old new : List HostRow) (stay : AccountsStay old new) where
   pub unit_among : (apps : List App) (b : UnitBook) → IsSoundUnit old apps b → IsSoundUnit new apps b
   unit_among apps b sound = record {
     satisfied = sound.satisfied;
+    classed = sound.classed;
     well = record {
       one_for_each_user = pairs_from (AreOfOtherUsers new) b.instances (λ i j x y less here there given also same.
           pairs_get (AreOfOtherUsers old) b.instances i j x y sound.well.one_for_each_user less here there given also

@@ -56,6 +56,7 @@ pub new_unit_is_sound : (hosts : List HostRow) (apps : List App) (u : Workunit) 
     → IsSoundUnit hosts apps (new_unit u)
 new_unit_is_sound hosts apps u limits app = record {
   satisfied = λ is_it. nothing_needed u limits.quorum.0;
+  classed = λ is. All-replicate (λ (x : Instance). x.owner ≡ None) u.target_nresults fresh refl;
   well = record {
     one_for_each_user = pairs_from (AreOfOtherUsers hosts) xs (λ i j x y less here there given also.
         let free : x.owner ≡ None = all_get (λ z. z.owner ≡ None) xs i x (All-replicate (λ (z : Instance). z.owner ≡ None) u.target_nresults fresh refl) here in

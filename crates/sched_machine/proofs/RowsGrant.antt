@@ -1,4 +1,4 @@
--- A grant to a host that stands leaves a sound world sound.
+-- A grant to a host that stands leaves a settled world settled.
 use Rattle.std.proofs.Common.{◌≡◌, ◌≢◌, ℕ, ◌+◌, ◌<◌, ◌≤◌, Bool, true, false, not, cond, eqb, eq-eqb, ne_eqb, List, [], ◌∷◌, get_or, All, AllPairs, Option, Some, None, slice_get, option_map, option_and_then, unwrap_or, sym, refl, ap, ◌∙◌, subst, arith}
 use Rattle.std.specs.Prelude.{◌&&◌, ◌==◌, IsTrue, count_by, is_some, is_none, IfSome}
 use Rattle.std.specs.List.{list_any}
@@ -9,7 +9,7 @@ use Rattle.sched_book.specs.Limits.{last_moment, last_deadline, most_delay, most
 use Rattle.sched_book.specs.Lost.{delay_at}
 use Rattle.sched_book.specs.Places.{nth, unit_at, host_at, status_of, option_any, account_at, user_of, agreement_by, is_of_user, user_had}
 use Rattle.sched_book.specs.Reports.{modify_at, modify_nth, with_number, with_changed}
-use Rattle.sched_book.specs.Sound.{AreOfOtherUsers, IsBare, HasOwnerAmong, IsSoundUnit, Sound}
+use Rattle.sched_book.specs.Sound.{AreOfOtherUsers, IsBare, HasOwnerAmong, IsSettledUnit, IsSettled}
 use Rattle.sched_book.specs.Step.{with_owner, grant_one, granted}
 use Rattle.sched_book.specs.declared.instance.Instance.{Instance}
 use Rattle.sched_book.specs.declared.instance.Owner.{Owner}
@@ -22,7 +22,7 @@ use Rattle.sched_book.proofs.PlacesOf.{nth-modify_nth, length-modify_nth}
 use Rattle.sched_book.proofs.Rising.{pairs_head, pairs_tail}
 use Rattle.quorum_credit.proofs.ByPlace.{all_get, all_nth}
 use Rattle.job_choice.proofs.Candidates.{Stood, stood}
-use Rattle.sched_machine.specs.Laws.{GrantKeepsSound}
+use Rattle.sched_machine.specs.Laws.{GrantKeepsSettled}
 use Rattle.sched_machine.proofs.RowsKept.{rows_kept}
 use Rattle.sched_machine.proofs.RowsListed.{all_changed, pairs_changed, all_changed_nth, pairs_changed_nth, count_changed, any_changed, none_any}
 use Rattle.sched_machine.proofs.RowsCounted.{need_stays, status_stays}
@@ -38,14 +38,14 @@ other_user account user fails is =
 
 -- An instance that nobody was given goes to a host of a user that was given none of the workunit.
 module _ (hosts : List HostRow) (apps : List App) (account : ℕ) (o : Owner) (b : UnitBook) (n : ℕ) (x : Instance)
-    (sound : IsSoundUnit hosts apps b) (stands : slice_get b.instances n ≡ Some x) (free : x.owner ≡ None)
+    (settled : IsSettledUnit hosts apps b) (stands : slice_get b.instances n ≡ Some x) (free : x.owner ≡ None)
     (had : list_any (is_of_user hosts account) b.instances ≡ false) (of_user : account_at hosts o.host ≡ Some account)
     (among : IsTrue (is_some (nth hosts o.host))) (sent : o.sent ≤ last_moment) (deadline : o.deadline ≤ last_deadline) where
   same_live : (y : Instance) → slice_get b.instances n ≡ Some y → is_live (with_owner o y) ≡ is_live y
   same_live y is =
       let same : x ≡ y = (let both : Some x ≡ Some y = sym stands ∙ is in cc) in
       let none : y.owner ≡ None = ap (λ (z : Instance). z.owner) (sym same) ∙ free in
-      let bare = all_get IsBare b.instances n y sound.well.bare is none in
+      let bare = all_get IsBare b.instances n y settled.well.bare is none in
       ap (λ r. is_live (record { owner = Some o; lapse = y.lapse; report = r })) bare.1
       ∙ ap (λ l. is_live (record { owner = Some o; lapse = l; report = None })) bare.0
       ∙ sym (ap (λ w. is_live (record { owner = w; lapse = y.lapse; report = y.report })) none)
@@ -57,25 +57,25 @@ module _ (hosts : List HostRow) (apps : List App) (account : ℕ) (o : Owner) (b
   judged_stay : count_by is_judged (modify_at (with_owner o) b.instances n) ≡ count_by is_judged b.instances
   judged_stay = count_changed is_judged (with_owner o) b.instances n (λ y is. refl)
 
-  pub given_stays_sound : IsSoundUnit hosts apps (with_number (with_owner o) n b)
-  given_stays_sound = record {
+  pub given_stays_settled : IsSettledUnit hosts apps (with_number (with_owner o) n b)
+  given_stays_settled = record {
     satisfied = λ is_it.
         need_stays (with_owner o) b.instances n (λ y is. refl) same_live b.unit
-        ∙ sound.satisfied (subst (λ s. IsTrue (is_open s)) (status_stays (with_owner o) b.instances n (λ y is. refl) same_live (agreement_by apps b.unit.app) b.unit) is_it);
+        ∙ settled.satisfied (subst (λ s. IsTrue (is_open s)) (status_stays (with_owner o) b.instances n (λ y is. refl) same_live (agreement_by apps b.unit.app) b.unit) is_it);
     well = record {
-      one_for_each_user = pairs_changed (AreOfOtherUsers hosts) (with_owner o) b.instances n sound.well.one_for_each_user
+      one_for_each_user = pairs_changed (AreOfOtherUsers hosts) (with_owner o) b.instances n settled.well.one_for_each_user
           (λ y is k z there. (λ before given also same. others z k there same, λ before given also same. others z k there (sym same)));
       places = λ m less.
           subst IsTrue (sym (any_changed (λ y. option_any (λ place. place == m + 1) (report_place y)) (with_owner o) b.instances n (λ y is. refl)))
-          (sound.well.places m (subst (λ c. m < c) judged_stay less));
+          (settled.well.places m (subst (λ c. m < c) judged_stay less));
       in_range = subst (λ c. All (λ (y : Instance). IfSome (report_place y) (λ place. place ≤ c)) (modify_at (with_owner o) b.instances n)) (sym judged_stay)
-          (all_changed (λ y. IfSome (report_place y) (λ place. place ≤ count_by is_judged b.instances)) (with_owner o) b.instances n sound.well.in_range (λ y is before. before));
-      bare = all_changed IsBare (with_owner o) b.instances n sound.well.bare (λ y is before none. absurd cc);
-      owners = all_changed (HasOwnerAmong hosts) (with_owner o) b.instances n sound.well.owners (λ y is before. among);
-      app = sound.well.app;
-      few = subst (λ m. m ≤ most_instances) (sym (length_changed (with_owner o) b.instances n)) sound.well.few;
-      limits = sound.well.limits;
-      instances = all_changed IsInstanceInLimits (with_owner o) b.instances n sound.well.instances
+          (all_changed (λ y. IfSome (report_place y) (λ place. place ≤ count_by is_judged b.instances)) (with_owner o) b.instances n settled.well.in_range (λ y is before. before));
+      bare = all_changed IsBare (with_owner o) b.instances n settled.well.bare (λ y is before none. absurd cc);
+      owners = all_changed (HasOwnerAmong hosts) (with_owner o) b.instances n settled.well.owners (λ y is before. among);
+      app = settled.well.app;
+      few = subst (λ m. m ≤ most_instances) (sym (length_changed (with_owner o) b.instances n)) settled.well.few;
+      limits = settled.well.limits;
+      instances = all_changed IsInstanceInLimits (with_owner o) b.instances n settled.well.instances
           (λ y is before. record {
             sent = sent;
             deadline = deadline;
@@ -95,14 +95,14 @@ not_had false b c d is = absurd cc
 
 -- One job goes to a host.
 module _ (host now : ℕ) (h : HostRow) (soon : now ≤ last_moment) where
-  give_one : (w : World) (p : Place) → Sound w → host_at w host ≡ Some h → is_eligible w h p ≡ true → Sound (grant_one host now w p)
-  give_one w p sound stands eligible = record {
-    rows = rows_kept w (modify_nth (with_number (with_owner o) p.number) w.units p.unit) sound.rows
-        (pairs_changed_nth (λ a b. a.unit.name ≢ b.unit.name) (with_number (with_owner o) p.number) w.units p.unit sound.rows.unit_names
+  give_one : (w : World) (p : Place) → IsSettled w → host_at w host ≡ Some h → is_eligible w h p ≡ true → IsSettled (grant_one host now w p)
+  give_one w p settled stands eligible = record {
+    rows = rows_kept w (modify_nth (with_number (with_owner o) p.number) w.units p.unit) settled.rows
+        (pairs_changed_nth (λ a b. a.unit.name ≢ b.unit.name) (with_number (with_owner o) p.number) w.units p.unit settled.rows.unit_names
         (λ b is c. (λ before. before, λ before. before)))
-        (subst (λ n. n ≤ most_workunits) (sym (length-modify_nth (with_number (with_owner o) p.number) w.units p.unit)) sound.rows.unit_count);
-    units = all_changed_nth (IsSoundUnit w.hosts w.apps) (with_number (with_owner o) p.number) w.units p.unit sound.units
-        (λ b is before. let same : at.book ≡ b = (let both : Some at.book ≡ Some b = sym at.at ∙ is in cc) in subst (λ c. IsSoundUnit w.hosts w.apps (with_number (with_owner o) p.number c)) same here);
+        (subst (λ n. n ≤ most_workunits) (sym (length-modify_nth (with_number (with_owner o) p.number) w.units p.unit)) settled.rows.unit_count);
+    units = all_changed_nth (IsSettledUnit w.hosts w.apps) (with_number (with_owner o) p.number) w.units p.unit settled.units
+        (λ b is before. let same : at.book ≡ b = (let both : Some at.book ≡ Some b = sym at.at ∙ is in cc) in subst (λ c. IsSettledUnit w.hosts w.apps (with_number (with_owner o) p.number c)) same here);
   }
     where
       o : Owner
@@ -111,14 +111,14 @@ module _ (host now : ℕ) (h : HostRow) (soon : now ≤ last_moment) where
       at : Stood w (λ b x. is_none x.owner && is_for w h b) p
       at = stood w (λ b x. is_none x.owner && is_for w h b) p eligible
 
-      unit : IsSoundUnit w.hosts w.apps at.book
-      unit = all_nth (IsSoundUnit w.hosts w.apps) w.units p.unit at.book sound.units at.at
+      unit : IsSettledUnit w.hosts w.apps at.book
+      unit = all_nth (IsSettledUnit w.hosts w.apps) w.units p.unit at.book settled.units at.at
 
-      here : IsSoundUnit w.hosts w.apps (with_number (with_owner o) p.number at.book)
+      here : IsSettledUnit w.hosts w.apps (with_number (with_owner o) p.number at.book)
       here =
           let delay : delay_at w p ≡ at.book.unit.delay_bound = ap (λ q. unwrap_or (option_map (λ (b : UnitBook). b.unit.delay_bound) q) 0) at.at in
           let short : at.book.unit.delay_bound ≤ most_delay = unit.well.limits.delay.1 in
-          given_stays_sound w.hosts w.apps h.account o at.book p.number at.x unit at.stands
+          given_stays_settled w.hosts w.apps h.account o at.book p.number at.x unit at.stands
           (free_first at.x.owner (is_for w h at.book) at.passed)
           (not_had (is_none at.x.owner) (is_open (status_of w at.book)) (unit_fits w h at.book) (user_had w h.account at.book) at.passed)
           (ap (option_map (λ (k : HostRow). k.account)) stands)
@@ -132,11 +132,11 @@ module _ (host now : ℕ) (h : HostRow) (soon : now ≤ last_moment) where
       (nth-modify_nth (with_number f p.number) w.units p.unit r.unit
       ∙ ap (λ (b : Bool). cond b (option_map (with_number f p.number) (unit_at w r.unit)) (unit_at w r.unit)) (ne_eqb p.unit r.unit (λ same. omega arith)))
 
-  all_given : (jobs : List Place) (w : World) → Sound w → host_at w host ≡ Some h → AllPairs (λ (p r : Place). p.unit < r.unit) jobs
-      → All (λ p. IsTrue (is_eligible w h p)) jobs → Sound (granted w host now jobs)
-  all_given [] w sound stands rising eligible = sound
-  all_given (p ∷ jobs) w sound stands rising eligible =
-      all_given jobs (grant_one host now w p) (give_one w p sound stands (All-head (λ p. IsTrue (is_eligible w h p)) p jobs eligible)) stands
+  all_given : (jobs : List Place) (w : World) → IsSettled w → host_at w host ≡ Some h → AllPairs (λ (p r : Place). p.unit < r.unit) jobs
+      → All (λ p. IsTrue (is_eligible w h p)) jobs → IsSettled (granted w host now jobs)
+  all_given [] w settled stands rising eligible = settled
+  all_given (p ∷ jobs) w settled stands rising eligible =
+      all_given jobs (grant_one host now w p) (give_one w p settled stands (All-head (λ p. IsTrue (is_eligible w h p)) p jobs eligible)) stands
       (pairs_tail (λ (p r : Place). p.unit < r.unit) p jobs rising)
       (λ k d within. subst IsTrue
       (sym (elsewhere (with_owner (record { host = host; sent = now; deadline = now + delay_at w p })) w p (get_or jobs k d)
@@ -144,5 +144,5 @@ module _ (host now : ℕ) (h : HostRow) (soon : now ≤ last_moment) where
       (All-tail (λ p. IsTrue (is_eligible w h p)) p jobs eligible k d within))
 
 -- all jobs of a grant go to it
-pub grant_keeps_sound : GrantKeepsSound
-grant_keeps_sound w q jobs sound stands soon grant = all_given q.number q.now q.host soon jobs w sound stands grant.rising grant.eligible
+pub grant_keeps_settled : GrantKeepsSettled
+grant_keeps_settled w q jobs settled stands soon grant = all_given q.number q.now q.host soon jobs w settled stands grant.rising grant.eligible

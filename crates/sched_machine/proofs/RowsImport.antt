@@ -1,11 +1,12 @@
 -- An import whose rows were checked leaves a sound world sound.
-use Rattle.std.proofs.Common.{◌≡◌, ◌≢◌, ℕ, ◌+◌, ◌≤◌, List, [], ◌∷◌, ◌++◌, length, map, get_or, AllPairs, None, sym, refl, ap, subst, arith, length-append}
+use Rattle.std.proofs.Common.{◌≡◌, ◌≢◌, ℕ, ◌+◌, ◌≤◌, List, [], ◌∷◌, ◌++◌, length, map, get_or, All, AllPairs, None, sym, refl, ap, ◌∙◌, subst, arith, length-append}
 use Rattle.std.specs.Prelude.{IsTrue}
 use Rattle.std.proofs.lemmas.List.{length-map}
-use Rattle.std.proofs.lemmas.List.Elements.{All-append, All-map}
+use Rattle.std.proofs.lemmas.List.Elements.{All-append, All-head, All-map, All-tail}
+use Rattle.sched_book.specs.Classes.{imported}
 use Rattle.sched_book.specs.Count.{is_open, status}
 use Rattle.sched_book.specs.Imports.{shelf_of, shelved, same_account, same_app, same_version, same_unit, duplicate_at, unknown_at, has_room, AreChecked, new_unit, with_rows}
-use Rattle.sched_book.specs.Limits.{most_workunits, IsAccountInLimits, IsAppInLimits, IsVersionInLimits, IsUnitInLimits}
+use Rattle.sched_book.specs.Limits.{most_workunits, IsAccountInLimits, IsAppInLimits, IsVersionInLimits, IsNewUnit}
 use Rattle.sched_book.specs.Sound.{IsSoundUnit, IsSoundHost, IsSoundVersion, Sound}
 use Rattle.sched_book.specs.declared.instance.UnitBook.{UnitBook}
 use Rattle.sched_book.specs.declared.rows.Account.{Account}
@@ -44,6 +45,7 @@ host_stays accounts more limit h sound = record {
 unit_stays : (hosts : List HostRow) (apps more : List App) (b : UnitBook) → IsSoundUnit hosts apps b → IsSoundUnit hosts (apps ++ more) b
 unit_stays hosts apps more b sound = record {
   satisfied = λ is_it. sound.satisfied (subst (λ a. IsTrue (is_open (status a b.unit b.instances))) (agreement_stays apps more b.unit.app sound.well.app) is_it);
+  classed = sound.classed;
   well = record {
     one_for_each_user = sound.well.one_for_each_user;
     places = sound.well.places;
@@ -61,10 +63,13 @@ version_stays : (apps more : List App) (v : Version) → IsSoundVersion apps v �
 version_stays apps more v sound = record { app = app_stays apps more v.app sound.app; limits = sound.limits }
 
 -- the rows of the workunits, old and new
-unit_rows : (bs : List UnitBook) (us : List Workunit) → map (λ (b : UnitBook). b.unit) (bs ++ map new_unit us) ≡ map (λ (b : UnitBook). b.unit) bs ++ us
-unit_rows [] [] = refl
-unit_rows [] (u ∷ us) = ap (λ xs. u ∷ xs) (unit_rows [] us)
-unit_rows (b ∷ bs) us = ap (λ xs. b.unit ∷ xs) (unit_rows bs us)
+unit_rows : (bs : List UnitBook) (us : List Workunit) → All (λ (u : Workunit). imported u ≡ u) us
+    → map (λ (b : UnitBook). imported b.unit) (bs ++ map new_unit us) ≡ map (λ (b : UnitBook). imported b.unit) bs ++ us
+unit_rows [] [] first = refl
+unit_rows [] (u ∷ us) first =
+    ap (λ (x : Workunit). x ∷ map (λ (b : UnitBook). imported b.unit) (map new_unit us)) (All-head (λ (u : Workunit). imported u ≡ u) u us first)
+    ∙ ap (λ xs. u ∷ xs) (unit_rows [] us (All-tail (λ (u : Workunit). imported u ≡ u) u us first))
+unit_rows (b ∷ bs) us first = ap (λ xs. imported b.unit ∷ xs) (unit_rows bs us first)
 
 -- each kind of rows
 module _ (w : World) (sound : Sound w) where
@@ -149,22 +154,27 @@ module _ (w : World) (sound : Sound w) where
       let free = unrefused w (rows.Workunits us) checked in
       record {
         rows = rows_kept w (w.units ++ map new_unit us) sound.rows
-            (pairs_of_map (λ (b : UnitBook). b.unit) (λ a b. a.name ≢ b.name) (w.units ++ map new_unit us)
-            (subst (AllPairs (λ a b. a.name ≢ b.name)) (sym (unit_rows w.units us))
-            (new_names same_unit (λ a b. a.name ≢ b.name) (λ a b fails. other_text a.name b.name fails) 1 (map (λ (b : UnitBook). b.unit) w.units) us free.new_ones
-            (pairs_map (λ (b : UnitBook). b.unit) (λ a b. a.name ≢ b.name) w.units sound.rows.unit_names))))
+            (pairs_of_map (λ (b : UnitBook). imported b.unit) (λ a b. a.name ≢ b.name) (w.units ++ map new_unit us)
+            (subst (AllPairs (λ a b. a.name ≢ b.name)) (sym (unit_rows w.units us first))
+            (new_names same_unit (λ a b. a.name ≢ b.name) (λ a b fails. other_text a.name b.name fails) 1 (map (λ (b : UnitBook). imported b.unit) w.units) us free.new_ones
+            (pairs_map (λ (b : UnitBook). imported b.unit) (λ a b. a.name ≢ b.name) w.units sound.rows.unit_names))))
             (units_fit free.room.units);
         units = All-append (IsSoundUnit w.hosts w.apps) w.units (map new_unit us) sound.units
             (All-map (IsSoundUnit w.hosts w.apps) new_unit us (all_from (λ u. IsSoundUnit w.hosts w.apps (new_unit u)) us (λ i u there.
-            new_unit_is_sound w.hosts w.apps u (all_get IsUnitInLimits us i u checked.in_limits there)
+            new_unit_is_sound w.hosts w.apps u (all_get IsNewUnit us i u checked.in_limits there).limits
             (named_apps (λ (u : Workunit). u.app) w.apps us free.known_apps i u there))));
       }
     where
-      units_fit : length (map (λ (b : UnitBook). b.unit) w.units ++ us) ≤ most_workunits → length (w.units ++ map new_unit us) ≤ most_workunits
+      -- none has a class yet
+      first : All (λ (u : Workunit). imported u ≡ u) us
+      first = λ k d within. (checked.in_limits k d within).first
+
+      units_fit : length (map (λ (b : UnitBook). imported b.unit) w.units ++ us) ≤ most_workunits → length (w.units ++ map new_unit us) ≤ most_workunits
       units_fit short =
-          let same : length (map (λ (b : UnitBook). b.unit) (w.units ++ map new_unit us)) ≡ length (map (λ (b : UnitBook). b.unit) w.units ++ us) = ap length (unit_rows w.units us) in
-          let long : length (map (λ (b : UnitBook). b.unit) (w.units ++ map new_unit us)) ≡ length (w.units ++ map new_unit us) =
-          length-map (w.units ++ map new_unit us) (λ (b : UnitBook). b.unit) in
+          let same : length (map (λ (b : UnitBook). imported b.unit) (w.units ++ map new_unit us)) ≡ length (map (λ (b : UnitBook). imported b.unit) w.units ++ us) =
+          ap length (unit_rows w.units us first) in
+          let long : length (map (λ (b : UnitBook). imported b.unit) (w.units ++ map new_unit us)) ≡ length (w.units ++ map new_unit us) =
+          length-map (w.units ++ map new_unit us) (λ (b : UnitBook). imported b.unit) in
           omega arith
 
 pub rows_added : (w : World) (new : Rows) → Sound w → AreChecked w new → Sound (with_rows w new)

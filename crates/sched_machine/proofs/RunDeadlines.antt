@@ -36,7 +36,7 @@ owners_last = record {
 }
 
 -- a place stands in a list, or does not
-among : (p : Place) (qs : List Place) → Contains qs p ⊎ (Contains qs p → ⊥)
+pub among : (p : Place) (qs : List Place) → Contains qs p ⊎ (Contains qs p → ⊥)
 among p [] = inr (none_in_nothing p)
 among p (q ∷ qs) = cases (is_same q p) refl (among p qs)
   where

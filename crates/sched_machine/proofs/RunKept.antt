@@ -13,7 +13,7 @@ use Rattle.sched_book.specs.Lost.{is_listed, unlisted, lost, is_resent, delay_at
 use Rattle.sched_book.specs.Places.{nth, unit_at, instance_at, passes, place_named, book_status, is_held_by, is_owned_by, is_overdue, overdue, held_by, is_same}
 use Rattle.sched_book.specs.Reports.{with_changed, first_reports, awaits_report, with_report, judged_place, record_at, record_one, recorded}
 use Rattle.sched_book.specs.Settle.{fresh, grown, settled}
-use Rattle.sched_book.specs.Step.{Step, at_entry, after_reports, lost_of, host_at_entry, host_number, resent_of, after_lost, after_settlement, with_owner, grant_one, granted, lapsed, asking_of}
+use Rattle.sched_book.specs.Step.{Step, at_entry, after_reports, lost_of, host_at_entry, host_number, resent_of, after_lost, after_settlement, with_owner, grant_one, granted, after_grant, lapsed, asking_of}
 use Rattle.sched_book.specs.declared.instance.Instance.{Instance}
 use Rattle.sched_book.specs.declared.instance.Lapse.{Lapse}
 use Rattle.sched_book.specs.declared.instance.Lapse.TheVariants.{Late, Dropped}
@@ -34,6 +34,7 @@ use Rattle.sched_book.proofs.Recording.{instance_at-with_changed, passes-is, is_
 use Rattle.sched_book.proofs.Settling.{nth-map}
 use Rattle.job_choice.proofs.Candidates.{Stood, stood}
 use Rattle.sched_machine.proofs.AlikePlaces.{places_hold}
+use Rattle.sched_machine.proofs.Classed.{classed_like, instance_same}
 use Rattle.sched_book.proofs.Rising.{pairs_head, pairs_tail}
 
 -- an instance has no lapse but this
@@ -299,6 +300,13 @@ module _ (R : Instance → Instance → Type 0) (lasting : IsLasting R) (p : Pla
       (kept_settled (at_entry w c r) (after_lost w c r now))
       (kept_granted (after_settlement w c r now) (asking_of w c r now) jobs grant)))
 
+  -- the classes that workunits take leave the instance
+  classes_leave : (w : World) (c : Caller) (r : Request) (now : ℕ) (jobs : List Place)
+      → instance_at (after_grant w c r now jobs) p ≡ instance_at (granted (after_settlement w c r now) (host_number w c) now jobs) p
+  classes_leave w c r now jobs =
+      let given : World = granted (after_settlement w c r now) (host_number w c) now jobs in
+      instance_same given (after_grant w c r now jobs) (classed_like w (host_at_entry w c r) jobs given) p
+
   -- a new deadline of a job that the call has sent again
   abbrev pub MayMove : World → Call → Type 0
   MayMove w (call.Rpc c r) = Contains (resent_of w c r) p → (f : ℕ → ℕ) (x : Instance) → R x (with_deadline f x)
@@ -307,7 +315,8 @@ module _ (R : Instance → Instance → Type 0) (lasting : IsLasting R) (p : Pla
 
   pub kept_step : (w after : World) (c : Call) (now : ℕ) (answer : Answered) → MayMove w c → Step w c now after answer → KeptAt R p w after
   kept_step w after (call.Rpc c r) now (answered.Rpc reply) moves step =
-      subst (KeptAt R p w) (sym step.left) (kept_call w c r now step.jobs moves step.grant)
+      subst (KeptAt R p w) (sym step.left) (λ x stands.
+      (let y = kept_call w c r now step.jobs moves step.grant x stands in (y.0, classes_leave w c r now step.jobs ∙ y.1, y.2)))
   kept_step w after (call.Rpc c r) now (answered.Imported n) moves step = absurd step
   kept_step w after (call.Rpc c r) now (answered.Lapsed n) moves step = absurd step
   kept_step w after (call.Import new) now (answered.Imported n) moves step = subst (KeptAt R p w) (sym step.left) (kept_rows w new)

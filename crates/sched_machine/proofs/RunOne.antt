@@ -8,7 +8,7 @@ use Rattle.sched_book.specs.Grant.{end_word}
 use Rattle.sched_book.specs.Lost.{aborts}
 use Rattle.sched_book.specs.Places.{host_credit, user_credit}
 use Rattle.sched_book.specs.Reports.{first_reports}
-use Rattle.sched_book.specs.Step.{RpcStep, TickStep, ImportStep, Trace, after_settlement, asking_of, granted, host_number, host_at_entry, job_at, resent_of, user_name}
+use Rattle.sched_book.specs.Step.{RpcStep, TickStep, ImportStep, Trace, after_settlement, asking_of, after_grant, host_number, host_at_entry, job_at, resent_of, user_name}
 use Rattle.sched_book.specs.declared.instance.Place.{Place}
 use Rattle.sched_book.specs.declared.machine.Answered.TheVariants as answered
 use Rattle.sched_book.specs.declared.machine.Call.TheVariants as call
@@ -39,7 +39,7 @@ module _ (w : World) (c : Caller) (r : Request) (now : ℕ) where
   one_call v u a b first second =
       let jobs : first.jobs ≡ second.jobs =
       one_grant (after_settlement w c r now) (asking_of w c r now) first.jobs second.jobs first.grant second.grant in
-      let left : v ≡ u = first.left ∙ ap (granted (after_settlement w c r now) (host_number w c) now) jobs ∙ sym second.left in
+      let left : v ≡ u = first.left ∙ ap (after_grant w c r now) jobs ∙ sym second.left in
       (left, first.answer ∙ ap (λ after. reply_with after first.jobs) left ∙ ap (reply_with u) jobs ∙ sym second.answer)
 
 one_tick : (w v u : World) (now n m : ℕ) → TickStep w now v n → TickStep w now u m → (v ≡ u) × (n ≡ m)

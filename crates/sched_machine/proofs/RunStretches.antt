@@ -3,7 +3,7 @@ use Rattle.std.proofs.Common.{◌≡◌, ◌⊎◌, inl, inr, ℕ, zero, suc, �
 use Rattle.std.specs.Prelude.{slice_get}
 use Rattle.sched_book.specs.Imports.{with_rows}
 use Rattle.sched_book.specs.Sound.{Sound}
-use Rattle.sched_book.specs.Step.{Step, Trace, after_reports, after_settlement, at_entry, deadline_at, host_number, host_at_entry, lost_of}
+use Rattle.sched_book.specs.Step.{Step, Trace, after_reports, after_settlement, at_entry, deadline_at, granted, host_number, host_at_entry, lost_of}
 use Rattle.sched_book.specs.declared.instance.Owner.{Owner}
 use Rattle.sched_book.specs.declared.instance.Place.{Place}
 use Rattle.sched_book.specs.declared.machine.Answered.{Answered}
@@ -18,6 +18,7 @@ use Rattle.sched_book.proofs.PlaceChanges.{reports_change_instances_alone, lapse
 use Rattle.sched_machine.specs.Laws.{AreCallsInLimits}
 use Rattle.sched_machine.specs.Runs.{owner_at, world_after, IsSentAgain}
 use Rattle.sched_machine.specs.Stretches.{IsInSightAfter, IsSentAgainAfter, DeadlinesMoveByResendsInRuns, HoldsWhatIsListedOrNamedInRuns}
+use Rattle.sched_machine.proofs.Classed.{classed_like}
 use Rattle.sched_machine.proofs.HeldNamed as named
 use Rattle.sched_machine.proofs.RunDeadlines.{deadlines_move_by_resends_alone}
 use Rattle.sched_machine.proofs.RunLasting.{owners_stay_in_step}
@@ -87,6 +88,8 @@ rows_leave w (rows.Workunits xs) = refl
 pub settings_stay_in_step : (w after : World) (c : Call) (now : ℕ) (answer : Answered) → Step w c now after answer → after.settings ≡ w.settings
 settings_stay_in_step w after (call.Rpc c r) now (answered.Rpc reply) step =
     ap (λ (v : World). v.settings) step.left
+    ∙ ap (λ (v : World). v.settings)
+    (classed_like w (host_at_entry w c r) step.jobs (granted (after_settlement w c r now) (host_number w c) now step.jobs)).rest
     ∙ (grants_are_by_place (after_settlement w c r now) (host_number w c) now step.jobs).rest.settings
     ∙ (lost_jobs_are_by_place (at_entry w c r) (host_at_entry w c r) now (after_reports w c r) (lost_of w c r)).rest.settings
     ∙ (reports_change_instances_alone (at_entry w c r) (host_number w c) r.results).settings

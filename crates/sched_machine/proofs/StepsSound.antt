@@ -8,8 +8,8 @@ use Rattle.sched_book.specs.Imports.{same_version}
 use Rattle.sched_book.specs.Limits.{last_moment, IsAccountInLimits, IsAppInLimits}
 use Rattle.sched_book.specs.Places.{host_at, nth}
 use Rattle.sched_book.specs.Settle.{with_grown, with_quota}
-use Rattle.sched_book.specs.Sound.{IsSoundUnit, IsSoundHost, IsSoundVersion, HaveOtherKeys, Sound, IsWell}
-use Rattle.sched_book.specs.Step.{IsCaller, HasRoom, RpcStep, TickStep, at_entry, after_reports, after_lost, after_settlement, host_number, host_at_entry, lost_of, asking_of, lapsed}
+use Rattle.sched_book.specs.Sound.{IsSoundUnit, IsSoundHost, IsSoundVersion, HaveOtherKeys, Sound, IsSettled, IsWell}
+use Rattle.sched_book.specs.Step.{IsCaller, HasRoom, RpcStep, TickStep, at_entry, after_reports, after_lost, after_settlement, granted, host_number, host_at_entry, lost_of, asking_of, lapsed}
 use Rattle.sched_book.specs.declared.instance.UnitBook.{UnitBook}
 use Rattle.sched_book.specs.declared.machine.Answered.TheVariants as answered
 use Rattle.sched_book.specs.declared.machine.Call.TheVariants as call
@@ -25,13 +25,15 @@ use Rattle.sched_book.proofs.Settling.{settlement_is_pointwise}
 use Rattle.sched_book.proofs.Rising.{pairs_nil}
 use Rattle.sched_machine.specs.Laws.{StepKeepsSound, RunsKeepSound, EmptyIsSound}
 use Rattle.sched_machine.proofs.AlikeHosts.{account_at_entry}
+use Rattle.sched_machine.proofs.ClassesSound.{settled_is_sound, settlement_not_too_soon, step_is_sound}
+use Rattle.sched_machine.proofs.Classed.{classed_settled}
 use Rattle.sched_machine.proofs.RowsEntry.{entry_keeps_sound}
-use Rattle.sched_machine.proofs.RowsGrant.{grant_keeps_sound}
+use Rattle.sched_machine.proofs.RowsGrant.{grant_keeps_settled}
 use Rattle.sched_machine.proofs.RowsImport.{import_keeps_sound}
 use Rattle.sched_machine.proofs.UnitsLapsed.{lapses_keep_well}
 use Rattle.sched_machine.proofs.UnitsLost.{lost_jobs_keep_well}
 use Rattle.sched_machine.proofs.UnitsReported.{reports_keep_well}
-use Rattle.sched_machine.proofs.UnitsSettled.{settlement_makes_sound}
+use Rattle.sched_machine.proofs.UnitsSettled.{settlement_settles}
 
 -- a sound world is sound but for what open workunits may lack
 pub sound_is_well : (w : World) → Sound w → IsWell w
@@ -70,8 +72,11 @@ module _ (w : World) (c : Caller) (r : Request) (now : ℕ) (sound : Sound w) (c
   reports_rest : ChangesInstancesAlone (at_entry w c r) (after_reports w c r)
   reports_rest = reports_change_instances_alone (at_entry w c r) (host_number w c) r.results
 
+  all_settled : IsSettled (after_settlement w c r now)
+  all_settled = settlement_settles (at_entry w c r) (after_lost w c r now) (sym (lost_rest.settings ∙ reports_rest.settings)) left_well
+
   pub settled_sound : Sound (after_settlement w c r now)
-  settled_sound = settlement_makes_sound (at_entry w c r) (after_lost w c r now) (sym (lost_rest.settings ∙ reports_rest.settings)) left_well
+  settled_sound = settled_is_sound (after_settlement w c r now) all_settled (settlement_not_too_soon w c r now sound)
 
   pub host_stands : host_at (after_settlement w c r now) (host_number w c) ≡ Some (asking_of w c r now).host
   host_stands =
@@ -83,13 +88,16 @@ module _ (w : World) (c : Caller) (r : Request) (now : ℕ) (sound : Sound w) (c
 
   call_keeps_sound : (after : World) (reply : Reply) → RpcStep w c r now after reply → Sound after
   call_keeps_sound after reply step =
-      subst Sound (sym step.left)
-      (grant_keeps_sound (after_settlement w c r now) (asking_of w c r now) step.jobs settled_sound host_stands early step.grant)
+      step_is_sound w after (call.Rpc c r) now (answered.Rpc reply) sound step
+      (subst IsSettled (sym step.left)
+      (classed_settled w (host_at_entry w c r) sound step.jobs (granted (after_settlement w c r now) (host_number w c) now step.jobs)
+      (grant_keeps_settled (after_settlement w c r now) (asking_of w c r now) step.jobs all_settled host_stands early step.grant)))
 
 pub tick_keeps_sound : (w after : World) (now count : ℕ) → Sound w → TickStep w now after count → Sound after
 tick_keeps_sound w after now count sound step =
-    subst Sound (sym step.left)
-    (settlement_makes_sound w (lapsed w now) (sym (lapses_are_by_place w now).rest.settings) (lapses_keep_well w now (sound_is_well w sound)))
+    step_is_sound w after call.Tick now (answered.Lapsed count) sound step
+    (subst IsSettled (sym step.left)
+    (settlement_settles w (lapsed w now) (sym (lapses_are_by_place w now).rest.settings) (lapses_keep_well w now (sound_is_well w sound))))
 
 pub step_keeps_sound : StepKeepsSound
 step_keeps_sound w after (call.Rpc c r) now (answered.Rpc reply) sound limits early step =

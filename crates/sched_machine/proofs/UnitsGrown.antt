@@ -1,4 +1,4 @@
--- A well workunit with the instances that it needs is sound.
+-- A well workunit with the instances that it needs is settled.
 use Rattle.std.proofs.Common.{◌≡◌, ◌≢◌, ℕ, zero, suc, ◌+◌, ◌-◌, ◌*◌, ◌≤◌, Bool, true, false, cond, List, [], ◌∷◌, ◌++◌, length, get_or, Option, Some, None, sym, refl, ap, ◌∙◌, subst, length-append, arith}
 use Rattle.std.specs.Prelude.{◌||◌, ◌==◌, All, AllPairs, IsTrue, count_by, fold, is_some, nat_le, replicate, option_and_then, IfSome}
 use Rattle.std.specs.List.{list_any, prefix_len}
@@ -12,7 +12,7 @@ use Rattle.sched_book.specs.Count.{tells_success, is_judged, report_place, is_li
 use Rattle.sched_book.specs.Limits.{most_instances, IsInstanceInLimits}
 use Rattle.sched_book.specs.Places.{nth, option_any, agreement_by, book_status, account_at, host_of}
 use Rattle.sched_book.specs.Settle.{fresh, grown}
-use Rattle.sched_book.specs.Sound.{AreOfOtherUsers, IsBare, HasOwnerAmong, IsSoundUnit, IsWellUnit}
+use Rattle.sched_book.specs.Sound.{AreOfOtherUsers, IsBare, HasOwnerAmong, IsSettledUnit, IsWellUnit}
 use Rattle.sched_book.specs.declared.instance.Instance.{Instance}
 use Rattle.sched_book.specs.declared.instance.UnitBook.{UnitBook}
 use Rattle.sched_book.specs.declared.rows.App.{App}
@@ -109,8 +109,8 @@ module _ (hosts others : List HostRow) (apps : List App) (users : HaveSameUsers 
   all_apart xs pairs = λ i j d below within. other_users (get_or xs i d) (get_or xs j d) (pairs i j d below within)
 
   -- one that is not open stays as it is
-  closed_sound : (b : UnitBook) → IsWellUnit hosts apps b → is_open (book_status apps b) ≡ false → IsSoundUnit others apps b
-  closed_sound b well closed = record {
+  closed_settled : (b : UnitBook) → IsWellUnit hosts apps b → is_open (book_status apps b) ≡ false → IsSettledUnit others apps b
+  closed_settled b well closed = record {
     satisfied = λ now. (let never : true ≡ false = sym now ∙ closed in absurd cc);
     well = record {
       one_for_each_user = all_apart b.instances well.one_for_each_user;
@@ -126,9 +126,9 @@ module _ (hosts others : List HostRow) (apps : List App) (users : HaveSameUsers 
   }
 
   -- fresh instances behind its own
-  open_sound : (b : UnitBook) → IsWellUnit hosts apps b → is_open (book_status apps b) ≡ true
-      → IsSoundUnit others apps (record b { instances = b.instances ++ replicate (need b.unit b.instances) fresh })
-  open_sound b well is_it =
+  open_settled : (b : UnitBook) → IsWellUnit hosts apps b → is_open (book_status apps b) ≡ true
+      → IsSettledUnit others apps (record b { instances = b.instances ++ replicate (need b.unit b.instances) fresh })
+  open_settled b well is_it =
       let xs : List Instance = b.instances in
       let n : ℕ = need b.unit b.instances in
       let more : List Instance = replicate n fresh in
@@ -158,10 +158,10 @@ module _ (hosts others : List HostRow) (apps : List App) (users : HaveSameUsers 
         };
       }
 
-  pub grown_sound : (b : UnitBook) → IsWellUnit hosts apps b → IsSoundUnit others apps (grown apps b)
-  grown_sound b well = cases (is_open (book_status apps b)) refl
+  pub grown_settled : (b : UnitBook) → IsWellUnit hosts apps b → IsSettledUnit others apps (grown apps b)
+  grown_settled b well = cases (is_open (book_status apps b)) refl
     where
       cases : (t : Bool) → is_open (book_status apps b) ≡ t
-          → IsSoundUnit others apps (cond t (record b { instances = b.instances ++ replicate (need b.unit b.instances) fresh }) b)
-      cases true is_it = open_sound b well is_it
-      cases false closed = closed_sound b well closed
+          → IsSettledUnit others apps (cond t (record b { instances = b.instances ++ replicate (need b.unit b.instances) fresh }) b)
+      cases true is_it = open_settled b well is_it
+      cases false closed = closed_settled b well closed

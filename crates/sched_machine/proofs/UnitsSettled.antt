@@ -1,4 +1,4 @@
--- Settlement makes a well world sound.
+-- Settlement makes a well world settled.
 use Rattle.std.proofs.Common.{◌≡◌, ◌≢◌, ℕ, ◌≤◌, Bool, true, false, cond, List, ◌++◌, length, Option, Some, None, sym, refl, ap, ◌∙◌, subst, arith}
 use Rattle.std.specs.Prelude.{map, replicate, is_some, option_map}
 use Rattle.std.specs.List.{enumerate_from}
@@ -7,16 +7,16 @@ use Rattle.sched_book.specs.Count.{is_open, need}
 use Rattle.sched_book.specs.Limits.{most_workunits}
 use Rattle.sched_book.specs.Places.{nth, book_status}
 use Rattle.sched_book.specs.Settle.{fresh, grown, with_grown, charges, merits, with_quota, settled}
-use Rattle.sched_book.specs.Sound.{HaveOtherKeys, IsSoundHost, IsSoundUnit, Sound, IsWellUnit, IsWell}
+use Rattle.sched_book.specs.Sound.{HaveOtherKeys, IsSoundHost, IsSettledUnit, IsSettled, IsWellUnit, IsWell}
 use Rattle.sched_book.specs.declared.instance.UnitBook.{UnitBook}
 use Rattle.sched_book.specs.declared.rows.HostRow.{HostRow}
 use Rattle.sched_book.specs.declared.world.World.{World}
 use Rattle.quorum_credit.proofs.ByPlace.{nth-map_places}
 use Rattle.quorum_credit.proofs.Numbered.{length-numbered}
-use Rattle.sched_machine.specs.Laws.{SettlementMakesSound}
+use Rattle.sched_machine.specs.Laws.{SettlementSettles}
 use Rattle.sched_machine.proofs.UnitsAlike.{all_alike, pairs_alike, alike_map, alike_numbered}
 use Rattle.quorum_credit.proofs.NewQuotas.{quota_within}
-use Rattle.sched_machine.proofs.UnitsGrown.{HaveSameUsers, grown_sound}
+use Rattle.sched_machine.proofs.UnitsGrown.{HaveSameUsers, grown_settled}
 
 module _ (old changed : World) (same : old.settings ≡ changed.settings) (well : IsWell changed) where
   abbrev quoted : ℕ × HostRow → HostRow
@@ -71,10 +71,10 @@ module _ (old changed : World) (same : old.settings ≡ changed.settings) (well 
       }
 
   -- all together
-  makes_sound : Sound (settled old changed)
-  makes_sound =
+  settles : IsSettled (settled old changed)
+  settles =
       let row : UnitBook → UnitBook → Type 0 = λ b c. c.unit ≡ b.unit in
-      let whole : UnitBook → UnitBook → Type 0 = λ b c. IsWellUnit changed.hosts changed.apps b → IsSoundUnit hosts_after changed.apps c in
+      let whole : UnitBook → UnitBook → Type 0 = λ b c. IsWellUnit changed.hosts changed.apps b → IsSettledUnit hosts_after changed.apps c in
       let carried : HostRow → HostRow → Type 0 = λ h k. IsSoundNow h → IsSoundNow k in
       let units_after : List UnitBook = map (grown changed.apps) changed.units in
       let many_units : length units_after ≡ length changed.units = length-map changed.units (grown changed.apps) in
@@ -102,8 +102,8 @@ module _ (old changed : World) (same : old.settings ≡ changed.settings) (well 
           unit_count = (let few : length changed.units ≤ most_workunits = well.rows.unit_count in omega arith);
           host_count = (let few : length changed.hosts ≤ changed.settings.max_hosts = well.rows.host_count in omega arith);
         };
-        units = all_alike (IsWellUnit changed.hosts changed.apps) (IsSoundUnit hosts_after changed.apps) whole changed.units units_after
-            (alike_map whole (grown changed.apps) changed.units (grown_sound changed.hosts hosts_after changed.apps same_users))
+        units = all_alike (IsWellUnit changed.hosts changed.apps) (IsSettledUnit hosts_after changed.apps) whole changed.units units_after
+            (alike_map whole (grown changed.apps) changed.units (grown_settled changed.hosts hosts_after changed.apps same_users))
             (λ b c carry unit. carry unit) well.units;
       }
     where
@@ -114,5 +114,5 @@ module _ (old changed : World) (same : old.settings ≡ changed.settings) (well 
           cases true = refl
           cases false = refl
 
-pub settlement_makes_sound : SettlementMakesSound
-settlement_makes_sound old changed same well = makes_sound old changed same well
+pub settlement_settles : SettlementSettles
+settlement_settles old changed same well = settles old changed same well

@@ -1,4 +1,4 @@
--- Whether a call tells the number of its host.
+-- Rule. Whether a call tells the number of its host.
 use Rattle.std.specs.Prelude.{◌≡◌, ℕ, false, Some}
 pub use Rattle.rpc_records.specs.HostNumbers.{is_number, names_host}
 use Rattle.rpc_records.specs.declared.request.Request.{Request}

@@ -1,4 +1,4 @@
--- What a call's grant reads stays, to the call's host, through the reports, the lost jobs and settlement.
+-- Rule. What a call's grant reads stays, to the call's host, through the reports, the lost jobs and settlement.
 use Rattle.std.specs.Prelude.{ℕ}
 use Rattle.rpc_records.specs.declared.request.Request.{Request}
 use Rattle.sched_book.specs.Sound.{Sound}

@@ -1,4 +1,4 @@
--- What a call's host holds, and which of its lost jobs are sent again.
+-- Rule. What a call's host holds, and which of its lost jobs are sent again.
 use Rattle.std.specs.Prelude.{ℕ, Bool, true, false, List, filter_map, Option, Some, None, is_some, if◌then◌else◌, option_map, unwrap_or, slice_get}
 use Rattle.sched_book.specs.Places.{passes, is_held_by}
 use Rattle.sched_book.specs.declared.instance.Place.{Place}

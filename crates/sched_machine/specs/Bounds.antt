@@ -1,4 +1,4 @@
--- What a sound world has at most: 200,000 workunits of 100 instances, each worth at most 100,000,000 millicredits.
+-- Rule. What a sound world has at most: 200,000 workunits of 100 instances, each worth at most 100,000,000 millicredits.
 use Rattle.std.specs.Prelude.{ℕ, ◌*◌, ◌^◌, ◌≤◌, sum_by}
 use Rattle.rpc_records.specs.declared.request.Request.{Request}
 use Rattle.sched_book.specs.Fits.{estimate_at}

@@ -1,4 +1,4 @@
--- What no run undoes: canonical results, verdicts, statuses that are not open, and credit.
+-- Rule. What no run undoes: canonical results, verdicts, statuses that are not open, and credit.
 use Rattle.std.specs.Prelude.{◌≡◌, ℕ, ◌*◌, ◌≤◌, false, IsTrue, sum_by, count_by, Option, Some, is_some, option_and_then, slice_get}
 use Rattle.std.specs.List.{enumerate_from}
 use Rattle.sched_book.specs.Count.{canonical, is_open, is_valid}

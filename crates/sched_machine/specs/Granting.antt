@@ -1,16 +1,16 @@
--- Jobs that are given to a host, as changes of a world, and what a reply says of them.
-use Rattle.std.specs.Prelude.{◌≡◌, ℕ, ◌+◌, Bool, true, false, IsTrue, List, All, Option, None, Some, is_some, option_map, option_and_then, unwrap_or, slice_get}
+-- Words. Jobs that are given to a host, as changes of a world, and what a reply says of them.
+use Rattle.std.specs.Prelude.{◌≡◌, ℕ, ◌+◌, Bool, true, false, IsTrue, List, All, Option, None, Some, fold, is_some, option_map, unwrap_or, slice_get}
 use Rattle.rpc_records.specs.declared.reply.Job.{Job}
 use Rattle.sched_book.specs.Names.{instance_name}
-use Rattle.sched_book.specs.Fits.{version_for}
-use Rattle.sched_book.specs.Delta.{applied}
-use Rattle.sched_book.specs.Places.{unit_at, host_at, deadline_of}
-use Rattle.sched_book.specs.Step.{with_owner, job_of}
+use Rattle.sched_book.specs.Fits.{version_at_unit}
+use Rattle.sched_book.specs.Delta.{applied, FitsOne}
+use Rattle.sched_book.specs.Places.{host_at, deadline_of}
+use Rattle.sched_book.specs.Step.{class_granted, with_owner, job_of}
 use Rattle.sched_book.specs.declared.delta.Change.{Change}
+use Rattle.sched_book.specs.declared.delta.Change.TheVariants as change
 use Rattle.sched_book.specs.declared.instance.Instance.{Instance}
 use Rattle.sched_book.specs.declared.instance.Owner.{Owner}
 use Rattle.sched_book.specs.declared.rows.HostRow.{HostRow}
-use Rattle.sched_book.specs.declared.instance.UnitBook.{UnitBook}
 use Rattle.sched_book.specs.declared.rows.Version.{Version}
 use Rattle.sched_book.specs.declared.world.World.{World}
 use Rattle.job_choice.specs.declared.granted.Granted.{Granted}
@@ -36,10 +36,6 @@ pub record FitWithHost (w : World) (host : ℕ) (changes : List Change) : Type 0
   pub within : FitWithin w changes
   pub stands : IsTrue (is_some (host_at (applied w changes) host))
 
--- the version that the host runs of the application of the workunit at a place
-abbrev pub version_at_unit : World → HostRow → ℕ → Option Version
-version_at_unit w h unit = option_and_then (λ (b : UnitBook). version_for w h b.unit.app) (unit_at w unit)
-
 -- a job is one that was lost and is sent again
 abbrev pub is_again : Sending → Bool
 is_again First = false
@@ -56,3 +52,11 @@ job_on (Some k) number h resent v =
 -- the version of each job is the one that the host runs
 abbrev pub AreRunBy : World → HostRow → List Granted → Type 0
 AreRunBy w h jobs = All (λ (j : Granted). Some j.version ≡ version_at_unit w h j.place.unit) jobs
+
+-- the workunits of these jobs with the classes of their versions granted, one after another
+abbrev pub with_classes : World → List Granted → World
+with_classes w jobs = fold (λ (v : World) (j : Granted). class_granted v j.place.unit j.version.class) w jobs
+
+-- each job's workunit stands, and the class of its version is a word
+abbrev pub CanTake : World → List Granted → Type 0
+CanTake w jobs = All (λ (j : Granted). FitsOne w (change.Class j.place.unit j.version.class)) jobs

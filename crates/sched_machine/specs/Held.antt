@@ -1,4 +1,4 @@
--- What a host holds after its call: what it held, its client lists and did not report, and what the reply names.
+-- Rule. What a host holds after its call: what it held, its client lists and did not report, and what the reply names.
 use Rattle.std.specs.Prelude.{◌≡◌, ◌⊎◌, ℕ, true, List, Contains, Some, is_some}
 use Rattle.rpc_records.specs.declared.reply.Job.{Job}
 use Rattle.rpc_records.specs.declared.reply.Reply.{Reply}

@@ -1,4 +1,4 @@
--- The rows of an import, as changes of a world.
+-- Words. The rows of an import, as changes of a world.
 use Rattle.std.specs.Prelude.{List, map}
 use Rattle.sched_book.specs.declared.delta.Change.{Change}
 use Rattle.sched_book.specs.declared.delta.Change.TheVariants as change

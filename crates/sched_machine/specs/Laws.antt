@@ -1,4 +1,4 @@
--- How soundness is kept by the parts of a step.
+-- Rule. How soundness is kept by the parts of a step.
 use Rattle.std.specs.Prelude.{◌≡◌, All, ℕ, ◌≤◌, List, [], ◌∷◌, fold, Option, Some}
 use Rattle.rpc_records.specs.Ranges.{IsInRange, IsReport}
 use Rattle.rpc_records.specs.declared.request.Report.{Report}
@@ -10,7 +10,7 @@ use Rattle.sched_book.specs.Lost.{lost, resend_or_drop}
 use Rattle.sched_book.specs.Places.{host_at}
 use Rattle.sched_book.specs.Reports.{recorded}
 use Rattle.sched_book.specs.Settle.{settled}
-use Rattle.sched_book.specs.Sound.{Sound, IsWell}
+use Rattle.sched_book.specs.Sound.{Sound, IsSettled, IsWell}
 use Rattle.sched_book.specs.Step.{IsCaller, HasRoom, at_entry, granted, lapsed, empty_world, ImportStep, Step, Trace}
 use Rattle.sched_book.specs.declared.machine.Answered.{Answered}
 use Rattle.sched_book.specs.declared.machine.Call.{Call}
@@ -37,14 +37,14 @@ abbrev pub LostJobsKeepWell : Type 0
 LostJobsKeepWell = (entry w : World) (h : HostRow) (now host : ℕ) (names : Option (List (List ℕ))) → IsWell entry → now ≤ last_moment → IsWell w
     → IsWell (fold (resend_or_drop entry h now) w (lost w host names))
 
--- settlement makes it whole again
-abbrev pub SettlementMakesSound : Type 0
-SettlementMakesSound = (old changed : World) → old.settings ≡ changed.settings → IsWell changed → Sound (settled old changed)
+-- settlement gives open workunits the instances that they need
+abbrev pub SettlementSettles : Type 0
+SettlementSettles = (old changed : World) → old.settings ≡ changed.settings → IsWell changed → IsSettled (settled old changed)
 
--- a grant to a host that stands keeps it
-abbrev pub GrantKeepsSound : Type 0
-GrantKeepsSound = (w : World) (q : Asking) (jobs : List Place) → Sound w → host_at w q.number ≡ Some q.host → q.now ≤ last_moment → IsGrant w q jobs
-    → Sound (granted w q.number q.now jobs)
+-- a grant to a host that stands keeps it so
+abbrev pub GrantKeepsSettled : Type 0
+GrantKeepsSettled = (w : World) (q : Asking) (jobs : List Place) → IsSettled w → host_at w q.number ≡ Some q.host → q.now ≤ last_moment → IsGrant w q jobs
+    → IsSettled (granted w q.number q.now jobs)
 
 abbrev pub ImportKeepsSound : Type 0
 ImportKeepsSound = (w after : World) (new : Rows) (count : ℕ) → Sound w → ImportStep w new after count → Sound after

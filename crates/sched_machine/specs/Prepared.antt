@@ -1,4 +1,4 @@
--- What a call comes to before new jobs are chosen.
+-- Words. What a call comes to before new jobs are chosen.
 use Rattle.std.specs.Prelude.{◌≡◌, ℕ, List, length, map, sum_by, unwrap_or}
 use Rattle.rpc_records.specs.declared.request.Report.{Report}
 use Rattle.rpc_records.specs.declared.request.Request.{Request}

@@ -1,4 +1,4 @@
--- What a reply says once new jobs are given.
+-- Words. What a reply says once new jobs are given.
 use Rattle.std.specs.Prelude.{◌≡◌, ℕ, ◌+◌, ◌++◌, true, false, List, filter_map}
 use Rattle.rpc_records.specs.declared.reply.EndWord.{EndWord}
 use Rattle.rpc_records.specs.declared.reply.Reply.{Reply}
@@ -6,7 +6,7 @@ use Rattle.rpc_records.specs.declared.request.Request.{Request}
 use Rattle.sched_book.specs.Delta.{Fits}
 use Rattle.sched_book.specs.Grant.{IsGrant, end_word}
 use Rattle.sched_book.specs.Places.{host_credit, user_credit}
-use Rattle.sched_book.specs.Step.{after_settlement, asking_of, granted, host_number, job_at, user_name}
+use Rattle.sched_book.specs.Step.{after_settlement, asking_of, after_grant, job_at, user_name}
 use Rattle.sched_book.specs.declared.delta.Change.{Change}
 use Rattle.sched_book.specs.declared.instance.Place.{Place}
 use Rattle.sched_book.specs.declared.world.World.{World}
@@ -29,7 +29,7 @@ pub record IsGranted (w : World) (r : Request) (now : ℕ) (ready : Ready) (v : 
   pub jobs : List Place
   pub grant : IsGrant (after_settlement w ready.call.caller r now) (asking_of w ready.call.caller r now) jobs
   pub ends : word ≡ end_word (after_settlement w ready.call.caller r now) (asking_of w ready.call.caller r now) jobs
-  pub left : v ≡ granted (after_settlement w ready.call.caller r now) (host_number w ready.call.caller) now jobs
+  pub left : v ≡ after_grant w ready.call.caller r now jobs
   pub fits : Fits w changes
   pub tells : IsTold w v ready jobs told
 

@@ -1,4 +1,4 @@
--- What holds through each run of the machine from a sound world: of what stands at a place, and of what a step leaves.
+-- Rule. What holds through each run of the machine from a sound world: of what stands at a place, and of what a step leaves.
 use Rattle.std.specs.Prelude.{◌≡◌, ◌⊎◌, ℕ, zero, suc, ◌<◌, ◌≤◌, List, [], ◌∷◌, length, All, AllPairs, Contains, Option, Some, option_and_then}
 use Rattle.sched_book.specs.Places.{instance_at}
 use Rattle.sched_book.specs.Sound.{AreOfOtherUsers, Sound}

@@ -1,4 +1,4 @@
--- What holds of stretches of a run: of the calls between two of its worlds.
+-- Rule. What holds of stretches of a run: of the calls between two of its worlds.
 use Rattle.std.specs.Prelude.{◌≡◌, ◌⊎◌, ℕ, suc, ◌<◌, ◌≤◌, true, List, length, Some, slice_get}
 use Rattle.rpc_records.specs.declared.reply.Reply.{Reply}
 use Rattle.rpc_records.specs.declared.request.Request.{Request}

@@ -1,4 +1,4 @@
--- What the marks of settlement bring the hosts of a user.
+-- Words. What the marks of settlement bring the hosts of a user.
 use Rattle.std.specs.Prelude.{ℕ, ◌==◌, Bool, if◌then◌else◌, List, sum_by}
 use Rattle.sched_book.specs.Places.{option_any, nth}
 use Rattle.sched_book.specs.declared.rows.HostRow.{HostRow}

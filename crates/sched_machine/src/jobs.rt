@@ -3,6 +3,7 @@
 ghost use Rattle.std.specs.Prelude.{◌≡◌, [], ◌++◌, true, false, filter_map, option_map, unwrap_or, IfOk, OnOk};
 ghost use Rattle.std.specs.Option.{option_copied};
 ghost use Rattle.std.specs.List.{cons_option};
+ghost use Rattle.sched_book.specs.Fits.{version_at_unit};
 ghost use Rattle.sched_book.specs.Places.{deadline_of};
 ghost use Rattle.sched_book.specs.Step.{job_at};
 ghost use Rattle.sched_book.specs.Trusted.{Trusted};
@@ -10,7 +11,7 @@ ghost use Rattle.sched_book.specs.declared.instance.Instance.{Instance};
 ghost use Rattle.job_choice.specs.Chosen.{places_of};
 ghost use Rattle.job_choice.specs.declared.granted.Granted.{Granted};
 ghost use Rattle.call_sheet.specs.Sheets.{instance_now};
-ghost use Rattle.sched_machine.specs.Granting.{version_at_unit, is_again, job_on, AreRunBy};
+ghost use Rattle.sched_machine.specs.Granting.{is_again, job_on, AreRunBy};
 
 use call_sheet::{Draft, Leaf};
 use job_choice::{Granted, seconds_at};

@@ -1,10 +1,11 @@
 //! Laws of the machine. Each function does nothing; its contract is the law.
 
 ghost use Rattle.sched_machine.specs.Alike.{SettledIsLike};
+ghost use Rattle.sched_machine.specs.Classes.{ClassesStay, OwnersAreOfClasses, OwnersAreOfClassesInRuns};
 ghost use Rattle.sched_machine.specs.Bounds.{CreditIsBounded, ResentSecondsAreBounded};
 ghost use Rattle.sched_machine.specs.Decisions.{CanonicalsStay, VerdictsStay, StatusesStay, CreditsStay, CreditsAddUp};
 ghost use Rattle.sched_machine.specs.Held.{ReportsEndHolding, HeldByPlaces, HoldsWhatIsListedOrNamed};
-ghost use Rattle.sched_machine.specs.Laws.{EntryKeepsSound, ReportsKeepWell, LapsesKeepWell, LostJobsKeepWell, SettlementMakesSound, GrantKeepsSound, ImportKeepsSound, StepKeepsSound, RunsKeepSound, EmptyIsSound};
+ghost use Rattle.sched_machine.specs.Laws.{EntryKeepsSound, ReportsKeepWell, LapsesKeepWell, LostJobsKeepWell, SettlementSettles, GrantKeepsSettled, ImportKeepsSound, StepKeepsSound, RunsKeepSound, EmptyIsSound};
 ghost use Rattle.sched_machine.specs.Runs.{HoldsInRuns, OwnersStay, ReportsStay, LapsesStay, StepIsDetermined, RunIsDetermined, HoldsAlways, OneForEachUser, DeadlinesMoveByResends};
 ghost use Rattle.sched_machine.specs.Stretches.{DeadlinesMoveByResendsInRuns, HoldsWhatIsListedOrNamedInRuns};
 
@@ -28,17 +29,17 @@ pub fn lost_jobs_keep_well()
     ensures { LostJobsKeepWell }
 {}
 
-/// Settlement makes such a world sound.
-pub fn settlement_makes_sound()
-    ensures { SettlementMakesSound }
+/// Settlement makes such a world settled: sound, but that a marked workunit may have owners before it has its class.
+pub fn settlement_settles()
+    ensures { SettlementSettles }
 {}
 
-/// A grant to a host that stands leaves a sound world sound.
-pub fn grant_keeps_sound()
-    ensures { GrantKeepsSound }
+/// A grant to a host that stands leaves a settled world settled.
+pub fn grant_keeps_settled()
+    ensures { GrantKeepsSettled }
 {}
 
-/// So does an import whose rows were checked.
+/// An import whose rows were checked leaves a sound world sound.
 pub fn import_keeps_sound()
     ensures { ImportKeepsSound }
 {}
@@ -163,4 +164,21 @@ pub fn deadlines_move_by_resends_in_runs()
 /// held, lists and did not report, and what the reply names.
 pub fn a_host_holds_what_is_listed_or_named_in_runs()
     ensures { HoldsWhatIsListedOrNamedInRuns }
+{}
+
+/// In every run a workunit that keeps to a class keeps to it for ever, and one that is not marked is never marked.
+pub fn classes_stay()
+    ensures { HoldsInRuns ClassesStay }
+{}
+
+/// From a sound world, who owns an instance after a step owned it before, or the step gives it to its caller, with a version
+/// of the class that the workunit then keeps to, if it is marked.
+pub fn owners_are_of_classes()
+    ensures { OwnersAreOfClasses }
+{}
+
+/// So in each world of a run who owns an instance owned it at its beginning, or some call before gave it, with a version of
+/// the class that the workunit keeps to in that world.
+pub fn owners_are_of_classes_in_runs()
+    ensures { OwnersAreOfClassesInRuns }
 {}

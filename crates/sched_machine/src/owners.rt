@@ -1,11 +1,11 @@
-//! The host that is given jobs becomes their owner.
+//! The host that is given jobs becomes their owner, and their workunits take the classes of their versions.
 
-ghost use Rattle.std.specs.Prelude.{◌≡◌, IfOk, OnOk};
+ghost use Rattle.std.specs.Prelude.{◌≡◌, ℕ, IfOk, OnOk};
 ghost use Rattle.std.specs.Option.{option_copied};
 ghost use Rattle.sched_book.specs.Step.{grant_one, granted};
 ghost use Rattle.sched_book.specs.Trusted.{Trusted};
 ghost use Rattle.job_choice.specs.Chosen.{places_of};
-ghost use Rattle.sched_machine.specs.Granting.{given_on, FitWithHost};
+ghost use Rattle.sched_machine.specs.Granting.{given_on, with_classes, CanTake, FitWithHost};
 
 use call_sheet::{Draft, Leaf};
 use job_choice::Granted;
@@ -61,8 +61,8 @@ fn give_one<S: Draft>(
     }
 }
 
-/// Gives these jobs to a host on the sheet of its call, in their order. A place where no instance stands is refused.
-pub(crate) fn give<S: Draft>(
+/// Makes a host the owner of these jobs, in their order. A place where no instance stands is refused.
+fn own_all<S: Draft>(
     alloc: Global,
     sheet: &mut S,
     host: u32,
@@ -79,4 +79,38 @@ pub(crate) fn give<S: Draft>(
         give_one(alloc, sheet, host, now, job.place)?;
     }
     Ok(())
+}
+
+/// Has the versions of these jobs granted for their workunits, which were read, in their order: one that is marked and has
+/// no class takes that of the first.
+fn take_classes<S: Draft>(sheet: &mut S, jobs: &[Granted]) -> Result<(), Unavailable>
+    ensures works { S.works sheet.old sheet.new }
+    ensures left { Trusted S.Units sheet.old sheet.new (
+        OnOk result (S.world sheet.new ≡ with_classes (S.world sheet.old) jobs.now)) }
+    ensures fits { Trusted S.Units sheet.old sheet.new (OnOk result ((host : ℕ) → CanTake (S.entry sheet.old) jobs.now →
+        FitWithHost (S.entry sheet.old) host (S.delta sheet.old) → FitWithHost (S.entry sheet.old) host (S.delta sheet.new))) }
+{
+    for job in jobs {
+        sheet.put_class(job.place.unit, &job.version.class)?;
+    }
+    Ok(())
+}
+
+/// Gives these jobs to a host on the sheet of its call: it becomes their owner, and then their workunits take the classes of
+/// their versions. A place where no instance stands is refused.
+pub(crate) fn give<S: Draft>(
+    alloc: Global,
+    sheet: &mut S,
+    host: u32,
+    now: Moment,
+    jobs: &[Granted],
+) -> Result<(), Unavailable>
+    ensures works { S.works sheet.old sheet.new }
+    ensures left { Trusted S.Units sheet.old sheet.new (OnOk result (
+        S.world sheet.new ≡ with_classes (granted (S.world sheet.old) host now (places_of jobs.now)) jobs.now)) }
+    ensures fits { Trusted S.Units sheet.old sheet.new (OnOk result (CanTake (S.entry sheet.old) jobs.now →
+        FitWithHost (S.entry sheet.old) host (S.delta sheet.old) → FitWithHost (S.entry sheet.old) host (S.delta sheet.new))) }
+{
+    own_all(alloc, sheet, host, now, jobs)?;
+    take_classes(sheet, jobs)
 }

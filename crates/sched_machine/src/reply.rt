@@ -4,7 +4,7 @@ ghost use Rattle.std.specs.Prelude.{◌≡◌, IfOk, OnOk};
 ghost use Rattle.sched_book.specs.Step.{IsCaller, granted, user_name};
 ghost use Rattle.sched_book.specs.Trusted.{Trusted};
 ghost use Rattle.job_choice.specs.Chosen.{places_of};
-ghost use Rattle.sched_machine.specs.Granting.{AreRunBy, FitWithHost};
+ghost use Rattle.sched_machine.specs.Granting.{with_classes, AreRunBy, CanTake, FitWithHost};
 ghost use Rattle.sched_machine.specs.Replying.{IsTold, reply_of};
 
 use crate::jobs::{add_granted, resent_jobs};
@@ -56,8 +56,8 @@ pub(crate) fn conclude<S: Draft>(
 ) -> Result<Told, Unavailable>
     ensures works { S.works sheet.old sheet.new }
     ensures left { Trusted S.Units sheet.old sheet.new (OnOk result (
-        S.world sheet.new ≡ granted (S.world sheet.old) ready.now.call.number now (places_of jobs.now))) }
-    ensures fits { Trusted S.Units sheet.old sheet.new (OnOk result (
+        S.world sheet.new ≡ with_classes (granted (S.world sheet.old) ready.now.call.number now (places_of jobs.now)) jobs.now)) }
+    ensures fits { Trusted S.Units sheet.old sheet.new (OnOk result (CanTake (S.entry sheet.old) jobs.now →
         FitWithHost (S.entry sheet.old) ready.now.call.number (S.delta sheet.old) →
         FitWithHost (S.entry sheet.old) ready.now.call.number (S.delta sheet.new))) }
     ensures told { Trusted S.Units sheet.old sheet.new (IfOk result (λ told.

@@ -1,4 +1,4 @@
--- Rows are apart where their keys are.
+-- Words. Rows are apart where their keys are.
 use Rattle.std.specs.Prelude.{◌≡◌, ◌≢◌, ◌↔◌, ℕ, ◌&&◌, ◌==◌, IsTrue, List, []}
 use Rattle.std.specs.Bool.{Decides}
 use Rattle.std.specs.Str.{bytes_eq}

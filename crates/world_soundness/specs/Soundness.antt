@@ -1,10 +1,12 @@
--- The parts of a sound world, each of which one function decides.
+-- Words. The parts of a sound world, each of which one function decides.
 use Rattle.std.specs.Prelude.{◌≢◌, ℕ, ◌+◌, ◌<◌, ◌≤◌, IsTrue, List, length, count_by, All, AllPairs, IfSome}
 use Rattle.sched_book.specs.Count.{is_judged, report_place}
-use Rattle.sched_book.specs.Imports.{same_version}
-use Rattle.sched_book.specs.Limits.{most_accounts, most_apps, most_versions, most_workunits, AreSettingsInLimits, IsAccountInLimits, IsAppInLimits, IsInstanceInLimits}
+use Rattle.sched_book.specs.Imports.{has_app, same_version}
+use Rattle.sched_book.specs.Limits.{most_accounts, most_apps, most_versions, most_workunits, most_instances, AreSettingsInLimits, IsAccountInLimits, IsAppInLimits, IsUnitInLimits, IsInstanceInLimits}
 use Rattle.sched_book.specs.Sound.{HaveOtherKeys, IsSoundHost, IsSoundVersion, IsBare, HasOwnerAmong, has_place}
 use Rattle.sched_book.specs.declared.instance.Instance.{Instance}
+use Rattle.sched_book.specs.declared.instance.UnitBook.{UnitBook}
+use Rattle.sched_book.specs.declared.rows.App.{App}
 use Rattle.sched_book.specs.declared.rows.HostRow.{HostRow}
 use Rattle.sched_book.specs.declared.world.World.{World}
 
@@ -31,6 +33,12 @@ pub record StandKeysOnce (w : World) : Type 0 where
   pub versions : AllPairs (λ a b. IsTrue (same_version a b) → ⊥) w.versions
   pub units : AllPairs (λ a b. a.unit.name ≢ b.unit.name) w.units
   pub hosts : AllPairs HaveOtherKeys w.hosts
+
+-- a workunit's row is in range, its application stands, and it has no more instances than it may
+pub record IsUnitRowWell (apps : List App) (b : UnitBook) : Type 0 where
+  pub few : length b.instances ≤ most_instances
+  pub app : IsTrue (has_app apps b.unit.app)
+  pub limits : IsUnitInLimits b.unit
 
 -- the places of the judged reports are 1 up to their count
 pub record ArePlacedInTurn (xs : List Instance) : Type 0 where

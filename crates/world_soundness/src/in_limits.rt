@@ -2,6 +2,7 @@
 //! decoded alone.
 
 ghost use Rattle.std.specs.Prelude.{◌≤◌, ◌↔◌, IsTrue, IfSome};
+ghost use Rattle.sched_book.specs.Classes.{class_of};
 ghost use Rattle.sched_book.specs.Limits.{distance_of, AreSettingsInLimits, IsAccountInLimits, IsAppInLimits, IsVersionInLimits, IsUnitInLimits, IsHostInLimits, IsInstanceInLimits};
 ghost use Rattle.rpc_records.specs.Members.{is_output};
 ghost use Rattle.rpc_records.specs.Ranges.{IsWord};
@@ -11,7 +12,7 @@ use sched_book::limits::{
     MOST_VERSION_NUM,
 };
 use sched_book::{
-    Account, Agreement, App, HostRow, Instance, Outcome, Settings, Version, Workunit,
+    Account, Agreement, App, ClassRule, HostRow, Instance, Outcome, Settings, Version, Workunit,
 };
 use texts::{Text, is_word};
 
@@ -95,7 +96,7 @@ pub fn is_app_in_limits(app: &App) -> bool
     is_word_text(&app.name) && is_agreement_in_limits(app.agreement)
 }
 
-/// Whether the names of a version and its number are in range.
+/// Whether the names of a version, its number and its class are in range.
 pub fn is_version_in_limits(version: &Version) -> bool
     ensures { IsTrue result ↔ IsVersionInLimits version.now }
 {
@@ -103,9 +104,20 @@ pub fn is_version_in_limits(version: &Version) -> bool
         && is_word_text(&version.platform)
         && 1 <= version.version_num
         && version.version_num <= MOST_VERSION_NUM
+        && is_word_text(&version.class)
 }
 
-/// Whether the names, the counts and the amounts of a workunit are in range.
+/// Whether the class that a workunit keeps to, where it has one, is a word.
+fn is_rule_in_limits(rule: &ClassRule) -> bool
+    ensures { IsTrue result ↔ IfSome (class_of rule.now) IsWord }
+{
+    match rule {
+        ClassRule::Any | ClassRule::OfFirst => true,
+        ClassRule::Only(class) => is_word_text(class),
+    }
+}
+
+/// Whether the names, the counts and the amounts of a workunit and its class are in range.
 pub fn is_unit_in_limits(unit: &Workunit) -> bool
     ensures { IsTrue result ↔ IsUnitInLimits unit.now }
 {
@@ -124,6 +136,7 @@ pub fn is_unit_in_limits(unit: &Workunit) -> bool
         && unit.rsc_memory_bound <= MOST_AMOUNT
         && unit.rsc_disk_bound <= MOST_AMOUNT
         && unit.credit <= MOST_CREDIT
+        && is_rule_in_limits(&unit.class_rule)
 }
 
 /// Whether what a host told of itself is in range, and its quota is 1 to `most_quota`.

@@ -1,15 +1,15 @@
 //! Whether a workunit with its instances is sound.
 
-ghost use Rattle.std.specs.Prelude.{◌≡◌, ◌==◌, ℕ, ◌+◌, ◌<◌, ◌≤◌, ◌↔◌, IsTrue, IfSome, All, AllPairs, count_by, length};
+ghost use Rattle.std.specs.Prelude.{◌≡◌, ◌==◌, ℕ, ◌+◌, ◌<◌, ◌≤◌, ◌↔◌, IsTrue, IfSome, All, AllPairs, count_by, length, None};
 ghost use Rattle.sched_book.specs.Count.{is_judged, report_place};
 ghost use Rattle.sched_book.specs.Imports.{has_app};
 ghost use Rattle.sched_book.specs.Places.{option_any, user_of};
-ghost use Rattle.sched_book.specs.Sound.{AreOfOtherUsers, IsBare, HasOwnerAmong, has_place, IsWellUnit, IsSoundUnit};
-ghost use Rattle.world_soundness.specs.Soundness.{ArePlacedInTurn, AreWellEach};
+ghost use Rattle.sched_book.specs.Sound.{AreOfOtherUsers, HasClassOnceGiven, IsBare, HasOwnerAmong, has_place, IsWellUnit, IsSoundUnit};
+ghost use Rattle.world_soundness.specs.Soundness.{ArePlacedInTurn, AreWellEach, IsUnitRowWell};
 
 use crate::in_limits::{is_instance_in_limits, is_unit_in_limits};
 use sched_book::limits::MOST_INSTANCES;
-use sched_book::{App, HostRow, Instance, UnitBook, count, nth};
+use sched_book::{App, ClassRule, HostRow, Instance, UnitBook, count, nth};
 
 /// Whether an application of this name stands.
 pub(crate) fn has_app(apps: &[App], name: &str) -> bool
@@ -141,17 +141,41 @@ fn are_well_each(hosts: &[HostRow], instances: &[Instance]) -> bool
             .all(|instance| has_owner_among(hosts, instance))
 }
 
-/// Whether a workunit is sound, but that it may lack instances while it is open.
+/// Whether the row of a workunit is in range, its application stands, and it has no more instances than it may.
+fn is_unit_row_well(apps: &[App], book: &UnitBook) -> bool
+    ensures { IsTrue result ↔ IsUnitRowWell apps.now book.now }
+{
+    book.instances.as_slice().len() <= MOST_INSTANCES
+        && has_app(apps, book.unit.app.as_str())
+        && is_unit_in_limits(&book.unit)
+}
+
+/// Whether a workunit is sound, but that it may lack its class and, while it is open, instances.
 fn is_well_unit(hosts: &[HostRow], apps: &[App], book: &UnitBook) -> bool
     ensures { IsTrue result ↔ IsWellUnit hosts.now apps.now book.now }
 {
     let instances = book.instances.as_slice();
-    instances.len() <= MOST_INSTANCES
-        && has_app(apps, book.unit.app.as_str())
-        && is_unit_in_limits(&book.unit)
+    is_unit_row_well(apps, book)
         && are_well_each(hosts, instances)
         && are_placed_in_turn(instances)
         && is_one_for_each_user(hosts, instances)
+}
+
+/// Whether nobody was given it.
+fn is_unowned(instance: &Instance) -> bool
+    ensures { IsTrue result ↔ (instance.now.owner ≡ None) }
+{
+    instance.owner.is_none()
+}
+
+/// Whether a workunit that is still to take a class has no instance that was given out.
+fn has_class_once_given(book: &UnitBook) -> bool
+    ensures { IsTrue result ↔ HasClassOnceGiven book.now }
+{
+    match &book.unit.class_rule {
+        ClassRule::OfFirst => book.instances.as_slice().iter().all(is_unowned),
+        ClassRule::Any | ClassRule::Only(_) => true,
+    }
 }
 
 /// Whether a workunit is sound, where these are the hosts and applications.
@@ -161,4 +185,5 @@ pub fn is_sound_unit(hosts: &[HostRow], apps: &[App], book: &UnitBook) -> bool
     is_well_unit(hosts, apps, book)
         && (!count::book_status(apps, book).is_open()
             || count::need(&book.unit, book.instances.as_slice()) == 0)
+        && has_class_once_given(book)
 }

@@ -103,7 +103,8 @@ fn are_units_sound(world: &World) -> bool
 
 /// Whether a world is sound: settings, rows and instances are in range, no table is too long, names,
 /// authenticators and keys stand once, what rows refer to stands, and each workunit has its instances given to
-/// hosts of different users, its judged reports at places without a gap, and what it needs while it is open.
+/// hosts of different users, its judged reports at places without a gap, what it needs while it is open, and its
+/// class, if it is marked and any of its instances was given out.
 ///
 /// Its time grows with the rows, for names and keys also with the logarithm of their number, and with the
 /// instances: those of one workunit, 100 at most, are set beside one another. It is unavailable where memory is

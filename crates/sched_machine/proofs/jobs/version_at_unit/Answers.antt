@@ -2,16 +2,16 @@ use Rattle.std.proofs.Common.{sym, ap, ◌∙◌}
 use Rattle.std.proofs.lemmas.Result.{IfOk-weaker}
 use Rattle.sched_book.specs.Fits.{version_for}
 use Rattle.sched_book.specs.declared.world.World.{World}
-use Rattle.sched_machine.proofs.JobsSaid.{row_before, version_none, version_some}
+use Rattle.sched_machine.proofs.JobsSaid.{version_none, version_some}
 use Rattle.sched_machine.proofs.jobs.version_at_unit.Goals as goal
 
 -- the row of the workunit is as it was
 pub returns-in-None-clause-answer : goal.returns-in-None-clause-answer
 returns-in-None-clause-answer g c = λ honest kept.
     let sheet = c.args.sheet.now in
-    version_none (g.S.Draft.entry sheet) c.args.host.now c.args.unit
-    (sym (row_before (g.S.Draft.entry sheet) (g.S.Units.world sheet) c.args.unit (g.S.Draft.kept sheet c.args.unit) (g.met.S.Draft.leaves_are sheet kept c.args.unit))
-    ∙ sym (c.in_ok-unit.ensures.answer honest kept) ∙ c.in-None.is)
+    version_none (g.S.Draft.entry sheet) (g.S.Units.world sheet) c.args.host.now c.args.unit (g.S.Draft.kept sheet c.args.unit)
+    (g.met.S.Draft.leaves_are sheet kept c.args.unit)
+    (sym (c.in_ok-unit.ensures.answer honest kept) ∙ c.in-None.is)
 
 pub returns-in-Some-clause-answer : goal.returns-in-Some-clause-answer
 returns-in-Some-clause-answer g c = λ honest kept.
@@ -22,12 +22,12 @@ returns-in-Some-clause-answer g c = λ honest kept.
     let honest_1 = u.stays_honest _ _ c.version_on.ensures.reads honest in
     let kept_1 = u.stays_kept _ _ c.unit.ensures.reads honest_1 kept in
     let entry = draft.works_entry _ _ (draft.reads_works _ _ c.unit.ensures.reads) honest_1 kept in
-    let stands = sym (row_before w (g.S.Units.world sheet) c.args.unit (g.S.Draft.kept sheet c.args.unit) (draft.leaves_are sheet kept c.args.unit))
-    ∙ sym (c.in_ok-unit.ensures.answer honest_1 kept) ∙ c.in-Some.is in
+    let stands = sym (c.in_ok-unit.ensures.answer honest_1 kept) ∙ c.in-Some.is in
     IfOk-weaker c.version_on.result _ _
     (λ version is.
     is
     ∙ ap (λ (e : World). version_for e c.args.host.now c.as_str.result.now) entry
     ∙ ap (version_for w c.args.host.now) c.as_str.ensures
-    ∙ version_some w c.args.host.now c.args.unit c.in-Some.unit stands)
+    ∙ version_some w (g.S.Units.world sheet) c.args.host.now c.args.unit (g.S.Draft.kept sheet c.args.unit) (draft.leaves_are sheet kept c.args.unit)
+    c.in-Some.unit stands)
     (c.version_on.ensures.answer honest kept_1)

@@ -5,7 +5,7 @@ use Rattle.sched_book.specs.declared.world.World.{World}
 use Rattle.job_choice.specs.Chosen.{places_of}
 use Rattle.call_sheet.specs.Sheets.{IsPageOf}
 use Rattle.call_sheet.specs.declared.page.Page.{Page}
-use Rattle.sched_machine.specs.Granting.{AreRunBy, FitWithHost}
+use Rattle.sched_machine.specs.Granting.{with_classes, AreRunBy, CanTake, FitWithHost}
 use Rattle.sched_machine.specs.Replying.{IsTold, IsGranted}
 use Rattle.sched_machine.proofs.CallsDone.{granted_is}
 use Rattle.sched_machine.proofs.ReadyChoice.{choice_settled, choice_ends, jobs_run}
@@ -37,13 +37,14 @@ returns-clause-step g c = λ honest kept page ready.
     let ends = choice_ends w (applied w before) r c.args.now k before ready c.in_ok-grant.grant chosen in
     let runs = jobs_run w (applied w before) r c.args.now k before ready c.in_ok-grant.grant chosen in
     subst (λ (p : Page). IsGranted w r c.args.now k (applied w p.delta) p.delta told c.in_ok-grant.grant.end_word) same_page
-    (granted_is w (applied w before) r c.args.now k before ready (search rules) (applied w after) after (places_of c.in_ok-grant.grant.jobs) told c.in_ok-grant.grant.end_word
+    (granted_is w (applied w before) r c.args.now k before ready (search rules) (applied w after) after jobs (places_of c.in_ok-grant.grant.jobs) told
+    c.in_ok-grant.grant.end_word
+    (subst (AreRunBy w k.call.host) (sym c.as_slice.ensures) runs) (ap places_of c.as_slice.ensures)
     grant ends
-    (subst (λ (e : World). applied e after ≡ granted (applied e before) k.call.number c.args.now (places_of jobs)) same
-    (ap (λ (e : World). applied e after) (sym same_2) ∙ c.in_ok-told.ensures.left honest_2 (kept_1, here))
-    ∙ ap (λ js. granted (applied w before) k.call.number c.args.now (places_of js)) c.as_slice.ensures)
+    (subst (λ (e : World). applied e after ≡ with_classes (granted (applied e before) k.call.number c.args.now (places_of jobs)) jobs) same
+    (ap (λ (e : World). applied e after) (sym same_2) ∙ c.in_ok-told.ensures.left honest_2 (kept_1, here)))
     refl
-    (subst (λ (e : World). FitWithHost e k.call.number before → FitWithHost e k.call.number after) same
+    (subst (λ (e : World). CanTake e jobs → FitWithHost e k.call.number before → FitWithHost e k.call.number after) same
     (c.in_ok-told.ensures.fits honest_2 (kept_1, here)))
     (subst (λ js. IsTold w (applied w after) k (places_of js) told) c.as_slice.ensures
     (subst (λ (e : World). IsCaller e k.call.caller r → AreRunBy e k.call.host jobs → IsTold e (applied e after) k (places_of jobs) told) same

@@ -3,7 +3,7 @@ use Rattle.std.specs.Prelude.{fold}
 use Rattle.sched_book.specs.Step.{grant_one}
 use Rattle.job_choice.specs.Chosen.{places_of}
 use Rattle.sched_machine.specs.Granting.{FitWithHost}
-use Rattle.sched_machine.proofs.owners.give.Given as goal
+use Rattle.sched_machine.proofs.owners.own_all.Given as goal
 
 -- what the jobs make of the world which are left, and that the changes so far fit
 abbrev pub invariant-loop-job : goal.invariant-loop-job

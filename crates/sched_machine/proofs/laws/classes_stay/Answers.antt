@@ -1,0 +1,5 @@
+use Rattle.sched_machine.proofs.ClassRuns.{classes_stay}
+use Rattle.sched_machine.proofs.laws.classes_stay.Goals as goal
+
+pub returns : goal.returns
+returns c = classes_stay

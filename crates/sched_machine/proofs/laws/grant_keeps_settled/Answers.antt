@@ -1,0 +1,5 @@
+use Rattle.sched_machine.proofs.RowsGrant.{grant_keeps_settled}
+use Rattle.sched_machine.proofs.laws.grant_keeps_settled.Goals as goal
+
+pub returns : goal.returns
+returns c = grant_keeps_settled

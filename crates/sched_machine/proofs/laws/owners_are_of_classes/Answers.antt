@@ -1,0 +1,5 @@
+use Rattle.sched_machine.proofs.ClassOwners.{owners_are_of_classes}
+use Rattle.sched_machine.proofs.laws.owners_are_of_classes.Goals as goal
+
+pub returns : goal.returns
+returns c = owners_are_of_classes
