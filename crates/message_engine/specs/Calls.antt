@@ -1,4 +1,4 @@
--- What a call is told and does, of a caller who is admitted. (This project's own.)
+-- Words. What a call is told and does, of a caller who is admitted. (This project's own.)
 use Rattle.std.specs.Prelude.{◌≡◌, ℕ, true, List, Option, None}
 use Rattle.rpc_records.specs.Replies.{reply_text_of}
 use Rattle.rpc_records.specs.Spelling.{canonical_text}

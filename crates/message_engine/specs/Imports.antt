@@ -1,12 +1,12 @@
--- What the text of an import says. (The formats are this profile's.)
-use Rattle.std.specs.Prelude.{◌≡◌, ℕ, List, Result, Ok, Err}
+-- Rule. What the text of an import says. (The formats are this profile's.)
+use Rattle.std.specs.Prelude.{◌≡◌, ℕ, nat_lt, if◌then◌else◌, List, Result, Ok, Err}
 use Rattle.office_files.specs.Faults.{refusal_of}
-use Rattle.office_files.specs.Importing.{accounts_in, apps_in, versions_in, workunits_in, Says}
+use Rattle.office_files.specs.Importing.{accounts_in, apps_in, versions_in, workunits_in, former_versions_in, former_workunits_in, Says}
 use Rattle.office_files.specs.Records.{Record}
 use Rattle.office_files.specs.declared.fault.RowsFault.{RowsFault}
 use Rattle.rpc_records.specs.declared.fault.Fault.{Fault}
 use Rattle.sched_book.specs.declared.rows.Rows.{Rows}
-use Rattle.stores.specs.Eras.{this_era}
+use Rattle.stores.specs.Eras.{this_era, era_of_classes}
 use Rattle.stores.specs.Held.{Held}
 use Rattle.stores.specs.Kinds.{kind_name}
 use Rattle.stores.specs.declared.entry.Entry.{Entry}
@@ -18,12 +18,13 @@ use Rattle.pasts.specs.Messages.{Import, Message, heard_now}
 use Rattle.pasts.specs.declared.answer.Answer.{Answer}
 use Rattle.message_engine.specs.Stores.{ServesIn, IsServed}
 
--- what the records of a text say, of rows of a kind, by the formats of an era (in all eras so far they are the same)
+-- what the records of a text say, of rows of a kind, by the formats of an era: before the second upgrade versions had no classes, and
+-- workunits no marks
 abbrev pub reading_in : ℕ → Kind → List Record → Result Rows RowsFault
 reading_in era Accounts = accounts_in
 reading_in era Apps = apps_in
-reading_in era Versions = versions_in
-reading_in era Workunits = workunits_in
+reading_in era Versions = if nat_lt era era_of_classes then former_versions_in else versions_in
+reading_in era Workunits = if nat_lt era era_of_classes then former_workunits_in else workunits_in
 
 -- by those of this program
 abbrev pub reading_of : Kind → List Record → Result Rows RowsFault

@@ -1,4 +1,4 @@
--- What a store over lists in memory holds. (This project's own.)
+-- Words. What a store over lists in memory holds. (This project's own.)
 use Rattle.std.proofs.Common.{sym}
 use Rattle.std.specs.Prelude.{◌≡◌, ℕ, Bool, ◌&&◌, ◌==◌, List, map, filter, take, find, Option, option_map}
 use Rattle.std.specs.Str.{bytes_eq}

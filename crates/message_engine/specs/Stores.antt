@@ -1,4 +1,4 @@
--- What one message does to a store. (This project's own.)
+-- Rule. What one message does to a store. (This project's own.)
 use Rattle.sched_book.specs.Sound.{Sound}
 use Rattle.stores.specs.Held.{Held}
 use Rattle.pasts.specs.ByNumber.{calls_by_number, AreOfHosts}

@@ -1,11 +1,12 @@
 -- Rows are read in order, and the first faulty one is told.
 use Rattle.std.proofs.Common.{◌≡◌, ℕ, ◌+◌, Bool, true, false, cond, List, [], ◌∷◌, ◌++◌, length, Option, Some, None, Result, Ok, Err, sym, refl, ap, subst, ◌∙◌, arith}
-use Rattle.std.specs.Prelude.{IfErr, ok_or, option_and_then, ◌-◌, ◌==◌}
+use Rattle.std.specs.Prelude.{IfErr, ok_or, option_and_then, nat_le, ◌-◌, ◌==◌}
 use Rattle.csv.specs.Records.{field_at}
 use Rattle.sched_book.specs.Limits.{most_instances, most_delay, most_amount, most_credit, most_version_num}
-use Rattle.office_files.specs.Columns.{name_in, number_in, agreement_in}
+use Rattle.sched_book.specs.declared.rows.ClassRule.TheVariants.{Any}
+use Rattle.office_files.specs.Columns.{name_in, number_in, agreement_in, rule_in}
 use Rattle.office_files.specs.Records.{Record}
-use Rattle.office_files.specs.Importing.{column_of, account_header, account_of, app_header, app_of, version_header, version_of, workunit_header, workunit_of, row_of, rows_from, rows_under}
+use Rattle.office_files.specs.Importing.{column_of, column_or, account_header, account_of, app_header, app_of, former_version_header, version_header, version_of, former_workunit_header, workunit_header, workunit_of, row_of, rows_from, rows_under}
 use Rattle.office_files.specs.Laws.{AllRead, IsFirstFault, ReadsInOrder, ImportsReadInOrder}
 use Rattle.office_files.specs.declared.fault.RowsFault.{RowsFault}
 use Rattle.office_files.specs.declared.fault.RowsFault.TheVariants.{BadCsv}
@@ -23,6 +24,15 @@ none_or_some row column (Some x) = tt
 at_column : {A : Type 0} (row column : ℕ) (reads : List ℕ → Option A) (fields : Record) → TellsRow row (column_of row column reads fields)
 unfolding column_of
 at_column row column reads fields = none_or_some row column (option_and_then reads (field_at fields (column - 1)))
+
+where_long : {A : Type 0} (b : Bool) (row : ℕ) (r : Result A RowsFault) (other : A) → TellsRow row r → TellsRow row (cond b r (Ok other))
+where_long true row r other h = h
+where_long false row r other h = tt
+
+at_column_or : {A : Type 0} (row column : ℕ) (reads : List ℕ → Option A) (other : A) (fields : Record) → TellsRow row (column_or row column reads other fields)
+unfolding column_or
+at_column_or row column reads other fields =
+    where_long (nat_le column (length fields)) row (column_of row column reads fields) other (at_column row column reads fields)
 
 next : {A B : Type 0} (row : ℕ) (r : Result A RowsFault) (f : A → Result B RowsFault) → TellsRow row r → ((x : A) → TellsRow row (f x)) → TellsRow row (and_then r f)
 unfolding and_then
@@ -42,7 +52,8 @@ unfolding version_of
 version_tells row fields =
     next row _ _ (at_column row 1 word_of fields) (λ a.
     next row _ _ (at_column row 2 word_of fields) (λ b.
-    next row _ _ (at_column row 3 (number_in 1 most_version_num) fields) (λ c. tt)))
+    next row _ _ (at_column row 3 (number_in 1 most_version_num) fields) (λ c.
+    next row _ _ (at_column_or row 4 word_of b fields) (λ d. tt))))
 
 workunit_tells : (row : ℕ) (fields : Record) → TellsRow row (workunit_of row fields)
 unfolding workunit_of
@@ -58,7 +69,8 @@ workunit_tells row fields =
     next row _ _ (at_column row 9 (number_in 1 most_amount) fields) (λ work.
     next row _ _ (at_column row 10 (number_in 0 most_amount) fields) (λ memory.
     next row _ _ (at_column row 11 (number_in 0 most_amount) fields) (λ disk.
-    next row _ _ (at_column row 12 (number_in 0 most_credit) fields) (λ credit. tt))))))))))))
+    next row _ _ (at_column row 12 (number_in 0 most_credit) fields) (λ credit.
+    next row _ _ (at_column_or row 13 rule_in Any fields) (λ rule. tt)))))))))))))
 
 module _ {X : Type 0} (reads : ℕ → Record → Result X RowsFault) where
   sized : (b : Bool) (row : ℕ) (r : Result X RowsFault) → TellsRow row r → TellsRow row (cond b r (Err (BadCsv row 0)))
@@ -146,13 +158,15 @@ from_first reads records row column m = record {
   number = m.number;
 }
 
-in_order : {X : Type 0} (reads : ℕ → Record → Result X RowsFault) (header : List (List ℕ)) → ((row : ℕ) (fields : Record) → TellsRow row (reads row fields)) → ReadsInOrder reads header
+in_order : {X : Type 0} (reads : ℕ → Record → Result X RowsFault) (header : ℕ → Record) → ((row : ℕ) (fields : Record) → TellsRow row (reads row fields)) → ReadsInOrder reads header
 in_order {X = X} reads header tells = record {
   good = λ (first : Record) (records : List Record) (rows : List X) head e.
-      all_good (row_of reads (length header)) 1 records rows (sym (ap (rows_under reads header records) head) ∙ e);
+      let names = header (length first) in
+      all_good (row_of reads (length names)) 1 records rows (sym (ap (rows_under reads names records) head) ∙ e);
   faulty = λ (first : Record) (records : List Record) row column head e.
-      from_first (row_of reads (length header)) records row column
-      (first_faulty (row_of reads (length header)) (row_tells reads tells (length header)) 1 records row column (sym (ap (rows_under reads header records) head) ∙ e));
+      let names = header (length first) in
+      from_first (row_of reads (length names)) records row column
+      (first_faulty (row_of reads (length names)) (row_tells reads tells (length names)) 1 records row column (sym (ap (rows_under reads names records) head) ∙ e));
 }
 
 pub imports_read_in_order : ImportsReadInOrder
@@ -161,4 +175,6 @@ imports_read_in_order = record {
   apps = in_order app_of app_header app_tells;
   versions = in_order version_of version_header version_tells;
   workunits = in_order workunit_of workunit_header workunit_tells;
+  former_versions = in_order version_of former_version_header version_tells;
+  former_workunits = in_order workunit_of former_workunit_header workunit_tells;
 }

@@ -11,3 +11,4 @@ pub mod OneSettings
 pub mod StatementTexts
 pub mod WholeStatements
 pub mod LineMoments
+pub mod FormerRows

@@ -6,6 +6,7 @@ use Rattle.std.specs.Str.{bytes_eq}
 use Rattle.std.proofs.lemmas.Bool.Decides.{nat_tests}
 use Rattle.std.proofs.lemmas.Cmp.{nat_list_eq_equiv, nat_eq_equiv}
 use Rattle.std.proofs.lemmas.Iterator.Adapters.{position_from-zero}
+use Rattle.sched_book.specs.Classes.{imported}
 use Rattle.sched_book.specs.Desk.{placed_at, placed_where, account_by_key, app_by_name, version_by_key}
 use Rattle.sched_book.specs.Imports.{same_account, same_app, same_version, same_unit, is_version, has_app}
 use Rattle.sched_book.specs.Places.{nth, place_where, unit_named}
@@ -93,11 +94,11 @@ version_known w x =
     is_some-find (is_version x.app x.platform x.version_num) w.versions
     ∙ list_any-ext _ (same_version x) (version_swap x) w.versions
 
-pub unit_known : (w : World) (x : Workunit) → is_some (unit_named w x.name) ≡ list_any (same_unit x) (map (λ (b : UnitBook). b.unit) w.units)
+pub unit_known : (w : World) (x : Workunit) → is_some (unit_named w x.name) ≡ list_any (same_unit x) (map (λ (b : UnitBook). imported b.unit) w.units)
 unit_known w x =
     is_some-place_where (λ (b : UnitBook). bytes_eq b.unit.name x.name) w.units
     ∙ list_any-ext _ (λ (b : UnitBook). same_unit x b.unit) (λ (b : UnitBook). swap b.unit.name x.name) w.units
-    ∙ list_any-map (same_unit x) (λ (b : UnitBook). b.unit) w.units
+    ∙ list_any-map (same_unit x) (λ (b : UnitBook). imported b.unit) w.units
 
 is_none-not : {X : Type 0} (o : Option X) → is_none o ≡ not (is_some o)
 is_none-not None = refl

@@ -1,4 +1,4 @@
--- How the rows of an import are checked beside what stands.
+-- Rule. How the rows of an import are checked beside what stands.
 use Rattle.std.specs.Prelude.{ℕ, ◌+◌, Bool, ◌&&◌, nat_le, length, ⊤}
 use Rattle.sched_book.specs.Limits.{most_accounts, most_apps, most_versions, most_workunits}
 use Rattle.sched_book.specs.declared.desk.Counts.{Counts}

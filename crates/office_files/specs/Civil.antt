@@ -1,4 +1,4 @@
--- The civil date and time of a moment, in UTC and on the Gregorian calendar, for the years from 1970 to 9999.
+-- Rule. The civil date and time of a moment, in UTC and on the Gregorian calendar, for the years from 1970 to 9999.
 use Rattle.std.specs.Prelude.{ℕ, zero, suc, ◌+◌, ◌-◌, ◌/◌, ◌%◌, Bool, nat_lt, if◌then◌else◌, List, [], ◌∷◌, ◌++◌, pos}
 use Rattle.jiff_core.specs.Calendar.{day_count}
 

@@ -1,4 +1,4 @@
--- What one field of an import says, where it is of the wanted form. The forms are this profile's.
+-- Rule. What one field of an import says, where it is of the wanted form. The forms are this profile's.
 use Rattle.std.specs.Prelude.{ℕ, Bool, false, ◌&&◌, ◌||◌, nat_eq, nat_le, if◌then◌else◌, List, [], ◌∷◌, drop, codes, Option, Some, None, option_and_then, option_map}
 use Rattle.std.specs.Char.{is_ascii_digit}
 use Rattle.std.specs.List.{list_all, starts_with}
@@ -7,6 +7,8 @@ use Rattle.std.specs.Str.Parse.{digits_value}
 use Rattle.sched_book.specs.Limits.{most_distance, is_user_name}
 use Rattle.sched_book.specs.declared.rows.Agreement.{Agreement}
 use Rattle.sched_book.specs.declared.rows.Agreement.TheVariants.{Exact, Within}
+use Rattle.sched_book.specs.declared.rows.ClassRule.{ClassRule}
+use Rattle.sched_book.specs.declared.rows.ClassRule.TheVariants.{Any, OfFirst}
 
 -- a volunteer's name, in UTF-8
 abbrev pub name_in : List ℕ → Option (List ℕ)
@@ -33,3 +35,7 @@ abbrev pub agreement_in : List ℕ → Option Agreement
 agreement_in field =
     if bytes_eq field (codes "exact") then Some Exact
     else (if starts_with nat_eq field (codes "within:") then option_map Within (number_in 0 most_distance (drop 7 field)) else None)
+
+-- the mark of a workunit: `0` for one that versions of any class may do, `1` for one that keeps to the class of its first
+abbrev pub rule_in : List ℕ → Option ClassRule
+rule_in field = if bytes_eq field (codes "0") then Some Any else (if bytes_eq field (codes "1") then Some OfFirst else None)

@@ -1,4 +1,4 @@
--- What the faults of an import mean.
+-- Rule. What the faults of an import mean.
 use Rattle.std.specs.Prelude.{⊤, Result, IfErr}
 use Rattle.rpc_records.specs.declared.fault.Fault.{Fault}
 use Rattle.rpc_records.specs.declared.fault.Fault.TheVariants as refusal

@@ -1,17 +1,18 @@
--- The rows that the records of an import say. The first record is the header and is row 0; data rows and columns count from 1.
+-- Rule. The rows that the records of an import say. The first record is the header and is row 0; data rows and columns count from 1.
 -- What is told of a faulty text is its first faulty row, and in that the first faulty column: column 0 where the number of
 -- fields is wrong, and row 0, column 0 where there is no record at all. The formats are this profile's.
-use Rattle.std.specs.Prelude.{◌≡◌, ℕ, ◌+◌, ◌-◌, Bool, false, ◌==◌, if◌then◌else◌, List, [], ◌∷◌, length, codes, Option, Some, None, ok_or, option_map, option_and_then, unwrap_or, Result, Ok, Err, ⊤}
+use Rattle.std.specs.Prelude.{◌≡◌, ℕ, ◌+◌, ◌-◌, Bool, false, ◌==◌, nat_le, if◌then◌else◌, List, [], ◌∷◌, ◌++◌, length, codes, Option, Some, None, ok_or, option_map, option_and_then, unwrap_or, Result, Ok, Err, ⊤}
 use Rattle.std.specs.Str.{bytes_eq}
 use Rattle.csv.specs.Records.{field_at}
 use Rattle.sched_book.specs.Limits.{most_instances, most_delay, most_amount, most_credit, most_version_num}
 use Rattle.sched_book.specs.declared.rows.Account.{Account}
 use Rattle.sched_book.specs.declared.rows.App.{App}
+use Rattle.sched_book.specs.declared.rows.ClassRule.TheVariants.{Any}
 use Rattle.sched_book.specs.declared.rows.Rows.{Rows}
 use Rattle.sched_book.specs.declared.rows.Rows.TheVariants as rows
 use Rattle.sched_book.specs.declared.rows.Version.{Version}
 use Rattle.sched_book.specs.declared.rows.Workunit.{Workunit}
-use Rattle.office_files.specs.Columns.{name_in, number_in, agreement_in}
+use Rattle.office_files.specs.Columns.{name_in, number_in, agreement_in, rule_in}
 use Rattle.office_files.specs.Records.{Record, AreRecordsOf}
 use Rattle.office_files.specs.declared.fault.RowsFault.{RowsFault}
 use Rattle.office_files.specs.declared.fault.RowsFault.TheVariants.{BadCsv, DuplicateName, UnknownReference, TableFull, Unavailable}
@@ -22,8 +23,13 @@ use Rattle.texts.specs.Words.{word_of}
 unfoldable pub column_of : {A : Type 0} → ℕ → ℕ → (List ℕ → Option A) → Record → Result A RowsFault
 column_of row column reads fields = ok_or (option_and_then reads (field_at fields (column - 1))) (BadCsv row column)
 
-abbrev pub account_header : Record
-account_header = codes "authenticator" ∷ codes "name" ∷ []
+-- what a column says that a row may be too short for: then it says this
+unfoldable pub column_or : {A : Type 0} → ℕ → ℕ → (List ℕ → Option A) → A → Record → Result A RowsFault
+column_or row column reads other fields = if nat_le column (length fields) then column_of row column reads fields else Ok other
+
+-- The header of an import is told by how many fields its first record has, since some have a shorter header and a longer one.
+abbrev pub account_header : ℕ → Record
+account_header count = codes "authenticator" ∷ codes "name" ∷ []
 
 unfoldable pub account_of : ℕ → Record → Result Account RowsFault
 account_of row fields = do
@@ -31,8 +37,8 @@ account_of row fields = do
   name ← column_of row 2 name_in fields
   Ok (record { authenticator = authenticator; name = name })
 
-abbrev pub app_header : Record
-app_header = codes "name" ∷ codes "agreement" ∷ []
+abbrev pub app_header : ℕ → Record
+app_header count = codes "name" ∷ codes "agreement" ∷ []
 
 unfoldable pub app_of : ℕ → Record → Result App RowsFault
 app_of row fields = do
@@ -40,21 +46,29 @@ app_of row fields = do
   agreement ← column_of row 2 agreement_in fields
   Ok (record { name = name; agreement = agreement })
 
-abbrev pub version_header : Record
-version_header = codes "app" ∷ codes "platform" ∷ codes "version_num" ∷ []
+abbrev pub former_version_header : ℕ → Record
+former_version_header count = codes "app" ∷ codes "platform" ∷ codes "version_num" ∷ []
 
+abbrev pub version_header : ℕ → Record
+version_header count = if count == 4 then former_version_header count ++ codes "version_class" ∷ [] else former_version_header count
+
+-- a version of no class of its own has its platform's word for one
 unfoldable pub version_of : ℕ → Record → Result Version RowsFault
 version_of row fields = do
   app ← column_of row 1 word_of fields
   platform ← column_of row 2 word_of fields
   version_num ← column_of row 3 (number_in 1 most_version_num) fields
-  Ok (record { app = app; platform = platform; version_num = version_num })
+  class ← column_or row 4 word_of platform fields
+  Ok (record { app = app; platform = platform; version_num = version_num; class = class })
 
-abbrev pub workunit_header : Record
-workunit_header =
+abbrev pub former_workunit_header : ℕ → Record
+former_workunit_header count =
     codes "name" ∷ codes "app" ∷ codes "min_quorum" ∷ codes "target_nresults" ∷ codes "max_error_results" ∷ codes "max_total_results"
     ∷ codes "max_success_results" ∷ codes "delay_bound" ∷ codes "rsc_fpops_est" ∷ codes "rsc_memory_bound" ∷ codes "rsc_disk_bound"
     ∷ codes "credit" ∷ []
+
+abbrev pub workunit_header : ℕ → Record
+workunit_header count = if count == 13 then former_workunit_header count ++ codes "marked" ∷ [] else former_workunit_header count
 
 -- the target is read against a good quorum, and the most instances against a good target
 unfoldable pub workunit_of : ℕ → Record → Result Workunit RowsFault
@@ -71,6 +85,7 @@ workunit_of row fields = do
   rsc_memory_bound ← column_of row 10 (number_in 0 most_amount) fields
   rsc_disk_bound ← column_of row 11 (number_in 0 most_amount) fields
   credit ← column_of row 12 (number_in 0 most_credit) fields
+  rule ← column_or row 13 rule_in Any fields
   Ok (record {
     name = name;
     app = app;
@@ -84,6 +99,7 @@ workunit_of row fields = do
     rsc_memory_bound = rsc_memory_bound;
     rsc_disk_bound = rsc_disk_bound;
     credit = credit;
+    class_rule = rule;
   })
 
 -- the field at an index is this name
@@ -112,14 +128,15 @@ rows_from reads row (fields ∷ more) = do
   Ok (x ∷ xs)
 
 -- the rows under a header
-abbrev pub rows_under : {X : Type 0} → (ℕ → Record → Result X RowsFault) → List (List ℕ) → List Record → Option ℕ → Result (List X) RowsFault
+abbrev pub rows_under : {X : Type 0} → (ℕ → Record → Result X RowsFault) → Record → List Record → Option ℕ → Result (List X) RowsFault
 rows_under reads header records None = rows_from (row_of reads (length header)) 1 records
 rows_under reads header records (Some column) = Err (BadCsv 0 column)
 
--- the rows of an import with this header
-abbrev pub rows_in : {X : Type 0} → (ℕ → Record → Result X RowsFault) → List (List ℕ) → List Record → Result (List X) RowsFault
+-- the rows of an import with such headers: the number of fields of the first record decides which one is meant, and each
+-- row has as many
+abbrev pub rows_in : {X : Type 0} → (ℕ → Record → Result X RowsFault) → (ℕ → Record) → List Record → Result (List X) RowsFault
 rows_in reads header [] = Err (BadCsv 0 0)
-rows_in reads header (fields ∷ records) = rows_under reads header records (header_fault header fields)
+rows_in reads header (fields ∷ records) = rows_under reads (header (length fields)) records (header_fault (header (length fields)) fields)
 
 -- what the records of the four imports say
 unfoldable pub accounts_in : List Record → Result Rows RowsFault
@@ -132,15 +149,28 @@ apps_in records = do
   apps ← rows_in app_of app_header records
   Ok (rows.Apps apps)
 
-unfoldable pub versions_in : List Record → Result Rows RowsFault
-versions_in records = do
-  versions ← rows_in version_of version_header records
+unfoldable pub versions_under : (ℕ → Record) → List Record → Result Rows RowsFault
+versions_under header records = do
+  versions ← rows_in version_of header records
   Ok (rows.Versions versions)
 
-unfoldable pub workunits_in : List Record → Result Rows RowsFault
-workunits_in records = do
-  workunits ← rows_in workunit_of workunit_header records
+unfoldable pub workunits_under : (ℕ → Record) → List Record → Result Rows RowsFault
+workunits_under header records = do
+  workunits ← rows_in workunit_of header records
   Ok (rows.Workunits workunits)
+
+abbrev pub versions_in : List Record → Result Rows RowsFault
+versions_in = versions_under version_header
+
+abbrev pub workunits_in : List Record → Result Rows RowsFault
+workunits_in = workunits_under workunit_header
+
+-- and what they said before versions had classes, when there was the shorter header alone
+abbrev pub former_versions_in : List Record → Result Rows RowsFault
+former_versions_in = versions_under former_version_header
+
+abbrev pub former_workunits_in : List Record → Result Rows RowsFault
+former_workunits_in = workunits_under former_workunit_header
 
 -- the records of a text say this
 abbrev pub Says : {A : Type 0} → (List Record → Result A RowsFault) → List ℕ → Result A RowsFault → Type 0

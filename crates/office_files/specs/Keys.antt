@@ -1,4 +1,4 @@
--- What tells rows of one kind apart, and which keys came by.
+-- Rule. What tells rows of one kind apart, and which keys came by.
 use Rattle.std.specs.Prelude.{ℕ, Bool, ◌&&◌, ◌==◌, List, []}
 use Rattle.std.specs.Borrow.{Bor}
 use Rattle.std.specs.Str.{bytes_eq}

@@ -1,7 +1,7 @@
--- Laws of the definitions of imports.
+-- Rule. Laws of the definitions of imports.
 use Rattle.std.specs.Prelude.{◌≡◌, ℕ, ◌+◌, List, [], ◌∷◌, ◌++◌, length, None, Result, Ok, Err, ⊤}
 use Rattle.office_files.specs.Records.{Record, AreRecordsOf}
-use Rattle.office_files.specs.Importing.{account_header, account_of, app_header, app_of, version_header, version_of, workunit_header, workunit_of, header_fault, row_of, rows_in}
+use Rattle.office_files.specs.Importing.{account_header, account_of, app_header, app_of, former_version_header, version_header, version_of, former_workunit_header, workunit_header, workunit_of, header_fault, row_of, rows_in}
 use Rattle.office_files.specs.declared.fault.RowsFault.{RowsFault}
 use Rattle.office_files.specs.declared.fault.RowsFault.TheVariants.{BadCsv}
 
@@ -29,14 +29,17 @@ pub record IsFirstFault {X : Type 0} (reads : ℕ → Record → Result X RowsFa
   pub number : row ≡ length before + 1
 
 -- under a good header, rows are told where every record is read as one, and else the first faulty one
-pub record ReadsInOrder {X : Type 0} (reads : ℕ → Record → Result X RowsFault) (header : List (List ℕ)) : Type 0 where
-  pub good : (first : Record) (records : List Record) (rows : List X) → header_fault header first ≡ None
-      → rows_in reads header (first ∷ records) ≡ Ok rows → AllRead (row_of reads (length header)) 1 records rows
-  pub faulty : (first : Record) (records : List Record) (row column : ℕ) → header_fault header first ≡ None
-      → rows_in reads header (first ∷ records) ≡ Err (BadCsv row column) → IsFirstFault (row_of reads (length header)) records row column
+pub record ReadsInOrder {X : Type 0} (reads : ℕ → Record → Result X RowsFault) (header : ℕ → Record) : Type 0 where
+  pub good : (first : Record) (records : List Record) (rows : List X) → header_fault (header (length first)) first ≡ None
+      → rows_in reads header (first ∷ records) ≡ Ok rows → AllRead (row_of reads (length (header (length first)))) 1 records rows
+  pub faulty : (first : Record) (records : List Record) (row column : ℕ) → header_fault (header (length first)) first ≡ None
+      → rows_in reads header (first ∷ records) ≡ Err (BadCsv row column)
+      → IsFirstFault (row_of reads (length (header (length first)))) records row column
 
 pub record ImportsReadInOrder : Type 0 where
   pub accounts : ReadsInOrder account_of account_header
   pub apps : ReadsInOrder app_of app_header
   pub versions : ReadsInOrder version_of version_header
   pub workunits : ReadsInOrder workunit_of workunit_header
+  pub former_versions : ReadsInOrder version_of former_version_header
+  pub former_workunits : ReadsInOrder workunit_of former_workunit_header

@@ -1,4 +1,4 @@
--- A writer of comma-separated values between two rows.
+-- Words. A writer of comma-separated values between two rows.
 use Rattle.std.specs.Prelude.{◌≡◌, ℕ, false, List, Option, Some}
 use Rattle.csv.specs.Writing.{default_writer, fields_written, has_written, text_written, writer_setup}
 use Rattle.csv.specs.declared.writer.Writer.{Writer}

@@ -1,4 +1,4 @@
--- What holds of every statement.
+-- Rule. What holds of every statement.
 use Rattle.std.specs.Prelude.{◌≡◌, ◌≤◌, All, ℕ, ◌*◌, ◌++◌, ◌∷◌, length, None, pos}
 use Rattle.jiff.specs.Words.{civil_nanos, date_text, time_text}
 use Rattle.jiff_core.specs.declared.civil.datetime.DateTime.{DateTime}

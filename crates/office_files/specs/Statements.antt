@@ -1,4 +1,4 @@
--- The statement of a host: what became of each instance that it was ever given, as comma-separated values.
+-- Rule. The statement of a host: what became of each instance that it was ever given, as comma-separated values.
 use Rattle.std.specs.Prelude.{ℕ, ◌-◌, ◌/◌, ◌%◌, not, ◌&&◌, ◌||◌, if◌then◌else◌, List, [], ◌∷◌, ◌++◌, sum_by, length, replicate, codes, decimal, Option, Some, None, is_some, option_map, option_and_then, slice_get}
 use Rattle.std.specs.List.{filter_map, flat_map}
 use Rattle.csv.specs.Writing.{row_text, default_writer}

@@ -4,11 +4,12 @@ ghost use Rattle.std.specs.Prelude.{◌≡◌, ◌≤◌, ◌^◌, IsTrue, IfSom
 ghost use Rattle.std.specs.Char.{is_ascii_digit};
 ghost use Rattle.std.specs.List.{list_all};
 ghost use Rattle.std.specs.Str.Parse.{digits_value};
+ghost use Rattle.sched_book.specs.Classes.{class_of, first_rule};
 ghost use Rattle.sched_book.specs.Limits.{is_user_name, distance_of};
 ghost use Rattle.office_files.specs.Columns as spec;
 
-use sched_book::Agreement;
 use sched_book::limits::MOST_DISTANCE;
+use sched_book::{Agreement, ClassRule};
 use texts::utf8_text;
 
 /// The most bytes of an account's name.
@@ -84,4 +85,18 @@ pub(crate) fn agreement_in(field: &[u8]) -> Option<Agreement>
         None => None,
         Some(distance) => Some(Agreement::Within(distance as u32)),
     }
+}
+
+/// The mark of a workunit: `0`, or `1` for one that is to keep to the class of its first version.
+pub(crate) fn rule_in(field: &[u8]) -> Option<ClassRule>
+    ensures value { result ≡ spec.rule_in field.now }
+    ensures first { IfSome result (λ rule. (class_of rule ≡ None) × (first_rule rule ≡ rule)) }
+{
+    if field == b"0".as_slice() {
+        return Some(ClassRule::Any);
+    }
+    if field == b"1".as_slice() {
+        return Some(ClassRule::OfFirst);
+    }
+    None
 }

@@ -1,18 +1,20 @@
 //! A data row of an import, read column by column.
 
-ghost use Rattle.std.specs.Prelude.{◌≡◌, ◌≤◌, ◌<◌, IfOk, IsTrue};
+ghost use Rattle.std.specs.Prelude.{◌≡◌, ◌≤◌, ◌<◌, IfOk, IsTrue, None};
 ghost use Rattle.csv.specs.Records.{fields_of};
 ghost use Rattle.rpc_records.specs.Ranges.{IsWord};
+ghost use Rattle.sched_book.specs.Classes.{class_of, first_rule};
 ghost use Rattle.sched_book.specs.Limits.{most_distance, is_user_name, distance_of};
-ghost use Rattle.office_files.specs.Columns.{name_in, number_in, agreement_in};
+ghost use Rattle.office_files.specs.Columns.{name_in, number_in, agreement_in, rule_in};
 ghost use Rattle.office_files.specs.Faults.{Gives};
-ghost use Rattle.office_files.specs.Importing.{column_of};
+ghost use Rattle.office_files.specs.Importing.{column_of, column_or};
+ghost use Rattle.sched_book.specs.declared.rows.ClassRule.TheVariants.{Any};
 ghost use Rattle.texts.specs.Words as words;
 
 use crate::columns;
 use crate::fault::RowsFault;
 use csv::ByteRecord;
-use sched_book::Agreement;
+use sched_book::{Agreement, ClassRule};
 use std::alloc::Global;
 use texts::{Text, word_of};
 
@@ -49,6 +51,25 @@ impl<'a> DataRow<'a> {
         Ok(Text::copied(alloc, word)?)
     }
 
+    /// The word in a column, or this one where the row is too short for it.
+    #[tactic(auto, unfolding(crate::specs::Importing::column_or))]
+    pub(crate) fn word_or(
+        &self,
+        alloc: Global,
+        column: usize,
+        other: &Text,
+    ) -> Result<Text, RowsFault>
+        requires { 1 ≤ column }
+        ensures said { Gives result (column_or self.now.number column words.word_of other.now (fields_of self.now.record.now)) }
+        ensures range { IsWord other.now → IfOk result IsWord }
+    {
+        if column <= self.record.len() {
+            self.word(alloc, column)
+        } else {
+            Ok(Text::copied(alloc, other.as_str())?)
+        }
+    }
+
     /// The name of an account in a column.
     #[tactic(auto, unfolding(crate::specs::Importing::column_of))]
     pub(crate) fn name(&self, alloc: Global, column: usize) -> Result<Text, RowsFault>
@@ -74,6 +95,22 @@ impl<'a> DataRow<'a> {
         self.record
             .get(column - 1)
             .and_then(columns::agreement_in)
+            .ok_or(self.fault(column))
+    }
+
+    /// Which versions may do a workunit, by a mark in a column. A row that is too short for it is not marked.
+    #[tactic(auto, unfolding(crate::specs::Importing::column_of, crate::specs::Importing::column_or))]
+    pub(crate) fn rule(&self, column: usize) -> Result<ClassRule, RowsFault>
+        requires { 1 ≤ column }
+        ensures said { Gives result (column_or self.now.number column rule_in Any (fields_of self.now.record.now)) }
+        ensures first { IfOk result (λ rule. (class_of rule ≡ None) × (first_rule rule ≡ rule)) }
+    {
+        if self.record.len() < column {
+            return Ok(ClassRule::Any);
+        }
+        self.record
+            .get(column - 1)
+            .and_then(columns::rule_in)
             .ok_or(self.fault(column))
     }
 

@@ -1,8 +1,8 @@
 //! The four kinds of rows that an import may bring.
 
-ghost use Rattle.std.specs.Prelude.{◌≡◌, List, ℕ, Result, IfOk, map};
+ghost use Rattle.std.specs.Prelude.{◌≡◌, List, ℕ, Result, IfOk, length, map};
 ghost use Rattle.csv.specs.Records.{fields_of};
-ghost use Rattle.sched_book.specs.Limits.{IsAccountInLimits, IsAppInLimits, IsVersionInLimits, IsUnitInLimits};
+ghost use Rattle.sched_book.specs.Limits.{IsAccountInLimits, IsAppInLimits, IsVersionInLimits, IsNewUnit};
 ghost use Rattle.office_files.specs.Faults.{Gives};
 ghost use Rattle.office_files.specs.Importing as spec;
 
@@ -16,12 +16,29 @@ use std::alloc::Global;
 /// The most that any count of a workunit may ask for.
 const MOST_IN_UNIT: u32 = MOST_INSTANCES as u32;
 
+/// The columns of workunits. An import may lack the last.
+const WORKUNIT_COLUMNS: [&str; 13] = [
+    "name",
+    "app",
+    "min_quorum",
+    "target_nresults",
+    "max_error_results",
+    "max_total_results",
+    "max_success_results",
+    "delay_bound",
+    "rsc_fpops_est",
+    "rsc_memory_bound",
+    "rsc_disk_bound",
+    "credit",
+    "marked",
+];
+
 /// A kind of rows.
 pub(crate) trait ImportRow: Drop {
     ghost use Rattle.office_files.specs.declared.fault.RowsFault.{RowsFault};
 
-    /// The fields of its header.
-    ghost header: { List (List ℕ) };
+    /// The fields of its header, where the first record has so many.
+    ghost header: { ℕ → List (List ℕ) };
 
     /// What a data row of so many fields says.
     ghost reads: { ℕ → List (List ℕ) → Result Self RowsFault };
@@ -31,7 +48,7 @@ pub(crate) trait ImportRow: Drop {
 
     /// The column to tell of a faulty header: the first whose field is another, or 0 where their number is wrong.
     fn header_fault(fields: &ByteRecord) -> Option<u64>
-        ensures { result ≡ spec.header_fault header (fields_of fields.now) };
+        ensures { result ≡ spec.header_fault (header (length (fields_of fields.now))) (fields_of fields.now) };
 
     /// Reads a data row of so many fields.
     fn read(alloc: Global, row: &DataRow) -> Result<Self, RowsFault>
@@ -118,15 +135,23 @@ impl ImportRow for Version {
     ghost is_in_limits = { IsVersionInLimits };
 
     fn header_fault(fields: &ByteRecord) -> Option<u64> {
+        if fields.len() == 4 {
+            return header_fault(&["app", "platform", "version_num", "version_class"], fields);
+        }
         header_fault(&["app", "platform", "version_num"], fields)
     }
 
     #[tactic(auto, unfolding(crate::specs::Importing::version_of, texts::specs::Reading::and_then))]
     fn read(alloc: Global, row: &DataRow) -> Result<Version, RowsFault> {
+        let app = row.word(alloc, 1)?;
+        let platform = row.word(alloc, 2)?;
+        let version_num = row.small(3, 1, MOST_VERSION_NUM)?;
+        let class = row.word_or(alloc, 4, &platform)?;
         Ok(Version {
-            app: row.word(alloc, 1)?,
-            platform: row.word(alloc, 2)?,
-            version_num: row.small(3, 1, MOST_VERSION_NUM)?,
+            app,
+            platform,
+            version_num,
+            class,
         })
     }
 }
@@ -136,26 +161,11 @@ impl ImportRow for Workunit {
 
     ghost reads = { spec.workunit_of };
 
-    ghost is_in_limits = { IsUnitInLimits };
+    ghost is_in_limits = { IsNewUnit };
 
     fn header_fault(fields: &ByteRecord) -> Option<u64> {
-        header_fault(
-            &[
-                "name",
-                "app",
-                "min_quorum",
-                "target_nresults",
-                "max_error_results",
-                "max_total_results",
-                "max_success_results",
-                "delay_bound",
-                "rsc_fpops_est",
-                "rsc_memory_bound",
-                "rsc_disk_bound",
-                "credit",
-            ],
-            fields,
-        )
+        let count = if fields.len() == 13 { 13 } else { 12 };
+        header_fault(&WORKUNIT_COLUMNS[..count], fields)
     }
 
     #[tactic(auto, unfolding(crate::specs::Importing::workunit_of, texts::specs::Reading::and_then))]
@@ -172,6 +182,7 @@ impl ImportRow for Workunit {
         let rsc_memory_bound = row.number(10, 0, MOST_AMOUNT)?;
         let rsc_disk_bound = row.number(11, 0, MOST_AMOUNT)?;
         let credit = row.small(12, 0, MOST_CREDIT)?;
+        let class_rule = row.rule(13)?;
         Ok(Workunit {
             name,
             app,
@@ -185,6 +196,7 @@ impl ImportRow for Workunit {
             rsc_memory_bound,
             rsc_disk_bound,
             credit,
+            class_rule,
         })
     }
 }

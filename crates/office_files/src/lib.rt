@@ -13,6 +13,7 @@
 //! | accounts | `authenticator,name` | a word; 1 to 64 bytes of UTF-8 |
 //! | applications | `name,agreement` | a word; `exact`, or `within:` and 0 to 1,000,000,000 |
 //! | versions | `app,platform,version_num` | two words; 1 to 1,000,000 |
+//! | | and, in a longer header, `version_class` | a word |
 //! | workunits | `name`, `app` | two words |
 //! | | `min_quorum` | 1 to 100 |
 //! | | `target_nresults` | `min_quorum` to 100 |
@@ -23,6 +24,10 @@
 //! | | `rsc_fpops_est` | 1 to 10^18 operations |
 //! | | `rsc_memory_bound`, `rsc_disk_bound` | 0 to 10^18 bytes |
 //! | | `credit` | 0 to 100,000,000 millicredits |
+//! | | and, in a longer header, `marked` | `0`, or `1` for one that keeps to the class of its first version |
+//!
+//! The number of fields of the first record decides which header is meant. Under the shorter one a version has its
+//! platform's word for a class, and no workunit is marked.
 //!
 //! When the tables of a project are made, its settings are a TOML text, which [`settings_of`] reads: a table of just
 //! these keys, all of them, in any order.

@@ -2,6 +2,7 @@
 
 ghost use Rattle.std.specs.Prelude.{◌≡◌, Bool, List, ℕ, map, IfOk, refl};
 ghost use Rattle.std.specs.List.{list_any};
+ghost use Rattle.sched_book.specs.Classes.{imported};
 ghost use Rattle.sched_book.specs.Imports.{same_account, same_app, same_version, same_unit};
 ghost use Rattle.sched_book.specs.Trusted.{Trusted};
 ghost use Rattle.sched_book.specs.declared.instance.UnitBook.{UnitBook};
@@ -111,7 +112,7 @@ impl NamedRow for Workunit {
 
     ghost key_of = { unit_key };
 
-    ghost shelf = { λ w. map (λ (b : UnitBook). b.unit) w.units };
+    ghost shelf = { λ w. map (λ (b : UnitBook). imported b.unit) w.units };
 
     fn key(&self) -> (u32, &str, &str) {
         (0, "", self.name.as_str())

@@ -95,9 +95,9 @@ pub fn read_apps(alloc: Global, text: &[u8]) -> Result<Rows, RowsFault>
     Ok(Rows::Apps(read_text(alloc, text)?))
 }
 
-/// Reads an import of versions, under the header `app,platform,version_num`. The faults are those of
-/// [`read_accounts`].
-#[tactic(auto, unfolding(crate::specs::Importing::versions_in, texts::specs::Reading::and_then))]
+/// Reads an import of versions, under the header `app,platform,version_num` or `app,platform,version_num,version_class`.
+/// Under the shorter one the class of a version is its platform's word. The faults are those of [`read_accounts`].
+#[tactic(auto, unfolding(crate::specs::Importing::versions_under, texts::specs::Reading::and_then))]
 pub fn read_versions(alloc: Global, text: &[u8]) -> Result<Rows, RowsFault>
     ensures ok { IfOk result (λ rows. Says versions_in text.now (Ok rows)) }
     ensures err { IfErr result (Refuses versions_in text.now) }
@@ -106,9 +106,9 @@ pub fn read_versions(alloc: Global, text: &[u8]) -> Result<Rows, RowsFault>
     Ok(Rows::Versions(read_text(alloc, text)?))
 }
 
-/// Reads an import of workunits, under a header of twelve columns, which have BOINC's names. The faults are those of
-/// [`read_accounts`].
-#[tactic(auto, unfolding(crate::specs::Importing::workunits_in, texts::specs::Reading::and_then))]
+/// Reads an import of workunits, under a header of twelve columns, which have BOINC's names, or of these and `marked`. Under
+/// the shorter one no workunit is marked. The faults are those of [`read_accounts`].
+#[tactic(auto, unfolding(crate::specs::Importing::workunits_under, texts::specs::Reading::and_then))]
 pub fn read_workunits(alloc: Global, text: &[u8]) -> Result<Rows, RowsFault>
     ensures ok { IfOk result (λ rows. Says workunits_in text.now (Ok rows)) }
     ensures err { IfErr result (Refuses workunits_in text.now) }

@@ -12,9 +12,11 @@ use Rattle.pasts.specs.Many.{ServesAll, followed}
 use Rattle.pasts.specs.Runs.{Turn}
 use Rattle.pasts.specs.Stands.{Heard, Tables, Same}
 use Rattle.pasts.proofs.OneRun.{is_one_run, serves_by_one_run, stands_is_carried_by_all}
+use Rattle.sched_machine.specs.Classes.{ClassesStay}
 use Rattle.sched_machine.specs.Decisions.{CanonicalsStay, VerdictsStay, StatusesStay, CreditsStay, CreditsAddUp}
 use Rattle.sched_machine.specs.Laws.{AreCallsInLimits}
 use Rattle.sched_machine.specs.Runs.{HoldsInRuns, HoldsAlways, world_after, OwnersStay, ReportsStay, LapsesStay, OneForEachUser}
+use Rattle.sched_machine.proofs.ClassRuns as classes
 use Rattle.sched_machine.proofs.DecidedRuns as decided
 use Rattle.sched_machine.proofs.RunLasting as lasting
 use Rattle.sched_machine.proofs.RunStretches.{settings_stay_in_step}
@@ -49,7 +51,7 @@ settings_stay w calls [] trace = refl
 settings_stay w [] (t ∷ ts) trace = absurd trace
 settings_stay w (e ∷ es) (t ∷ ts) trace = settings_stay t.1 es ts trace.1 ∙ settings_stay_in_step w t.1 e.0 e.1 t.0 trace.0
 
-have_stood_on : (old mid : Tables) (some : List Heard) → HaveStood old → ServesAll old some mid → HaveStood mid
+pub have_stood_on : (old mid : Tables) (some : List Heard) → HaveStood old → ServesAll old some mid → HaveStood mid
 have_stood_on old mid some stood all =
     let runs : RunsTo old.world mid.world = serves_by_one_run old mid some all in record {
       settings =
@@ -87,6 +89,9 @@ reports_stay = of_messages ReportsStay lasting.reports_stay (λ w p t is. is)
 
 pub lapses_stay : HoldsOfMessages LapsesStay
 lapses_stay = of_messages LapsesStay lasting.lapses_stay (λ w p l is. is)
+
+pub classes_stay : HoldsOfMessages ClassesStay
+classes_stay = of_messages ClassesStay classes.classes_stay (λ w unit rule known is. is)
 
 pub canonicals_stay : HoldsOfMessages CanonicalsStay
 canonicals_stay = of_messages CanonicalsStay decided.canonicals_stay (λ w unit number is. is)

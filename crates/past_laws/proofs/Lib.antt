@@ -1,3 +1,4 @@
 pub mod Sounds
 pub mod Holds
 pub mod Calls
+pub mod Owners

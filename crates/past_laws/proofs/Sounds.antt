@@ -1,13 +1,9 @@
 -- What stands for a past is sound, and so is what stands after messages.
 use Rattle.std.proofs.Common.{ℕ, List, [], ◌∷◌, subst}
-use Rattle.rpc_records.specs.Ranges.{IsInRange}
-use Rattle.rpc_records.specs.declared.request.Request.{Request}
-use Rattle.sched_book.specs.Calls.{IsCallInLimits}
 use Rattle.sched_book.specs.Sound.{Sound}
 use Rattle.sched_book.specs.Step.{empty_world}
 use Rattle.sched_book.specs.declared.machine.Answered.{Answered}
 use Rattle.sched_book.specs.declared.machine.Call.{Call}
-use Rattle.sched_book.specs.declared.machine.Call.TheVariants as call
 use Rattle.sched_book.specs.declared.settings.Settings.{Settings}
 use Rattle.sched_book.specs.declared.world.World.{World}
 use Rattle.pasts.specs.Laws.{calls_in, worlds_in, AreInLimits, last_world, IsRunTo}

@@ -1,4 +1,4 @@
--- What holds of tables that stand for a past, and through messages. (This project's own: BOINC's rules are in the machine's step.)
+-- Rule. What holds of tables that stand for a past, and through messages. (This project's own: BOINC's rules are in the machine's step.)
 use Rattle.std.specs.Prelude.{◌≡◌, ◌⊎◌, ℕ, true, List, [], ◌∷◌, Some, None}
 use Rattle.rpc_records.specs.Replies.{reply_text_of}
 use Rattle.rpc_records.specs.declared.reply.Reply.{Reply}

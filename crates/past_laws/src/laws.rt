@@ -1,7 +1,9 @@
 //! Laws of tables. Each function does nothing; its contract is the law. In each the settings are within their limits,
 //! and the tables before stand for some past.
 
+ghost use Rattle.past_laws.specs.Classes.{OwnersAreOfClassesAtAMessage, OwnersAreOfClassesOverMessages, OwnersWereGiven};
 ghost use Rattle.past_laws.specs.Laws.{StandsIsSound, HoldsOfMessages, HoldsWhereTablesStand, DeadlinesMoveByResendsAlone, DeadlinesMoveByResendsOverMessages, NoHeldJobDropsFromSight};
+ghost use Rattle.sched_machine.specs.Classes.{ClassesStay};
 ghost use Rattle.sched_machine.specs.Decisions.{CanonicalsStay, VerdictsStay, StatusesStay, CreditsStay, CreditsAddUp};
 ghost use Rattle.sched_machine.specs.Runs.{OwnersStay, ReportsStay, LapsesStay, OneForEachUser};
 
@@ -69,4 +71,26 @@ pub fn one_for_each_user()
 /// it held, lists and did not report, and what the reply names.
 pub fn no_held_job_drops_from_sight()
     ensures { NoHeldJobDropsFromSight }
+{}
+
+/// A workunit that keeps to a class keeps to it for ever, and one that is not marked is never marked.
+pub fn classes_stay()
+    ensures { HoldsOfMessages ClassesStay }
+{}
+
+/// Who owns an instance after a message owned it before, or the message is its call, which gives it the instance with a version
+/// of the class that the workunit then keeps to, if it is marked.
+pub fn owners_are_of_classes_at_a_message()
+    ensures { OwnersAreOfClassesAtAMessage }
+{}
+
+/// So it is over many messages: some call among them gave it, with a version of the class that the workunit keeps to at their end.
+pub fn owners_are_of_classes_over_messages()
+    ensures { OwnersAreOfClassesOverMessages }
+{}
+
+/// So each owner in tables that stand for a past got its instance by a call of its host in the run by which they stand, with a
+/// version of the class that the workunit keeps to.
+pub fn owners_were_given()
+    ensures { OwnersWereGiven }
 {}

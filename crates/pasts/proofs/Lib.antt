@@ -10,3 +10,4 @@ pub mod OneRun
 pub mod ByNumber
 pub mod Repeats
 pub mod Marks
+pub mod Shelves

@@ -28,6 +28,15 @@ none_came : (marks : List ℕ) (mark n : ℕ) → AllByRecursion (λ later. mark
 none_came [] mark n later less = refl
 none_came (m ∷ marks) mark n later less = mark_comes m marks n (omega (arith, later.0, less)) ∙ none_came marks mark n later.1 less
 
+-- an era is of as many upgrades as came
+counted : (b : Bool) (era most : ℕ) → era ≤ most → (if b then suc era else era) ≤ suc most
+counted true era most at = omega (arith, at)
+counted false era most at = omega (arith, at)
+
+pub era_most : (marks : List ℕ) (n : ℕ) → era_at marks n ≤ length marks
+era_most [] n = omega arith
+era_most (mark ∷ marks) n = counted (nat_le mark n) (era_at marks n) (length marks) (era_most marks n)
+
 -- a mark behind a place leaves its era
 era_before : (marks : List ℕ) (mark n : ℕ) → n < mark → era_at (marks ++ mark ∷ []) n ≡ era_at marks n
 era_before [] mark n less = mark_comes mark [] n less

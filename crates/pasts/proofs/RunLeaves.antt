@@ -1,12 +1,15 @@
 -- What a run leaves: its settings, the rows of its imports, and the hosts of its calls' keys.
 use Rattle.std.proofs.Common.{◌≡◌, ℕ, List, [], ◌∷◌, ◌++◌, map, Some, true, sym, refl, ap, ◌∙◌, subst}
-use Rattle.std.specs.Prelude.{Result}
+use Rattle.std.specs.Prelude.{All, Result}
 use Rattle.std.specs.Str.{bytes_eq}
 use Rattle.std.proofs.lemmas.List.{map-append}
+use Rattle.std.proofs.lemmas.List.Elements.{All-head, All-tail}
 use Rattle.reply_register.specs.declared.key.Key.{Key}
 use Rattle.rpc_records.specs.declared.fault.Fault.{Fault}
 use Rattle.rpc_records.specs.declared.request.Request.{Request}
+use Rattle.sched_book.specs.Classes.{imported}
 use Rattle.sched_book.specs.Imports.{Shelf, shelf_of, shelved, new_unit, with_rows}
+use Rattle.sched_book.specs.Limits.{AreRowsInLimits, IsNewUnit}
 use Rattle.sched_book.specs.Step.{Step}
 use Rattle.sched_book.specs.declared.instance.UnitBook.{UnitBook}
 use Rattle.sched_book.specs.declared.machine.Answered.{Answered}
@@ -46,18 +49,20 @@ framed s w f shelf keys is settings shelf_is are =
 
 -- ---- an import
 
-new_units : (us : List Workunit) → map (λ (b : UnitBook). b.unit) (map new_unit us) ≡ us
-new_units [] = refl
-new_units (u ∷ us) = ap (λ vs. u ∷ vs) (new_units us)
+new_units : (us : List Workunit) → All IsNewUnit us → map (λ (b : UnitBook). imported b.unit) (map new_unit us) ≡ us
+new_units [] new = refl
+new_units (u ∷ us) new =
+    let one : IsNewUnit u = All-head IsNewUnit u us new in
+    λ i. one.first i ∷ new_units us (All-tail IsNewUnit u us new) i
 
-pub shelf_with_rows : (w : World) (new : Rows) → shelf_of (with_rows w new) ≡ shelved (shelf_of w) new
-shelf_with_rows w (rows.Accounts xs) = refl
-shelf_with_rows w (rows.Apps xs) = refl
-shelf_with_rows w (rows.Versions xs) = refl
-shelf_with_rows w (rows.Workunits xs) =
-    let unit_of : UnitBook → Workunit = λ b. b.unit in
+pub shelf_with_rows : (w : World) (new : Rows) → AreRowsInLimits new → shelf_of (with_rows w new) ≡ shelved (shelf_of w) new
+shelf_with_rows w (rows.Accounts xs) limits = refl
+shelf_with_rows w (rows.Apps xs) limits = refl
+shelf_with_rows w (rows.Versions xs) limits = refl
+shelf_with_rows w (rows.Workunits xs) limits =
+    let unit_of : UnitBook → Workunit = λ b. imported b.unit in
     ap (λ us. record { accounts = w.accounts; apps = w.apps; versions = w.versions; units = us })
-    (map-append unit_of w.units (map new_unit xs) ∙ ap (λ vs. map unit_of w.units ++ vs) (new_units xs))
+    (map-append unit_of w.units (map new_unit xs) ∙ ap (λ vs. map unit_of w.units ++ vs) (new_units xs limits))
 
 -- an account that stands keeps its place
 pub account-more : (shelf : Shelf) (new : Rows) (word : List ℕ) (account : ℕ) → account_on shelf word ≡ Some account → account_on (shelved shelf new) word ≡ Some account
@@ -84,15 +89,21 @@ hosts_with_rows w (rows.Apps xs) = refl
 hosts_with_rows w (rows.Versions xs) = refl
 hosts_with_rows w (rows.Workunits xs) = refl
 
-imported : (s : Settings) (w after : World) (new : Rows) (shelf : Shelf) (keys : List Key) → Leaves s w shelf keys → frame after ≡ frame (with_rows w new)
-    → Leaves s after (shelved shelf new) keys
-imported s w after new shelf keys leaves is =
+-- the rows of an import are in limits
+new_rows : (w after : World) (new : Rows) (now : ℕ) (answer : Answered) → Step w (call.Import new) now after answer → AreRowsInLimits new
+new_rows w after new now (answered.Imported n) step = step.checked.in_limits
+new_rows w after new now (answered.Rpc reply) step = absurd step
+new_rows w after new now (answered.Lapsed n) step = absurd step
+
+import_leaves : (s : Settings) (w after : World) (new : Rows) (shelf : Shelf) (keys : List Key) → Leaves s w shelf keys → AreRowsInLimits new
+    → frame after ≡ frame (with_rows w new) → Leaves s after (shelved shelf new) keys
+import_leaves s w after new shelf keys leaves limits is =
     let P : Shelf × List (ℕ × List ℕ) → Type 0 = λ p. AreKeys p.0 p.1 keys in
     let here : ◌≡◌ {A = Shelf × List (ℕ × List ℕ)} (shelved (shelf_of w) new, map host_name w.hosts)
     (shelf_of (with_rows w new), map host_name (with_rows w new).hosts) =
-    λ i. (sym (shelf_with_rows w new) i, map host_name (sym (hosts_with_rows w new) i)) in
+    λ i. (sym (shelf_with_rows w new limits) i, map host_name (sym (hosts_with_rows w new) i)) in
     framed s after (frame (with_rows w new)) (shelved shelf new) keys is (settings_with_rows w new ∙ leaves.settings)
-    (shelf_with_rows w new ∙ ap (λ sh. shelved sh new) leaves.shelf_is)
+    (shelf_with_rows w new limits ∙ ap (λ sh. shelved sh new) leaves.shelf_is)
     (subst P here (keys-more (shelf_of w) new (map host_name w.hosts) keys leaves.are))
 
 -- ---- a step
@@ -119,7 +130,8 @@ said_leaves s w after (Rpc request) (call.Import new) now answer older leaves is
 said_leaves s w after (Rpc request) call.Tick now answer older leaves is step = absurd is
 said_leaves s w after (Import kind batch text read) (call.Import new) now answer older leaves is step =
     let P : Result Rows Fault → Type 0 = λ q. LeavesSaid s after (Import kind batch text q) older in
-    subst P (sym is) (imported s w after new (rows_of older) (keys_of older) leaves (step_leaves w after (call.Import new) now answer step))
+    let left = step_leaves w after (call.Import new) now answer step in
+    subst P (sym is) (import_leaves s w after new (rows_of older) (keys_of older) leaves (new_rows w after new now answer step) left)
 said_leaves s w after (Import kind batch text read) (call.Rpc c r) now answer older leaves is step = absurd is
 said_leaves s w after (Import kind batch text read) call.Tick now answer older leaves is step = absurd is
 said_leaves s w after Tick call.Tick now answer older leaves is step =

@@ -4,13 +4,14 @@ use Rattle.std.specs.Prelude.{fold, option_map, replicate, unwrap_or}
 use Rattle.std.specs.List.{enumerate_from}
 use Rattle.rpc_records.specs.declared.request.Report.{Report}
 use Rattle.rpc_records.specs.declared.request.Request.{Request}
+use Rattle.sched_book.specs.Classes.{first_rule, imported, rule_after, with_class}
 use Rattle.sched_book.specs.Count.{is_open, need}
-use Rattle.sched_book.specs.Fits.{estimate_at}
+use Rattle.sched_book.specs.Fits.{estimate_at, version_at_unit}
 use Rattle.sched_book.specs.Lost.{resend_or_drop, is_resent, with_deadline, deadline_after, delay_at, with_lapse}
 use Rattle.sched_book.specs.Places.{overdue, place_named, passes, book_status}
 use Rattle.sched_book.specs.Reports.{awaits_report, judged_place, with_number, with_changed, with_report, record_at, record_one, recorded, first_reports}
 use Rattle.sched_book.specs.Settle.{fresh, grown, with_grown, with_quota, settled}
-use Rattle.sched_book.specs.Step.{at_entry, after_reports, after_lost, after_settlement, host_number, host_at_entry, lost_of, with_owner, grant_one, granted, lapsed}
+use Rattle.sched_book.specs.Step.{at_entry, after_reports, after_lost, after_settlement, host_number, host_at_entry, lost_of, with_owner, grant_one, granted, class_granted, class_one, classed, lapsed}
 use Rattle.sched_book.specs.declared.instance.Instance.{Instance}
 use Rattle.sched_book.specs.declared.instance.Lapse.TheVariants.{Late, Dropped}
 use Rattle.sched_book.specs.declared.instance.Place.{Place}
@@ -18,7 +19,10 @@ use Rattle.sched_book.specs.declared.instance.UnitBook.{UnitBook}
 use Rattle.sched_book.specs.declared.machine.Answered.TheVariants as answered
 use Rattle.sched_book.specs.declared.machine.Call.TheVariants as call
 use Rattle.sched_book.specs.declared.machine.Caller.{Caller}
+use Rattle.sched_book.specs.declared.rows.ClassRule.{ClassRule}
+use Rattle.sched_book.specs.declared.rows.ClassRule.TheVariants.{Any, OfFirst, Only}
 use Rattle.sched_book.specs.declared.rows.HostRow.{HostRow}
+use Rattle.sched_book.specs.declared.rows.Version.{Version}
 use Rattle.sched_book.specs.declared.rows.Workunit.{Workunit}
 use Rattle.sched_book.specs.declared.world.World.{World}
 use Rattle.pasts.specs.Leaves.{host_name, Frame, frame, StepLeavesTheRest}
@@ -33,7 +37,7 @@ frame_with w units hosts = record {
 }
 
 abbrev unit_of : UnitBook → Workunit
-unit_of b = b.unit
+unit_of b = imported b.unit
 
 changed_stays : (f : Instance → Instance) (w : World) (p : Place) → frame (with_changed f w p) ≡ frame w
 changed_stays f w p =
@@ -80,11 +84,27 @@ grants_stay : (w : World) (host now : ℕ) (jobs : List Place) → frame (grante
 grants_stay w host now jobs =
     fold_stays (grant_one host now) (λ v p. changed_stays (with_owner (record { host = host; sent = now; deadline = now + delay_at v p })) v p) jobs w
 
+-- a workunit that takes a class was imported as it was
+classes_stay : (entry : World) (h : HostRow) (jobs : List Place) (w : World) → frame (classed entry h w jobs) ≡ frame w
+classes_stay entry h jobs w = fold_stays (class_one entry h) (λ v p. one v p (version_at_unit entry h p.unit)) jobs w
+  where
+    rule_stays : (rule : ClassRule) (class : List ℕ) → first_rule (rule_after rule class) ≡ first_rule rule
+    rule_stays Any class = refl
+    rule_stays OfFirst class = refl
+    rule_stays (Only own) class = refl
+
+    row_stays : (class : List ℕ) (b : UnitBook) → unit_of (with_class class b) ≡ unit_of b
+    row_stays class b = ap (λ rule. record b.unit { class_rule = rule }) (rule_stays b.unit.class_rule class)
+
+    one : (v : World) (p : Place) (o : Option Version) → frame (unwrap_or (option_map (λ (x : Version). class_granted v p.unit x.class) o) v) ≡ frame v
+    one v p None = refl
+    one v p (Some x) = ap (λ us. frame_with v us (map host_name v.hosts)) (map-modify_nth unit_of (with_class x.class) (row_stays x.class) v.units p.unit)
+
 -- settlement changes instances and quotas
 settlement_stays : (old changed : World) → frame (settled old changed) ≡ frame changed
 settlement_stays old changed = λ i. frame_with changed (units changed.units i) (hosts 1 changed.hosts i)
   where
-    unit_stays : (grows : Bool) (b : UnitBook) (xs : List Instance) → unit_of (cond grows (record b { instances = xs }) b) ≡ b.unit
+    unit_stays : (grows : Bool) (b : UnitBook) (xs : List Instance) → unit_of (cond grows (record b { instances = xs }) b) ≡ unit_of b
     unit_stays true b xs = refl
     unit_stays false b xs = refl
 
@@ -104,7 +124,10 @@ call_stays w c r now =
 
 pub step_leaves : StepLeavesTheRest
 step_leaves w after (call.Rpc c r) now (answered.Rpc reply) step =
-    ap frame step.left ∙ grants_stay (after_settlement w c r now) (host_number w c) now step.jobs ∙ call_stays w c r now
+    ap frame step.left
+    ∙ classes_stay w (host_at_entry w c r) step.jobs (granted (after_settlement w c r now) (host_number w c) now step.jobs)
+    ∙ grants_stay (after_settlement w c r now) (host_number w c) now step.jobs
+    ∙ call_stays w c r now
 step_leaves w after (call.Rpc c r) now (answered.Imported n) step = absurd step
 step_leaves w after (call.Rpc c r) now (answered.Lapsed n) step = absurd step
 step_leaves w after (call.Import new) now (answered.Imported n) step = ap frame step.left

@@ -1,4 +1,4 @@
--- The bodies of the answers to first-heard messages, and what is kept of these. (A reply is BOINC's scheduler reply as compact JSON; the
+-- Rule. The bodies of the answers to first-heard messages, and what is kept of these. (A reply is BOINC's scheduler reply as compact JSON; the
 -- answers to imports and ticks, and what is kept, are this profile's.)
 use Rattle.std.specs.Prelude.{ℕ, if◌then◌else◌, List, [], ◌∷◌, codes, take, Option, Some}
 use Rattle.serde_json.specs.Data.{Data, string, object, member, no_members}

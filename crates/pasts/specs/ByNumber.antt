@@ -1,4 +1,4 @@
--- Calls that are kept by the number of their host. (This project's own: tables keep them so.)
+-- Rule. Calls that are kept by the number of their host. (This project's own: tables keep them so.)
 use Rattle.std.specs.Prelude.{◌≡◌, ℕ, ◌<◌, List, [], length, Option, Some, None}
 use Rattle.reply_register.specs.declared.kept.Kept.{Kept}
 use Rattle.reply_register.specs.declared.key.Key.{Key}

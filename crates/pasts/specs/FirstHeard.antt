@@ -1,7 +1,7 @@
--- Which messages are first heard: from the messages and the settings alone, with no look at what stands. Lists of messages have the
+-- Rule. Which messages are first heard: from the messages and the settings alone, with no look at what stands. Lists of messages have the
 -- newest first. (The names rpc_seqno and hostid are BOINC's; what a repeated, an older or a wrong number means is this profile's, and
 -- so is that a batch counts once.)
-use Rattle.std.specs.Prelude.{ℕ, Bool, true, false, not, ◌&&◌, ◌||◌, nat_lt, if◌then◌else◌, List, [], ◌∷◌, length, Option, Some, None, is_none, is_some, Ok, Err}
+use Rattle.std.specs.Prelude.{ℕ, Bool, true, false, not, ◌&&◌, ◌||◌, nat_lt, if◌then◌else◌, List, [], ◌∷◌, length, Option, is_none, is_some, Ok, Err}
 use Rattle.std.specs.Str.{bytes_eq}
 use Rattle.reply_register.specs.Keys.{same_key}
 use Rattle.reply_register.specs.declared.key.Key.{Key}

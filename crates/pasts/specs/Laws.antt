@@ -1,4 +1,4 @@
--- Laws of pasts and runs. (This project's own.)
+-- Rule. Laws of pasts and runs. (This project's own.)
 use Rattle.std.specs.Prelude.{◌≡◌, ℕ, ◌<◌, true, List, [], ◌∷◌, ◌++◌, length, is_none}
 use Rattle.reply_register.specs.Keys.{same_key}
 use Rattle.reply_register.specs.declared.key.Key.{Key}

@@ -1,4 +1,4 @@
--- What a step leaves as it was: the settings, the imported rows, and whose host each number is. (That workunits and hosts are kept apart
+-- Rule. What a step leaves as it was: the settings, the imported rows, and whose host each number is. (That workunits and hosts are kept apart
 -- by these is BOINC's; that nothing is ever deleted is this project's.)
 use Rattle.std.specs.Prelude.{◌≡◌, ℕ, List, map, Option, option_and_then}
 use Rattle.reply_register.specs.declared.key.Key.{Key}

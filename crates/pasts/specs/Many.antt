@@ -1,4 +1,4 @@
--- Messages one after the other. (This project's own.)
+-- Rule. Messages one after the other. (This project's own.)
 use Rattle.std.specs.Prelude.{List, [], ◌∷◌}
 use Rattle.pasts.specs.Stands.{Heard, Past, Tables, Same, Serves, then_heard}
 

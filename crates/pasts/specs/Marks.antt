@@ -1,4 +1,4 @@
--- The marks of the upgrades that came in the course of a past, and the eras of its messages by them. (This project's own.)
+-- Rule. The marks of the upgrades that came in the course of a past, and the eras of its messages by them. (This project's own.)
 use Rattle.std.specs.Prelude.{◌≡◌, ℕ, suc, ◌≤◌, List, [], ◌∷◌, ◌++◌, length, take}
 use Rattle.std.specs.List.{AllByRecursion}
 use Rattle.reply_register.specs.declared.key.Key.{Key}

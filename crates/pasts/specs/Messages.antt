@@ -1,4 +1,4 @@
--- What messages say, without the bytes in which they come. (The call is BOINC's scheduler request; imports, ticks and reads are this
+-- Rule. What messages say, without the bytes in which they come. (The call is BOINC's scheduler request; imports, ticks and reads are this
 -- profile's.)
 use Rattle.std.specs.Prelude.{ℕ, List, Result}
 use Rattle.reply_register.specs.declared.key.Key.{Key}

@@ -1,4 +1,4 @@
--- What a message is told that comes again, or says something of its kind: in terms of the past alone. (This profile's; that a lost reply
+-- Rule. What a message is told that comes again, or says something of its kind: in terms of the past alone. (This profile's; that a lost reply
 -- is asked for again is BOINC's.)
 use Rattle.std.specs.Prelude.{◌≡◌, ◌≢◌, ℕ, ◌<◌, ◌≤◌, Bool, true, false, ◌&&◌, if◌then◌else◌, List, [], ◌∷◌, ◌++◌, take, Contains, Option, Some, None, Result}
 use Rattle.std.specs.List.{AllByRecursion}

@@ -1,4 +1,4 @@
--- Runs of the job machine over messages, and what is kept of them. A run has the newest turn first. (This project's own: the machine
+-- Rule. Runs of the job machine over messages, and what is kept of them. A run has the newest turn first. (This project's own: the machine
 -- hears each message once, and no number of a call decides anything in it.)
 use Rattle.std.specs.Prelude.{◌≡◌, ℕ, ◌≤◌, List, [], ◌∷◌, map, Option, None, Ok}
 use Rattle.reply_register.specs.declared.kept.Kept.{Kept}

@@ -45,7 +45,7 @@ all_then old mid new [] m a same serves = (new, subst (λ t. Serves t m a new) (
 all_then old mid new (h ∷ more) m a all serves = (all.0, all.1, all_then all.0 mid new more m a all.2 serves)
 
 -- some messages were served, and what stands then is sound
-Served : Tables → Held → Type 0
+unfoldable pub Served : Tables → Held → Type 0
 Served first held = (more : List Heard) × ServesAll first more (tables_by held) × IsSoundStore held
 
 served_next : (key bytes : List ℕ) (now : ℕ) (a : Answer) (first : Tables) (old new : Held) → Served first old → HandledAs key bytes now a old new → Served first new
@@ -64,7 +64,7 @@ served_next key bytes now (answer.Response r) first old new served done =
       serves.sound,
     )
 
-served_in_turn : (key : List ℕ) (came : List Came) (old new : Held) → IsSoundStore old → HandledInTurn key came old new → Served (tables_by old) new
+pub served_in_turn : (key : List ℕ) (came : List Came) (old new : Held) → IsSoundStore old → HandledInTurn key came old new → Served (tables_by old) new
 unfolding Served
 served_in_turn key [] old new sound same = let left = same sound in ([], left.0, left.1)
 served_in_turn key (c ∷ earlier) old new sound done =
@@ -72,7 +72,7 @@ served_in_turn key (c ∷ earlier) old new sound done =
 
 -- ---- the laws
 
-have_stood : (key : List ℕ) (old : Held) (marks : List ℕ) (before : List Came) → StandsFor key old marks before
+pub have_stood : (key : List ℕ) (old : Held) (marks : List ℕ) (before : List Came) → StandsFor key old marks before
     → past.HaveStood (tables_by old)
 have_stood key old marks before st = record { settings = st.sound.world.rows.settings; past = st.past; stands = st.stands }
 

@@ -5,3 +5,5 @@ mod Followed
 mod Stopped
 mod Begun
 mod Lasting
+mod Owners
+mod Former

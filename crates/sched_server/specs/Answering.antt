@@ -1,4 +1,4 @@
--- The answer that says what was told. (This project's own.)
+-- Words. The answer that says what was told. (This project's own.)
 use Rattle.std.specs.Prelude.{◌≡◌, ◌⊎◌, Option, Result, Ok, Err}
 use Rattle.http_responses.specs.declared.answer.Answer.{Answer}
 use Rattle.http_responses.specs.declared.answer.Answer.TheVariants as answer

@@ -1,4 +1,4 @@
--- What came, with its answers, and what a store stands for. What came is listed with the newest first. (This project's own.)
+-- Rule. What came, with its answers, and what a store stands for. What came is listed with the newest first. (This project's own.)
 use Rattle.std.specs.Prelude.{◌≡◌, ◌⊎◌, ℕ, List, [], ◌∷◌}
 use Rattle.http_messages.specs.Deciding.{Asked}
 use Rattle.http_messages.specs.Meaning.{Means}

@@ -1,10 +1,11 @@
--- What ties the promises together, and the laws of every run, of what stands before and after messages of bytes. (This project's own:
+-- Rule. What ties the promises together, and the laws of every run, of what stands before and after messages of bytes. (This project's own:
 -- BOINC's rules are in the machine's step.)
-use Rattle.std.specs.Prelude.{◌≡◌, ◌⊎◌, ℕ, suc, true, List, [], ◌∷◌, ◌++◌, length, Some, None}
+use Rattle.std.specs.Prelude.{◌≡◌, ◌⊎◌, ℕ, suc, ◌<◌, true, List, [], ◌∷◌, ◌++◌, length, Some, None}
 use Rattle.http_responses.specs.declared.answer.Answer.{Answer}
 use Rattle.http_responses.specs.declared.answer.Answer.TheVariants as answer
 use Rattle.http_responses.specs.declared.response.Response.{Response}
 use Rattle.rpc_records.specs.declared.request.Request.{Request}
+use Rattle.sched_book.specs.Former.{IsUnclassed}
 use Rattle.sched_book.specs.Limits.{AreSettingsInLimits}
 use Rattle.sched_book.specs.Step.{deadline_at}
 use Rattle.sched_book.specs.declared.instance.Owner.{Owner}
@@ -16,7 +17,7 @@ use Rattle.pasts.specs.Messages.{Rpc, heard_now}
 use Rattle.pasts.specs.Stands.{told_by}
 use Rattle.past_laws.specs.Laws.{IsSentAgainBy, IsInSight}
 use Rattle.stores.specs.Acting.{Parts, Acts}
-use Rattle.stores.specs.Eras.{this_era, new_marks}
+use Rattle.stores.specs.Eras.{this_era, era_of_classes, new_marks}
 use Rattle.stores.specs.Held.{Held, IsLeft, IsNew}
 use Rattle.message_engine.specs.Stores.{tables_by}
 use Rattle.sched_server.specs.Arrivals.{Came, answered, StandsFor, StandsIn, StoreStandsFor, HandledInTurn}
@@ -54,6 +55,13 @@ abbrev pub UpgradedStands : Type 0
 UpgradedStands =
     (era : ℕ) (key : List ℕ) (old new : Held) (marks : List ℕ) (before : List Came) → IsLeft old new → StandsIn era key old marks before
     → StandsIn (suc era) key new (marks ++ length (answered before) ∷ []) before
+
+-- What stands for what came before versions had classes has none: the class of each version is its platform, and no workunit is marked. So an
+-- upgrade that gives each version its platform for its class, and marks no workunit, leaves the world as it is.
+abbrev pub FormerWorldsAreUnclassed : Type 0
+FormerWorldsAreUnclassed =
+    (era : ℕ) (key : List ℕ) (held : Held) (marks : List ℕ) (before : List Came) → era < era_of_classes → StandsIn era key held marks before
+    → IsUnclassed held.world
 
 -- ---- the laws of every run
 

@@ -5,3 +5,4 @@ pub mod Handled
 pub mod Answering
 pub mod Arrivals
 pub mod Laws
+pub mod Classes

@@ -1,4 +1,4 @@
--- What a read of a host's statement is told. (This project's own.)
+-- Rule. What a read of a host's statement is told. (This project's own.)
 use Rattle.std.specs.Prelude.{ℕ, List, Option, Some, None}
 use Rattle.rpc_records.specs.declared.fault.Fault.TheVariants as fault
 use Rattle.sched_book.specs.declared.world.World.{World}

@@ -1,9 +1,11 @@
 //! Laws of the definitions. Each function does nothing; its contract is the law.
 
 ghost use Rattle.sched_machine.specs.Bounds.{IsCreditBounded};
+ghost use Rattle.sched_machine.specs.Classes.{ClassesStay};
 ghost use Rattle.sched_machine.specs.Decisions.{CanonicalsStay, VerdictsStay, StatusesStay, CreditsStay, CreditsAddUp};
 ghost use Rattle.sched_machine.specs.Runs.{OwnersStay, ReportsStay, LapsesStay, OneForEachUser};
-ghost use Rattle.sched_server.specs.Laws.{NewStoresStand, HandledStands, WhatIsLeftStands, ReopenedStands, UpgradedStands, HoldsOfWhatStands, Lasts, DeadlinesMoveByResendsAlone, DeadlinesMoveByResendsOverMessages, NoHeldJobDropsFromSight};
+ghost use Rattle.sched_server.specs.Classes.{OwnersAreOfClassesAtAMessage, OwnersAreOfClassesOverMessages, OwnersWereGiven};
+ghost use Rattle.sched_server.specs.Laws.{NewStoresStand, HandledStands, WhatIsLeftStands, ReopenedStands, UpgradedStands, FormerWorldsAreUnclassed, HoldsOfWhatStands, Lasts, DeadlinesMoveByResendsAlone, DeadlinesMoveByResendsOverMessages, NoHeldJobDropsFromSight};
 
 use stores::Store;
 
@@ -31,6 +33,12 @@ pub fn reopened_stands<S: Store>()
 /// What an upgrade of the tables leaves as it was stands in the next era for all that it stood for.
 pub fn upgraded_stands()
     ensures { UpgradedStands }
+{}
+
+/// What stands for all that came before versions had classes has none: each version is of the class that its platform names, and
+/// no workunit is marked. So an upgrade of its tables can give them these, and leave it as it was.
+pub fn former_worlds_are_unclassed()
+    ensures { FormerWorldsAreUnclassed }
 {}
 
 /// Whatever messages come, an instance that was given to a host stays that host's, with its moment of sending.
@@ -97,4 +105,26 @@ pub fn one_for_each_user()
 /// it held, lists and did not report, and what the reply names.
 pub fn no_held_job_drops_from_sight()
     ensures { NoHeldJobDropsFromSight }
+{}
+
+/// A workunit that keeps to a class keeps to it for ever, and one that is not marked is never marked.
+pub fn classes_stay()
+    ensures { Lasts ClassesStay }
+{}
+
+/// Who owns an instance after a message owned it before, or the message is its call, which gives it the instance with a version
+/// of the class that the workunit then keeps to, if it is marked.
+pub fn owners_are_of_classes_at_a_message()
+    ensures { OwnersAreOfClassesAtAMessage }
+{}
+
+/// So it is over many messages: some call among them gave it, with a version of the class that the workunit keeps to at their end.
+pub fn owners_are_of_classes_over_messages()
+    ensures { OwnersAreOfClassesOverMessages }
+{}
+
+/// Each owner in what stands got its instance by a call of its host in the run by which it stands, with a version of the class that
+/// the workunit keeps to.
+pub fn owners_were_given()
+    ensures { OwnersWereGiven }
 {}

@@ -1,4 +1,4 @@
--- Eras. The tables of a project are upgraded now and then, and messages from then on go by other rules. (This project's own.)
+-- Rule. Eras. The tables of a project are upgraded now and then, and messages from then on go by other rules. (This project's own.)
 use Rattle.std.specs.Prelude.{ℕ, zero, suc, nat_le, if◌then◌else◌, List, [], ◌∷◌, replicate}
 
 -- The era of a message is how many upgrades came before it. The mark of an upgrade is how many messages were answered before it.
@@ -6,9 +6,10 @@ abbrev pub era_at : List ℕ → ℕ → ℕ
 era_at [] answered = 0
 era_at (mark ∷ marks) answered = if nat_le mark answered then suc (era_at marks answered) else era_at marks answered
 
--- the era of this program, whose tables were upgraded once: from the schema that kept the last call of a host alone
+-- the era of this program, whose tables were upgraded twice: from the schema that kept the last call of a host alone, and from
+-- that whose versions had no classes
 abbrev pub this_era : ℕ
-this_era = 1
+this_era = 2
 
 -- the marks of tables that are new in an era: all upgrades came before their first message
 abbrev pub new_marks : ℕ → List ℕ
@@ -18,3 +19,7 @@ new_marks era = replicate era 0
 abbrev pub kept_beside : ℕ → ℕ
 kept_beside zero = 0
 kept_beside (suc era) = 3
+
+-- the first era in which versions have classes, and workunits may be marked
+abbrev pub era_of_classes : ℕ
+era_of_classes = 2

@@ -1,4 +1,4 @@
--- The kinds of imports. (This profile's.)
+-- Rule. The kinds of imports. (This profile's.)
 use Rattle.std.specs.Prelude.{ℕ, Bool, List, codes, Option, Some, None, if◌then◌else◌}
 use Rattle.std.specs.Str.{bytes_eq}
 use Rattle.stores.specs.declared.kind.Kind.{Kind}
