@@ -228,6 +228,7 @@ settings_stay w (change.Version v ∷ cs) = settings_stay (applied_one w (change
 settings_stay w (change.Workunit u ∷ cs) = settings_stay (applied_one w (change.Workunit u)) cs
 settings_stay w (change.Host n h ∷ cs) = settings_stay (applied_one w (change.Host n h)) cs
 settings_stay w (change.Instance p x ∷ cs) = settings_stay (applied_one w (change.Instance p x)) cs
+settings_stay w (change.Class unit class ∷ cs) = settings_stay (applied_one w (change.Class unit class)) cs
 
 apps_brought : (w : World) (cs : List Change) → (applied w cs).apps ≡ apps_with w.apps cs
 apps_brought w [] = refl
@@ -237,6 +238,7 @@ apps_brought w (change.Version v ∷ cs) = apps_brought (applied_one w (change.V
 apps_brought w (change.Workunit u ∷ cs) = apps_brought (applied_one w (change.Workunit u)) cs
 apps_brought w (change.Host n h ∷ cs) = apps_brought (applied_one w (change.Host n h)) cs
 apps_brought w (change.Instance p x ∷ cs) = apps_brought (applied_one w (change.Instance p x)) cs
+apps_brought w (change.Class unit class ∷ cs) = apps_brought (applied_one w (change.Class unit class)) cs
 
 -- ---- a commit
 

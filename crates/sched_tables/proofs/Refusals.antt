@@ -1,13 +1,18 @@
 -- Why tables are refused, by what a reading of them says.
-use Rattle.std.proofs.Common.{◌≡◌, ◌≢◌, ◌⊎◌, ℕ, List, [], map, length, codes, Option, Some, None, option_map, Result, Ok, Err, IfErr, refl, sym, ap, ap₂, subst, ◌∙◌, arith}
+use Rattle.std.proofs.Common.{◌≡◌, ◌≢◌, ◌⊎◌, ◌≤◌, ◌<◌, ℕ, Bool, true, false, ◌&&◌, List, [], map, length, find, codes, Option, Some, None, option_map, Result, Ok, Err, IfErr, refl, sym, ap, ap₂, subst, ◌∙◌, inl, inr, arith}
 use Rattle.std.specs.Prelude.{IfSome}
-use Rattle.std.proofs.lemmas.Option.{none-some}
+use Rattle.std.proofs.lemmas.Option.{none-some, same_Some}
+use Rattle.std.proofs.lemmas.Slice.Eq.{bytes_eq-Decides}
 use Rattle.sqlite.specs.Effect.{Database}
 use Rattle.sqlite.specs.Held.{Held, state}
 use Rattle.sqlite.specs.State.{HasCleanDisk}
 use Rattle.sqlite_rules.specs.Lists.{Has}
 use Rattle.sqlite_trees.specs.Tree.{Trees}
 use Rattle.sqlite_trees.specs.declared.store.Store.{Ghosts}
+use Rattle.sqlite_schema.specs.Rules.{equal}
+use Rattle.sqlite_value.specs.declared.keys.Collation.TheVariants.{Binary}
+use Rattle.sqlite_value.specs.declared.value.Value.TheVariants.{Text}
+use Rattle.sqlite_value.specs.Keys.{first_key}
 use Rattle.sqlite_value.specs.Order.{Row, column}
 use Rattle.table_decoding.specs.Decoding.{schema_row}
 use Rattle.table_meaning.specs.declared.rows.SettingValue.{SettingValue}
@@ -16,10 +21,12 @@ use Rattle.table_meaning.specs.declared.rows.StoredRow.{StoredRow}
 use Rattle.table_meaning.specs.declared.rows.StoredRow.TheVariants as stored
 use Rattle.table_meaning.specs.declared.tables.TableName.TheVariants as name
 use Rattle.table_meaning.specs.Holding.{AreKnown}
-use Rattle.table_meaning.specs.Rows.{RowKey, setting_key, whole, setting_value, table_at, columns_of, key_of, rows_in, shown, look_up, tree_of}
+use Rattle.table_meaning.specs.Rows.{RowKey, setting_key, whole, setting_value, columns_of, has_key, shown, tree_of}
 use Rattle.table_meaning.specs.Schema.{newest, schema_at, stored_schema}
 use Rattle.table_meaning.specs.Schemas.{AreEarlier, schema_said}
-use Rattle.table_meaning.proofs.RowsHeld.{mapped, source, held_row}
+use Rattle.table_meaning.proofs.Keys.{same_cell}
+use Rattle.table_meaning.proofs.RowsHeld.{found, mapped, source}
+use Rattle.table_desk.proofs.Found.{equal_texts}
 use Rattle.table_reading.specs.Reading.{HasBadTable, StandForNone, HasOtherSchema}
 use Rattle.table_rows.specs.declared.opening.OpenFault.{OpenFault}
 use Rattle.table_rows.specs.declared.opening.OpenFault.TheVariants as fault
@@ -31,62 +38,73 @@ use Rattle.sched_tables.specs.Refusals.{AreRefusedFor}
 
 -- ---- the row that tells the schema
 
--- only a setting has two columns
-two_columns : (r : StoredRow) → length (columns_of r) ≡ 2 → table_at (key_of r) ≡ name.Setting
-two_columns (stored.Setting r) is = refl
-two_columns (stored.Account r) is = cc
-two_columns (stored.App r) is = cc
-two_columns (stored.Version r) is = cc
-two_columns (stored.Unit r) is = cc
-two_columns (stored.Host r) is = cc
-two_columns (stored.Instance r) is = cc
-two_columns (stored.Kept r) is = cc
-two_columns (stored.Batch r) is = cc
-
-settings_typed : (trees : Trees) (rows : List StoredRow) → map columns_of rows ≡ rows_in trees name.Setting → (r : StoredRow) → Has rows r → table_at (key_of r) ≡ name.Setting
-settings_typed trees rows read r has =
-    let raw = source (shown name.Setting) (trees (tree_of name.Setting)) (columns_of r) (subst (λ (l : List Row). Has l (columns_of r)) read (mapped columns_of rows r has)) in
-    two_columns r (ap length raw.2)
-
-setting_name : RowKey → List ℕ
-setting_name (setting_key text) = text
-setting_name other = []
-
 tells_newest : (v : SettingValue) → setting_value v ≡ whole newest → v ≡ Number newest
 tells_newest (Number n) is = cc
 tells_newest (Word w) is = cc
 
-is_schema_row : (r : StoredRow) → key_of r ≡ setting_key (codes "schema") → column (columns_of r) 1 ≡ whole newest → r ≡ schema_row
-unfolding setting_name
-is_schema_row (stored.Setting s) key is = ap₂ (λ n v. stored.Setting (record { name = n; value = v })) (ap setting_name key) (tells_newest s.value is)
-is_schema_row (stored.Account r) key is = cc
-is_schema_row (stored.App r) key is = cc
-is_schema_row (stored.Version r) key is = cc
-is_schema_row (stored.Unit r) key is = cc
-is_schema_row (stored.Host r) key is = cc
-is_schema_row (stored.Instance r) key is = cc
-is_schema_row (stored.Kept r) key is = cc
-is_schema_row (stored.Batch r) key is = cc
+no_text : (n : ℕ) → equal Binary (whole n) (Text (codes "schema")) ≡ true → ⊥
+no_text n is = let same : whole n ≡ Text (codes "schema") = same_cell (whole n) (Text (codes "schema")) refl refl is in cc
+
+-- only the setting of that name begins with it and has that value
+is_schema_row : (r : StoredRow) → equal Binary (column (columns_of r) 0) (Text (codes "schema")) ≡ true → column (columns_of r) 1 ≡ whole newest → r ≡ schema_row
+is_schema_row (stored.Setting s) named is =
+    ap₂ (λ n v. stored.Setting (record { name = n; value = v })) ((bytes_eq-Decides s.name (codes "schema")).0 (sym (equal_texts s.name (codes "schema")) ∙ named)) (tells_newest s.value is)
+is_schema_row (stored.Account r) named is = absurd (no_text _ named)
+is_schema_row (stored.App r) named is = absurd (no_text _ named)
+is_schema_row (stored.Version r) named is = absurd (no_text _ named)
+is_schema_row (stored.Unit r) named is = absurd (no_text _ named)
+is_schema_row (stored.Host r) named is = absurd (no_text _ named)
+is_schema_row (stored.Instance r) named is = absurd (no_text _ named)
+is_schema_row (stored.Kept r) named is = absurd (no_text _ named)
+is_schema_row (stored.Batch r) named is = cc
+is_schema_row (stored.VersionClass r) named is = absurd (no_text _ named)
+is_schema_row (stored.UnitMark r) named is = absurd (no_text _ named)
+
+-- a row of the settings has a name where it begins with that
+begins_with : (text : List ℕ) (raw : Row) → has_key (setting_key text) raw ≡ true → equal Binary (column (shown name.Setting raw) 0) (Text text) ≡ true
+unfolding first_key
+begins_with text raw own = first_of (equal Binary (column (shown name.Setting raw) 0) (Text text)) own
+  where
+    first_of : (b : Bool) → (b && true) ≡ true → b ≡ true
+    first_of true own = refl
+    first_of false own = own
 
 -- where no setting tells the newest schema, the tables do not say that they are of it
 not_said : (trees : Trees) → HasOtherSchema trees → schema_said trees ≡ Some (whole newest) → ⊥
-not_said trees other said = go (look_up trees (setting_key (codes "schema"))) refl said
+not_said trees other said = elim (found (has_key key) (trees (tree_of name.Setting))) [
+  | inl none ↦ none-some (whole newest) (sym (ap (option_map (λ row. column (shown name.Setting row) 1)) none.0) ∙ of_shown (find (has_key key) (trees (tree_of name.Setting))) ∙ said)
+  | inr one ↦
+      let row = shown name.Setting one.0 in
+      let value : column row 1 ≡ whole newest =
+      same_Some _ _ (sym (ap (option_map (λ row. column (shown name.Setting row) 1)) one.1) ∙ of_shown (find (has_key key) (trees (tree_of name.Setting))) ∙ said) in
+      let read = subst (λ (l : List Row). Has l row) (sym other.1.world.settings) (mapped (shown name.Setting) (trees (tree_of name.Setting)) one.0 one.2) in
+      let s = source columns_of other.0.world.settings row read in
+      let named = ap (λ (r : Row). equal Binary (column r 0) (Text (codes "schema"))) (sym s.2) ∙ begins_with (codes "schema") one.0 one.3 in
+      other.2 (subst (Has other.0.world.settings) (is_schema_row s.0 named (ap (λ (r : Row). column r 1) (sym s.2) ∙ value)) s.1)
+]
   where
-    go : (o : Option Row) → look_up trees (setting_key (codes "schema")) ≡ o → option_map (λ row. column row 1) o ≡ Some (whole newest) → ⊥
-    go None is tells = none-some (whole newest) tells
-    go (Some row) is tells =
-        let s = held_row trees name.Setting other.0.world.settings other.1.world.settings (settings_typed trees other.0.world.settings other.1.world.settings) (setting_key (codes "schema")) refl row is in
-        let value : column row 1 ≡ whole newest = cc in
-        other.2 (subst (Has other.0.world.settings) (is_schema_row s.0 s.3 (ap (λ (r : Row). column r 1) (sym s.2) ∙ value)) s.1)
+    key : RowKey
+    key = setting_key (codes "schema")
+
+    of_shown : (o : Option Row) → option_map (λ row. column (shown name.Setting row) 1) o ≡ option_map (λ (row : Row). column row 1) (option_map (shown name.Setting) o)
+    of_shown None = refl
+    of_shown (Some row) = refl
 
 -- ---- tables of the newest schema
 
 -- are of no earlier one
 pub none_earlier : (db : Database) → AreKnown db → (n : ℕ) → ¬ AreEarlier n db
-none_earlier db known n earlier =
-    let one : n ≡ 1 = omega (arith, earlier.earlier.0, earlier.earlier.1) in
-    let fewer : 9 ≡ 10 = ap (λ s. length s.tables) (sym (subst (λ m. db.schema ≡ schema_at m) one earlier.known.schema) ∙ known.schema) in
-    omega (arith, fewer)
+none_earlier db known n earlier = elim (of_two n earlier.earlier.0 earlier.earlier.1) [
+  | inl one ↦
+      let fewer : 9 ≡ 12 = ap (λ s. length s.tables) (sym (subst (λ m. db.schema ≡ schema_at m) one earlier.known.schema) ∙ known.schema) in
+      omega (arith, fewer)
+  | inr two ↦
+      let fewer : 10 ≡ 12 = ap (λ s. length s.tables) (sym (subst (λ m. db.schema ≡ schema_at m) two earlier.known.schema) ∙ known.schema) in
+      omega (arith, fewer)
+]
+  where
+    of_two : (n : ℕ) → 1 ≤ n → n < 3 → (n ≡ 1) ⊎ (n ≡ 2)
+    of_two n least most = grind arith
 
 -- ---- what a refusal tells
 

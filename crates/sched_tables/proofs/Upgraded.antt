@@ -1,30 +1,29 @@
 -- What an upgrade leaves of a world, and what is told of it then.
-use Rattle.std.proofs.Common.{◌≡◌, ℕ, cond, eqb, Option, Some, None, option_map, option_to_list, refl, ap, ◌∙◌, inl, inr, Result, Ok, Err, OnOk, IsTrue}
+use Rattle.std.proofs.Common.{◌≡◌, ℕ, cond, eqb, Option, Some, None, option_map, option_to_list, refl, ap, ◌∙◌, inl, inr, IsTrue}
 use Rattle.sqlite.specs.Effect.{Database}
 use Rattle.sqlite.specs.State.{State, Survives}
 use Rattle.reply_register.specs.declared.kept.Kept.{Kept}
+use Rattle.sched_book.specs.Former.{IsUnclassed}
 use Rattle.sched_book.specs.Sound.{Sound}
 use Rattle.sched_book.specs.declared.world.World.{World}
 use Rattle.stores.specs.Held.{IsLeft}
 use Rattle.stores.specs.Kinds.{kind_name}
-use Rattle.table_meaning.specs.Upgrades.{HostCalls, HoldFirstWorld, in_first_slot, Upgrades, UpgradesWorld}
-use Rattle.table_meaning.proofs.UpgradedWorlds.{upgrades_world}
+use Rattle.table_meaning.specs.Upgrades.{HostCalls, HoldFirstWorld, HoldSecondWorld, in_first_slot, IsLeftBehind, IsLeftBehindWorld, UpgradesWorld}
+use Rattle.table_meaning.specs.Worlds.{SlotCalls, HoldWorld}
+use Rattle.table_meaning.proofs.UpgradedWorlds.{left_world}
 use Rattle.table_worlds.proofs.StaysReadable.{sound_is_readable}
 use Rattle.table_worlds.proofs.WorldReadBack.{held_is_read_back}
 use Rattle.sched_tables.specs.Commits.{Imports}
 use Rattle.sched_tables.specs.Entries.{kept_batch}
+use Rattle.sched_tables.specs.Laws.{UpgradedHold}
 use Rattle.sched_tables.specs.Slots.{calls_in_slots}
-use Rattle.sched_tables.specs.Upgrading.{first_held}
+use Rattle.sched_tables.specs.Upgrading.{first_held, second_held}
 use Rattle.sched_tables.specs.Views.{held_in}
 use Rattle.sched_tables.proofs.EntriesKept.{calls_back, batches_back}
 
-pub on_ok : {T E : Type 0} (r : Result T E) (A B : Type 0) → (A → B) → OnOk r A → OnOk r B
-on_ok (Ok x) A B f a = f a
-on_ok (Err e) A B f a = tt
-
 -- what a stop leaves of an upgrade carries a world over, too
-pub survives_world : (old new : State) → Survives old new (λ trees. IsTrue old.is_open × (db : Database) × Upgrades old.now db × (trees ≡ db.trees))
-    → Survives old new (λ trees. IsTrue old.is_open × (db : Database) × UpgradesWorld old.now db × (trees ≡ db.trees))
+pub survives_world : (old new : State) → Survives old new (λ trees. IsTrue old.is_open × (db : Database) × IsLeftBehind old.now db × (trees ≡ db.trees))
+    → Survives old new (λ trees. IsTrue old.is_open × (db : Database) × IsLeftBehindWorld old.now db × (trees ≡ db.trees))
 survives_world old new survives = record {
   clean = survives.clean;
   shield = survives.shield;
@@ -33,7 +32,7 @@ survives_world old new survives = record {
   closes = survives.closes;
   crash = λ clean trees left. elim (survives.crash clean trees left) [
     | inl before ↦ inl before
-    | inr ahead ↦ inr (ahead.0, ahead.1, upgrades_world old.now ahead.1 ahead.2, ahead.3)
+    | inr ahead ↦ inr (ahead.0, ahead.1, left_world old.now ahead.1 ahead.2, ahead.3)
   ];
 }
 
@@ -46,11 +45,18 @@ one_call calls host = cases (calls host)
     cases None = refl
     cases (Some k) = refl
 
-pub upgraded_holds : (old new : Database) (w : World) (calls : HostCalls) (batches : Imports) → UpgradesWorld old new → Sound w → HoldFirstWorld old w calls batches → IsLeft (first_held w calls batches) (held_in new.trees)
-upgraded_holds old new w calls batches upgrades sound held =
-    let holds = upgrades w calls batches held in
-    record {
-      world_is = held_is_read_back new w _ _ holds (sound_is_readable w sound);
-      calls_are = λ host. ap calls_in_slots (λ i slot. calls_back new w (in_first_slot calls) batches holds host slot i) ∙ one_call calls host;
-      batches_are = λ kind name. ap (option_map kept_batch) (batches_back new w (in_first_slot calls) batches holds (kind_name kind) name);
-    }
+-- tables that hold a sound world hold it as a store says it
+holds_as_left : (db : Database) (w : World) (calls : SlotCalls) (batches : Imports) → Sound w → HoldWorld db w calls batches → IsLeft (second_held w calls batches) (held_in db.trees)
+holds_as_left db w calls batches sound holds = record {
+  world_is = held_is_read_back db w _ _ holds (sound_is_readable w sound);
+  calls_are = λ host. ap calls_in_slots (λ i slot. calls_back db w calls batches holds host slot i);
+  batches_are = λ kind name. ap (option_map kept_batch) (batches_back db w calls batches holds (kind_name kind) name);
+}
+
+pub upgraded_hold : (old new : Database) → UpgradesWorld old new → UpgradedHold old (held_in new.trees)
+upgraded_hold old new upgrades = record {
+  from_first = λ w calls batches sound unclassed held.
+      let left = holds_as_left new w (in_first_slot calls) batches sound (upgrades.from_first w calls batches unclassed held) in
+      record { world_is = left.world_is; calls_are = λ host. left.calls_are host ∙ one_call calls host; batches_are = left.batches_are };
+  from_second = λ w calls batches sound unclassed held. holds_as_left new w calls batches sound (upgrades.from_second w calls batches unclassed held);
+}

@@ -1,4 +1,4 @@
--- What a commit makes of tables.
+-- Rule. What a commit makes of tables.
 use Rattle.std.specs.Prelude.{◌≡◌, ℕ, Bool, false, List, [], ◌∷◌, ◌++◌, fold, Option, Some}
 use Rattle.std.specs.List.{AllByRecursion, list_any, cons_option}
 use Rattle.sqlite.specs.Effect.{Database}

@@ -1,4 +1,4 @@
--- What an entry puts into the tables, and what they keep then.
+-- Rule. What an entry puts into the tables, and what they keep then.
 use Rattle.std.specs.Prelude.{◌≡◌, ℕ, List, Option, Some, None, option_map}
 use Rattle.sqlite.specs.Effect.{Database}
 use Rattle.sqlite_trees.specs.Tree.{Trees}

@@ -1,4 +1,4 @@
--- When tables stand for a world.
+-- Rule. When tables stand for a world.
 use Rattle.std.specs.Prelude.{◌≡◌, false, List, IsTrue}
 use Rattle.sqlite.specs.State.{State, HasCleanDisk}
 use Rattle.sqlite_trees.specs.View.{doubt}

@@ -1,19 +1,20 @@
--- What ties tables to what a stop left of them.
+-- Rule. What ties tables to what a stop left of them.
 use Rattle.std.specs.Prelude.{◌≡◌}
 use Rattle.sqlite_trees.specs.declared.store.Store.{Ghosts}
+use Rattle.sched_book.specs.Former.{IsUnclassed}
 use Rattle.sched_book.specs.Sound.{Sound}
 use Rattle.sqlite.specs.Effect.{Database}
 use Rattle.sched_book.specs.declared.world.World.{World}
 use Rattle.stores.specs.Held.{Held, IsLeft}
 use Rattle.table_meaning.specs.Kept.{calls_in, batches_in}
 use Rattle.table_meaning.specs.Reads.{Reads}
-use Rattle.table_meaning.specs.Upgrades.{HostCalls, HoldFirstWorld, UpgradesWorld}
+use Rattle.table_meaning.specs.Upgrades.{HostCalls, HoldFirstWorld, HoldSecondWorld, UpgradesWorld}
 use Rattle.table_meaning.specs.Worlds.{SlotCalls, HoldWorld}
 use Rattle.table_reading.specs.Reading.{AreUtf8, MayStandBeside}
 use Rattle.table_worlds.specs.StoredWorld.{world_in}
 use Rattle.sched_tables.specs.Commits.{Imports}
 use Rattle.sched_tables.specs.Reopening.{AreTaken, CanBeOpened, Reopens}
-use Rattle.sched_tables.specs.Upgrading.{first_held}
+use Rattle.sched_tables.specs.Upgrading.{first_held, second_held}
 use Rattle.sched_tables.specs.Stops.{MayBeFound}
 use Rattle.sched_tables.specs.Views.{state_of, world_of, held_of, AreKept}
 use Rattle.sched_tables.specs.declared.tables.Tables.{Tables}
@@ -36,8 +37,11 @@ OpenedAreTaken = (db : Database) → CanBeOpened db → AreUtf8 (world_in db.tre
 abbrev pub ReadsReopen : {S : Type 0} → Ghosts S → Type 0
 ReadsReopen {S} store = (old new : Tables S) → Reads (state_of store old) (state_of store new) → AreKept store old → Reopens (state_of store old) → Reopens (state_of store new)
 
--- Tables that were upgraded hold what those of the first schema held.
+-- What tables of an earlier schema held is held: of the first one, with the last call of each host; of the second, with the calls in the slots.
+pub record UpgradedHold (old : Database) (held : Held) : Type 0 where
+  pub from_first : (w : World) (calls : HostCalls) (batches : Imports) → Sound w → IsUnclassed w → HoldFirstWorld old w calls batches → IsLeft (first_held w calls batches) held
+  pub from_second : (w : World) (calls : SlotCalls) (batches : Imports) → Sound w → IsUnclassed w → HoldSecondWorld old w calls batches → IsLeft (second_held w calls batches) held
+
+-- Tables that were upgraded hold what they held before.
 abbrev pub UpgradedHolds : {S : Type 0} → Ghosts S → Type 0
-UpgradedHolds {S} store =
-    (old : Database) (t : Tables S) → UpgradesWorld old (state_of store t).now → (w : World) (calls : HostCalls) (batches : Imports) → Sound w → HoldFirstWorld old w calls batches
-    → IsLeft (first_held w calls batches) (held_of store t)
+UpgradedHolds {S} store = (old : Database) (t : Tables S) → UpgradesWorld old (state_of store t).now → UpgradedHold old (held_of store t)

@@ -1,4 +1,4 @@
--- What a read leaves of tables: proved from their definitions alone.
+-- Rule. What a read leaves of tables: proved from their definitions alone.
 use Rattle.std.proofs.Common.{◌≡◌, ℕ, false, List, sym, ap, subst, ◌∙◌, inl, inr, arith}
 use Rattle.sqlite.specs.Effect.{Database}
 use Rattle.sqlite.specs.State.{State, HasCleanDisk, Survives}

@@ -1,4 +1,4 @@
--- What tables are refused for when they are opened, as they stand in the file.
+-- Rule. What tables are refused for when they are opened, as they stand in the file.
 use Rattle.std.specs.Prelude.{◌≡◌, ◌⊎◌, ⊤, ℕ, Some}
 use Rattle.sqlite.specs.Effect.{Database}
 use Rattle.table_meaning.specs.Holding.{AreKnown}

@@ -1,4 +1,4 @@
--- What was read of a world since the last commit.
+-- Rule. What was read of a world since the last commit.
 use Rattle.std.specs.Prelude.{◌≡◌, ◌⊎◌, ℕ, Some, IfSome}
 use Rattle.std.specs.BTreeMap.{get}
 use Rattle.std.specs.Ordering.{nat_cmp}

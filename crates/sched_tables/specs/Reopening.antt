@@ -1,4 +1,4 @@
--- Tables that can be opened again.
+-- Rule. Tables that can be opened again.
 use Rattle.std.specs.Prelude.{◌≡◌, ◌≤◌, ⊤, IsTrue, length, is_some}
 use Rattle.rpc_records.specs.Ranges.{IsWord}
 use Rattle.sqlite.specs.Effect.{Database, IsDatabase}

@@ -1,4 +1,4 @@
--- What a stop leaves behind a read, and at rest: what the tables owe as a store, proved from their definitions alone.
+-- Rule. What a stop leaves behind a read, and at rest: what the tables owe as a store, proved from their definitions alone.
 use Rattle.std.proofs.Common.{◌≡◌, refl, sym, ap, subst, ◌∙◌, inl, inr, arith}
 use Rattle.sqlite.specs.Effect.{Database}
 use Rattle.sqlite.specs.State.{State, HasCleanDisk, Survives}

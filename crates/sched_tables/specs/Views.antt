@@ -1,4 +1,4 @@
--- What tables are seen as: the state of their connection, and the world that their rows tell.
+-- Rule. What tables are seen as: the state of their connection, and the world that their rows tell.
 use Rattle.std.specs.Prelude.{◌≡◌}
 use Rattle.sqlite_trees.specs.Tree.{Trees}
 use Rattle.sqlite_trees.specs.declared.store.Store.{Ghosts}

@@ -16,8 +16,7 @@ pub fn reopened_holds<S: Alter, R: Alter>()
     ensures { ReopenedHolds S.Store R.Store }
 {}
 
-/// Tables that were upgraded hold what those of the first schema held: the world, the imports, and of each host its last
-/// call.
+/// Tables that were upgraded hold what they held before: the world, the imports, and of each host the calls that were kept.
 pub fn upgraded_holds<S: Alter>()
     ensures { UpgradedHolds S.Store }
 {}

@@ -6,7 +6,7 @@ ghost use Rattle.sqlite.specs.State.{HasCleanDisk, Survives};
 ghost use Rattle.table_meaning.specs.Schema.{newest, schema_at, stored_schema};
 ghost use Rattle.table_meaning.specs.Schemas.{IsSchema, IsEarlier, AreKnownAt, AreEarlier, schema_said};
 ghost use Rattle.table_meaning.specs.Rows.{whole as sql_whole};
-ghost use Rattle.table_meaning.specs.Upgrades.{UpgradesWorld};
+ghost use Rattle.table_meaning.specs.Upgrades.{UpgradesWorld, IsLeftBehindWorld, StaysOrHalfwayWorld};
 
 use sqlite::{Alter, Connection};
 use std::alloc::Global;
@@ -28,22 +28,23 @@ CREATE INDEX instance_owner ON instance (host_id, unit_id, num);
 CREATE INDEX instance_sent ON instance (host_id, sent);
 CREATE INDEX instance_deadline ON instance (deadline);";
 
-/// Carries tables of an older schema over to the newest one, in one transaction and one row at a time, and tells its number.
-/// Of the calls that the first schema keeps, each comes into the first slot of its host. Tables of the newest schema stay as
-/// they are. A stop at any moment leaves what a stop could leave before, or the upgraded tables.
+/// Carries tables of an older schema over to the newest one, and tells its number: from each schema to the next in a
+/// transaction of its own, one row at a time. Of the calls that the first schema keeps, each comes into the first slot of its
+/// host; the class of each version becomes its platform, and no workunit is marked. Tables of the newest schema stay as they
+/// are. A stop at any moment leaves what a stop could leave before, or whole tables of one of the later schemas.
 ///
 /// # Errors
 ///
-/// `NotTables` where the tables are of no schema, or their row `schema` has not the number of theirs; `BadRow` where a call is
-/// kept of a host whose number is past its range; `Unavailable` where memory or the disk failed. The tables are then as they
-/// were.
+/// `NotTables` where the tables are of no schema, or their row `schema` has not the number of theirs; `BadRow` where a row
+/// that is copied has a number past its range; `Unavailable` where memory or the disk failed. The tables are then as they
+/// were, or those of the first schema have become those of the second.
 pub fn upgrade<S: Alter>(alloc: Global, conn: &mut Connection<S>) -> Result<u32, OpenFault>
     ensures was_open { HasCleanDisk (state S.Store conn.new) → IsTrue (state S.Store conn.new).is_open → IsTrue (state S.Store conn.old).is_open }
     ensures open { HasCleanDisk (state S.Store conn.new) → OnOk result (IsTrue (state S.Store conn.new).is_open) }
     ensures idle { (state S.Store conn.old).in_transaction ≡ false → (state S.Store conn.new).in_transaction ≡ false }
     ensures number { IfOk result (λ n. n ≡ newest) }
     ensures of_schema { OnOk result ((n : ℕ) × IsSchema n × ((state S.Store conn.old).now.schema ≡ schema_at n)) }
-    ensures upgrades { HasCleanDisk (state S.Store conn.new) → (state S.Store conn.old).now.schema ≡ schema_at 1 → OnOk result (UpgradesWorld (state S.Store conn.old).now (state S.Store conn.new).committed) }
+    ensures upgrades { HasCleanDisk (state S.Store conn.new) → OnOk result (UpgradesWorld (state S.Store conn.old).now (state S.Store conn.new).committed) }
     ensures said { HasCleanDisk (state S.Store conn.new) → OnOk result ((n : ℕ) → IsEarlier n → AreKnownAt n (state S.Store conn.old).now → schema_said (state S.Store conn.old).now.trees ≡ Some (sql_whole n)) }
     ensures newest { HasCleanDisk (state S.Store conn.new) → (state S.Store conn.old).now.schema ≡ stored_schema
         → OnOk result (((state S.Store conn.new).now ≡ (state S.Store conn.old).now) × ((state S.Store conn.new).committed ≡ (state S.Store conn.old).committed)) }
@@ -51,10 +52,9 @@ pub fn upgrade<S: Alter>(alloc: Global, conn: &mut Connection<S>) -> Result<u32,
     ensures taken { HasCleanDisk (state S.Store conn.new) → IfErr result (λ e. e ≡ OpenFault.NotTables
         → ((state S.Store conn.old).now.schema ≢ stored_schema) × ((n : ℕ) → ¬ AreEarlier n (state S.Store conn.old).now)) }
     ensures never_old { IfErr result (λ e. (n : ℕ) → e ≢ OpenFault.OldSchema n) }
-    ensures neither { HasCleanDisk (state S.Store conn.new) → IsTrue (state S.Store conn.new).is_open
-        → OnErr result (((state S.Store conn.new).now ≡ (state S.Store conn.old).now) × ((state S.Store conn.new).committed ≡ (state S.Store conn.old).committed)) }
+    ensures neither { HasCleanDisk (state S.Store conn.new) → IsTrue (state S.Store conn.new).is_open → OnErr result (StaysOrHalfwayWorld (state S.Store conn.old) (state S.Store conn.new)) }
     ensures crash { Survives (state S.Store conn.old) (state S.Store conn.new)
-        (λ trees. IsTrue (state S.Store conn.old).is_open × (db : _) × UpgradesWorld (state S.Store conn.old).now db × (trees ≡ db.trees)) }
+        (λ trees. IsTrue (state S.Store conn.old).is_open × (db : _) × IsLeftBehindWorld (state S.Store conn.old).now db × (trees ≡ db.trees)) }
 {
     table_rows::upgrade(alloc, conn)
 }

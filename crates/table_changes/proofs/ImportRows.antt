@@ -22,11 +22,12 @@ use Rattle.sched_book.specs.declared.instance.UnitBook.{UnitBook}
 use Rattle.sched_book.specs.declared.rows.Account.{Account as AccountRow}
 use Rattle.sched_book.specs.declared.rows.Agreement.{Agreement}
 use Rattle.sched_book.specs.declared.rows.App.{App as AppRow}
+use Rattle.sched_book.specs.declared.rows.ClassRule.{ClassRule}
 use Rattle.sched_book.specs.declared.rows.Version.{Version as VersionRow}
 use Rattle.sched_book.specs.declared.rows.Workunit.{Workunit}
 use Rattle.sched_book.specs.declared.world.World.{World}
 use Rattle.sched_book.proofs.PlacesOf.{nth-suc, nth-push}
-use Rattle.table_meaning.specs.Worlds.{account_row, app_row, version_row, unit_row, host_row, instance_row, app_place, status_code}
+use Rattle.table_meaning.specs.Worlds.{account_row, app_row, version_row, class_row, unit_row, mark_row, host_row, instance_row, app_place, status_code}
 use Rattle.table_meaning.specs.declared.rows.StoredRow.{StoredRow}
 use Rattle.table_meaning.specs.declared.rows.StoredRow.TheVariants as stored
 use Rattle.table_worlds.proofs.ByPlace.{all_nth}
@@ -36,7 +37,7 @@ use Rattle.table_worlds.specs.Changes.{IsChange, AreChanges}
 use Rattle.table_worlds.specs.Keys.{row_in}
 use Rattle.table_worlds.specs.Readable.{IsReadable}
 use Rattle.table_worlds.specs.declared.keys.WorldKey.{WorldKey}
-use Rattle.table_worlds.specs.declared.keys.WorldKey.TheVariants.{Account, App, Version, Unit as UnitKey, Host, Instance}
+use Rattle.table_worlds.specs.declared.keys.WorldKey.TheVariants.{Account, App, Version, Class, Unit as UnitKey, Mark, Host, Instance}
 use Rattle.table_changes.specs.Added.{is_put, is_instance_among, AreAdded}
 use Rattle.table_changes.specs.Imported.{AreImported}
 use Rattle.table_changes.proofs.Adding.{IsSettled, KeepsRows, puts_own, put_of_neither, changes_then, no_changes}
@@ -112,7 +113,9 @@ module _ (w v : World) (count : Counts) (rows new : List StoredRow) (n : ℕ) (r
       keeps (Account id) r at = kept_by (λ (b : AccountRow). stored.Account (account_row id b)) v.accounts (a ∷ []) id r at
       keeps (App id) r at = at
       keeps (Version id) r at = at
+      keeps (Class id) r at = at
       keeps (UnitKey id) r at = at
+      keeps (Mark id) r at = at
       keeps (Host id) r at = at
       keeps (Instance p) r at = at
 
@@ -122,25 +125,30 @@ module _ (w v : World) (count : Counts) (rows new : List StoredRow) (n : ℕ) (r
           (λ last. puts_own u (Account id) row [] (own id last))) [ inl put ↦ never (row ∷ []) (Account id) not_put put | inr same ↦ inr same ]
       settled (App id) not_put = inr refl
       settled (Version id) not_put = inr refl
+      settled (Class id) not_put = inr refl
       settled (UnitKey id) not_put = inr refl
+      settled (Mark id) not_put = inr refl
       settled (Host id) not_put = inr refl
       settled (Instance p) not_put = inr refl
 
       step : AreChanges v u (row ∷ [])
       step = record { each = ((Account n, own n at_end), tt); others = settled }
 
-  -- ---- a version more
+-- ---- a version more, with its class
 
-  pub version_added : (b : VersionRow) (app : ℕ) → n ≡ count.versions + 1 → app ≡ app_place w b.app → has_app w.apps b.app ≡ true
-      → ((x : World) → app ≡ app_place x b.app → row ≡ stored.Version (version_row x n b))
+module _ (w v : World) (count : Counts) (rows mid new : List StoredRow) (n app : ℕ) (row class : StoredRow) (so_far : AreImported w v count rows)
+    (behind : mid ≡ rows ++ row ∷ []) (further : new ≡ mid ++ class ∷ []) where
+  pub version_added : (b : VersionRow) → n ≡ count.versions + 1 → app ≡ app_place w b.app → has_app w.apps b.app ≡ true
+      → ((x : World) → app ≡ app_place x b.app → row ≡ stored.Version (version_row x n b)) → class ≡ stored.VersionClass (class_row n b)
       → AreImported w (applied_one v (change.Version b)) (record count { versions = n }) new
-  version_added b app next at_place stands told = record {
+  version_added b next at_place stands told classed = record {
     counted =
         ap (λ (c : Counts). record c { versions = n }) so_far.counted
         ∙ ap (λ k. record (counts v) { versions = k }) (long v.versions b count.versions n next (ap (λ (c : Counts). c.versions) so_far.counted));
     apps = so_far.apps;
     readable = stays_readable v (change.Version b ∷ []) so_far.readable (ap (λ t. t && true) (still_stands w v so_far.apps.0 b.app so_far.apps.1 stands));
-    changes = changes_then w v u rows (row ∷ []) new keeps behind step so_far.changes;
+    changes = changes_then w v u rows (row ∷ class ∷ []) new keeps
+        (further ∙ ap (λ l. l ++ class ∷ []) behind ∙ append_assoc rows (row ∷ []) (class ∷ [])) step so_far.changes;
   }
     where
       u : World
@@ -158,26 +166,41 @@ module _ (w v : World) (count : Counts) (rows new : List StoredRow) (n : ℕ) (r
           ∙ ap (λ m. Some (stored.Version (version_row v m b))) (last ∙ sym at_end)
           ∙ ap Some (sym is)
 
+      own_class : (id : ℕ) → id ≡ length v.versions + 1 → row_in u (Class id) ≡ Some class
+      own_class id last =
+          ap (option_map (λ (x : VersionRow). stored.VersionClass (class_row id x))) (nth_new v.versions b id last)
+          ∙ ap (λ m. Some (stored.VersionClass (class_row m b))) (last ∙ sym at_end)
+          ∙ ap Some (sym classed)
+
       keeps : KeepsRows v u
       keeps (Account id) r at = at
       keeps (App id) r at = at
       keeps (Version id) r at = kept_by (λ (x : VersionRow). stored.Version (version_row v id x)) v.versions (b ∷ []) id r at
+      keeps (Class id) r at = kept_by (λ (x : VersionRow). stored.VersionClass (class_row id x)) v.versions (b ∷ []) id r at
       keeps (UnitKey id) r at = at
+      keeps (Mark id) r at = at
       keeps (Host id) r at = at
       keeps (Instance p) r at = at
 
-      settled : (k : WorldKey) → is_put (row ∷ []) k ≡ false → IsSettled v u k
+      settled : (k : WorldKey) → is_put (row ∷ class ∷ []) k ≡ false → IsSettled v u k
       settled (Account id) not_put = inr refl
       settled (App id) not_put = inr refl
       settled (Version id) not_put =
-          elim (pushed (λ (x : VersionRow). stored.Version (version_row v id x)) v.versions b id (is_put (row ∷ []) (Version id) ≡ true)
-          (λ last. puts_own u (Version id) row [] (own id last))) [ inl put ↦ never (row ∷ []) (Version id) not_put put | inr same ↦ inr same ]
+          elim (pushed (λ (x : VersionRow). stored.Version (version_row v id x)) v.versions b id (is_put (row ∷ class ∷ []) (Version id) ≡ true)
+          (λ last. puts_own u (Version id) row (class ∷ []) (own id last))) [ inl put ↦ never (row ∷ class ∷ []) (Version id) not_put put | inr same ↦ inr same ]
+      settled (Class id) not_put =
+          elim (pushed (λ (x : VersionRow). stored.VersionClass (class_row id x)) v.versions b id (is_put (class ∷ []) (Class id) ≡ true)
+          (λ last. puts_own u (Class id) class [] (own_class id last))) [
+            | inl put ↦ never (class ∷ []) (Class id) (put_of_neither (row ∷ []) (class ∷ []) (Class id) not_put).1 put
+            | inr same ↦ inr same
+          ]
       settled (UnitKey id) not_put = inr refl
+      settled (Mark id) not_put = inr refl
       settled (Host id) not_put = inr refl
       settled (Instance p) not_put = inr refl
 
-      step : AreChanges v u (row ∷ [])
-      step = record { each = ((Version n, own n at_end), tt); others = settled }
+      step : AreChanges v u (row ∷ class ∷ [])
+      step = record { each = ((Version n, own n at_end), ((Class n, own_class n at_end), tt)); others = settled }
 
 -- ---- an application more
 
@@ -275,7 +298,9 @@ app_added w v count rows new n row so_far behind a next is = record {
     keeps (Account id) r at = at
     keeps (App id) r at = kept_by (λ (b : AppRow). stored.App (app_row id b)) v.apps (a ∷ []) id r at
     keeps (Version id) r at = sym (version_stays v a so_far.readable id) ∙ at
+    keeps (Class id) r at = at
     keeps (UnitKey id) r at = sym (unit_stays v a so_far.readable id) ∙ at
+    keeps (Mark id) r at = at
     keeps (Host id) r at = sym (host_stays v a so_far.readable id) ∙ at
     keeps (Instance p) r at = sym (instance_stays v a so_far.readable p) ∙ at
 
@@ -285,14 +310,16 @@ app_added w v count rows new n row so_far behind a next is = record {
         elim (pushed (λ (b : AppRow). stored.App (app_row id b)) v.apps a id (is_put (row ∷ []) (App id) ≡ true)
         (λ last. puts_own u (App id) row [] (own id last))) [ inl put ↦ never (row ∷ []) (App id) not_put put | inr same ↦ inr same ]
     settled (Version id) not_put = inr (version_stays v a so_far.readable id)
+    settled (Class id) not_put = inr refl
     settled (UnitKey id) not_put = inr (unit_stays v a so_far.readable id)
+    settled (Mark id) not_put = inr refl
     settled (Host id) not_put = inr (host_stays v a so_far.readable id)
     settled (Instance p) not_put = inr (instance_stays v a so_far.readable p)
 
     step : AreChanges v u (row ∷ [])
     step = record { each = ((App n, own n at_end), tt); others = settled }
 
--- ---- a workunit more
+-- ---- a workunit more, with its mark
 
 -- what no fresh instance passes counts none of them
 none_of_fresh : (p : Job → Bool) (n : ℕ) → p fresh ≡ false → count_by p (replicate n fresh) ≡ 0
@@ -308,7 +335,7 @@ sum_stays f bs b none =
     let last : sum_by f (b ∷ []) ≡ f b + 0 = sum_by-cons f b [] in
     omega (arith, all, last, none)
 
-module _ (w v : World) (count : Counts) (rows mid new : List StoredRow) (n app : ℕ) (s : Status) (row : StoredRow) (u : Workunit) (so_far : AreImported w v count rows)
+module _ (w v : World) (count : Counts) (rows one mid new : List StoredRow) (n app : ℕ) (s : Status) (row mark : StoredRow) (u : Workunit) (so_far : AreImported w v count rows)
     (next : n ≡ count.workunits + 1) (at_app : app ≡ app_place w u.app) (stands : has_app w.apps u.app ≡ true) where
   abbrev with_unit : World
   with_unit = applied_one v (change.Workunit u)
@@ -319,12 +346,18 @@ module _ (w v : World) (count : Counts) (rows mid new : List StoredRow) (n app :
   pub new_book : unit_at with_unit n ≡ Some (new_unit u)
   new_book = nth_new v.units (new_unit u) n at_end
 
-  unit_own : ((x : World) (b : UnitBook) → b.unit ≡ u → app ≡ app_place x u.app → s ≡ status_of x b → row ≡ stored.Unit (unit_row x n b))
+  unit_own : ((x : World) (b : UnitBook) (rule : ClassRule) → b.unit ≡ record u { class_rule = rule } → app ≡ app_place x u.app → s ≡ status_of x b → row ≡ stored.Unit (unit_row x n b))
       → s ≡ status_of v (new_unit u) → (id : ℕ) → id ≡ length v.units + 1 → row_in with_unit (UnitKey id) ≡ Some row
   unit_own told first id last =
       ap (option_map (λ b. stored.Unit (unit_row v id b))) (nth_new v.units (new_unit u) id last)
       ∙ ap (λ m. Some (stored.Unit (unit_row v m (new_unit u)))) (last ∙ sym at_end)
-      ∙ ap Some (sym (told v (new_unit u) refl (at_app ∙ sym (place_stays w v so_far.apps.0 u.app so_far.apps.1 stands)) first))
+      ∙ ap Some (sym (told v (new_unit u) u.class_rule refl (at_app ∙ sym (place_stays w v so_far.apps.0 u.app so_far.apps.1 stands)) first))
+
+  mark_own : ((b : UnitBook) → b.unit.class_rule ≡ u.class_rule → mark ≡ stored.UnitMark (mark_row n b)) → (id : ℕ) → id ≡ length v.units + 1 → row_in with_unit (Mark id) ≡ Some mark
+  mark_own told id last =
+      ap (option_map (λ b. stored.UnitMark (mark_row id b))) (nth_new v.units (new_unit u) id last)
+      ∙ ap (λ m. Some (stored.UnitMark (mark_row m (new_unit u)))) (last ∙ sym at_end)
+      ∙ ap Some (sym (told (new_unit u) refl))
 
   abbrev of_book : Place → UnitBook → Option StoredRow
   of_book p b = option_map (λ x. stored.Instance (instance_row v b p.unit p.number x)) (slice_get b.instances p.number)
@@ -346,7 +379,9 @@ module _ (w v : World) (count : Counts) (rows mid new : List StoredRow) (n app :
   unit_keeps (Account id) r at = at
   unit_keeps (App id) r at = at
   unit_keeps (Version id) r at = at
+  unit_keeps (Class id) r at = at
   unit_keeps (UnitKey id) r at = kept_by (λ b. stored.Unit (unit_row v id b)) v.units (new_unit u ∷ []) id r at
+  unit_keeps (Mark id) r at = kept_by (λ b. stored.UnitMark (mark_row id b)) v.units (new_unit u ∷ []) id r at
   unit_keeps (Host id) r at = sym (host_same id) ∙ at
   unit_keeps (Instance p) r at = cases (unit_at v p.unit) refl at
     where
@@ -354,17 +389,25 @@ module _ (w v : World) (count : Counts) (rows mid new : List StoredRow) (n app :
       cases None stood is = absurd (none-some r is)
       cases (Some b) stood is = ap (option_and_then (of_book p)) (nth_kept v.units (new_unit u ∷ []) p.unit b stood) ∙ is
 
-  module _ (fresh_rows : AreAdded (is_instance_among (n ∷ [])) v with_unit mid new) (own : (id : ℕ) → id ≡ length v.units + 1 → row_in with_unit (UnitKey id) ≡ Some row) where
+  module _ (fresh_rows : AreAdded (is_instance_among (n ∷ [])) v with_unit mid new) (own : (id : ℕ) → id ≡ length v.units + 1 → row_in with_unit (UnitKey id) ≡ Some row)
+      (own_mark : (id : ℕ) → id ≡ length v.units + 1 → row_in with_unit (Mark id) ≡ Some mark) where
     abbrev more : List StoredRow
-    more = row ∷ fresh_rows.more
+    more = row ∷ mark ∷ fresh_rows.more
 
     unit_settled : (k : WorldKey) → is_put more k ≡ false → IsSettled v with_unit k
     unit_settled (Account id) not_put = inr refl
     unit_settled (App id) not_put = inr refl
     unit_settled (Version id) not_put = inr refl
+    unit_settled (Class id) not_put = inr refl
     unit_settled (UnitKey id) not_put =
         elim (pushed (λ b. stored.Unit (unit_row v id b)) v.units (new_unit u) id (is_put more (UnitKey id) ≡ true)
-        (λ last. puts_own with_unit (UnitKey id) row fresh_rows.more (own id last))) [ inl put ↦ never more (UnitKey id) not_put put | inr same ↦ inr same ]
+        (λ last. puts_own with_unit (UnitKey id) row (mark ∷ fresh_rows.more) (own id last))) [ inl put ↦ never more (UnitKey id) not_put put | inr same ↦ inr same ]
+    unit_settled (Mark id) not_put =
+        elim (pushed (λ b. stored.UnitMark (mark_row id b)) v.units (new_unit u) id (is_put (mark ∷ fresh_rows.more) (Mark id) ≡ true)
+        (λ last. puts_own with_unit (Mark id) mark fresh_rows.more (own_mark id last))) [
+          | inl put ↦ never (mark ∷ fresh_rows.more) (Mark id) (put_of_neither (row ∷ []) (mark ∷ fresh_rows.more) (Mark id) not_put).1 put
+          | inr same ↦ inr same
+        ]
     unit_settled (Host id) not_put = inr (host_same id)
     unit_settled (Instance p) not_put = cases (eqb (length v.units + 1) p.unit) refl
       where
@@ -372,25 +415,27 @@ module _ (w v : World) (count : Counts) (rows mid new : List StoredRow) (n app :
         cases true is =
             fresh_rows.changes.others (Instance p)
             (ap (λ b. b || false) (eq-eqb n p.unit (at_end ∙ eqb-true (length v.units + 1) p.unit is)))
-            (put_of_neither (row ∷ []) fresh_rows.more (Instance p) not_put).1
+            (put_of_neither (row ∷ mark ∷ []) fresh_rows.more (Instance p) not_put).1
         cases false is =
             inr (sym (ap (option_and_then (of_book p)) (nth-push v.units (new_unit u) p.unit ∙ ap (λ b. cond b (Some (new_unit u)) (nth v.units p.unit)) is)))
 
     unit_step : AreChanges v with_unit more
-    unit_step = record { each = ((UnitKey n, own n at_end), fresh_rows.changes.each); others = unit_settled }
+    unit_step = record { each = ((UnitKey n, own n at_end), ((Mark n, own_mark n at_end), fresh_rows.changes.each)); others = unit_settled }
 
-  pub unit_added : ((x : World) (b : UnitBook) → b.unit ≡ u → app ≡ app_place x u.app → s ≡ status_of x b → row ≡ stored.Unit (unit_row x n b))
-      → s ≡ status_of v (new_unit u) → mid ≡ rows ++ row ∷ [] → AreAdded (is_instance_among (n ∷ [])) v with_unit mid new
+  pub unit_added : ((x : World) (b : UnitBook) (rule : ClassRule) → b.unit ≡ record u { class_rule = rule } → app ≡ app_place x u.app → s ≡ status_of x b → row ≡ stored.Unit (unit_row x n b))
+      → ((b : UnitBook) → b.unit.class_rule ≡ u.class_rule → mark ≡ stored.UnitMark (mark_row n b))
+      → s ≡ status_of v (new_unit u) → one ≡ rows ++ row ∷ [] → mid ≡ one ++ mark ∷ [] → AreAdded (is_instance_among (n ∷ [])) v with_unit mid new
       → AreImported w with_unit (record count { workunits = n }) new
-  unit_added told first behind fresh_rows = record {
+  unit_added told marked first behind further fresh_rows = record {
     counted =
         ap (λ (c : Counts). record c { workunits = n }) so_far.counted
         ∙ ap (λ k. record (counts v) { workunits = k }) (long v.units (new_unit u) count.workunits n next (ap (λ (c : Counts). c.workunits) so_far.counted));
     apps = so_far.apps;
     readable = stays_readable v (change.Workunit u ∷ []) so_far.readable (ap (λ t. t && true) (still_stands w v so_far.apps.0 u.app so_far.apps.1 stands));
-    changes = changes_then w v with_unit rows (row ∷ fresh_rows.more) new unit_keeps
-        (fresh_rows.behind ∙ ap (λ l. l ++ fresh_rows.more) behind ∙ append_assoc rows (row ∷ []) fresh_rows.more)
-        (unit_step fresh_rows (unit_own told first)) so_far.changes;
+    changes = changes_then w v with_unit rows (row ∷ mark ∷ fresh_rows.more) new unit_keeps
+        (fresh_rows.behind ∙ ap (λ l. l ++ fresh_rows.more) (further ∙ ap (λ l. l ++ mark ∷ []) behind ∙ append_assoc rows (row ∷ []) (mark ∷ []))
+        ∙ append_assoc rows (row ∷ mark ∷ []) fresh_rows.more)
+        (unit_step fresh_rows (unit_own told first) (mark_own marked)) so_far.changes;
   }
 
 -- the status of a new workunit in the present world

@@ -7,8 +7,8 @@ use Rattle.std.proofs.lemmas.List.Folds.{list_any-append}
 use Rattle.sched_book.specs.declared.world.World.{World}
 use Rattle.table_worlds.specs.Keys.{row_in}
 use Rattle.table_worlds.specs.declared.keys.WorldKey.{WorldKey}
-use Rattle.table_worlds.specs.declared.keys.WorldKey.TheVariants.{Account, App, Version, Unit as UnitKey, Host, Instance}
-use Rattle.table_changes.specs.Added.{is_among, is_unit_among, is_host_among, is_instance_among}
+use Rattle.table_worlds.specs.declared.keys.WorldKey.TheVariants.{Account, App, Version, Class, Unit as UnitKey, Mark, Host, Instance}
+use Rattle.table_changes.specs.Added.{is_among, is_unit_among, is_mark_among, is_host_among, is_instance_among}
 use Rattle.table_changes.proofs.Adding.{IsSettled}
 
 pub one_of : (a b : Bool) → (a || b) ≡ true → (a ≡ true) ⊎ (b ≡ true)
@@ -28,15 +28,29 @@ pub units_next : (ns : List ℕ) (i n : ℕ) → i < length ns → get_or ns i 0
 units_next ns i n within at (Account id) is = absurd (true≢false (sym is))
 units_next ns i n within at (App id) is = absurd (true≢false (sym is))
 units_next ns i n within at (Version id) is = absurd (true≢false (sym is))
+units_next ns i n within at (Class id) is = absurd (true≢false (sym is))
 units_next ns i n within at (UnitKey id) is = elim (more_among ns i n id within at is) [ inl same ↦ inl (ap UnitKey same) | inr here ↦ inr here ]
+units_next ns i n within at (Mark id) is = absurd (true≢false (sym is))
 units_next ns i n within at (Host id) is = absurd (true≢false (sym is))
 units_next ns i n within at (Instance p) is = absurd (true≢false (sym is))
+
+pub marks_next : (ns : List ℕ) (i n : ℕ) → i < length ns → get_or ns i 0 ≡ n → (k : WorldKey) → is_mark_among (take (i + 1) ns) k ≡ true → (k ≡ Mark n) ⊎ (is_mark_among (take i ns) k ≡ true)
+marks_next ns i n within at (Account id) is = absurd (true≢false (sym is))
+marks_next ns i n within at (App id) is = absurd (true≢false (sym is))
+marks_next ns i n within at (Version id) is = absurd (true≢false (sym is))
+marks_next ns i n within at (Class id) is = absurd (true≢false (sym is))
+marks_next ns i n within at (UnitKey id) is = absurd (true≢false (sym is))
+marks_next ns i n within at (Mark id) is = elim (more_among ns i n id within at is) [ inl same ↦ inl (ap Mark same) | inr here ↦ inr here ]
+marks_next ns i n within at (Host id) is = absurd (true≢false (sym is))
+marks_next ns i n within at (Instance p) is = absurd (true≢false (sym is))
 
 pub hosts_next : (ns : List ℕ) (i n : ℕ) → i < length ns → get_or ns i 0 ≡ n → (k : WorldKey) → is_host_among (take (i + 1) ns) k ≡ true → (k ≡ Host n) ⊎ (is_host_among (take i ns) k ≡ true)
 hosts_next ns i n within at (Account id) is = absurd (true≢false (sym is))
 hosts_next ns i n within at (App id) is = absurd (true≢false (sym is))
 hosts_next ns i n within at (Version id) is = absurd (true≢false (sym is))
+hosts_next ns i n within at (Class id) is = absurd (true≢false (sym is))
 hosts_next ns i n within at (UnitKey id) is = absurd (true≢false (sym is))
+hosts_next ns i n within at (Mark id) is = absurd (true≢false (sym is))
 hosts_next ns i n within at (Host id) is = elim (more_among ns i n id within at is) [ inl same ↦ inl (ap Host same) | inr here ↦ inr here ]
 hosts_next ns i n within at (Instance p) is = absurd (true≢false (sym is))
 
@@ -45,7 +59,9 @@ pub instances_then : (ns : List ℕ) (i n : ℕ) → i < length ns → get_or ns
 instances_then ns i n within at (Account id) is = absurd (true≢false (sym is))
 instances_then ns i n within at (App id) is = absurd (true≢false (sym is))
 instances_then ns i n within at (Version id) is = absurd (true≢false (sym is))
+instances_then ns i n within at (Class id) is = absurd (true≢false (sym is))
 instances_then ns i n within at (UnitKey id) is = absurd (true≢false (sym is))
+instances_then ns i n within at (Mark id) is = absurd (true≢false (sym is))
 instances_then ns i n within at (Host id) is = absurd (true≢false (sym is))
 instances_then ns i n within at (Instance p) is =
     elim (more_among ns i n p.unit within at is) [
@@ -58,15 +74,29 @@ pub no_unit : (k : WorldKey) → is_unit_among [] k ≡ true → (P : Type 0) �
 no_unit (Account id) is P = absurd (true≢false (sym is))
 no_unit (App id) is P = absurd (true≢false (sym is))
 no_unit (Version id) is P = absurd (true≢false (sym is))
+no_unit (Class id) is P = absurd (true≢false (sym is))
 no_unit (UnitKey id) is P = absurd (true≢false (sym is))
+no_unit (Mark id) is P = absurd (true≢false (sym is))
 no_unit (Host id) is P = absurd (true≢false (sym is))
 no_unit (Instance p) is P = absurd (true≢false (sym is))
+
+pub no_mark : (k : WorldKey) → is_mark_among [] k ≡ true → (P : Type 0) → P
+no_mark (Account id) is P = absurd (true≢false (sym is))
+no_mark (App id) is P = absurd (true≢false (sym is))
+no_mark (Version id) is P = absurd (true≢false (sym is))
+no_mark (Class id) is P = absurd (true≢false (sym is))
+no_mark (UnitKey id) is P = absurd (true≢false (sym is))
+no_mark (Mark id) is P = absurd (true≢false (sym is))
+no_mark (Host id) is P = absurd (true≢false (sym is))
+no_mark (Instance p) is P = absurd (true≢false (sym is))
 
 pub no_host : (k : WorldKey) → is_host_among [] k ≡ true → (P : Type 0) → P
 no_host (Account id) is P = absurd (true≢false (sym is))
 no_host (App id) is P = absurd (true≢false (sym is))
 no_host (Version id) is P = absurd (true≢false (sym is))
+no_host (Class id) is P = absurd (true≢false (sym is))
 no_host (UnitKey id) is P = absurd (true≢false (sym is))
+no_host (Mark id) is P = absurd (true≢false (sym is))
 no_host (Host id) is P = absurd (true≢false (sym is))
 no_host (Instance p) is P = absurd (true≢false (sym is))
 
@@ -74,7 +104,9 @@ pub no_instance : (k : WorldKey) → is_instance_among [] k ≡ true → (P : Ty
 no_instance (Account id) is P = absurd (true≢false (sym is))
 no_instance (App id) is P = absurd (true≢false (sym is))
 no_instance (Version id) is P = absurd (true≢false (sym is))
+no_instance (Class id) is P = absurd (true≢false (sym is))
 no_instance (UnitKey id) is P = absurd (true≢false (sym is))
+no_instance (Mark id) is P = absurd (true≢false (sym is))
 no_instance (Host id) is P = absurd (true≢false (sym is))
 no_instance (Instance p) is P = absurd (true≢false (sym is))
 
@@ -83,7 +115,9 @@ abbrev pub is_instance_below : ℕ → ℕ → WorldKey → Bool
 is_instance_below unit n (Account id) = false
 is_instance_below unit n (App id) = false
 is_instance_below unit n (Version id) = false
+is_instance_below unit n (Class id) = false
 is_instance_below unit n (UnitKey id) = false
+is_instance_below unit n (Mark id) = false
 is_instance_below unit n (Host id) = false
 is_instance_below unit n (Instance p) = eqb unit p.unit && ltb p.number n
 
@@ -91,7 +125,9 @@ pub none_below : (unit : ℕ) (k : WorldKey) → is_instance_below unit 0 k ≡ 
 none_below unit (Account id) is P = absurd (true≢false (sym is))
 none_below unit (App id) is P = absurd (true≢false (sym is))
 none_below unit (Version id) is P = absurd (true≢false (sym is))
+none_below unit (Class id) is P = absurd (true≢false (sym is))
 none_below unit (UnitKey id) is P = absurd (true≢false (sym is))
+none_below unit (Mark id) is P = absurd (true≢false (sym is))
 none_below unit (Host id) is P = absurd (true≢false (sym is))
 none_below unit (Instance p) is P = let less : p.number < 0 = ltb-true p.number 0 (and_parts (eqb unit p.unit) (ltb p.number 0) is).1 in absurd (omega (arith, less))
 
@@ -99,7 +135,9 @@ pub instances_next : (unit n : ℕ) (k : WorldKey) → is_instance_below unit (n
 instances_next unit n (Account id) is = absurd (true≢false (sym is))
 instances_next unit n (App id) is = absurd (true≢false (sym is))
 instances_next unit n (Version id) is = absurd (true≢false (sym is))
+instances_next unit n (Class id) is = absurd (true≢false (sym is))
 instances_next unit n (UnitKey id) is = absurd (true≢false (sym is))
+instances_next unit n (Mark id) is = absurd (true≢false (sym is))
 instances_next unit n (Host id) is = absurd (true≢false (sym is))
 instances_next unit n (Instance p) is = cases (ltb p.number n) refl
   where
@@ -123,7 +161,9 @@ pub instances_all : (before after : World) (unit n : ℕ) → ((number : ℕ) �
 instances_all before after unit n none (Account id) is = absurd (true≢false (sym is))
 instances_all before after unit n none (App id) is = absurd (true≢false (sym is))
 instances_all before after unit n none (Version id) is = absurd (true≢false (sym is))
+instances_all before after unit n none (Class id) is = absurd (true≢false (sym is))
 instances_all before after unit n none (UnitKey id) is = absurd (true≢false (sym is))
+instances_all before after unit n none (Mark id) is = absurd (true≢false (sym is))
 instances_all before after unit n none (Host id) is = absurd (true≢false (sym is))
 instances_all before after unit n none (Instance p) is = cases (ltb p.number n) refl
   where

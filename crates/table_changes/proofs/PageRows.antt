@@ -13,12 +13,13 @@ use Rattle.sched_book.specs.declared.instance.Status.{Status}
 use Rattle.sched_book.specs.declared.instance.UnitBook.{UnitBook}
 use Rattle.sched_book.specs.declared.rows.Agreement.{Agreement}
 use Rattle.sched_book.specs.declared.rows.App.{App}
+use Rattle.sched_book.specs.declared.rows.ClassRule.{ClassRule}
 use Rattle.sched_book.specs.declared.rows.HostRow.{HostRow}
 use Rattle.sched_book.specs.declared.world.World.{World}
 use Rattle.call_sheet.specs.declared.leaf.Leaf.{Leaf}
 use Rattle.call_sheet.specs.declared.page.Page.{Page}
 use Rattle.call_sheet.specs.Sheets.{book_before, book_now, IsLeafOf, IsLeafAt, IsHostAt, IsPageOf, AreAllOf}
-use Rattle.table_meaning.specs.Worlds.{status_code, lapse_code, unit_row, host_row, instance_row, app_place}
+use Rattle.table_meaning.specs.Worlds.{status_code, lapse_code, unit_row, mark_row, host_row, instance_row, app_place}
 use Rattle.table_meaning.specs.declared.rows.StoredRow.{StoredRow}
 use Rattle.table_meaning.specs.declared.rows.StoredRow.TheVariants as stored
 use Rattle.sched_book.proofs.PlaceLists.{places_counted}
@@ -27,8 +28,8 @@ use Rattle.table_worlds.specs.Keys.{row_in}
 use Rattle.table_worlds.specs.Totals.{total_of}
 use Rattle.table_worlds.specs.declared.totals.Total.{Total}
 use Rattle.table_worlds.specs.declared.keys.WorldKey.{WorldKey}
-use Rattle.table_worlds.specs.declared.keys.WorldKey.TheVariants.{Account, App as AppKey, Version, Unit as UnitKey, Host, Instance}
-use Rattle.table_changes.specs.Added.{is_among, is_unit_among, is_host_among, is_instance_among, AreAdded}
+use Rattle.table_worlds.specs.declared.keys.WorldKey.TheVariants.{Account, App as AppKey, Version, Class, Unit as UnitKey, Mark, Host, Instance}
+use Rattle.table_changes.specs.Added.{is_among, is_unit_among, is_mark_among, is_host_among, is_instance_among, AreAdded}
 use Rattle.table_changes.specs.Tallies.{no_total, tally, held_on, credit_on, total_on, GoesFrom}
 use Rattle.table_changes.specs.Touching.{AreTouched}
 use Rattle.table_changes.specs.declared.touched.Touched.{Touched}
@@ -65,14 +66,14 @@ unit_rows_same w v id k apps leaf same =
 -- the row of a workunit with its status and the place of its application
 pub unit_changed : (w v : World) (id app : ℕ) (k : Leaf) (s : Status) (row : StoredRow) → v.apps ≡ w.apps → IsLeafOf w v id k → app ≡ app_place w k.unit.app
     → s ≡ status k.agreement k.unit k.present
-    → ((u : World) (b : UnitBook) → b.unit ≡ k.unit → app ≡ app_place u k.unit.app → s ≡ status_of u b → row ≡ stored.Unit (unit_row u id b))
+    → ((u : World) (b : UnitBook) (rule : ClassRule) → b.unit ≡ record k.unit { class_rule = rule } → app ≡ app_place u k.unit.app → s ≡ status_of u b → row ≡ stored.Unit (unit_row u id b))
     → IsChange (row_in w (UnitKey id)) (row_in v (UnitKey id)) (Some row)
 unit_changed w v id app k s row apps leaf place told is =
     let here : app_place w k.unit.app ≡ app_place v k.unit.app = ap (λ (apps : List App). app_place (record w { apps = apps }) k.unit.app) (sym apps) in
     let now : status_of v (book_now k) ≡ status k.agreement k.unit k.present =
     ap (λ (apps : List App). status (agreement_by apps k.unit.app) k.unit k.present) apps ∙ ap (λ a. status a k.unit k.present) leaf.agreement in
     after_is_change (row_in w (UnitKey id)) (row_in v (UnitKey id)) (Some row)
-    (ap Some (is v (book_now k) refl (place ∙ here) (told ∙ sym now)) ∙ sym (ap (option_map (λ b. stored.Unit (unit_row v id b))) leaf.here))
+    (ap Some (is v (book_now k) k.rule refl (place ∙ here) (told ∙ sym now)) ∙ sym (ap (option_map (λ b. stored.Unit (unit_row v id b))) leaf.here))
 
 -- a workunit whose status stays
 pub unit_stays : (w v : World) (id : ℕ) (k : Leaf) (s t : Status) → v.apps ≡ w.apps → IsLeafOf w v id k → s ≡ status k.agreement k.unit k.present
@@ -88,6 +89,32 @@ unit_same w v id apps here =
 
 pub unit_unread : (w v : World) (id : ℕ) → v.apps ≡ w.apps → IsLeafAt w v id None → IsChange (row_in w (UnitKey id)) (row_in v (UnitKey id)) None
 unit_unread w v id apps here = same_is_change (row_in w (UnitKey id)) (row_in v (UnitKey id)) (unit_same w v id apps here)
+
+-- ---- marks
+
+-- the row of the mark of what stands at a place is told by that alone
+abbrev mark_in : ℕ → UnitBook → StoredRow
+mark_in id b = stored.UnitMark (mark_row id b)
+
+mark_same : (w v : World) (id : ℕ) → unit_at v id ≡ unit_at w id → row_in w (Mark id) ≡ row_in v (Mark id)
+mark_same w v id here = ap (option_map (mark_in id)) (sym here)
+
+pub mark_unread : (w v : World) (id : ℕ) → IsLeafAt w v id None → IsChange (row_in w (Mark id)) (row_in v (Mark id)) None
+mark_unread w v id here = same_is_change (row_in w (Mark id)) (row_in v (Mark id)) (mark_same w v id here)
+
+-- a workunit whose rule stays
+pub mark_stays : (w v : World) (id : ℕ) (k : Leaf) → IsLeafOf w v id k → k.unit.class_rule ≡ k.rule → IsChange (row_in w (Mark id)) (row_in v (Mark id)) None
+mark_stays w v id k leaf same =
+    same_is_change (row_in w (Mark id)) (row_in v (Mark id))
+    (ap (option_map (mark_in id)) leaf.before
+    ∙ ap (λ rule. Some (mark_in id (record { unit = record k.unit { class_rule = rule }; instances = k.present }))) same
+    ∙ sym (ap (option_map (mark_in id)) leaf.here))
+
+-- the row of the mark with its rule
+pub mark_changed : (w v : World) (id : ℕ) (k : Leaf) (row : StoredRow) → IsLeafOf w v id k → ((b : UnitBook) → b.unit.class_rule ≡ k.rule → row ≡ stored.UnitMark (mark_row id b))
+    → IsChange (row_in w (Mark id)) (row_in v (Mark id)) (Some row)
+mark_changed w v id k row leaf is =
+    after_is_change (row_in w (Mark id)) (row_in v (Mark id)) (Some row) (ap Some (is (book_now k) refl) ∙ sym (ap (option_map (mark_in id)) leaf.here))
 
 -- ---- instances
 
@@ -284,16 +311,24 @@ goes_from w p t host share other page touched before after =
 
 -- the keys of what the page touches
 abbrev pub is_touched : Touched → WorldKey → Bool
-is_touched t key = (is_unit_among t.units key || is_host_among t.hosts key) || is_instance_among t.units key
+is_touched t key = ((is_unit_among t.units key || is_mark_among t.units key) || is_host_among t.hosts key) || is_instance_among t.units key
 
 pub settled_elsewhere : (w : World) (p : Page) (t : Touched) → IsPageOf w p → AreTouched p t → (k : WorldKey) → is_touched t k ≡ false → IsSettled w (applied w p.delta) k
 settled_elsewhere w p t page touched (Account id) none = inr (sym (ap (λ u. row_in u (Account id)) page.rest))
 settled_elsewhere w p t page touched (AppKey id) none = inr (sym (ap (λ u. row_in u (AppKey id)) page.rest))
 settled_elsewhere w p t page touched (Version id) none = inr (sym (ap (λ u. row_in u (Version id)) page.rest))
+settled_elsewhere w p t page touched (Class id) none = inr (sym (ap (λ u. row_in u (Class id)) page.rest))
 settled_elsewhere w p t page touched (UnitKey id) none =
     let among : is_among t.units id ≡ false = first_of (is_among t.units id) none in
     inr (unit_same w (applied w p.delta) id (apps_stay w p page)
     (sym (untouched w (applied w p.delta) (get nat_cmp p.leaves) t.units 0 (apps_stay w p page) touched.units page.leaves id among)))
+  where
+    first_of : (a : Bool) → (((a || false) || false) || false) ≡ false → a ≡ false
+    first_of true none = absurd (true≢false none)
+    first_of false none = refl
+settled_elsewhere w p t page touched (Mark id) none =
+    let among : is_among t.units id ≡ false = first_of (is_among t.units id) none in
+    inr (mark_same w (applied w p.delta) id (sym (untouched w (applied w p.delta) (get nat_cmp p.leaves) t.units 0 (apps_stay w p page) touched.units page.leaves id among)))
   where
     first_of : (a : Bool) → ((a || false) || false) ≡ false → a ≡ false
     first_of true none = absurd (true≢false none)
@@ -337,7 +372,9 @@ pub unread_settled : (w v : World) (unit : ℕ) → v.apps ≡ w.apps → IsLeaf
 unread_settled w v unit apps stays (Account id) is = absurd (true≢false (sym is))
 unread_settled w v unit apps stays (AppKey id) is = absurd (true≢false (sym is))
 unread_settled w v unit apps stays (Version id) is = absurd (true≢false (sym is))
+unread_settled w v unit apps stays (Class id) is = absurd (true≢false (sym is))
 unread_settled w v unit apps stays (UnitKey id) is = absurd (true≢false (sym is))
+unread_settled w v unit apps stays (Mark id) is = absurd (true≢false (sym is))
 unread_settled w v unit apps stays (Host id) is = absurd (true≢false (sym is))
 unread_settled w v unit apps stays (Instance q) is =
     let here : unit ≡ q.unit = eqb-true unit q.unit (first_of (eqb unit q.unit) is) in
@@ -347,26 +384,39 @@ unread_settled w v unit apps stays (Instance q) is =
     first_of true some = refl
     first_of false some = absurd (true≢false (sym some))
 
--- all that a page touches is told in three parts
-pub parts_touched : (t : Touched) (k : WorldKey) → is_touched t k ≡ true
-    → ((is_unit_among t.units k || is_host_among t.hosts k) ≡ true) ⊎ (is_instance_among t.units k ≡ true)
-parts_touched t k is = one_of (is_unit_among t.units k || is_host_among t.hosts k) (is_instance_among t.units k) is
+-- keys of either kind
+abbrev either : (WorldKey → Bool) → (WorldKey → Bool) → WorldKey → Bool
+either first second key = first key || second key
 
-pub first_parts : (t : Touched) (k : WorldKey) → (is_unit_among t.units k || is_host_among t.hosts k) ≡ true → (is_unit_among t.units k ≡ true) ⊎ (is_host_among t.hosts k ≡ true)
-first_parts t k is = one_of (is_unit_among t.units k) (is_host_among t.hosts k) is
-
--- workunits, hosts and instances, one behind the other, are all
-pub all_parts : (w u : World) (p : Page) (t : Touched) (old one two new : List StoredRow) → u ≡ w → IsPageOf w p → AreTouched p t → old ≡ []
+-- all that a page touches is told in four parts: workunits, marks, hosts and instances, one behind the other
+pub all_parts : (w u : World) (p : Page) (t : Touched) (old one two three new : List StoredRow) → u ≡ w → IsPageOf w p → AreTouched p t → old ≡ []
     → AreAdded (is_unit_among t.units) w (applied w p.delta) old one
-    → (IsPageOf u p → AreTouched p t → AreAdded (is_host_among t.hosts) u (applied u p.delta) one two)
-    → AreAdded (is_instance_among t.units) w (applied w p.delta) two new
+    → AreAdded (is_mark_among t.units) w (applied w p.delta) one two
+    → (IsPageOf u p → AreTouched p t → AreAdded (is_host_among t.hosts) u (applied u p.delta) two three)
+    → AreAdded (is_instance_among t.units) w (applied w p.delta) three new
     → AreChanges w (applied w p.delta) new
-all_parts w u p t old one two new same page touched none units hosts instances =
-    all_added (is_touched t) w (applied w p.delta) old new (settled_elsewhere w p t page touched) none
-    (added_then (λ k. is_unit_among t.units k || is_host_among t.hosts k) (is_instance_among t.units) (is_touched t) w (applied w p.delta) old two new (parts_touched t)
-    (added_then (is_unit_among t.units) (is_host_among t.hosts) (λ k. is_unit_among t.units k || is_host_among t.hosts k) w (applied w p.delta) old one two (first_parts t) units
-    (subst (λ (x : World). IsPageOf x p → AreTouched p t → AreAdded (is_host_among t.hosts) x (applied x p.delta) one two) same hosts page touched))
+all_parts w u p t old one two three new same page touched none units marks hosts instances =
+    all_added (is_touched t) w after old new (settled_elsewhere w p t page touched) none
+    (added_then (either (either of_units of_marks) of_hosts) of_instances (is_touched t) w after old three new (λ k. one_of (either (either of_units of_marks) of_hosts k) (of_instances k))
+    (added_then (either of_units of_marks) of_hosts (either (either of_units of_marks) of_hosts) w after old two three (λ k. one_of (either of_units of_marks k) (of_hosts k))
+    (added_then of_units of_marks (either of_units of_marks) w after old one two (λ k. one_of (of_units k) (of_marks k)) units marks)
+    (subst (λ (x : World). IsPageOf x p → AreTouched p t → AreAdded of_hosts x (applied x p.delta) two three) same hosts page touched))
     instances)
+  where
+    after : World
+    after = applied w p.delta
+
+    of_units : WorldKey → Bool
+    of_units = is_unit_among t.units
+
+    of_marks : WorldKey → Bool
+    of_marks = is_mark_among t.units
+
+    of_hosts : WorldKey → Bool
+    of_hosts = is_host_among t.hosts
+
+    of_instances : WorldKey → Bool
+    of_instances = is_instance_among t.units
 
 -- no instance stands from their count on
 pub instances_gone : (w v : World) (unit n : ℕ) (k : Leaf) → v.apps ≡ w.apps → IsLeafOf w v unit k → length k.present ≤ n

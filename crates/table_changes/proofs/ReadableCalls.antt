@@ -21,6 +21,7 @@ one_readable w (change.Version v) puts = absurd (true≢false (sym puts))
 one_readable w (change.Workunit u) puts = absurd (true≢false (sym puts))
 one_readable w (change.Host number h) puts = puts
 one_readable w (change.Instance p x) puts = puts
+one_readable w (change.Class unit class) puts = puts
 
 all_readable : (w : World) (cs : List Change) → list_all puts_words cs ≡ true → are_readable_changes w cs ≡ true
 all_readable w [] puts = refl

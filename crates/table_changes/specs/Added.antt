@@ -1,11 +1,11 @@
--- Rows put behind others, which lead from one world to another at some keys.
+-- Words. Rows put behind others, which lead from one world to another at some keys.
 use Rattle.std.specs.Prelude.{◌≡◌, ◌⊎◌, ℕ, Bool, true, false, ◌==◌, List, ◌++◌, Some, None}
 use Rattle.std.specs.List.{AllByRecursion, list_any}
 use Rattle.sched_book.specs.declared.world.World.{World}
 use Rattle.table_meaning.specs.declared.rows.StoredRow.{StoredRow}
 use Rattle.table_meaning.specs.Rows.{key_of, same_key}
 use Rattle.table_worlds.specs.declared.keys.WorldKey.{WorldKey}
-use Rattle.table_worlds.specs.declared.keys.WorldKey.TheVariants.{Account, App, Version, Unit, Host, Instance}
+use Rattle.table_worlds.specs.declared.keys.WorldKey.TheVariants.{Account, App, Version, Class, Unit, Mark, Host, Instance}
 use Rattle.table_worlds.specs.Keys.{row_key, row_in}
 
 -- the number is one of these
@@ -17,16 +17,31 @@ abbrev pub is_unit_among : List ℕ → WorldKey → Bool
 is_unit_among units (Account id) = false
 is_unit_among units (App id) = false
 is_unit_among units (Version id) = false
+is_unit_among units (Class id) = false
 is_unit_among units (Unit id) = is_among units id
+is_unit_among units (Mark id) = false
 is_unit_among units (Host id) = false
 is_unit_among units (Instance p) = false
+
+-- it is that of the mark of one of these workunits
+abbrev pub is_mark_among : List ℕ → WorldKey → Bool
+is_mark_among units (Account id) = false
+is_mark_among units (App id) = false
+is_mark_among units (Version id) = false
+is_mark_among units (Class id) = false
+is_mark_among units (Unit id) = false
+is_mark_among units (Mark id) = is_among units id
+is_mark_among units (Host id) = false
+is_mark_among units (Instance p) = false
 
 -- it is that of one of these hosts
 abbrev pub is_host_among : List ℕ → WorldKey → Bool
 is_host_among hosts (Account id) = false
 is_host_among hosts (App id) = false
 is_host_among hosts (Version id) = false
+is_host_among hosts (Class id) = false
 is_host_among hosts (Unit id) = false
+is_host_among hosts (Mark id) = false
 is_host_among hosts (Host id) = is_among hosts id
 is_host_among hosts (Instance p) = false
 
@@ -35,7 +50,9 @@ abbrev pub is_instance_among : List ℕ → WorldKey → Bool
 is_instance_among units (Account id) = false
 is_instance_among units (App id) = false
 is_instance_among units (Version id) = false
+is_instance_among units (Class id) = false
 is_instance_among units (Unit id) = false
+is_instance_among units (Mark id) = false
 is_instance_among units (Host id) = false
 is_instance_among units (Instance p) = is_among units p.unit
 

@@ -1,4 +1,4 @@
--- What is known while an import's rows are told one after another.
+-- Words. What is known while an import's rows are told one after another.
 use Rattle.std.specs.Prelude.{◌≡◌, List, ◌++◌}
 use Rattle.sched_book.specs.Desk.{counts}
 use Rattle.sched_book.specs.declared.desk.Counts.{Counts}

@@ -1,4 +1,4 @@
--- What is counted of hosts over the workunits that a call touched: as they were before it, and as they are now.
+-- Words. What is counted of hosts over the workunits that a call touched: as they were before it, and as they are now.
 use Rattle.std.specs.Prelude.{◌≡◌, ℕ, ◌+◌, ◌*◌, ◌&&◌, List, length, count_by, sum_by, Option, Some, None, unwrap_or}
 use Rattle.std.specs.BTreeMap.{BTreeMap, get}
 use Rattle.std.specs.Ordering.{nat_cmp}

@@ -1,4 +1,4 @@
--- What the changes of a page touch.
+-- Words. What the changes of a page touch.
 use Rattle.std.specs.Prelude.{◌≡◌, ℕ, false, List, None}
 use Rattle.std.specs.BTreeMap.{get}
 use Rattle.std.specs.Ordering.{nat_cmp}

@@ -1,4 +1,4 @@
-//! The rows that a call or a tick puts: hosts, instances, and what is counted of them.
+//! The rows that a call or a tick puts: hosts, instances, what is counted of them, and classes that were granted.
 
 ghost use Rattle.std.specs.Prelude.{◌≡◌, ◌++◌, [], IfOk, OnOk};
 ghost use Rattle.std.specs.List.{list_all};
@@ -13,6 +13,7 @@ ghost use Rattle.texts.specs.Words.{is_word as spec_word};
 
 use crate::hosts::push_hosts;
 use crate::instances::push_instances;
+use crate::marks::push_marks;
 use crate::touched::{Touched, touched_by};
 use crate::units::push_units;
 use call_sheet::{Page, Sheet, put_all};
@@ -41,18 +42,18 @@ fn are_words(words: &[Text]) -> bool
     1 <= words.len() && are_all_words(words)
 }
 
-/// Whether the change puts an instance, or a host that has words for its platforms.
+/// Whether the change puts an instance, grants a class, or puts a host that has words for its platforms.
 fn puts_words(change: &Change) -> bool
     ensures { result ≡ puts_words change.now }
 {
     match change {
         Change::Host { row, .. } => are_words(row.platforms.as_slice()),
-        Change::Instance { .. } => true,
-        _ => false,
+        Change::Instance { .. } | Change::Class { .. } => true,
+        Change::Account(_) | Change::App(_) | Change::Version(_) | Change::Workunit(_) => false,
     }
 }
 
-/// Whether each of the changes puts an instance, or a host that has words for its platforms.
+/// Whether each of the changes puts an instance, grants a class, or puts a host that has words for its platforms.
 fn put_words(changes: &[Change]) -> bool
     ensures { result ≡ list_all puts_words changes.now }
 {
@@ -86,7 +87,7 @@ fn page_of<D: Desk>(alloc: Global, desk: &mut D, delta: &Delta) -> Result<Page, 
     Ok(page)
 }
 
-/// Puts the rows of what the page's changes touch behind the others: workunits, then hosts, then instances.
+/// Puts the rows of what the page's changes touch behind the others: workunits, their marks, hosts, then instances.
 fn push_rows<D: Desk>(
     alloc: Global,
     desk: &mut D,
@@ -99,6 +100,7 @@ fn push_rows<D: Desk>(
         → OnOk result (AreChanges (D.world desk.old) (applied (D.world desk.old) page.now.delta) rows.new)) }
 {
     push_units(alloc, desk, page, touched.units.as_slice(), rows)?;
+    push_marks(page, touched.units.as_slice(), rows)?;
     push_hosts(alloc, desk, page, touched, rows)?;
     push_instances(page, touched.units.as_slice(), rows)
 }
@@ -119,7 +121,7 @@ fn rows_of_page<D: Desk>(
     Ok(rows)
 }
 
-/// The rows that the changes of a call put: workunits, hosts and instances. Any other change is refused.
+/// The rows that the changes of a call put: workunits, marks, hosts and instances. Any other change is refused.
 pub(crate) fn rows_of_call<D: Desk>(
     alloc: Global,
     desk: &mut D,

@@ -15,7 +15,7 @@ use texts::Listed;
 
 /// The rows that these changes of the desk's world put, in an order in which each row comes behind those that it refers to.
 ///
-/// The changes are an import's or a call's: new rows alone, or hosts and instances alone.
+/// The changes are an import's or a call's: new rows alone, or hosts, instances and classes alone.
 ///
 /// # Errors
 ///
@@ -34,7 +34,9 @@ pub fn rows_of_changes<D: Desk>(
         IfOk result (λ rows. IsReadable (applied (D.world desk.old) delta.now))) }
 {
     match delta.as_slice().first() {
-        Some(Change::Host { .. } | Change::Instance { .. }) => rows_of_call(alloc, desk, delta),
+        Some(Change::Host { .. } | Change::Instance { .. } | Change::Class { .. }) => {
+            rows_of_call(alloc, desk, delta)
+        }
         _ => rows_of_import(alloc, desk, delta),
     }
 }

@@ -1,4 +1,4 @@
-//! The rows that an import puts: new accounts, applications, versions and workunits.
+//! The rows that an import puts: new accounts, applications, versions with their classes, and workunits with their marks.
 
 ghost use Rattle.std.specs.Prelude.{◌≡◌, ◌+◌, ◌≤◌, [], ◌∷◌, length, replicate, IfOk, OnOk, Some};
 ghost use Rattle.sched_book.specs.Count as spec;
@@ -23,7 +23,9 @@ use sched_book::{
 };
 use std::alloc::Global;
 use table_meaning::rows::StoredRow;
-use table_worlds::{account_row, app_row, instance_row, unit_row, version_row};
+use table_worlds::{
+    account_row, app_row, class_row, instance_row, mark_row, unit_row, version_row,
+};
 use texts::Listed;
 
 /// The number behind a count.
@@ -55,7 +57,7 @@ fn push_app(count: Counts, app: &App, rows: &mut Listed<StoredRow>) -> Result<Co
     Ok(Counts { apps, ..count })
 }
 
-/// Puts the row of a new version, whose application has to stand, and counts it.
+/// Puts the row of a new version, whose application has to stand, and that of its class, and counts it.
 fn push_version<D: Desk>(
     alloc: Global,
     desk: &mut D,
@@ -70,6 +72,7 @@ fn push_version<D: Desk>(
     let app = known_app(alloc, desk, version.app.as_str())?;
     let versions = next(count.versions)?;
     rows.push(version_row(versions, app.place, version)?)?;
+    rows.push(class_row(versions, version)?)?;
     Ok(Counts { versions, ..count })
 }
 
@@ -115,7 +118,7 @@ fn push_fresh(
     Ok(())
 }
 
-/// Puts the row of a new workunit, whose application has to stand, and those of its instances, and counts it.
+/// Puts the row of a new workunit, whose application has to stand, and those of its mark and its instances, and counts it.
 fn push_unit<D: Desk>(
     alloc: Global,
     desk: &mut D,
@@ -131,6 +134,7 @@ fn push_unit<D: Desk>(
     let workunits = next(count.workunits)?;
     let status = first_status(alloc, &app.agreement, unit)?;
     rows.push(unit_row(workunits, app.place, unit, status)?)?;
+    rows.push(mark_row(workunits, &unit.class_rule)?)?;
     push_fresh(workunits, unit.target_nresults, status, rows)?;
     Ok(Counts { workunits, ..count })
 }
@@ -152,11 +156,11 @@ fn push_change<D: Desk>(
         Change::App(app) => push_app(count, app, rows),
         Change::Version(version) => push_version(alloc, desk, count, version, rows),
         Change::Workunit(unit) => push_unit(alloc, desk, count, unit, rows),
-        Change::Host { .. } | Change::Instance { .. } => Err(Unavailable),
+        Change::Host { .. } | Change::Instance { .. } | Change::Class { .. } => Err(Unavailable),
     }
 }
 
-/// The rows that an import's changes put, in their order, each workunit's instances behind it. Any other change is refused.
+/// The rows that an import's changes put, in their order, each version's class and each workunit's mark and instances behind it. Any other change is refused.
 pub(crate) fn rows_of_import<D: Desk>(
     alloc: Global,
     desk: &mut D,

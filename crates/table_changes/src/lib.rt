@@ -7,6 +7,7 @@ mod changes;
 mod hosts;
 mod imports;
 mod instances;
+mod marks;
 mod tallies;
 mod touched;
 mod units;

@@ -1,4 +1,5 @@
 pub mod AppsPlaced
+pub mod ClassesTold
 pub mod Refusals
 pub mod RowsInOrder
 pub mod SettingsTold

@@ -5,6 +5,7 @@ use Rattle.std.specs.Result.{IsErrAnd}
 use Rattle.table_meaning.specs.declared.rows.StoredAccount.{StoredAccount}
 use Rattle.table_meaning.specs.declared.rows.StoredHost.{StoredHost}
 use Rattle.table_meaning.specs.declared.rows.StoredRow.TheVariants as stored
+use Rattle.table_meaning.specs.declared.rows.StoredVersionClass.{StoredVersionClass}
 use Rattle.table_decoding.specs.declared.fault.RowFault.{RowFault}
 use Rattle.table_decoding.specs.declared.fault.RowFault.TheVariants.{Unavailable}
 use Rattle.table_decoding.specs.Decoding.{Gives}
@@ -22,6 +23,9 @@ same_given x y is = cc
 
 pub same_account_row : (x y : StoredAccount) → stored.Account x ≡ stored.Account y → x ≡ y
 same_account_row x y is = cc
+
+pub same_class_row : (x y : StoredVersionClass) → stored.VersionClass x ≡ stored.VersionClass y → x ≡ y
+same_class_row x y is = cc
 
 pub same_host_row : (x y : StoredHost) → stored.Host x ≡ stored.Host y → x ≡ y
 same_host_row x y is = cc

@@ -10,10 +10,10 @@ use Rattle.sched_book.specs.declared.world.World.{World}
 use Rattle.table_meaning.specs.declared.rows.StoredRow.{StoredRow}
 use Rattle.table_worlds.specs.declared.keys.NumberedTable.TheVariants as table
 use Rattle.table_worlds.specs.declared.keys.WorldKey.{WorldKey}
-use Rattle.table_worlds.specs.declared.keys.WorldKey.TheVariants.{Account, App, Version, Unit, Host}
+use Rattle.table_worlds.specs.declared.keys.WorldKey.TheVariants.{Account, App, Version, Class, Unit, Mark, Host}
 use Rattle.table_worlds.specs.Keys.{row_in, row_beside, numbered}
 use Rattle.table_worlds.proofs.ByPlace.{nth_next}
-use Rattle.table_decoding.specs.Decoding.{of_account, of_app, of_version, of_unit, of_host}
+use Rattle.table_decoding.specs.Decoding.{of_account, of_app, of_version, of_class, of_unit, of_mark, of_host}
 
 -- the first so many with one more
 pub take_one_more : {X : Type 0} (xs : List X) (i : ℕ) (x : X) → slice_get xs i ≡ Some x → take (i + 1) xs ≡ take i xs ++ x ∷ []
@@ -67,8 +67,14 @@ module _ (w : World) where
   pub version_rows : filter_map (row_beside w) (numbered table.Version (length w.versions)) ≡ map_from 1 (of_version w) w.versions
   version_rows = numbered_rows (row_beside w) Version (of_version w) 1 w.versions (λ i. ap (option_map (of_version w (i + 1))) (nth_next w.versions i))
 
+  pub class_rows : filter_map (row_beside w) (numbered table.Class (length w.versions)) ≡ map_from 1 of_class w.versions
+  class_rows = numbered_rows (row_beside w) Class of_class 1 w.versions (λ i. ap (option_map (of_class (i + 1))) (nth_next w.versions i))
+
   pub unit_rows : filter_map (row_in w) (numbered table.Unit (length w.units)) ≡ map_from 1 (of_unit w) w.units
   unit_rows = numbered_rows (row_in w) Unit (of_unit w) 1 w.units (λ i. ap (option_map (of_unit w (i + 1))) (nth_next w.units i))
+
+  pub mark_rows : filter_map (row_in w) (numbered table.Mark (length w.units)) ≡ map_from 1 of_mark w.units
+  mark_rows = numbered_rows (row_in w) Mark of_mark 1 w.units (λ i. ap (option_map (of_mark (i + 1))) (nth_next w.units i))
 
   pub host_rows : filter_map (row_beside w) (numbered table.Host (length w.hosts)) ≡ map_from 1 (of_host (λ id. length (held_by w id)) (host_credit w)) w.hosts
   host_rows = numbered_rows (row_beside w) Host (of_host (λ id. length (held_by w id)) (host_credit w)) 1 w.hosts (λ i. ap (option_map (of_host (λ id. length (held_by w id)) (host_credit w) (i + 1))) (nth_next w.hosts i))

@@ -11,8 +11,8 @@ use Rattle.std.specs.Prelude.{length}
 use Rattle.table_meaning.specs.declared.rows.StoredRow.{StoredRow}
 use Rattle.table_worlds.specs.declared.matching.TableRows.{TableRows}
 use Rattle.table_worlds.specs.RowsOf.{AreRowsBeside}
-use Rattle.table_decoding.specs.Decoding.{TellAll, of_account, of_app, of_version, of_host}
-use Rattle.table_decoding.proofs.RowsInOrder.{account_rows, app_rows, version_rows, host_rows}
+use Rattle.table_decoding.specs.Decoding.{TellAll, of_account, of_app, of_version, of_class, of_host}
+use Rattle.table_decoding.proofs.RowsInOrder.{account_rows, app_rows, version_rows, class_rows, host_rows}
 use Rattle.table_decoding.proofs.SettingsTold.{all_told}
 
 -- a host within the settings' quota is within the greatest one
@@ -40,6 +40,9 @@ module _ (w : World) (rows : TableRows) (are : AreRowsBeside w rows) (these : Li
 
   pub versions_told : these ≡ rows.versions → these ≡ map_from 1 (of_version w) w.versions
   versions_told is = is ∙ are.versions ∙ version_rows w
+
+  pub classes_told : these ≡ rows.classes → these ≡ map_from 1 of_class w.versions
+  classes_told is = is ∙ are.classes ∙ class_rows w
 
   pub hosts_told : these ≡ rows.hosts → these ≡ map_from 1 (of_host (λ id. length (held_by w id)) (host_credit w)) w.hosts
   hosts_told is = is ∙ are.hosts ∙ host_rows w

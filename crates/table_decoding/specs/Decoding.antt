@@ -1,4 +1,4 @@
--- What is said of rows that are decoded.
+-- Rule. What is said of rows that are decoded.
 use Rattle.std.specs.Prelude.{◌≡◌, ◌≤◌, ℕ, List, length, codes, All, Option, Some, None, if◌then◌else◌, Result, MatchResult}
 use Rattle.std.specs.Str.{bytes_eq}
 use Rattle.sqlite_rules.specs.Lists.{Has}
@@ -15,7 +15,7 @@ use Rattle.table_meaning.specs.declared.rows.SettingValue.TheVariants.{Number, W
 use Rattle.table_meaning.specs.declared.rows.StoredRow.{StoredRow}
 use Rattle.table_meaning.specs.declared.rows.StoredRow.TheVariants as stored
 use Rattle.table_meaning.specs.Schema.{newest}
-use Rattle.table_meaning.specs.Worlds.{account_row, app_row, version_row, unit_row, host_row}
+use Rattle.table_meaning.specs.Worlds.{account_row, app_row, version_row, class_row, unit_row, mark_row, host_row}
 use Rattle.table_decoding.specs.declared.fault.RowFault.{RowFault}
 use Rattle.table_decoding.specs.declared.fault.RowFault.TheVariants.{Unavailable}
 
@@ -51,7 +51,7 @@ pub record TellAll (rows : List StoredRow) (s : Settings) : Type 0 where
   pub resend_lost_results : Tells rows (codes "resend_lost_results") (Number (if s.resend_lost_results then 1 else 0))
   pub operator_key : Tells rows (codes "operator_key") (Word s.operator_key)
 
--- the rows by which accounts, applications, versions, workunits and hosts are told
+-- the rows by which accounts, applications, versions, their classes, workunits, their marks and hosts are told
 abbrev pub of_account : ℕ → Account → StoredRow
 of_account id a = stored.Account (account_row id a)
 
@@ -61,8 +61,18 @@ of_app id a = stored.App (app_row id a)
 abbrev pub of_version : World → ℕ → Version → StoredRow
 of_version w id v = stored.Version (version_row w id v)
 
+abbrev pub of_class : ℕ → Version → StoredRow
+of_class id v = stored.VersionClass (class_row id v)
+
+-- of a class by itself
+abbrev pub of_word : ℕ → List ℕ → StoredRow
+of_word id class = stored.VersionClass (record { version_id = id; class = class })
+
 abbrev pub of_unit : World → ℕ → UnitBook → StoredRow
 of_unit w id b = stored.Unit (unit_row w id b)
+
+abbrev pub of_mark : ℕ → UnitBook → StoredRow
+of_mark id b = stored.UnitMark (mark_row id b)
 
 -- a host that holds so many instances, with so much credit
 abbrev pub of_host : (ℕ → ℕ) → (ℕ → ℕ) → ℕ → HostRow → StoredRow

@@ -24,7 +24,12 @@ fn world_of(alloc: Global, rows: &TableRows) -> Result<World, RowFault>
     let settings = settings(rows.settings.as_slice())?;
     let accounts = accounts(alloc, rows.accounts.as_slice())?;
     let apps = apps(alloc, rows.apps.as_slice())?;
-    let versions = versions(alloc, apps.as_slice(), rows.versions.as_slice())?;
+    let versions = versions(
+        alloc,
+        apps.as_slice(),
+        rows.versions.as_slice(),
+        rows.classes.as_slice(),
+    )?;
     let hosts = hosts(alloc, rows.hosts.as_slice())?;
     Ok(World {
         settings,

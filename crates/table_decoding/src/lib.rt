@@ -13,5 +13,5 @@ mod units;
 pub use decoded::decoded_world;
 pub use fault::RowFault;
 pub use instances::instance;
-pub use rows::{account, host};
+pub use rows::{account, host, version_class};
 pub use units::{unit_book, workunit};

@@ -1,9 +1,10 @@
-//! Accounts, applications, versions and hosts, each from its row.
+//! Accounts, applications, versions and hosts, each from its row, a version with its class from another.
 
-ghost use Rattle.std.specs.Prelude.{◌≡◌, ℕ, pos, List, All, IsTrue, Ok, IfOk};
+ghost use Rattle.std.specs.Prelude.{◌≡◌, ℕ, pos, List, All, map, IsTrue, Ok, Some, IfOk};
 ghost use Rattle.sched_book.specs.Numbered.{map_from};
 ghost use Rattle.sched_book.specs.Imports.{has_app};
 ghost use Rattle.sched_book.specs.Limits.{most_quota, IsAccountInLimits, IsHostInLimits};
+ghost use Rattle.sched_book.specs.Places.{nth as specified_nth};
 ghost use Rattle.sched_book.specs.Sound.{IsSoundVersion};
 ghost use Rattle.sched_book.specs.declared.rows.Account.{Account};
 ghost use Rattle.sched_book.specs.declared.rows.Agreement.{Agreement};
@@ -12,18 +13,19 @@ ghost use Rattle.sched_book.specs.declared.rows.HostRow.{HostRow};
 ghost use Rattle.sched_book.specs.declared.rows.Version.{Version};
 ghost use Rattle.sched_book.specs.declared.world.World.{World};
 ghost use Rattle.table_meaning.specs.Rows.{columns_of};
+ghost use Rattle.rpc_records.specs.Ranges.{IsWord};
 ghost use Rattle.table_meaning.specs.Worlds.{agreement_limit, app_place, account_row, host_row};
 ghost use Rattle.table_meaning.specs.declared.rows.StoredRow.TheVariants as stored;
 ghost use Rattle.table_worlds.specs.ReadBack.{account_in, app_name_at, host_in};
-ghost use Rattle.table_decoding.specs.Decoding.{Gives, of_account, of_app, of_version, of_host};
+ghost use Rattle.table_decoding.specs.Decoding.{Gives, of_account, of_app, of_version, of_class, of_word, of_host};
 
 use crate::fault::RowFault;
 use crate::listed_rows::each;
 use crate::platforms::platforms;
 use sched_book::{Account, Agreement, App, HostRow, Version, nth};
 use std::alloc::Global;
-use table_meaning::rows::{StoredAccount, StoredHost, StoredRow};
-use texts::{Listed, Text};
+use table_meaning::rows::{StoredAccount, StoredHost, StoredRow, StoredVersionClass};
+use texts::{Listed, Text, is_word};
 use world_soundness::in_limits::{MOST_QUOTA, is_account_in_limits, is_host_in_limits};
 
 /// The number that a table writes, which is negative in no world's row.
@@ -108,9 +110,50 @@ pub(crate) fn app_name(apps: &[App], place: u32) -> Result<Text, RowFault>
     }
 }
 
-/// The version of a row, beside the applications.
-fn version(apps: &[App], row: &StoredRow) -> Result<Version, RowFault>
-    ensures { (w : World) (id : ℕ) (v : Version) → apps.now ≡ w.apps → IsTrue (has_app w.apps v.app) → row.now ≡ of_version w id v → Gives result v }
+/// The class of a row, where it is a word.
+pub fn version_class(row: &StoredVersionClass) -> Result<Text, RowFault>
+    ensures given { IsWord row.now.class → Gives result row.now.class }
+    ensures read { IfOk result (λ class. class ≡ row.now.class) }
+    ensures limits { IfOk result IsWord }
+{
+    let class = row.class.clone()?;
+    if !is_word(class.as_str().as_bytes()) {
+        return Err(RowFault::BadRow);
+    }
+    Ok(class)
+}
+
+/// The class of a row of some table.
+fn told_class(row: &StoredRow) -> Result<Text, RowFault>
+    ensures { (id : ℕ) (class : List ℕ) → IsWord class → row.now ≡ of_word id class → Gives result class }
+{
+    match row {
+        StoredRow::VersionClass(row) => version_class(row),
+        _ => Err(RowFault::BadRow),
+    }
+}
+
+/// The classes of these rows.
+fn classes(alloc: Global, rows: &[StoredRow]) -> Result<Listed<Text>, RowFault>
+    ensures { (words : List (List ℕ)) → All IsWord words → rows.now ≡ map_from 1 of_word words → Gives result words }
+{
+    each(alloc, rows, told_class)
+}
+
+/// The class of the version of this number.
+fn class_at(classes: &[Text], id: u32) -> Result<Text, RowFault>
+    ensures { (class : List ℕ) → specified_nth classes.now id ≡ Some class → Gives result class }
+{
+    match nth(classes, id) {
+        None => Err(RowFault::BadRow),
+        Some(class) => Ok(class.clone()?),
+    }
+}
+
+/// The version of a row, beside the applications and the classes of all versions.
+fn version(apps: &[App], classes: &[Text], row: &StoredRow) -> Result<Version, RowFault>
+    ensures { (w : World) (id : ℕ) (v : Version) → apps.now ≡ w.apps → IsTrue (has_app w.apps v.app) → specified_nth classes.now id ≡ Some v.class
+        → row.now ≡ of_version w id v → Gives result v }
 {
     let StoredRow::Version(row) = row else {
         return Err(RowFault::BadRow);
@@ -119,18 +162,35 @@ fn version(apps: &[App], row: &StoredRow) -> Result<Version, RowFault>
         app: app_name(apps, row.app_id)?,
         platform: row.platform.clone()?,
         version_num: row.num,
+        class: class_at(classes, row.id)?,
     })
 }
 
-/// The versions of these rows, beside the applications.
+/// The versions of these rows, beside the applications and the classes of all versions.
+fn classed_versions(
+    alloc: Global,
+    apps: &[App],
+    classes: &[Text],
+    rows: &[StoredRow],
+) -> Result<Listed<Version>, RowFault>
+    ensures { (w : World) → apps.now ≡ w.apps → All (IsSoundVersion w.apps) w.versions → classes.now ≡ map (λ v. v.class) w.versions
+        → rows.now ≡ map_from 1 (of_version w) w.versions → Gives result w.versions }
+{
+    each(alloc, rows, |row| version(apps, classes, row))
+}
+
+/// The versions of these rows with the classes of others, beside the applications.
 pub(crate) fn versions(
     alloc: Global,
     apps: &[App],
     rows: &[StoredRow],
+    class_rows: &[StoredRow],
 ) -> Result<Listed<Version>, RowFault>
-    ensures { (w : World) → apps.now ≡ w.apps → All (IsSoundVersion w.apps) w.versions → rows.now ≡ map_from 1 (of_version w) w.versions → Gives result w.versions }
+    ensures { (w : World) → apps.now ≡ w.apps → All (IsSoundVersion w.apps) w.versions → rows.now ≡ map_from 1 (of_version w) w.versions
+        → class_rows.now ≡ map_from 1 of_class w.versions → Gives result w.versions }
 {
-    each(alloc, rows, |row| version(apps, row))
+    let classes = classes(alloc, class_rows)?;
+    classed_versions(alloc, apps, classes.as_slice(), rows)
 }
 
 /// The host of a row, where its values are in their ranges. Of its quota this is the range that settings may give it.

@@ -31,14 +31,15 @@ use Rattle.table_meaning.specs.declared.rows.StoredRow.{StoredRow}
 use Rattle.table_meaning.specs.declared.rows.StoredRow.TheVariants as stored
 use Rattle.table_meaning.specs.declared.rows.StoredAccount.{StoredAccount}
 use Rattle.table_meaning.specs.declared.rows.StoredUnit.{StoredUnit}
+use Rattle.table_meaning.specs.declared.rows.StoredUnitMark.{StoredUnitMark}
 use Rattle.table_meaning.specs.declared.rows.StoredHost.{StoredHost}
 use Rattle.table_meaning.specs.declared.rows.StoredInstance.{StoredInstance}
 use Rattle.table_meaning.specs.declared.tables.TableName.TheVariants.{Account, Unit, Host}
 use Rattle.table_meaning.specs.Holding.{Contents}
 use Rattle.table_meaning.specs.Kept.{number_of}
 use Rattle.table_meaning.specs.Listings.{rows_where, has_text, is_host_known}
-use Rattle.table_meaning.specs.Rows.{account_key, unit_key, host_key, instance_key, columns_of, look_up, whole}
-use Rattle.table_meaning.specs.Worlds.{contents_of, account_row, unit_row, host_row, instance_row}
+use Rattle.table_meaning.specs.Rows.{account_key, unit_key, mark_key, host_key, instance_key, columns_of, look_up, whole}
+use Rattle.table_meaning.specs.Worlds.{contents_of, account_row, unit_row, mark_row, host_row, instance_row}
 use Rattle.table_worlds.specs.ReadBack.{account_in, unit_in, host_in, job_in}
 use Rattle.table_worlds.proofs.ByPlace.{all_nth}
 use Rattle.table_worlds.proofs.ReadBack.{account_back, unit_back, host_back, job_back}
@@ -60,11 +61,11 @@ equal_texts a b = at_texts false Eq a b ∙ cases (bytes_eq a b) refl
       | inr differs ↦ differs
     ]
 
-no_number : (o : Option ℕ) → option_map whole o ≡ None → o ≡ None
+pub no_number : (o : Option ℕ) → option_map whole o ≡ None → o ≡ None
 no_number None is = refl
 no_number (Some n) is = absurd (none-some _ (sym is))
 
-one_number : (o : Option ℕ) (n : ℕ) → option_map whole o ≡ Some (whole n) → o ≡ Some n
+pub one_number : (o : Option ℕ) (n : ℕ) → option_map whole o ≡ Some (whole n) → o ≡ Some n
 one_number None n is = absurd (none-some _ is)
 one_number (Some m) n is = ap Some (ap number_of (same_Some _ _ is))
 
@@ -77,12 +78,14 @@ module _ (db : Database) (w : World) (tell : Tell db w) where
   pub no_unit : (unit : ℕ) → None ≡ look_up db.trees (unit_key unit) → None ≡ workunit_at w unit
   no_unit unit read = sym (ap (option_map (λ (b : UnitBook). b.unit)) (none_stands (of_unit unit) (unit_at w unit) (read ∙ tell.holds.rows (unit_key unit))))
 
-  pub unit_found : (apps : List App) → apps ≡ w.apps → (unit : ℕ) (row : StoredUnit) (u : Workunit) → Some (columns_of (stored.Unit row)) ≡ look_up db.trees (unit_key unit) → u ≡ unit_in apps (columns_of (stored.Unit row))
+  pub unit_found : (apps : List App) → apps ≡ w.apps → (unit : ℕ) (row : StoredUnit) (mark : StoredUnitMark) (u : Workunit) → Some (columns_of (stored.Unit row)) ≡ look_up db.trees (unit_key unit)
+      → Some (columns_of (stored.UnitMark mark)) ≡ look_up db.trees (mark_key unit) → u ≡ unit_in apps (columns_of (stored.Unit row)) (columns_of (stored.UnitMark mark))
       → Some u ≡ workunit_at w unit
-  unit_found apps same unit row u read told =
+  unit_found apps same unit row mark u read marked told =
       let item = item_stands (of_unit unit) (unit_at w unit) (columns_of (stored.Unit row)) (read ∙ tell.holds.rows (unit_key unit)) in
       let has : has_app w.apps item.0.unit.app ≡ true = all_nth (λ (b : UnitBook). has_app w.apps b.unit.app ≡ true) w.units unit item.0 item.1 tell.readable.units in
-      ap Some (told ∙ ap (unit_in apps) item.2 ∙ unit_back apps w same unit item.0 has) ∙ sym (ap (option_map (λ (b : UnitBook). b.unit)) item.1)
+      let rule = same_Some _ _ (marked ∙ tell.holds.rows (mark_key unit) ∙ ap (λ o. option_map columns_of (option_map (λ (b : UnitBook). stored.UnitMark (mark_row unit b)) o)) item.1) in
+      ap Some (told ∙ ap₂ (unit_in apps) item.2 rule ∙ unit_back apps w same unit item.0 has) ∙ sym (ap (option_map (λ (b : UnitBook). b.unit)) item.1)
 
   -- ---- an instance
 

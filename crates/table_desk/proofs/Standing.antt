@@ -1,7 +1,7 @@
 -- Rows of a table that is keyed by number are those of a list, each at its place; and what stands at one key.
-use Rattle.std.proofs.Common.{◌≡◌, ◌⊎◌, ℕ, zero, suc, ◌+◌, ◌<◌, Bool, true, false, cond, List, [], ◌∷◌, map, filter, length, slice_get, Option, Some, None, option_map, refl, sym, ap, ap₂, ◌∙◌, inl, inr, arith}
+use Rattle.std.proofs.Common.{◌≡◌, ◌⊎◌, ℕ, zero, suc, ◌+◌, ◌<◌, Bool, true, false, cond, List, [], ◌∷◌, map, filter, find, length, slice_get, Option, Some, None, option_map, refl, sym, ap, ap₂, ◌∙◌, inl, inr, arith}
 use Rattle.std.specs.Prelude.{filter_map}
-use Rattle.std.specs.List.{range_with_len, enumerate_from, cons_option, position_from}
+use Rattle.std.specs.List.{AllByRecursion, range_with_len, enumerate_from, cons_option, position_from}
 use Rattle.std.proofs.lemmas.Option.{none-some, same_Some, slice_get_past}
 use Rattle.sqlite_value.specs.Order.{Row}
 use Rattle.sqlite_keyed.proofs.ListLemmas.{map-map}
@@ -55,38 +55,57 @@ module _ {X : Type 0} (t : TableName) (key : ℕ → RowKey) (by : IsByNumber t 
 
 -- ---- the first that passes
 
-module _ {X : Type 0} (columns : ℕ × X → Row) (test : Row → Bool) (p : X → Bool) (tells : (n : ℕ) (x : X) → test (columns (n, x)) ≡ p x) where
+-- where the rows of such items are tested as the items are
+module _ {X : Type 0} (columns : ℕ × X → Row) (test : Row → Bool) (p : X → Bool) (Such : X → Type 0) (tells : (n : ℕ) (x : X) → Such x → test (columns (n, x)) ≡ p x) where
   abbrev first_row : ℕ → List X → Option Row
   first_row from xs = slice_get (filter test (map columns (enumerate_from from xs))) 0
 
   -- either none passes, and there is no row, or the first row is that of the first that passes
-  abbrev pub First : ℕ → List X → Type 0
-  First from xs = ((first_row from xs ≡ None) × (position_from p from xs ≡ None))
-      ⊎ ((n : ℕ) × (i : ℕ) × (x : X) × (first_row from xs ≡ Some (columns (n, x))) × (position_from p from xs ≡ Some n) × (n ≡ from + i) × (slice_get xs i ≡ Some x))
+  abbrev First : ℕ → List X → Type 0
+  First from xs = ((first_row from xs ≡ None) × (position_from p from xs ≡ None) × (find p xs ≡ None))
+      ⊎ ((n : ℕ) × (i : ℕ) × (x : X) × (first_row from xs ≡ Some (columns (n, x))) × (position_from p from xs ≡ Some n) × (n ≡ from + i) × (slice_get xs i ≡ Some x)
+      × (find p xs ≡ Some x) × (p x ≡ true))
 
-  pub first_from : (from : ℕ) (xs : List X) → First from xs
-  first_from from [] = inl (refl, refl)
-  first_from from (x ∷ xs) = turn (p x) refl (first_from (from + 1) xs)
+  first_from : (from : ℕ) (xs : List X) → AllByRecursion Such xs → First from xs
+  first_from from [] such = inl (refl, refl, refl)
+  first_from from (x ∷ xs) such = turn (p x) refl (first_from (from + 1) xs such.1)
     where
       others : List Row
       others = filter test (map columns (enumerate_from (from + 1) xs))
 
       row_is : (b : Bool) → p x ≡ b → first_row from (x ∷ xs) ≡ slice_get (cond b (columns (from, x) ∷ others) others) 0
-      row_is b is = ap (λ c. slice_get (cond c (columns (from, x) ∷ others) others) 0) (tells from x ∙ is)
+      row_is b is = ap (λ c. slice_get (cond c (columns (from, x) ∷ others) others) 0) (tells from x such.0 ∙ is)
 
       place_is : (b : Bool) → p x ≡ b → position_from p from (x ∷ xs) ≡ cond b (Some from) (position_from p (from + 1) xs)
       place_is b is = ap (λ c. cond c (Some from) (position_from p (from + 1) xs)) is
 
+      found_is : (b : Bool) → p x ≡ b → find p (x ∷ xs) ≡ cond b (Some x) (find p xs)
+      found_is b is = ap (λ c. cond c (Some x) (find p xs)) is
+
       turn : (b : Bool) → p x ≡ b → First (from + 1) xs → First from (x ∷ xs)
-      turn true is later = inr (from, 0, x, row_is true is, place_is true is, (omega arith), refl)
-      turn false is (inl none) = inl (row_is false is ∙ none.0, place_is false is ∙ none.1)
-      turn false is (inr found) = inr (found.0, suc found.1, found.2, row_is false is ∙ found.3, place_is false is ∙ found.4, omega (arith, found.5), found.6)
+      turn true is later = inr (from, 0, x, row_is true is, place_is true is, (omega arith), refl, found_is true is, is)
+      turn false is (inl none) = inl (row_is false is ∙ none.0, place_is false is ∙ none.1, found_is false is ∙ none.2)
+      turn false is (inr found) =
+          inr (found.0, suc found.1, found.2, row_is false is ∙ found.3, place_is false is ∙ found.4, omega (arith, found.5), found.6, found_is false is ∙ found.7, found.8)
 
   -- the same, of places that count from one
-  pub first_placed : (xs : List X) → ((first_row 1 xs ≡ None) × (place_where p xs ≡ None)) ⊎ ((n : ℕ) × (x : X) × (first_row 1 xs ≡ Some (columns (n, x))) × (place_where p xs ≡ Some n) × (nth xs n ≡ Some x))
-  first_placed xs = elim (first_from 1 xs) [
-    | inl none ↦ inl (none.0, place_where-is p xs ∙ none.1)
+  pub first_such : (xs : List X) → AllByRecursion Such xs
+      → ((first_row 1 xs ≡ None) × (place_where p xs ≡ None) × (find p xs ≡ None))
+      ⊎ ((n : ℕ) × (x : X) × (first_row 1 xs ≡ Some (columns (n, x))) × (place_where p xs ≡ Some n) × (nth xs n ≡ Some x) × (find p xs ≡ Some x) × (p x ≡ true))
+  first_such xs such = elim (first_from 1 xs such) [
+    | inl none ↦ inl (none.0, place_where-is p xs ∙ none.1, none.2)
     | inr found ↦
         let next : found.0 ≡ suc found.1 = omega (arith, found.5) in
-        inr (found.0, found.2, found.3, place_where-is p xs ∙ found.4, ap (nth xs) next ∙ nth-suc xs found.1 ∙ found.6)
+        inr (found.0, found.2, found.3, place_where-is p xs ∙ found.4, ap (nth xs) next ∙ nth-suc xs found.1 ∙ found.6, found.7, found.8)
   ]
+
+-- where the rows of all are
+module _ {X : Type 0} (columns : ℕ × X → Row) (test : Row → Bool) (p : X → Bool) (tells : (n : ℕ) (x : X) → test (columns (n, x)) ≡ p x) where
+  any : (xs : List X) → AllByRecursion (λ x. Unit {0}) xs
+  any [] = tt
+  any (x ∷ xs) = (tt, any xs)
+
+  pub first_placed : (xs : List X) → ((slice_get (filter test (map columns (enumerate_from 1 xs))) 0 ≡ None) × (place_where p xs ≡ None) × (find p xs ≡ None))
+      ⊎ ((n : ℕ) × (x : X) × (slice_get (filter test (map columns (enumerate_from 1 xs))) 0 ≡ Some (columns (n, x))) × (place_where p xs ≡ Some n) × (nth xs n ≡ Some x)
+      × (find p xs ≡ Some x) × (p x ≡ true))
+  first_placed xs = first_such columns test p (λ x. Unit {0}) (λ n x such. tells n x) xs (any xs)

@@ -24,10 +24,12 @@ use Rattle.sched_book.specs.declared.instance.UnitBook.{UnitBook}
 use Rattle.sched_book.specs.declared.world.World.{World}
 use Rattle.sched_book.proofs.PlacesOf.{nth-suc}
 use Rattle.sqlite_sql.specs.declared.ops.CompareOp.TheVariants.{Eq}
+use Rattle.table_meaning.specs.declared.tables.Page.{Page}
+use Rattle.table_meaning.specs.declared.tables.Page.TheVariants.{First, Further}
 use Rattle.table_meaning.specs.declared.rows.StoredRow.TheVariants as stored
 use Rattle.table_meaning.specs.Holding.{Contents, Hold}
 use Rattle.table_meaning.specs.Places as table
-use Rattle.table_meaning.specs.Places.{IsBefore, AreAllPlaces, instance_at, shows_passing, compares, is_not_before, waits_from}
+use Rattle.table_meaning.specs.Places.{page_size, IsBefore, AreAllPlaces, instance_at, shows_passing, compares, is_not_before, waits_from}
 use Rattle.table_meaning.specs.Rows.{columns_of, whole}
 use Rattle.table_meaning.specs.Worlds.{contents_of, instance_row, is_queued, status_code}
 use Rattle.table_meaning.proofs.PlacesTests.{equal_numbers, above_number, not_below_number}
@@ -227,23 +229,29 @@ none_left (suc n) (x ∷ xs) is = none_left n xs is
 -- ---- a page of places
 
 module _ (db : Database) (w : World) (tell : Tell db w) where
-  left_behind : (from : Place) (o : Option Place) → slice_get (waiting w from) 63 ≡ o → candidates_at w (drop 64 (waiting w from)) ≡ unsent_on w (option_map behind o)
-  left_behind from None is = ap (candidates_at w) (none_left 63 (waiting w from) is)
-  left_behind from (Some last) is =
-      ap (candidates_at w) (rest_behind (passes w (is_queued w)) from last 63 (places w) (all_places w tell.calls tell.batches).rise is) ∙ unsent_waiting w (behind last)
+  left_behind : (n : ℕ) (from : Place) (o : Option Place) → slice_get (waiting w from) n ≡ o → candidates_at w (drop (suc n) (waiting w from)) ≡ unsent_on w (option_map behind o)
+  left_behind n from None is = ap (candidates_at w) (none_left n (waiting w from) is)
+  left_behind n from (Some last) is =
+      ap (candidates_at w) (rest_behind (passes w (is_queued w)) from last n (places w) (all_places w tell.calls tell.batches).rise is) ∙ unsent_waiting w (behind last)
 
   -- the candidates of a page, and what is unsent behind it, are what is unsent from the page's first place on
-  page_of : (from : Place) (queued : List Place) → queued ≡ take 64 (table.places_where (contents db w tell from) (waits_from from) (places w)) → unsent w from ≡ candidates_at w queued ++ unsent_on w (next_page queued)
-  page_of from queued is =
+  places_of : (n : ℕ) (from : Place) (queued : List Place) → queued ≡ take (suc n) (table.places_where (contents db w tell from) (waits_from from) (places w))
+      → unsent w from ≡ candidates_at w queued ++ unsent_on w (option_map behind (slice_get queued n))
+  places_of n from queued is =
       let all = waiting w from in
-      let page : queued ≡ take 64 all = is ∙ ap (take 64) (waiting_told db w tell from) in
-      let next : slice_get all 63 ≡ slice_get queued 63 = sym (slice_get-take 64 all 63 (omega arith)) ∙ ap (λ l. slice_get l 63) (sym page) in
-      sym (unsent_waiting w from) ∙ ap (candidates_at w) (sym (take-append-drop 64 all)) ∙ filter_map-append (candidate_at w) (take 64 all) (drop 64 all)
-      ∙ ap₂ (λ (xs ys : List Candidate). xs ++ ys) (ap (candidates_at w) (sym page)) (left_behind from (slice_get queued 63) next)
+      let page : queued ≡ take (suc n) all = is ∙ ap (take (suc n)) (waiting_told db w tell from) in
+      let next : slice_get all n ≡ slice_get queued n = sym (slice_get-take (suc n) all n (omega arith)) ∙ ap (λ l. slice_get l n) (sym page) in
+      sym (unsent_waiting w from) ∙ ap (candidates_at w) (sym (take-append-drop (suc n) all)) ∙ filter_map-append (candidate_at w) (take (suc n) all) (drop (suc n) all)
+      ∙ ap₂ (λ (xs ys : List Candidate). xs ++ ys) (ap (candidates_at w) (sym page)) (left_behind n from (slice_get queued n) next)
+
+  page_of : (page : Page) (from : Place) (queued : List Place) → queued ≡ take (page_size page) (table.places_where (contents db w tell from) (waits_from from) (places w))
+      → unsent w from ≡ candidates_at w queued ++ unsent_on w (next_page page queued)
+  page_of First = places_of 7
+  page_of Further = places_of 63
 
 -- a page of places that a read shows
-pub page_read : {S : Type 0} (store : Ghosts S) (first mid : Held S) (from : Place) (queued page : List Place) → page ≡ queued
-    → (HasCleanDisk (state store mid) → (contents : Contents) (places : List Place) → Hold (state store first).now contents → AreAllPlaces contents places → queued ≡ take 64 (table.places_where contents (waits_from from) places))
-    → Asked store first mid (λ w. unsent w from ≡ candidates_at w page ++ unsent_on w (next_page page))
-page_read store first mid from queued page same shown = λ clean is_open rests w tell.
-    page_of (state store first).now w tell from page (same ∙ shown clean (contents_of w tell.calls tell.batches) (places w) tell.holds (all_places w tell.calls tell.batches))
+pub page_read : {S : Type 0} (store : Ghosts S) (first mid : Held S) (which : Page) (from : Place) (queued page : List Place) → page ≡ queued
+    → (HasCleanDisk (state store mid) → (contents : Contents) (places : List Place) → Hold (state store first).now contents → AreAllPlaces contents places → queued ≡ take (page_size which) (table.places_where contents (waits_from from) places))
+    → Asked store first mid (λ w. unsent w from ≡ candidates_at w page ++ unsent_on w (next_page which page))
+page_read store first mid which from queued page same shown = λ clean is_open rests w tell.
+    page_of (state store first).now w tell which from page (same ∙ shown clean (contents_of w tell.calls tell.batches) (places w) tell.holds (all_places w tell.calls tell.batches))

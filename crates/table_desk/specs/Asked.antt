@@ -1,4 +1,4 @@
--- What is asked of the stored tables, and of which world the answer is.
+-- Words. What is asked of the stored tables, and of which world the answer is.
 use Rattle.std.specs.Prelude.{◌≡◌, ℕ, List, Option, IsTrue}
 use Rattle.sched_book.specs.declared.world.World.{World}
 use Rattle.sqlite_trees.specs.declared.store.Store.{Ghosts}

@@ -1,4 +1,4 @@
--- What the columns that are counted say.
+-- Rule. What the columns that are counted say.
 use Rattle.std.specs.Prelude.{ℕ, ◌==◌, if◌then◌else◌, length, Option, Some, None, option_map}
 use Rattle.sched_book.specs.Places.{host_at, held_by, host_credit}
 use Rattle.sched_book.specs.declared.instance.Status.{Status}

@@ -1,10 +1,12 @@
--- Candidates that are looked up a page of places at a time.
-use Rattle.std.specs.Prelude.{◌+◌, List, [], filter_map, slice_get, Option, Some, None, option_map}
+-- Words. Candidates that are looked up a page of places at a time.
+use Rattle.std.specs.Prelude.{◌+◌, ◌-◌, List, [], filter_map, slice_get, Option, Some, None, option_map}
 use Rattle.sched_book.specs.Desk.{workunit_at}
 use Rattle.sched_book.specs.Offers.{unsent}
 use Rattle.sched_book.specs.declared.desk.Candidate.{Candidate}
 use Rattle.sched_book.specs.declared.instance.Place.{Place}
 use Rattle.sched_book.specs.declared.world.World.{World}
+use Rattle.table_meaning.specs.Places.{page_size}
+use Rattle.table_meaning.specs.declared.tables.Page.{Page}
 
 -- a place with its workunit, where one stands
 abbrev pub candidate_at : World → Place → Option Candidate
@@ -17,9 +19,9 @@ candidates_at w = filter_map (candidate_at w)
 abbrev pub behind : Place → Place
 behind place = record { unit = place.unit; number = place.number + 1 }
 
--- the next page begins behind the last of 64 places; behind fewer there is none
-abbrev pub next_page : List Place → Option Place
-next_page places = option_map behind (slice_get places 63)
+-- the next page begins behind the last place of a full one; behind one with fewer places there is none
+abbrev pub next_page : Page → List Place → Option Place
+next_page page places = option_map behind (slice_get places (page_size page - 1))
 
 -- what is unsent from there on, and nothing where there is no further page
 abbrev pub unsent_on : World → Option Place → List Candidate

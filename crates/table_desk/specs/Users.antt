@@ -1,4 +1,4 @@
--- The workunits of which instances were given to some hosts.
+-- Words. The workunits of which instances were given to some hosts.
 use Rattle.std.specs.Prelude.{◌≡◌, ◌||◌, ℕ, Bool, List}
 use Rattle.std.specs.BTreeSet.{BTreeSet, contains}
 use Rattle.std.specs.List.{list_any}

@@ -1,10 +1,11 @@
 //! Applications and their versions.
 
-ghost use Rattle.std.specs.Prelude.{◌≡◌, position, Some, IfOk, IfSome};
+ghost use Rattle.std.specs.Prelude.{◌≡◌, position, find, Some, IfOk, IfSome};
 ghost use Rattle.std.specs.Str.{bytes_eq};
 ghost use Rattle.sqlite.specs.Held.{state};
 ghost use Rattle.sched_book.specs.Desk.{app_by_name as app_of_name, version_by_key as version_of_key};
 ghost use Rattle.sched_book.specs.Fits.{version_among as among, version_at};
+ghost use Rattle.sched_book.specs.Imports.{is_version};
 ghost use Rattle.sched_book.specs.Limits.{IsVersionInLimits};
 ghost use Rattle.sched_book.specs.Places.{place_where};
 ghost use Rattle.sched_book.specs.declared.world.World.{World};
@@ -15,7 +16,8 @@ ghost use Rattle.table_desk.specs.Versions.{greatest};
 use sched_book::{App, HostRow, Placed, Unavailable, Version, copy_of, nth};
 use sqlite::{Alter, Connection};
 use std::alloc::Global;
-use table_rows::version_numbers;
+use table_decoding::version_class;
+use table_rows::{class_of, version_known, version_numbers};
 use texts::Text;
 use world_soundness::in_limits::is_version_in_limits;
 
@@ -83,6 +85,37 @@ fn in_limits(version: Version) -> Result<Version, Unavailable>
     }
 }
 
+/// The first version of the application of this name, which is the first of its name at this place, for this platform and
+/// with this number. Unavailable where it has no class, or one of its values is out of its range. The connection shows what
+/// it showed.
+fn version_with<S: Alter>(
+    alloc: Global,
+    conn: &mut Connection<S>,
+    app: &str,
+    place: u32,
+    platform: &str,
+    version_num: u32,
+) -> Result<Option<Version>, Unavailable>
+    ensures reads { Reads (state S.Store conn.old) (state S.Store conn.new) }
+    ensures answer { Asked S.Store conn.old conn.new (λ w. Some place ≡ place_where (λ a. bytes_eq a.name app.now) w.apps
+        → IfOk result (λ r. r ≡ find (is_version app.now platform.now version_num) w.versions)) }
+    ensures limits { IfOk result (λ r. IfSome r IsVersionInLimits) }
+{
+    let Some(id) = version_known(alloc, conn, place, platform, version_num)? else {
+        return Ok(None);
+    };
+    let Some(row) = class_of(alloc, conn, id)? else {
+        return Err(Unavailable);
+    };
+    let version = Version {
+        app: Text::copied(alloc, app)?,
+        platform: Text::copied(alloc, platform)?,
+        version_num,
+        class: version_class(&row)?,
+    };
+    Ok(Some(in_limits(version)?))
+}
+
 /// The newest version of the application of this name, which is the first of its name at this place, for the first of
 /// the platforms that has any. The connection shows what it showed.
 fn version_among<S: Alter>(
@@ -100,20 +133,22 @@ fn version_among<S: Alter>(
     for platform in platforms {
         let numbers = version_numbers(alloc, conn, place, platform.as_str())?;
         if let Some(version_num) = greatest(numbers.as_slice()) {
-            let version = Version {
-                app: app.clone()?,
-                platform: platform.clone()?,
+            return version_with(
+                alloc,
+                conn,
+                app.as_str(),
+                place,
+                platform.as_str(),
                 version_num,
-            };
-            return Ok(Some(in_limits(version)?));
+            );
         }
     }
     Ok(None)
 }
 
 /// The version that a host runs of the application at this place, of all applications: the newest for the first of the
-/// host's platforms that has any. Unavailable where one of its values is out of its range, whatever the rows are. The
-/// connection shows what it showed.
+/// host's platforms that has any. Unavailable where it has no class, or one of its values is out of its range, whatever the
+/// rows are. The connection shows what it showed.
 pub fn version_for<S: Alter>(
     alloc: Global,
     conn: &mut Connection<S>,
@@ -134,8 +169,8 @@ pub fn version_for<S: Alter>(
     version_among(alloc, conn, &named.name, place, host.platforms.as_slice())
 }
 
-/// The version of this application, for this platform, with this number. Unavailable where one of its values is out of its
-/// range, whatever the rows are. The connection shows what it showed.
+/// The version of this application, for this platform, with this number. Unavailable where it has no class, or one of its
+/// values is out of its range, whatever the rows are. The connection shows what it showed.
 pub fn version_by_key<S: Alter>(
     alloc: Global,
     conn: &mut Connection<S>,
@@ -151,14 +186,5 @@ pub fn version_by_key<S: Alter>(
     let Some(place) = place_of(apps, app)? else {
         return Ok(None);
     };
-    let numbers = version_numbers(alloc, conn, place, platform)?;
-    if !numbers.as_slice().contains(&version_num) {
-        return Ok(None);
-    }
-    let version = Version {
-        app: Text::copied(alloc, app)?,
-        platform: Text::copied(alloc, platform)?,
-        version_num,
-    };
-    Ok(Some(in_limits(version)?))
+    version_with(alloc, conn, app, place, platform, version_num)
 }

@@ -4,6 +4,7 @@ ghost use Rattle.std.specs.Prelude.{◌≡◌, ℕ, Some, IfOk, IfSome, OnOk, On
 ghost use Rattle.sqlite.specs.Held.{state};
 ghost use Rattle.sched_book.specs.Offers.{unsent, OffersAll, OffersSome, Offered, OfferedSome, Leads};
 ghost use Rattle.sched_book.specs.declared.desk.Candidate.{Candidate as BookCandidate};
+ghost use Rattle.table_meaning.specs.Places.{page_size};
 ghost use Rattle.table_meaning.specs.Reads.{Reads};
 ghost use Rattle.table_desk.specs.Asked.{Asked};
 ghost use Rattle.table_desk.specs.Pages.{candidate_at, candidates_at, next_page, unsent_on};
@@ -13,14 +14,22 @@ use sched_book::limits::{MOST_INSTANCES, MOST_WORKUNITS};
 use sched_book::{App, Candidate, Flow, Place, Taker, Unavailable, Workunit};
 use sqlite::{Alter, Connection};
 use std::alloc::Global;
+use table_meaning::tables::Page;
 use table_rows::queued_from;
 use texts::Memory;
 
-/// How many places a page has.
-const PAGE: usize = 64;
+/// More pages than the instances of all workunits fill, the further ones having 64 places.
+const MOST_PAGES: usize = MOST_WORKUNITS * MOST_INSTANCES / 64 + 2;
 
-/// More pages than the instances of all workunits fill.
-const MOST_PAGES: usize = MOST_WORKUNITS * MOST_INSTANCES / PAGE + 1;
+/// How many places a page has at most.
+fn size(page: Page) -> usize
+    ensures { result ≡ page_size page }
+{
+    match page {
+        Page::First => 8,
+        Page::Further => 64,
+    }
+}
 
 /// Who knows some workunits, so that they need not be read.
 pub trait KnownUnits {
@@ -36,10 +45,10 @@ pub trait KnownUnits {
 }
 
 /// Where the next page begins, if this one is full. Refused where the number of the last place is the greatest one.
-fn next_page(places: &[Place]) -> Result<Option<Place>, Unavailable>
-    ensures { IfOk result (λ next. next ≡ next_page places.now) }
+fn next_page(page: Page, places: &[Place]) -> Result<Option<Place>, Unavailable>
+    ensures { IfOk result (λ next. next ≡ next_page page places.now) }
 {
-    match places.get(PAGE - 1) {
+    match places.get(size(page) - 1) {
         None => Ok(None),
         Some(last) => match last.number.checked_add(1) {
             None => Err(Unavailable),
@@ -105,16 +114,17 @@ fn offer_page<S: Alter, K: KnownUnits, T: Taker>(
     apps: &[App],
     known: &K,
     from: Place,
+    page: Page,
     taker: &mut T,
 ) -> Result<Option<Place>, Unavailable>
     ensures reads { Reads (state S.Store conn.old) (state S.Store conn.new) }
     ensures all { Asked S.Store conn.old conn.new (λ w. apps.now ≡ w.apps → K.are_of w known.now → IfOk result (λ next. Leads T.takes taker.old (unsent w from) taker.new (unsent_on w next))) }
     ensures some { Asked S.Store conn.old conn.new (λ w. apps.now ≡ w.apps → K.are_of w known.now → OnErr result (OffersSome T.takes taker.old (unsent w from) taker.new)) }
 {
-    let queued = queued_from(alloc, conn, from)?;
+    let queued = queued_from(alloc, conn, from, page)?;
     match offer_each(alloc, conn, apps, known, queued.as_slice(), taker)? {
         Flow::Stop => Ok(None),
-        Flow::GoOn => next_page(queued.as_slice()),
+        Flow::GoOn => next_page(page, queued.as_slice()),
     }
 }
 
@@ -134,11 +144,13 @@ pub fn unsent_from<S: Alter, K: KnownUnits, T: Taker>(
     ensures some { Asked S.Store conn.old conn.new (λ w. apps.now ≡ w.apps → K.are_of w known.now → OnErr result (OffersSome T.takes taker.old (unsent w from) taker.new)) }
 {
     let mut next = from;
-    for _page in 0..MOST_PAGES {
-        match offer_page(alloc, conn, apps, known, next, taker)? {
+    let mut page = Page::First;
+    for _turn in 0..MOST_PAGES {
+        match offer_page(alloc, conn, apps, known, next, page, taker)? {
             None => return Ok(()),
             Some(behind) => next = behind,
         }
+        page = Page::Further;
     }
     Err(Unavailable)
 }

@@ -17,7 +17,7 @@ use sqlite::{Alter, Connection};
 use std::alloc::Global;
 use table_decoding::{instance, workunit};
 use table_meaning::rows::StoredInstance;
-use table_rows::{instance_of, instances_in, unit_named, unit_of};
+use table_rows::{instance_of, instances_in, mark_of, unit_named, unit_of};
 use texts::Listed;
 
 /// The place of the workunit of this name. The connection shows what it showed.
@@ -32,8 +32,8 @@ pub fn unit_by_name<S: Alter>(
     Ok(unit_named(alloc, conn, name)?)
 }
 
-/// The workunit at this place, beside all applications. Unavailable where its row has a value out of its range, whatever
-/// the rows are. The connection shows what it showed.
+/// The workunit at this place, beside all applications. Unavailable where it has no mark, or its row or its mark has a value
+/// out of its range, whatever the rows are. The connection shows what it showed.
 pub fn unit_at<S: Alter>(
     alloc: Global,
     conn: &mut Connection<S>,
@@ -44,10 +44,13 @@ pub fn unit_at<S: Alter>(
     ensures answer { Asked S.Store conn.old conn.new (λ w. apps.now ≡ w.apps → IfOk result (λ r. r ≡ workunit_at w unit)) }
     ensures limits { IfOk result (λ r. IfSome r IsUnitInLimits) }
 {
-    match unit_of(alloc, conn, unit)? {
-        None => Ok(None),
-        Some(row) => Ok(Some(workunit(apps, &row)?)),
-    }
+    let Some(row) = unit_of(alloc, conn, unit)? else {
+        return Ok(None);
+    };
+    let Some(mark) = mark_of(alloc, conn, unit)? else {
+        return Err(Unavailable);
+    };
+    Ok(Some(workunit(apps, &row, &mark)?))
 }
 
 /// The instance of this number of the workunit at this place. Unavailable where its row has a value out of its range,

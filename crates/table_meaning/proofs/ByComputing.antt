@@ -18,7 +18,7 @@ use Rattle.sqlite.specs.Rows.{stamped, shown as shown_by}
 use Rattle.sqlite.specs.Listing.{understood, reads_listing}
 use Rattle.sqlite.proofs.Callers.{IsPlain, command_of}
 use Rattle.table_meaning.specs.declared.tables.TableName.{TableName}
-use Rattle.table_meaning.specs.declared.tables.TableName.TheVariants.{Setting, Account, App, Version, Unit, Host, Instance, Kept, Batch}
+use Rattle.table_meaning.specs.declared.tables.TableName.TheVariants.{Setting, Account, App, Version, Unit, Host, Instance, Kept, Batch, VersionClass, UnitMark}
 use Rattle.table_meaning.specs.Kinds.{Kind, number}
 use Rattle.table_meaning.specs.Layouts.{Key, numbered, by_first, layout_of, names}
 use Rattle.table_meaning.specs.Schema.{newest, tables_at, stored_schema, table_by, place_of}
@@ -72,7 +72,7 @@ pub record Computed (t : TableName) : Type 0 where
       → eval_all (set_terms (key_by t) (count_of t)) ((written_out t c ++ v ∷ shown_by (table_by t) (Int id ∷ behind_by (key_by t) (written_out t c))) ∷ r ∷ []) ≡ behind_by (key_by t) (written_out t c)
   pub shows : (c : Row) (id : ℤ) → shown t (Int id ∷ behind_by (key_by t) (written_out t c)) ≡ with_number (key_by t) id (written_out t c)
 
-or_false : (b : Bool) → (b || false) ≡ b
+pub or_false : (b : Bool) → (b || false) ≡ b
 or_false true = refl
 or_false false = refl
 
@@ -89,4 +89,6 @@ computed t = elim t as Computed [
   | Instance ↦ record { listed = refl; found = refl; own = λ db. refl; starts = tt; reads = (refl, (refl, refl), refl); reads_key = (refl, (refl, refl), refl); puts = refl; plain_text = (refl, refl); values = λ c. refl; meets = λ c id x. or_false _; slot_is = λ c v rest. refl; columns_are = λ c id r v. refl; shows = λ c id. refl }
   | Kept ↦ record { listed = refl; found = refl; own = λ db. refl; starts = tt; reads = (refl, (refl, refl), refl); reads_key = (refl, (refl, refl), refl); puts = refl; plain_text = (refl, refl); values = λ c. refl; meets = λ c id x. or_false _; slot_is = λ c v rest. refl; columns_are = λ c id r v. refl; shows = λ c id. refl }
   | Batch ↦ record { listed = refl; found = refl; own = λ db. refl; starts = tt; reads = (refl, (refl, refl), refl); reads_key = (refl, (refl, refl), refl); puts = refl; plain_text = (refl, refl); values = λ c. refl; meets = λ c id x. or_false _; slot_is = λ c v rest. refl; columns_are = λ c id r v. refl; shows = λ c id. refl }
+  | VersionClass ↦ record { listed = refl; found = refl; own = λ db. refl; starts = (_, refl); reads = (refl, (refl, refl), refl); reads_key = (refl, (refl, refl), refl); puts = refl; plain_text = (refl, refl); values = λ c. refl; meets = λ c id x. or_false _; slot_is = λ c v rest. refl; columns_are = λ c id r v. refl; shows = λ c id. refl }
+  | UnitMark ↦ record { listed = refl; found = refl; own = λ db. refl; starts = (_, refl); reads = (refl, (refl, refl), refl); reads_key = (refl, (refl, refl), refl); puts = refl; plain_text = (refl, refl); values = λ c. refl; meets = λ c id x. or_false _; slot_is = λ c v rest. refl; columns_are = λ c id r v. refl; shows = λ c id. refl }
 ]

@@ -12,7 +12,7 @@ use Rattle.table_meaning.specs.declared.rows.StoredHost.{StoredHost}
 use Rattle.table_meaning.specs.declared.rows.StoredInstance.{StoredInstance}
 use Rattle.table_meaning.specs.declared.rows.StoredUnit.{StoredUnit}
 use Rattle.table_meaning.specs.declared.rows.StoredRow.{StoredRow}
-use Rattle.table_meaning.specs.declared.rows.StoredRow.TheVariants.{Setting, Account, App, Version, Unit, Host, Instance, Kept, Batch}
+use Rattle.table_meaning.specs.declared.rows.StoredRow.TheVariants.{Setting, Account, App, Version, Unit, Host, Instance, Kept, Batch, VersionClass, UnitMark}
 use Rattle.table_meaning.specs.Kept.{number_of}
 use Rattle.table_meaning.specs.Rows.{columns_of, setting_value, whole}
 
@@ -99,12 +99,14 @@ instance_told row = record {
   queued = number_of (column row 9) == 1;
 }
 
--- The row of these columns: how many they are tells its table, and where two tables have as many, a text.
+-- The row of these columns: how many they are tells its table, and where several tables have as many, a text.
 row_told : Row → StoredRow
 row_told row =
-    if length row == 2 then Setting (record { name = bytes_of (column row 0); value = setting_of (column row 1) })
-    else (if length row == 3 then (if is_text (column row 2) then Account (record { id = number_of (column row 0); auth = bytes_of (column row 1); name = bytes_of (column row 2) })
+    if length row == 2 then (if is_text (column row 0) then Setting (record { name = bytes_of (column row 0); value = setting_of (column row 1) })
+    else VersionClass (record { version_id = number_of (column row 0); class = bytes_of (column row 1) }))
+    else (if length row == 3 then (if is_text (column row 1) then (if is_text (column row 2) then Account (record { id = number_of (column row 0); auth = bytes_of (column row 1); name = bytes_of (column row 2) })
     else App (record { id = number_of (column row 0); name = bytes_of (column row 1); agreement = if_any number_of (column row 2) }))
+    else UnitMark (record { unit_id = number_of (column row 0); marked = number_of (column row 1) == 1; class = if_any bytes_of (column row 2) }))
     else (if length row == 4 then (if is_text (column row 0) then Batch (record { kind = bytes_of (column row 0); name = bytes_of (column row 1); text = bytes_of (column row 2); answer = bytes_of (column row 3) })
     else Version (record { id = number_of (column row 0); app_id = number_of (column row 1); platform = bytes_of (column row 2); num = number_of (column row 3) }))
     else (if length row == 5 then Kept (record { host_id = number_of (column row 0); slot = number_of (column row 1); seqno = number_of (column row 2); text = bytes_of (column row 3); reply = bytes_of (column row 4) })
@@ -137,6 +139,8 @@ is_told (Instance x) =
     }))
 is_told (Kept k) = refl
 is_told (Batch b) = refl
+is_told (VersionClass c) = refl
+is_told (UnitMark m) = λ i. UnitMark (record { unit_id = m.unit_id; marked = flag_back m.marked i; class = any_back Text bytes_of (λ t. refl) m.class i })
 
 pub columns_told : (r s : StoredRow) → columns_of r ≡ columns_of s → r ≡ s
 columns_told r s same = sym (is_told r) ∙ ap row_told same ∙ is_told s

@@ -1,5 +1,5 @@
 -- What each CREATE text makes, and what all of them make of an empty database, or of the tables of an earlier schema.
-use Rattle.std.proofs.Common.{◌≡◌, ℕ, zero, suc, ◌≤◌, List, [], ◌∷◌, length, take, drop, fold, refl, sym, subst, ◌∙◌, arith}
+use Rattle.std.proofs.Common.{◌≡◌, ℕ, zero, suc, ◌+◌, ◌≤◌, List, [], ◌∷◌, length, take, fold, refl, sym, subst, arith}
 use Rattle.std.specs.List.{AllByRecursion}
 use Rattle.std.proofs.lemmas.List.{length-take}
 use Rattle.sqlite_schema.specs.declared.schema.Schema.{Schema}
@@ -7,14 +7,14 @@ use Rattle.sqlite_trees.specs.Tree.{Trees}
 use Rattle.sqlite_tied.specs.Compute.{everything}
 use Rattle.sqlite.specs.Effect.{Database}
 use Rattle.sqlite.specs.Listing.{understood}
-use Rattle.table_meaning.specs.Schema.{no_schema, stored_schema, parts, parts_at, schema_at, newest}
+use Rattle.table_meaning.specs.Schema.{no_schema, parts, parts_at, schema_at, newest}
 use Rattle.table_meaning.specs.Texts.{Made, definitions}
 use Rattle.table_meaning.specs.Making.{with_made, MakeInTurn, AreFree, IsLeft, no_rows, rows_at}
 use Rattle.table_meaning.specs.Schemas.{IsEarlier, definitions_between}
 
 definitions_make : MakeInTurn no_schema definitions
 unfolding understood everything
-definitions_make = ((refl, refl, refl), refl, (refl, refl), ((refl, refl, refl), refl, (refl, refl), ((refl, refl, refl), refl, (refl, refl), ((refl, refl, refl), refl, (refl, refl), ((refl, refl, refl), refl, (refl, refl), ((refl, refl, refl), refl, (refl, refl), ((refl, refl, refl), refl, (refl, refl), ((refl, refl, refl), refl, (refl, refl), ((refl, refl, refl), refl, (refl, refl), ((refl, refl, refl), refl, (refl, refl), ((refl, refl, refl), refl, (refl, refl), ((refl, refl, refl), refl, (refl, refl), ((refl, refl, refl), refl, (refl, refl), ((refl, refl, refl), refl, (refl, refl), tt))))))))))))))
+definitions_make = ((refl, refl, refl), refl, (refl, refl), ((refl, refl, refl), refl, (refl, refl), ((refl, refl, refl), refl, (refl, refl), ((refl, refl, refl), refl, (refl, refl), ((refl, refl, refl), refl, (refl, refl), ((refl, refl, refl), refl, (refl, refl), ((refl, refl, refl), refl, (refl, refl), ((refl, refl, refl), refl, (refl, refl), ((refl, refl, refl), refl, (refl, refl), ((refl, refl, refl), refl, (refl, refl), ((refl, refl, refl), refl, (refl, refl), ((refl, refl, refl), refl, (refl, refl), ((refl, refl, refl), refl, (refl, refl), ((refl, refl, refl), refl, (refl, refl), ((refl, refl, refl), refl, (refl, refl), ((refl, refl, refl), refl, (refl, refl), tt))))))))))))))))
 
 abbrev made_by : Schema → List (List ℕ × Made) → Schema
 made_by = fold (λ schema d. with_made schema d.1)
@@ -25,7 +25,8 @@ unfolding understood everything
 makes_schema zero within = refl
 makes_schema (suc zero) within = refl
 makes_schema (suc (suc zero)) within = refl
-makes_schema (suc (suc (suc n))) within = absurd (omega (arith, within))
+makes_schema (suc (suc (suc zero))) within = refl
+makes_schema (suc (suc (suc (suc n)))) within = absurd (omega (arith, within))
 
 take_within : {X : Type 0} (k : ℕ) (xs : List X) → length (take k xs) ≤ length xs
 take_within k xs = omega (arith, length-take k xs)
@@ -33,22 +34,12 @@ take_within k xs = omega (arith, length-take k xs)
 pub parts_within : (n : ℕ) → length (parts_at n) ≤ length definitions
 parts_within n = take_within _ parts
 
--- ---- the first of them, and those behind
+-- ---- the first of them
 
 first_make : (k : ℕ) (schema : Schema) (all : List (List ℕ × Made)) → MakeInTurn schema all → MakeInTurn schema (take k all)
 first_make zero schema all makes = tt
 first_make (suc k) schema [] makes = tt
 first_make (suc k) schema (d ∷ all) makes = (makes.0, makes.1, makes.2, first_make k (with_made schema d.1) all makes.3)
-
-later_make : (k : ℕ) (schema : Schema) (all : List (List ℕ × Made)) → MakeInTurn schema all → MakeInTurn (made_by schema (take k all)) (drop k all)
-later_make zero schema all makes = makes
-later_make (suc k) schema [] makes = tt
-later_make (suc k) schema (d ∷ all) makes = later_make k (with_made schema d.1) all makes.3
-
-made_in_turn : (k : ℕ) (schema : Schema) (all : List (List ℕ × Made)) → made_by (made_by schema (take k all)) (drop k all) ≡ made_by schema all
-made_in_turn zero schema all = refl
-made_in_turn (suc k) schema [] = refl
-made_in_turn (suc k) schema (d ∷ all) = made_in_turn k (with_made schema d.1) all
 
 -- ---- an empty database
 
@@ -66,20 +57,28 @@ none_made n within db none = record {
 
 -- ---- tables of an earlier schema
 
+-- what makes the next schema of one, in turn
+next_make : (n : ℕ) → IsEarlier n → MakeInTurn (schema_at n) (definitions_between n (n + 1)) × (made_by (schema_at n) (definitions_between n (n + 1)) ≡ schema_at (n + 1))
+unfolding understood everything
+next_make zero earlier = absurd (omega (arith, earlier.0))
+next_make (suc zero) earlier = (((refl, refl, refl), refl, (refl, refl), tt), refl)
+next_make (suc (suc zero)) earlier = (((refl, refl, refl), refl, (refl, refl), ((refl, refl, refl), refl, (refl, refl), tt)), refl)
+next_make (suc (suc (suc n))) earlier = absurd (omega (arith, earlier.1))
+
 -- the tables that are made have no row before, and those of the schema have theirs
-apart_at : (n : ℕ) → IsEarlier n → (trees : Trees) → AreFree (rows_at n trees) (schema_at n) (definitions_between n newest) × AllByRecursion (λ t. trees t.tree ≡ rows_at n trees t.tree) (schema_at n).tables
+apart_at : (n : ℕ) → IsEarlier n → (trees : Trees) → AreFree (rows_at n trees) (schema_at n) (definitions_between n (n + 1)) × AllByRecursion (λ t. trees t.tree ≡ rows_at n trees t.tree) (schema_at n).tables
 apart_at zero earlier trees = absurd (omega (arith, earlier.0))
 apart_at (suc zero) earlier trees = ((refl, tt), (refl, (refl, (refl, (refl, (refl, (refl, (refl, (refl, (refl, tt))))))))))
-apart_at (suc (suc n)) earlier trees = absurd (omega (arith, earlier.1))
+apart_at (suc (suc zero)) earlier trees = ((refl, (refl, tt)), (refl, (refl, (refl, (refl, (refl, (refl, (refl, (refl, (refl, (refl, tt)))))))))))
+apart_at (suc (suc (suc n))) earlier trees = absurd (omega (arith, earlier.1))
 
-pub earlier_made : (n : ℕ) → IsEarlier n → (db : Database) → db.schema ≡ schema_at n → IsLeft stored_schema (rows_at n db.trees) (definitions_between n newest) db
-earlier_made n earlier db is =
-    let size = length (parts_at n) in
-    let made = makes_schema n (omega (arith, earlier.1)) in
+pub next_left : (n : ℕ) → IsEarlier n → (db : Database) → db.schema ≡ schema_at n → IsLeft (schema_at (n + 1)) (rows_at n db.trees) (definitions_between n (n + 1)) db
+next_left n earlier db is =
+    let makes = next_make n earlier in
     let apart = apart_at n earlier db.trees in
     record {
-      makes = subst (λ s. MakeInTurn s (definitions_between n newest)) (made ∙ sym is) (later_make size no_schema definitions definitions_make);
-      whole = subst (λ s. made_by s (definitions_between n newest) ≡ stored_schema) (made ∙ sym is) (made_in_turn size no_schema definitions ∙ makes_schema newest (omega arith));
-      free = subst (λ s. AreFree (rows_at n db.trees) s (definitions_between n newest)) (sym is) apart.0;
+      makes = subst (λ s. MakeInTurn s (definitions_between n (n + 1))) (sym is) makes.0;
+      whole = subst (λ s. made_by s (definitions_between n (n + 1)) ≡ schema_at (n + 1)) (sym is) makes.1;
+      free = subst (λ s. AreFree (rows_at n db.trees) s (definitions_between n (n + 1))) (sym is) apart.0;
       same = subst (λ s. AllByRecursion (λ t. db.trees t.tree ≡ rows_at n db.trees t.tree) s.tables) (sym is) apart.1;
     }

@@ -16,20 +16,20 @@ use Rattle.sqlite_keyed.proofs.KeyedLemmas.{same_int}
 use Rattle.sqlite_typed.specs.Columns.{bytes_of}
 use Rattle.sqlite_typed.proofs.TestLemmas.{at_ints, at_texts, same_bytes, bytes_eq_refl}
 use Rattle.table_meaning.specs.declared.tables.TableName.{TableName}
-use Rattle.table_meaning.specs.declared.tables.TableName.TheVariants.{Setting, Account, App, Version, Unit, Host, Instance, Kept, Batch}
+use Rattle.table_meaning.specs.declared.tables.TableName.TheVariants.{Setting, Account, App, Version, Unit, Host, Instance, Kept, Batch, VersionClass, UnitMark}
 use Rattle.table_meaning.specs.declared.rows.StoredRow.{StoredRow}
-use Rattle.table_meaning.specs.Rows.{tree_of, key_places, RowKey, setting_key, account_key, app_key, version_key, unit_key, host_key, instance_key, kept_key, batch_key, table_at, key_columns, key_of, same_key}
+use Rattle.table_meaning.specs.Rows.{tree_of, key_places, RowKey, setting_key, account_key, app_key, version_key, unit_key, host_key, instance_key, kept_key, batch_key, class_key, mark_key, table_at, key_columns, key_of, same_key}
 use Rattle.table_meaning.specs.Holding.{Contents, with_row, with_rows}
 use Rattle.table_meaning.proofs.EachTable.{same_table}
 
 -- ---- columns of keys: numbers and texts
 
-abbrev is_cell : Value → Bool
+abbrev pub is_cell : Value → Bool
 is_cell (Int n) = true
 is_cell (Text t) = true
 is_cell _ = false
 
-same_cell : (v u : Value) → is_cell v ≡ true → is_cell u ≡ true → equal Binary v u ≡ true → v ≡ u
+pub same_cell : (v u : Value) → is_cell v ≡ true → is_cell u ≡ true → equal Binary v u ≡ true → v ≡ u
 unfolding value_cmp binary
 same_cell (Int n) (Int m) p q h = ap Int (same_int n m (sym (at_ints false Eq n m) ∙ h))
 same_cell (Int n) (Text t) p q h = absurd (true≢false (sym h))
@@ -85,6 +85,8 @@ key_from Host cols = host_key (number_in (column cols 0))
 key_from Instance cols = instance_key (number_in (column cols 0)) (number_in (column cols 1))
 key_from Kept cols = kept_key (number_in (column cols 0)) (number_in (column cols 1))
 key_from Batch cols = batch_key (bytes_of (column cols 0)) (bytes_of (column cols 1))
+key_from VersionClass cols = class_key (number_in (column cols 0))
+key_from UnitMark cols = mark_key (number_in (column cols 0))
 
 -- what is found of each key by computing: the form of its columns, that it is told by them, and how many there are
 pub key_is : (key : RowKey) → (is_key_row (key_columns key) ≡ true) × (key_from (table_at key) (key_columns key) ≡ key) × (length (key_places (table_at key)) ≡ length (key_columns key))
@@ -97,6 +99,8 @@ key_is (host_key id) = (refl, refl, refl)
 key_is (instance_key unit num) = (refl, refl, refl)
 key_is (kept_key host slot) = (refl, refl, refl)
 key_is (batch_key kind name) = (refl, refl, refl)
+key_is (class_key id) = (refl, refl, refl)
+key_is (mark_key id) = (refl, refl, refl)
 
 pub one_key : (a b : RowKey) → same_key a b ≡ true → a ≡ b
 one_key a b h =

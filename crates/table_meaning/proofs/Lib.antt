@@ -2,11 +2,11 @@ pub mod ByComputing
 pub mod ByKey
 pub mod Columns
 pub mod ColumnsTold
-pub mod Copying
 pub mod Definitions
 pub mod EachTable
+pub mod Filling
 pub mod FormatLemmas
-pub mod FormerCalls
+pub mod NextRows
 pub mod Inserting
 pub mod Keys
 pub mod Knowing
@@ -35,3 +35,4 @@ pub mod StepLemmas
 pub mod Typed
 pub mod TypedRows
 pub mod UpgradedWorlds
+pub mod Upgrading

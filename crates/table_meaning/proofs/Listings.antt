@@ -28,9 +28,9 @@ use Rattle.sqlite.specs.State.{State, Shown}
 use Rattle.sqlite.specs.Listing.{understood, reads_listing}
 use Rattle.sqlite.proofs.Callers.{IsPlain, command_of, reads_as}
 use Rattle.table_meaning.specs.declared.tables.TableName.{TableName}
-use Rattle.table_meaning.specs.declared.tables.TableName.TheVariants.{Account, App, Version, Unit, Host}
+use Rattle.table_meaning.specs.declared.tables.TableName.TheVariants.{Account, App, Version, VersionClass, Unit, UnitMark, Host}
 use Rattle.table_meaning.specs.Schema.{stored_schema}
-use Rattle.table_meaning.specs.Rows.{tree_of, shown, rows_in, whole, columns_of, RowKey, account_key, app_key, version_key, unit_key, host_key, look_up}
+use Rattle.table_meaning.specs.Rows.{tree_of, shown, rows_in, whole, columns_of, RowKey, account_key, app_key, version_key, class_key, unit_key, mark_key, host_key, look_up}
 use Rattle.table_meaning.specs.Holding.{AreKnown, Contents, Hold}
 use Rattle.table_meaning.specs.Listings.{is_numbered, rows_where, standing, listing_query, is_first, credits_text, is_of_user, credit_in}
 use Rattle.table_meaning.proofs.Reading.{Numbered, as_row, parted, as_rows, numbers_rise, own_rows, passing_rows}
@@ -133,8 +133,14 @@ apps_by_number trees n = refl
 pub versions_by_number : IsByNumber Version version_key
 versions_by_number trees n = refl
 
+pub classes_by_number : IsByNumber VersionClass class_key
+classes_by_number trees n = refl
+
 pub units_by_number : IsByNumber Unit unit_key
 units_by_number trees n = refl
+
+pub marks_by_number : IsByNumber UnitMark mark_key
+marks_by_number trees n = refl
 
 pub hosts_by_number : IsByNumber Host host_key
 hosts_by_number trees n = refl

@@ -1,15 +1,19 @@
 -- What is shown of rows by their names.
-use Rattle.std.proofs.Common.{ℕ, List, [], ◌∷◌, codes, refl}
+use Rattle.std.proofs.Common.{◌≡◌, ℕ, ◌&&◌, List, [], ◌∷◌, codes, refl, ap}
+use Rattle.std.specs.List.{list_all}
 use Rattle.sqlite_value.specs.declared.value.Value.TheVariants.{Text}
-use Rattle.sqlite_value.specs.Order.{column}
+use Rattle.sqlite_value.specs.declared.keys.Collation.TheVariants.{Binary}
+use Rattle.sqlite_value.specs.Order.{Row, column}
+use Rattle.sqlite_sql.specs.Term.{holds}
+use Rattle.sqlite_schema.specs.Rules.{equal}
 use Rattle.sqlite_typed.proofs.TestLemmas.{then_term, last_term}
 use Rattle.sqlite_tied.specs.Compute.{everything}
 use Rattle.sqlite.specs.Listing.{understood}
 use Rattle.table_meaning.specs.declared.tables.TableName.TheVariants.{Account, Version, Unit, Host}
-use Rattle.table_meaning.specs.Rows.{places_of, whole}
+use Rattle.table_meaning.specs.Rows.{places_of, shown, whole}
 use Rattle.table_meaning.specs.Formats.{columns_in}
 use Rattle.table_meaning.specs.ByKey.{key_tests}
-use Rattle.table_meaning.specs.Listings.{account_text, unit_named_text, host_known_text, hosts_text, versions_text, has_text, is_first, is_of_user, is_host_known, is_version_for}
+use Rattle.table_meaning.specs.Listings.{account_text, unit_named_text, host_known_text, hosts_text, versions_text, version_text, has_text, is_first, is_of_user, is_host_known, is_version_for, is_version_known}
 use Rattle.table_meaning.proofs.ByComputing.{names_of}
 use Rattle.table_meaning.proofs.Listings.{IsListed, Lists, ListsFirst, listed_by, first_listed_by}
 
@@ -36,6 +40,18 @@ host_is_listed = (refl, (refl, refl), refl)
 pub host_shown : (account : ℕ) (cpid : List ℕ) → ListsFirst host_known_text (whole account ∷ Text cpid ∷ []) (λ r. column r 0) Host (is_host_known account cpid) (λ r. column r 0)
 host_shown account cpid =
     first_listed_by Host (key_tests 0 (2 ∷ 3 ∷ [])) (0 ∷ []) (whole account ∷ Text cpid ∷ []) (is_host_known account cpid) (λ r. then_term refl (last_term refl)) (λ r. column r 0) (λ r. column r 0) (λ r. refl) _ _ host_is_listed
+
+version_is_listed : IsListed Version (key_tests 0 (2 ∷ 3 ∷ 4 ∷ [])) (0 ∷ []) (codes "id" ∷ []) version_text
+unfolding understood everything
+version_is_listed = (refl, (refl, refl), refl)
+
+version_tested : (app : ℕ) (platform : List ℕ) (num : ℕ) (r : Row) → list_all (holds ((whole app ∷ Text platform ∷ whole num ∷ []) ∷ r ∷ [])) (key_tests 0 (2 ∷ 3 ∷ 4 ∷ [])) ≡ is_version_known app platform num (shown Version r)
+version_tested app platform num r = ap (λ b. equal Binary (column r 2) (whole app) && (equal Binary (column r 3) (Text platform) && b)) (last_term refl)
+
+pub version_shown : (app : ℕ) (platform : List ℕ) (num : ℕ) → ListsFirst version_text (whole app ∷ Text platform ∷ whole num ∷ []) (λ r. column r 0) Version (is_version_known app platform num) (λ r. column r 0)
+version_shown app platform num =
+    first_listed_by Version (key_tests 0 (2 ∷ 3 ∷ 4 ∷ [])) (0 ∷ []) (whole app ∷ Text platform ∷ whole num ∷ []) (is_version_known app platform num) (version_tested app platform num) (λ r. column r 0) (λ r. column r 0) (λ r. refl) _ _
+    version_is_listed
 
 -- ---- a column of each row
 

@@ -18,13 +18,14 @@ use Rattle.sqlite_typed.proofs.TestLemmas.{at_or, then_term, last_term}
 use Rattle.sqlite.specs.Effect.{Database}
 use Rattle.sqlite.specs.State.{State, Shown}
 use Rattle.sqlite.proofs.Callers.{reads_as}
+use Rattle.table_meaning.specs.declared.tables.Page.{Page}
 use Rattle.table_meaning.specs.declared.tables.TableName.TheVariants.{Instance}
 use Rattle.table_meaning.specs.Schema.{stored_schema}
 use Rattle.table_meaning.specs.Rows.{shown, whole}
 use Rattle.table_meaning.specs.Formats.{columns_in}
 use Rattle.table_meaning.specs.Holding.{Contents, Hold}
 use Rattle.table_meaning.specs.Kept.{number_of}
-use Rattle.table_meaning.specs.Places.{place_row, AreAllPlaces, places_where, compares, is_of_host, is_running, is_held_by, waits_from, is_sent_between, is_due, by_place, held_text, owned_text, queued_text, sent_text, due_text, running_terms, held_terms, owned_terms, queued_terms, sent_terms, due_terms}
+use Rattle.table_meaning.specs.Places.{place_row, AreAllPlaces, places_where, compares, is_of_host, is_running, is_held_by, waits_from, is_sent_between, is_due, by_place, held_text, owned_text, page_size, queued_text, sent_text, due_text, running_terms, held_terms, owned_terms, queued_terms, sent_terms, due_terms}
 use Rattle.table_meaning.proofs.PlacesFound.{standing, standing_places}
 use Rattle.table_meaning.proofs.PlacesListed.{limited-map, shows_place, picked, listed_somehow, listed_in_order}
 use Rattle.table_meaning.proofs.PlacesTexts.{all, first_of, place_columns, held_is_listed, owned_is_listed, queued_is_listed, sent_is_listed, due_is_listed}
@@ -112,11 +113,13 @@ module _ (old new : State) (contents : Contents) (held : Hold old.now contents) 
       in_order old.now contents held places are owned_terms params (is_of_host host) tests ps rows None read
       (listed_in_order old.now contents held places are owned_terms params (is_of_host host) tests [] by_place all rows answer refl (all_places ps rows read))
 
-  pub queued_shown : (from : Place) (rows : List Row) → Shown queued_text (place_row from) old new rows → (ps : List Place) → ArePlaces ps rows → ps ≡ take 64 (places_where contents (waits_from from) places)
-  queued_shown from rows h ps read =
-      let answer = (reads_as queued_text (place_row from) old new stored_schema held.known.schema _ queued_is_listed.0 queued_is_listed.1 queued_is_listed.2 rows h).answer Null in
-      in_order old.now contents held places are queued_terms (place_row from) (waits_from from) (queued from) ps rows (Some 64) read
-      (listed_in_order old.now contents held places are queued_terms (place_row from) (waits_from from) (queued from) [] by_place (first_of 64) rows answer refl (all_places ps rows read))
+  pub queued_shown : (page : Page) (from : Place) (rows : List Row) → Shown (queued_text page) (place_row from) old new rows → (ps : List Place) → ArePlaces ps rows
+      → ps ≡ take (page_size page) (places_where contents (waits_from from) places)
+  queued_shown page from rows h ps read =
+      let means = queued_is_listed page in
+      let answer = (reads_as (queued_text page) (place_row from) old new stored_schema held.known.schema _ means.0 means.1 means.2 rows h).answer Null in
+      in_order old.now contents held places are queued_terms (place_row from) (waits_from from) (queued from) ps rows (Some (page_size page)) read
+      (listed_in_order old.now contents held places are queued_terms (place_row from) (waits_from from) (queued from) [] by_place (first_of (page_size page)) rows answer refl (all_places ps rows read))
 
   pub sent_shown : (host : ℕ) (from until : ℤ) (rows : List Row) → Shown sent_text (whole host ∷ Int from ∷ Int until ∷ []) old new rows → (ps : List Place) → ArePlaces ps rows
       → length ps ≡ length (places_where contents (is_sent_between host from until) places)

@@ -9,10 +9,12 @@ use Rattle.sqlite_schema.specs.declared.command.Command.TheVariants.{Select}
 use Rattle.sqlite_tied.specs.Compute.{everything}
 use Rattle.sqlite.specs.Listing.{understood, reads_listing}
 use Rattle.sqlite.proofs.Callers.{IsPlain, command_of}
+use Rattle.table_meaning.specs.declared.tables.Page.{Page}
+use Rattle.table_meaning.specs.declared.tables.Page.TheVariants.{First, Further}
 use Rattle.table_meaning.specs.declared.tables.TableName.TheVariants.{Instance}
 use Rattle.table_meaning.specs.Schema.{stored_schema}
 use Rattle.table_meaning.specs.Rows.{places_of}
-use Rattle.table_meaning.specs.Places.{by_place, instance_query, within_text, held_text, owned_text, queued_text, sent_text, due_text, within_terms, held_terms, owned_terms, queued_terms, sent_terms, due_terms}
+use Rattle.table_meaning.specs.Places.{by_place, instance_query, within_text, held_text, owned_text, page_size, queued_text, sent_text, due_text, within_terms, held_terms, owned_terms, queued_terms, sent_terms, due_terms}
 use Rattle.table_meaning.proofs.ByComputing.{names_of}
 
 -- no limit, and one of so many rows
@@ -46,9 +48,10 @@ pub owned_is_listed : ListsInstances owned_terms place_columns by_place all plac
 unfolding understood everything
 owned_is_listed = (refl, (refl, refl), refl)
 
-pub queued_is_listed : ListsInstances queued_terms place_columns by_place (first_of 64) place_names queued_text
+pub queued_is_listed : (page : Page) → ListsInstances queued_terms place_columns by_place (first_of (page_size page)) place_names (queued_text page)
 unfolding understood everything
-queued_is_listed = (refl, (refl, refl), refl)
+queued_is_listed First = (refl, (refl, refl), refl)
+queued_is_listed Further = (refl, (refl, refl), refl)
 
 pub sent_is_listed : ListsInstances sent_terms place_columns ((col 1 4, ascending Binary) ∷ []) all place_names sent_text
 unfolding understood everything

@@ -19,13 +19,13 @@ use Rattle.sqlite_typed.proofs.TestLemmas.{at_ints, last_term}
 use Rattle.table_meaning.specs.declared.tables.TableName.{TableName}
 use Rattle.table_meaning.specs.Kinds.{Kind, number}
 use Rattle.table_meaning.specs.Layouts.{Key, numbered, by_first, layout_of, places_by, key_width}
-use Rattle.table_meaning.specs.Schema.{table_by}
+use Rattle.table_meaning.specs.Schema.{newest, table_by}
 use Rattle.table_meaning.specs.Formats.{kinds_of}
 use Rattle.table_meaning.proofs.ByComputing.{BeginsBy, computed}
 use Rattle.table_meaning.proofs.Columns.{key_by, count_of, key_shown, written_out, behind_by, IsNumberedBy, with_number, source_by}
 use Rattle.table_meaning.proofs.FormatLemmas.{whole_row}
 use Rattle.table_meaning.proofs.PutRows.{agree_from}
-use Rattle.table_meaning.proofs.Putting.{Facts}
+use Rattle.table_meaning.proofs.Putting.{PutsAt, Facts}
 use Rattle.table_meaning.proofs.Typed.{have_types, long, first_number, cast_null, cast_behind}
 
 -- ---- by the two cases of a key
@@ -60,27 +60,32 @@ keys_by (by_first n) count c r id other shows is named h =
 
 -- ---- the facts
 
-module _ (t : TableName) (c : Row) where
-  written_facts : have_types (kinds_of t) (written_out t c) ≡ true → Facts t (written_out t c)
+-- at the newest schema
+pub puts_newest : (t : TableName) → PutsAt newest t
+puts_newest t = let it = computed t in record { is = it.puts; plain_text = it.plain_text; listed = it.listed; meets = it.meets }
+
+module _ (n : ℕ) (t : TableName) (at : PutsAt n t) (c : Row) where
+  written_facts : have_types (kinds_of t) (written_out t c) ≡ true → Facts n t (written_out t c)
   written_facts typed =
       let it = computed t in
       let fixed = cast_behind (layout_of t) (written_out t c) typed in
       record {
-        is = it.puts;
-        plain_text = it.plain_text;
-        listed = it.listed;
+        at = at;
         own = it.own;
         values = it.values c;
         begins = begins_by (key_by t) (kinds_of t) (table_by t) (written_out t c) it.starts typed fixed;
         fixed = fixed;
-        meets = it.meets c;
+        meets = at.meets c;
         slot_is = it.slot_is c;
         columns_are = it.columns_are c;
         keys = λ r id other. keys_by (key_by t) (count_of t) (written_out t c) r id other (λ i. key_shown t (Int i ∷ behind_by (key_by t) (written_out t c)) _ (it.shows c i));
         shows = λ id is. it.shows c id ∙ with_its_number (key_by t) (written_out t c) id is;
       }
 
-  pub facts : have_types (kinds_of t) c ≡ true → Facts t c
-  facts typed =
+  pub facts_at : have_types (kinds_of t) c ≡ true → Facts n t c
+  facts_at typed =
       let whole = whole_row c (count_of t) (long (kinds_of t) c typed ∙ length-map (layout_of t).columns _) in
-      subst (Facts t) whole (written_facts (subst (λ r. have_types (kinds_of t) r ≡ true) (sym whole) typed))
+      subst (Facts n t) whole (written_facts (subst (λ r. have_types (kinds_of t) r ≡ true) (sym whole) typed))
+
+pub facts : (t : TableName) (c : Row) → have_types (kinds_of t) c ≡ true → Facts newest t c
+facts t = facts_at newest t (puts_newest t)

@@ -6,7 +6,9 @@ use Rattle.sqlite_value.specs.declared.value.Value.{Value}
 use Rattle.sqlite_value.specs.declared.value.Value.TheVariants.{Null, Int}
 use Rattle.sqlite_value.specs.Order.{Row, column}
 use Rattle.sqlite_value.specs.Keys.{plain}
+use Rattle.sqlite_trees.specs.declared.store.Shape.TheVariants.{Table as TableTree}
 use Rattle.sqlite_trees.specs.Tree.{Trees, rowid, put_row, without_rowid}
+use Rattle.sqlite_trees.specs.View.{IsShaped}
 use Rattle.sqlite_sql.specs.Term.{Term, eval_all}
 use Rattle.sqlite_sql.specs.Program.{overlay}
 use Rattle.sqlite_schema.specs.declared.command.Upsert.{Upsert}
@@ -27,14 +29,15 @@ use Rattle.sqlite.specs.State.{State, Executes}
 use Rattle.sqlite.specs.Listing.{understood}
 use Rattle.sqlite.proofs.Callers.{IsPlain, command_of}
 use Rattle.table_meaning.specs.declared.tables.TableName.{TableName}
-use Rattle.table_meaning.specs.Schema.{stored_schema, table_by, place_of}
+use Rattle.table_meaning.specs.Schema.{schema_at, table_by, place_of}
 use Rattle.table_meaning.specs.Texts.{put_text}
 use Rattle.table_meaning.specs.Rows.{tree_of, key_places, shown}
-use Rattle.table_meaning.specs.Holding.{AreKnown}
+use Rattle.table_meaning.specs.Holding.{AreApart}
+use Rattle.table_meaning.specs.Schemas.{IsSchema}
 use Rattle.table_meaning.specs.Upserts.{update_at, put_command}
-use Rattle.table_meaning.proofs.Columns.{key_by, count_of, behind_by, IsNumberedBy, source_by, put_terms, set_terms}
+use Rattle.table_meaning.proofs.Columns.{key_by, count_of, written_out, behind_by, IsNumberedBy, source_by, put_terms, set_terms}
 use Rattle.table_meaning.proofs.PutRows.{Puts, added, replaced}
-use Rattle.table_meaning.proofs.Statements.{Settles, settles, row_found}
+use Rattle.table_meaning.proofs.Statements.{no_acts, Settles, settles, row_found}
 
 -- for the columns of a row in a table
 module _ (t : TableName) (c : Row) where
@@ -45,29 +48,37 @@ module _ (t : TableName) (c : Row) where
   abbrev pub IsNumbered : ℤ → Type 0
   IsNumbered = IsNumberedBy (key_by t) c
 
+-- What is found by computing with the text that puts a row at the schema of a number.
+pub record PutsAt (n : ℕ) (t : TableName) : Type 0 where
+  pub is : command_of (understood (schema_at n) (put_text t)) ≡ put_command (place_of t) (put_terms (key_by t) (count_of t)) (count_of t + 1) (update_at (key_places t) (tree_of t) (count_of t) (set_terms (key_by t) (count_of t)))
+  pub plain_text : IsPlain (understood (schema_at n) (put_text t))
+  pub listed : slice_get (schema_at n).tables (place_of t) ≡ Some (table_by t)
+  pub meets : (c : Row) (id : ℤ) (x : Row) → conflicts (Some (key_places t)) (schema_at n).indexes (table_by t) (Int id ∷ behind_by (key_by t) (written_out t c)) x
+      ≡ agree plain (key_places t) x (key_places t) (Int id ∷ behind_by (key_by t) (written_out t c))
+
+module _ (n : ℕ) (t : TableName) (c : Row) where
   -- The tree has the columns under some number, and lost nothing but the row that had the key; the other trees are as before.
   abbrev pub PutsColumns : Trees → Trees → Type 0
-  PutsColumns db next = (id : ℤ) × IsNumbered id × Puts (key_places t) (db (tree_of t)) (next (tree_of t)) (Int id ∷ behind) × AllByRecursion (λ s. s.tree ≢ tree_of t → next s.tree ≡ db s.tree) stored_schema.tables
+  PutsColumns db next = (id : ℤ) × IsNumbered t c id × Puts (key_places t) (db (tree_of t)) (next (tree_of t)) (Int id ∷ behind t c) × AllByRecursion (λ s. s.tree ≢ tree_of t → next s.tree ≡ db s.tree) (schema_at n).tables
 
-  -- what is found by computing with the text, the schema and the columns
+  -- and what is found of the columns
   pub record Facts : Type 0 where
-    pub is : command_of (understood stored_schema (put_text t)) ≡ put_command (place_of t) (put_terms (key_by t) (count_of t)) (count_of t + 1) (update_at (key_places t) (tree_of t) (count_of t) (set_terms (key_by t) (count_of t)))
-    pub plain_text : IsPlain (understood stored_schema (put_text t))
-    pub listed : slice_get stored_schema.tables (place_of t) ≡ Some (table_by t)
+    pub at : PutsAt n t
     pub own : (db : Trees) → overlay db [] (tree_of t) ≡ db (tree_of t)
     pub values : value_rows (stamped (table_by t) c) (count_of t + 1) (length (put_terms (key_by t) (count_of t)) / (count_of t + 1)) (put_terms (key_by t) (count_of t)) ≡ source_by (key_by t) c ∷ []
-    pub begins : (xs : List Row) → (id : ℤ) × IsNumbered id × (with_rowid Chosen xs (cast_row (table_by t) (source_by (key_by t) c)) ≡ Int id ∷ behind)
-    pub fixed : (id : ℤ) → cast_row (table_by t) (Int id ∷ behind) ≡ Int id ∷ behind
-    pub meets : (id : ℤ) (x : Row) → conflicts (Some (key_places t)) stored_schema.indexes (table_by t) (Int id ∷ behind) x ≡ agree plain (key_places t) x (key_places t) (Int id ∷ behind)
+    pub begins : (xs : List Row) → (id : ℤ) × IsNumbered t c id × (with_rowid Chosen xs (cast_row (table_by t) (source_by (key_by t) c)) ≡ Int id ∷ behind t c)
+    pub meets : (id : ℤ) (x : Row) → conflicts (Some (key_places t)) (schema_at n).indexes (table_by t) (Int id ∷ behind t c) x ≡ agree plain (key_places t) x (key_places t) (Int id ∷ behind t c)
+    pub fixed : (id : ℤ) → cast_row (table_by t) (Int id ∷ behind t c) ≡ Int id ∷ behind t c
     pub slot_is : (v : Value) (rest : Row) → column (c ++ v ∷ rest) (count_of t) ≡ v
-    pub columns_are : (id : ℤ) (r : Row) (v : Value) → eval_all (set_terms (key_by t) (count_of t)) ((c ++ v ∷ shown_by (table_by t) (Int id ∷ behind)) ∷ r ∷ []) ≡ behind
-    pub keys : (r : Row) (id other : ℤ) → rowid r ≡ Int id → IsNumbered other → agree plain (key_places t) r (key_places t) (Int other ∷ behind) ≡ true
-        → IsNumbered id × (agree plain (key_places t) (Int id ∷ behind) (key_places t) (Int other ∷ behind) ≡ true)
-    pub shows : (id : ℤ) → IsNumbered id → shown t (Int id ∷ behind) ≡ c
+    pub columns_are : (id : ℤ) (r : Row) (v : Value) → eval_all (set_terms (key_by t) (count_of t)) ((c ++ v ∷ shown_by (table_by t) (Int id ∷ behind t c)) ∷ r ∷ []) ≡ behind t c
+    pub keys : (r : Row) (id other : ℤ) → rowid r ≡ Int id → IsNumbered t c other → agree plain (key_places t) r (key_places t) (Int other ∷ behind t c) ≡ true
+        → IsNumbered t c id × (agree plain (key_places t) (Int id ∷ behind t c) (key_places t) (Int other ∷ behind t c) ≡ true)
+    pub shows : (id : ℤ) → IsNumbered t c id → shown t (Int id ∷ behind t c) ≡ c
 
 -- ---- from the facts to the tree
 
-module _ (t : TableName) (c : Row) (f : Facts t c) (old new : State) (known : AreKnown old.now) where
+module _ (n : ℕ) (stands : IsSchema n) (t : TableName) (c : Row) (f : Facts n t c) (old new : State) (schema : old.now.schema ≡ schema_at n) (shaped : IsShaped TableTree (old.now.trees (tree_of t)))
+    (alone : AreApart (key_places t) (old.now.trees (tree_of t))) where
   abbrev db : Trees
   db = old.now.trees
 
@@ -85,40 +96,40 @@ module _ (t : TableName) (c : Row) (f : Facts t c) (old new : State) (known : Ar
   numbered_as id = Int id ∷ behind t c
 
   -- no row had the key, or one had it
-  ends : (next : Trees) (first : ℤ) → IsNumbered t c first → Settles db (table_by t) (key_places t) c clause (numbered_as first) next → PutsColumns t c db next
+  ends : (next : Trees) (first : ℤ) → IsNumbered t c first → Settles (schema_at n) db (table_by t) (key_places t) c clause (numbered_as first) next → PutsColumns n t c db next
   ends next first is_first (inl went) =
-      let n = numbered_as first in
+      let row = numbered_as first in
       let applies = went.1 in
-      let news : cast_row (table_by t) n ≡ n = f.fixed first in
+      let news : cast_row (table_by t) row ≡ row = f.fixed first in
       let free = not-true _ (and_parts _ _ applies.fresh).0 in
       let none = λ (x : Row) (has : Has rows x). false_from_ne_true _ (λ same. absurd (went.0.complete x has (f.meets first x ∙ same))) in
-      let put = added (key_places t) rows n (known.ordered t) refl (subst (λ m. is_taken rows m ≡ false) news free) none in
-      (first, is_first, subst (λ ys. Puts (key_places t) rows ys n) (sym (applies.rows ∙ ap (λ m. put_row m rows) news)) put, applies.tables)
+      let put = added (key_places t) rows row shaped refl (subst (λ m. is_taken rows m ≡ false) news free) none in
+      (first, is_first, subst (λ ys. Puts (key_places t) rows ys row) (sym (applies.rows ∙ ap (λ m. put_row m rows) news)) put, applies.tables)
   ends next first is_first (inr (there, more, found, asked, answers, applies)) =
-      let n = numbered_as first in
+      let row = numbered_as first in
       let met = found.sound there (inl refl) in
       let r = met.0 in
       let id = id_in (rowid r) in
-      let is : rowid r ≡ Int id = int_is (rowid r) (all_has _ rows r (known.ordered t).1 met.1) in
+      let is : rowid r ≡ Int id = int_is (rowid r) (all_has _ rows r shaped.1 met.1) in
       let agrees = sym (f.meets first r) ∙ met.2 in
       let keyed = f.keys r id first is is_first agrees in
       let over = numbered_as id in
-      let given = c ++ rowid there ∷ shown_by (table_by t) n in
+      let given = c ++ rowid there ∷ shown_by (table_by t) row in
       let number : rowid there ≡ Int id = ap rowid met.3 ∙ is in
-      let line = row_found db (tree_of t) (count_of t) columns given id r (f.own db) (f.slot_is (rowid there) (shown_by (table_by t) n) ∙ number) (known.ordered t) met.1 is asked (answers.answer Null) in
+      let line = row_found db (tree_of t) (count_of t) columns given id r (f.own db) (f.slot_is (rowid there) (shown_by (table_by t) row) ∙ number) shaped met.1 is asked (answers.answer Null) in
       let lines : asked ≡ (Int id ∷ over) ∷ [] = line ∙ (λ i. (is i ∷ is i ∷ f.columns_are first r (rowid there) i) ∷ []) in
       let edit = λ (all : List Row). edit_of db (table_by t) (ids_of all) Given 1 all in
-      let applied = subst (λ all. Applies stored_schema Enforced db (edit all) next) lines applies in
+      let applied = subst (λ all. Applies (schema_at n) Enforced db (edit all) next) lines applies in
       let news : cast_row (table_by t) over ≡ over = f.fixed id in
       let free = not-true _ (and_parts _ _ applied.fresh).0 in
       let left = without_rowid id rows in
-      let same = agree_chain plain (key_places t) (key_places t) (key_places t) r n over agrees (agree_back plain (key_places t) (key_places t) over n keyed.1) in
-      let put = replaced (key_places t) rows r id (known.ordered t) met.1 is over refl (subst (λ m. is_taken left m ≡ false) news free) (known.apart t) same in
+      let same = agree_chain plain (key_places t) (key_places t) (key_places t) r row over agrees (agree_back plain (key_places t) (key_places t) over row keyed.1) in
+      let put = replaced (key_places t) rows r id shaped met.1 is over refl (subst (λ m. is_taken left m ≡ false) news free) alone same in
       (id, keyed.0, subst (λ ys. Puts (key_places t) rows ys over) (sym (applied.rows ∙ ap (λ m. put_row m left) news)) put, applied.tables)
 
-  pub puts : (count : ℕ) → Executes (put_text t) c old new (Ok count) → (new.now.schema ≡ stored_schema) × IsDatabase new.now × PutsColumns t c db new.now.trees
+  pub puts : (count : ℕ) → Executes (put_text t) c old new (Ok count) → (new.now.schema ≡ schema_at n) × IsDatabase new.now × PutsColumns n t c db new.now.trees
   puts count h =
       let first = f.begins rows in
-      let ran = settles (put_text t) c old new known.schema (place_of t) (table_by t) (put_terms (key_by t) (count_of t)) (count_of t + 1) (key_places t) (count_of t) columns f.is f.plain_text f.listed refl
+      let ran = settles (schema_at n) (no_acts n stands) (put_text t) c old new schema (place_of t) (table_by t) (put_terms (key_by t) (count_of t)) (count_of t + 1) (key_places t) (count_of t) columns f.at.is f.at.plain_text f.at.listed refl
       (source_by (key_by t) c) f.values count h in
-      (ran.0, ran.1, ends new.now.trees first.0 first.1 (subst (λ m. Settles db (table_by t) (key_places t) c clause m new.now.trees) first.2 ran.2))
+      (ran.0, ran.1, ends new.now.trees first.0 first.1 (subst (λ m. Settles (schema_at n) db (table_by t) (key_places t) c clause m new.now.trees) first.2 ran.2))

@@ -1,15 +1,15 @@
 -- The tables of a schema by its number: each by its tree, and what they are once the newest schema is made of them.
-use Rattle.std.proofs.Common.{◌≡◌, ℕ, zero, suc, Bool, true, false, cond, List, [], ◌∷◌, map, find, slice_get, Some, None, option_map, refl, sym, ap, subst, ◌∙◌, inl, inr, true≢false, arith}
-use Rattle.std.specs.Prelude.{◌==◌}
+use Rattle.std.proofs.Common.{◌≡◌, ℕ, zero, suc, Bool, true, false, cond, List, [], ◌∷◌, map, length, find, slice_get, Some, None, option_map, refl, sym, ap, subst, ◌∙◌, inl, inr, true≢false, arith}
+use Rattle.std.specs.Prelude.{◌==◌, ◌||◌}
 use Rattle.std.specs.List.{AllByRecursion, list_any}
-use Rattle.std.proofs.lemmas.Bool.{cases_Bool, eqb-true}
+use Rattle.std.proofs.lemmas.Bool.{cases_Bool, eqb-true, eq-eqb}
 use Rattle.sqlite_trees.specs.declared.store.Shape.TheVariants.{Table as TableTree}
 use Rattle.sqlite_trees.specs.View.{IsShaped}
 use Rattle.sqlite.specs.Effect.{Database, IsDatabase}
 use Rattle.table_meaning.specs.declared.tables.TableName.{TableName}
-use Rattle.table_meaning.specs.declared.tables.TableName.TheVariants.{Setting, Account, App, Version, Unit, Host, Instance, Kept, Batch}
+use Rattle.table_meaning.specs.declared.tables.TableName.TheVariants.{Setting, Account, App, Version, Unit, Host, Instance, Kept, Batch, VersionClass, UnitMark}
 use Rattle.table_meaning.specs.Layouts.{Layout}
-use Rattle.table_meaning.specs.Schema.{newest, layouts_at, sql_table, schema_at, stored_schema, table_by, place_of}
+use Rattle.table_meaning.specs.Schema.{newest, layouts_at, sql_table, schema_at, table_by, place_of}
 use Rattle.table_meaning.specs.Rows.{tree_of, key_places, shown, columns_of, RowKey, table_at, has_key}
 use Rattle.table_meaning.specs.Holding.{AreApart, AreKnown, Contents, HaveKeys, Hold}
 use Rattle.table_meaning.specs.Schemas.{IsSchema, has_tree, has_table, AreKnownAt, HoldAt, only_at}
@@ -27,6 +27,20 @@ at_tree n P all tree has = go (layouts_at n) all has
       | inr other ↦ go ls all.1 (rw other at has)
     ]
 
+-- and the other way round
+pub each_tree : (n : ℕ) (P : ℕ → Type 0) → ((tree : ℕ) → has_tree n tree ≡ true → P tree) → AllByRecursion (λ t. P t.tree) (schema_at n).tables
+each_tree n P each = go (layouts_at n) each
+  where
+    here : (tree : ℕ) (ls : List Layout) → ((tree == tree) || list_any (λ l. l.tree == tree) ls) ≡ true
+    here tree ls = rw (eq-eqb tree tree refl) refl
+
+    later : (l : Layout) (tree : ℕ) (ls : List Layout) → list_any (λ l. l.tree == tree) ls ≡ true → ((l.tree == tree) || list_any (λ l. l.tree == tree) ls) ≡ true
+    later l tree ls has = elim (l.tree == tree) as (λ b. (b || list_any (λ l. l.tree == tree) ls) ≡ true) [ true ↦ refl | false ↦ has ]
+
+    go : (ls : List Layout) → ((tree : ℕ) → list_any (λ l. l.tree == tree) ls ≡ true → P tree) → AllByRecursion (λ t. P t.tree) (map sql_table ls)
+    go [] each = tt
+    go (l ∷ ls) each = (each l.tree (here l.tree ls), go ls (λ tree has. each tree (later l tree ls has)))
+
 -- the tables of a schema have their places among those of the newest
 in_first : (t : TableName) → has_table 1 t ≡ true → slice_get (schema_at 1).tables (place_of t) ≡ Some (table_by t)
 in_first t = elim t as (λ t. has_table 1 t ≡ true → slice_get (schema_at 1).tables (place_of t) ≡ Some (table_by t)) [
@@ -39,18 +53,44 @@ in_first t = elim t as (λ t. has_table 1 t ≡ true → slice_get (schema_at 1)
   | Instance ↦ λ h. refl
   | Kept ↦ λ h. absurd (true≢false (sym h))
   | Batch ↦ λ h. refl
+  | VersionClass ↦ λ h. absurd (true≢false (sym h))
+  | UnitMark ↦ λ h. absurd (true≢false (sym h))
+]
+
+in_second : (t : TableName) → has_table 2 t ≡ true → slice_get (schema_at 2).tables (place_of t) ≡ Some (table_by t)
+in_second t = elim t as (λ t. has_table 2 t ≡ true → slice_get (schema_at 2).tables (place_of t) ≡ Some (table_by t)) [
+  | Setting ↦ λ h. refl
+  | Account ↦ λ h. refl
+  | App ↦ λ h. refl
+  | Version ↦ λ h. refl
+  | Unit ↦ λ h. refl
+  | Host ↦ λ h. refl
+  | Instance ↦ λ h. refl
+  | Kept ↦ λ h. refl
+  | Batch ↦ λ h. refl
+  | VersionClass ↦ λ h. absurd (true≢false (sym h))
+  | UnitMark ↦ λ h. absurd (true≢false (sym h))
 ]
 
 pub listed_at : (n : ℕ) → IsSchema n → (t : TableName) → has_table n t ≡ true → slice_get (schema_at n).tables (place_of t) ≡ Some (table_by t)
 listed_at zero is t has = absurd (omega (arith, is.0))
 listed_at (suc zero) is t has = in_first t has
-listed_at (suc (suc zero)) is t has = (computed t).listed
-listed_at (suc (suc (suc n))) is t has = absurd (omega (arith, is.1))
+listed_at (suc (suc zero)) is t has = in_second t has
+listed_at (suc (suc (suc zero))) is t has = (computed t).listed
+listed_at (suc (suc (suc (suc n)))) is t has = absurd (omega (arith, is.1))
+
+-- every schema has settings
+pub has_settings : (n : ℕ) → IsSchema n → has_table n Setting ≡ true
+has_settings zero is = absurd (omega (arith, is.0))
+has_settings (suc zero) is = refl
+has_settings (suc (suc zero)) is = refl
+has_settings (suc (suc (suc zero))) is = refl
+has_settings (suc (suc (suc (suc n)))) is = absurd (omega (arith, is.1))
 
 -- ---- the newest schema
 
 pub newest_has : (t : TableName) → has_table newest t ≡ true
-newest_has t = elim t as (λ t. has_table newest t ≡ true) [ Setting ↦ refl | Account ↦ refl | App ↦ refl | Version ↦ refl | Unit ↦ refl | Host ↦ refl | Instance ↦ refl | Kept ↦ refl | Batch ↦ refl ]
+newest_has t = elim t as (λ t. has_table newest t ≡ true) [ Setting ↦ refl | Account ↦ refl | App ↦ refl | Version ↦ refl | Unit ↦ refl | Host ↦ refl | Instance ↦ refl | Kept ↦ refl | Batch ↦ refl | VersionClass ↦ refl | UnitMark ↦ refl ]
 
 pub known_newest : (db : Database) → AreKnownAt newest db → AreKnown db
 known_newest db known = record {
@@ -60,32 +100,32 @@ known_newest db known = record {
   apart = λ t. known.apart t (newest_has t);
 }
 
--- ---- the newest schema made of tables of another
+-- ---- one schema made of tables of another
 
-module _ (n : ℕ) (old new : Database) (left : IsLeft stored_schema (rows_at n old.trees) [] new) where
-  rows_are : (tree : ℕ) → has_tree newest tree ≡ true → new.trees tree ≡ cond (has_tree n tree) (old.trees tree) []
-  rows_are = at_tree newest (λ tree. new.trees tree ≡ rows_at n old.trees tree) (subst (λ s. AllByRecursion (λ t. new.trees t.tree ≡ rows_at n old.trees t.tree) s.tables) left.whole left.same)
+module _ (n m : ℕ) (old new : Database) (left : IsLeft (schema_at m) (rows_at n old.trees) [] new) where
+  rows_are : (tree : ℕ) → has_tree m tree ≡ true → new.trees tree ≡ cond (has_tree n tree) (old.trees tree) []
+  rows_are = at_tree m (λ tree. new.trees tree ≡ rows_at n old.trees tree) (subst (λ s. AllByRecursion (λ t. new.trees t.tree ≡ rows_at n old.trees t.tree) s.tables) left.whole left.same)
 
   -- a tree that both schemas have is as it was
-  pub stays_made : (tree : ℕ) → has_tree newest tree ≡ true → has_tree n tree ≡ true → new.trees tree ≡ old.trees tree
+  pub stays_made : (tree : ℕ) → has_tree m tree ≡ true → has_tree n tree ≡ true → new.trees tree ≡ old.trees tree
   stays_made tree is had = rows_are tree is ∙ ap (λ b. cond b (old.trees tree) []) had
 
   -- the tables of the earlier schema have what they had, and the others nothing
-  pub hold_made : IsDatabase new → (contents : Contents) → HoldAt n old contents → Hold new (only_at n contents)
+  pub hold_made : IsDatabase new → (contents : Contents) → HoldAt n old contents → HoldAt m new (only_at n contents)
   hold_made sound contents holds = record {
     known = record {
       schema = left.whole;
       sound = sound;
-      ordered = λ t. subst (IsShaped TableTree) (sym (rows_are (tree_of t) (newest_has t))) (ordered t (has_table n t) refl);
-      apart = λ t. subst (AreApart (key_places t)) (sym (rows_are (tree_of t) (newest_has t))) (apart t (has_table n t) refl);
+      ordered = each_tree m (λ tree. IsShaped TableTree (new.trees tree)) (λ tree is. subst (IsShaped TableTree) (sym (rows_are tree is)) (ordered tree (has_tree n tree) refl));
+      apart = λ t is. subst (AreApart (key_places t)) (sym (rows_are (tree_of t) is)) (apart t (has_table n t) refl);
     };
-    rows = λ key. ap (λ rows. option_map (shown (table_at key)) (find (has_key key) rows)) (rows_are (tree_of (table_at key)) (newest_has (table_at key))) ∙ found key (has_table n (table_at key)) refl;
-    keyed = λ t. subst (HaveKeys t) (sym (rows_are (tree_of t) (newest_has t))) (keyed t (has_table n t) refl);
+    rows = λ key is. ap (λ rows. option_map (shown (table_at key)) (find (has_key key) rows)) (rows_are (tree_of (table_at key)) is) ∙ found key (has_table n (table_at key)) refl;
+    keyed = λ t is. subst (HaveKeys t) (sym (rows_are (tree_of t) is)) (keyed t (has_table n t) refl);
   }
     where
-      ordered : (t : TableName) (had : Bool) → has_table n t ≡ had → IsShaped TableTree (cond had (old.trees (tree_of t)) [])
-      ordered t true is = at_tree n (λ tree. IsShaped TableTree (old.trees tree)) holds.known.ordered (tree_of t) is
-      ordered t false is = (tt, tt)
+      ordered : (tree : ℕ) (had : Bool) → has_tree n tree ≡ had → IsShaped TableTree (cond had (old.trees tree) [])
+      ordered tree true is = at_tree n (λ tree. IsShaped TableTree (old.trees tree)) holds.known.ordered tree is
+      ordered tree false is = (tt, tt)
 
       apart : (t : TableName) (had : Bool) → has_table n t ≡ had → AreApart (key_places t) (cond had (old.trees (tree_of t)) [])
       apart t true is = holds.known.apart t is
@@ -99,3 +139,36 @@ module _ (n : ℕ) (old new : Database) (left : IsLeft stored_schema (rows_at n 
           → option_map (shown (table_at key)) (find (has_key key) (cond had (old.trees (tree_of (table_at key))) [])) ≡ option_map columns_of (cond had (contents key) None)
       found key true is = holds.rows key is
       found key false is = refl
+
+-- ---- the tables of a schema hold the same
+
+-- contents that agree at each of its keys
+pub hold_at_same : (n : ℕ) (db : Database) (one other : Contents) → ((key : RowKey) → has_table n (table_at key) ≡ true → one key ≡ other key) → HoldAt n db one → HoldAt n db other
+hold_at_same n db one other same holds = record { known = holds.known; rows = λ key is. holds.rows key is ∙ ap (option_map columns_of) (same key is); keyed = holds.keyed }
+
+pub hold_newest : (db : Database) (contents : Contents) → HoldAt newest db contents → Hold db contents
+hold_newest db contents holds = record {
+  known = known_newest db holds.known;
+  rows = λ key. holds.rows key (newest_has (table_at key));
+  keyed = λ t. holds.keyed t (newest_has t);
+}
+
+-- ---- schemas have different numbers
+
+pub same_number : (n m : ℕ) → IsSchema n → IsSchema m → schema_at n ≡ schema_at m → n ≡ m
+same_number n m is_n is_m same = go n m is_n is_m (ap (λ s. length s.tables) same)
+  where
+    go : (n m : ℕ) → IsSchema n → IsSchema m → length (schema_at n).tables ≡ length (schema_at m).tables → n ≡ m
+    go (suc zero) (suc zero) is_n is_m same = refl
+    go (suc (suc zero)) (suc (suc zero)) is_n is_m same = refl
+    go (suc (suc (suc zero))) (suc (suc (suc zero))) is_n is_m same = refl
+    go (suc zero) (suc (suc zero)) is_n is_m same = absurd (omega (arith, same))
+    go (suc zero) (suc (suc (suc zero))) is_n is_m same = absurd (omega (arith, same))
+    go (suc (suc zero)) (suc zero) is_n is_m same = absurd (omega (arith, same))
+    go (suc (suc zero)) (suc (suc (suc zero))) is_n is_m same = absurd (omega (arith, same))
+    go (suc (suc (suc zero))) (suc zero) is_n is_m same = absurd (omega (arith, same))
+    go (suc (suc (suc zero))) (suc (suc zero)) is_n is_m same = absurd (omega (arith, same))
+    go zero m is_n is_m same = absurd (omega (arith, is_n.0))
+    go (suc (suc (suc (suc n)))) m is_n is_m same = absurd (omega (arith, is_n.1))
+    go n zero is_n is_m same = absurd (omega (arith, is_m.0))
+    go n (suc (suc (suc (suc m)))) is_n is_m same = absurd (omega (arith, is_m.1))

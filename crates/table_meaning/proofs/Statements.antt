@@ -1,5 +1,5 @@
 -- What a statement of the form of `put_command` does: it puts its row where no row has the key, or updates the one that has it.
-use Rattle.std.proofs.Common.{◌≡◌, ◌⊎◌, ℕ, ◌/◌, ℤ, Bool, true, false, cond, List, [], ◌∷◌, ◌++◌, map, filter, flat_map, length, slice_get, Option, Some, None, Result, Ok, Err, IfSome, refl, sym, ap, subst, ◌∙◌, inl, inr, is_eq, is_lt, int_cmp, MatchBool}
+use Rattle.std.proofs.Common.{◌≡◌, ◌⊎◌, ℕ, zero, suc, arith, ◌/◌, ℤ, Bool, true, false, cond, List, [], ◌∷◌, ◌++◌, map, filter, flat_map, length, slice_get, Option, Some, None, Result, Ok, Err, IfSome, refl, sym, ap, subst, ◌∙◌, inl, inr, is_eq, is_lt, int_cmp, MatchBool}
 use Rattle.std.specs.Prelude.{◌==◌}
 use Rattle.std.specs.List.{list_all, filter_map}
 use Rattle.std.specs.List.Sorted.{IsPermutation}
@@ -15,6 +15,7 @@ use Rattle.sqlite_sql.specs.Program.{overlay}
 use Rattle.sqlite_sql.specs.Query.{IsAnswer, Output, output, page}
 use Rattle.sqlite_sql.specs.declared.ops.CompareOp.TheVariants.{Eq}
 use Rattle.sqlite_schema.specs.declared.schema.Keys.TheVariants.{Enforced}
+use Rattle.sqlite_schema.specs.declared.schema.Schema.{Schema}
 use Rattle.sqlite_schema.specs.declared.schema.Table.{Table}
 use Rattle.sqlite_schema.specs.declared.command.Upsert.{Upsert}
 use Rattle.sqlite_schema.specs.declared.command.Conflict.TheVariants.{Abort}
@@ -35,7 +36,8 @@ use Rattle.sqlite.specs.Rows.{Task, Written, Tries, TriesEach, Upserts, Puts as 
 use Rattle.sqlite.specs.State.{State, mode_of, Executes}
 use Rattle.sqlite.specs.Listing.{understood}
 use Rattle.sqlite.proofs.Callers.{IsPlain, command_of, statement_of, runs_as, one_step, one_permutation}
-use Rattle.table_meaning.specs.Schema.{stored_schema}
+use Rattle.table_meaning.specs.Schema.{schema_at}
+use Rattle.table_meaning.specs.Schemas.{IsSchema}
 use Rattle.table_meaning.specs.Upserts.{update_query, update_at, put_command}
 use Rattle.table_meaning.proofs.PutRows.{only}
 
@@ -49,9 +51,18 @@ same_value e = cc
 
 -- ---- no foreign key of the schema acts
 
-no_acts : (tree : ℕ) (olds news : List Row) → works stored_schema Enforced 0 tree olds news ≡ []
-no_acts tree olds news = elim (length news == 0) as (λ b.
-    flat_map (λ child. filter_map (λ ref. work_by 0 tree (pairs olds news) child ref (deed_for Enforced b ref) (parent_key stored_schema.tables ref)) child.references) stored_schema.tables ≡ []) [ true ↦ refl | false ↦ refl ]
+abbrev pub HasNoActs : Schema → Type 0
+HasNoActs stored = (tree : ℕ) (olds news : List Row) → works stored Enforced 0 tree olds news ≡ []
+
+pub no_acts : (n : ℕ) → IsSchema n → HasNoActs (schema_at n)
+no_acts zero is tree olds news = absurd (omega (arith, is.0))
+no_acts (suc zero) is tree olds news = elim (length news == 0) as (λ b.
+    flat_map (λ child. filter_map (λ ref. work_by 0 tree (pairs olds news) child ref (deed_for Enforced b ref) (parent_key (schema_at 1).tables ref)) child.references) (schema_at 1).tables ≡ []) [ true ↦ refl | false ↦ refl ]
+no_acts (suc (suc zero)) is tree olds news = elim (length news == 0) as (λ b.
+    flat_map (λ child. filter_map (λ ref. work_by 0 tree (pairs olds news) child ref (deed_for Enforced b ref) (parent_key (schema_at 2).tables ref)) child.references) (schema_at 2).tables ≡ []) [ true ↦ refl | false ↦ refl ]
+no_acts (suc (suc (suc zero))) is tree olds news = elim (length news == 0) as (λ b.
+    flat_map (λ child. filter_map (λ ref. work_by 0 tree (pairs olds news) child ref (deed_for Enforced b ref) (parent_key (schema_at 3).tables ref)) child.references) (schema_at 3).tables ≡ []) [ true ↦ refl | false ↦ refl ]
+no_acts (suc (suc (suc (suc n)))) is tree olds news = absurd (omega (arith, is.1))
 
 -- ---- the row that an update finds
 
@@ -85,31 +96,31 @@ row_found db tree slot columns params id r own given shaped there is rows a =
 -- ---- one row is tried
 
 -- The row was added, or the one that has the key is updated.
-abbrev pub Settles : Trees → Table → List ℕ → Row → Upsert → Row → Trees → Type 0
-Settles db table target params clause new next =
-    (AreConflicts (Some target) stored_schema.indexes table (db table.tree) new [] × Applies stored_schema Enforced db (edit_of db table [] Given 0 (new ∷ [])) next)
-    ⊎ ((there : Row) × (more : List Row) × AreConflicts (Some target) stored_schema.indexes table (db table.tree) new (there ∷ more) × (rows : List Row)
-    × IfSome clause.update (λ q. Answers (record { schema = stored_schema; trees = db }) q (params ++ rowid there ∷ shown table new) rows)
-    × Applies stored_schema Enforced db (edit_of db table (ids_of rows) Given 1 rows) next)
+abbrev pub Settles : Schema → Trees → Table → List ℕ → Row → Upsert → Row → Trees → Type 0
+Settles stored db table target params clause new next =
+    (AreConflicts (Some target) stored.indexes table (db table.tree) new [] × Applies stored Enforced db (edit_of db table [] Given 0 (new ∷ [])) next)
+    ⊎ ((there : Row) × (more : List Row) × AreConflicts (Some target) stored.indexes table (db table.tree) new (there ∷ more) × (rows : List Row)
+    × IfSome clause.update (λ q. Answers (record { schema = stored; trees = db }) q (params ++ rowid there ∷ shown table new) rows)
+    × Applies stored Enforced db (edit_of db table (ids_of rows) Given 1 rows) next)
 
-module _ (task : Task) (keys : task.keys ≡ Enforced) (schema : task.schema ≡ stored_schema) where
-  pub applied : (db next : Trees) (edit : Edit) → Writes task.schema task.keys db edit (Ok next) → Applies stored_schema Enforced db edit next
+module _ (stored : Schema) (acts : HasNoActs stored) (task : Task) (keys : task.keys ≡ Enforced) (schema : task.schema ≡ stored) where
+  pub applied : (db next : Trees) (edit : Edit) → Writes task.schema task.keys db edit (Ok next) → Applies stored Enforced db edit next
   applied db next edit h =
-      let written = subst (λ k. Writes stored_schema k db edit (Ok next)) keys (subst (λ s. Writes s task.keys db edit (Ok next)) schema h) in
-      one_step stored_schema Enforced db next edit (no_acts edit.table.tree (taken_by db edit) edit.news) written
+      let written = subst (λ k. Writes stored k db edit (Ok next)) keys (subst (λ s. Writes s task.keys db edit (Ok next)) schema h) in
+      one_step stored Enforced db next edit (acts edit.table.tree (taken_by db edit) edit.news) written
 
-  added_alone : (new : Row) (db : Trees) (one : Written) → PutsNew task new db (Ok one) → Applies stored_schema Enforced db (edit_of db task.table [] Given 0 (new ∷ [])) one.trees
+  added_alone : (new : Row) (db : Trees) (one : Written) → PutsNew task new db (Ok one) → Applies stored Enforced db (edit_of db task.table [] Given 0 (new ∷ [])) one.trees
   added_alone new db one h =
       let put = went h in
       let edit = edit_of db task.table [] Given 0 (new ∷ []) in
-      subst (Applies stored_schema Enforced db edit) (sym (ap (λ (w : Written). w.trees) (same_value put.2))) (applied db put.0 edit put.1)
+      subst (Applies stored Enforced db edit) (sym (ap (λ (w : Written). w.trees) (same_value put.2))) (applied db put.0 edit put.1)
 
   cleared : (new : Row) (db : Trees) (one : Written) (found : List Row) → Clears task Abort new db found (Ok one) → PutsNew task new db (Ok one)
   cleared new db one [] h = h
   cleared new db one (x ∷ found) h = h
 
   upserted : (target : List ℕ) (slot : ℕ) (columns : List Term) (new : Row) (db : Trees) (one : Written)
-      → Upserts task Abort new db (update_at target task.table.tree slot columns ∷ []) (Ok one) → Settles db task.table target task.params (update_at target task.table.tree slot columns) new one.trees
+      → Upserts task Abort new db (update_at target task.table.tree slot columns ∷ []) (Ok one) → Settles stored db task.table target task.params (update_at target task.table.tree slot columns) new one.trees
   upserted target slot columns new db one ([], conflicts, (found, also, clears)) =
       inl (subst (λ s. AreConflicts (Some target) s.indexes task.table (db task.table.tree) new []) schema conflicts, added_alone new db one (cleared new db one found clears))
   upserted target slot columns new db one (there ∷ more, conflicts, ran) =
@@ -122,7 +133,7 @@ module _ (task : Task) (keys : task.keys ≡ Enforced) (schema : task.schema ≡
         subst (λ s. AreConflicts (Some target) s.indexes task.table (db task.table.tree) new (there ∷ more)) schema conflicts,
         asked.0,
         subst (λ s. Answers (record { schema = s; trees = db }) (record { lets = []; body = update_query task.table.tree slot columns }) (task.params ++ rowid there ∷ shown task.table new) asked.0) schema asked.1,
-        subst (Applies stored_schema Enforced db edit) (sym (ap (λ (w : Written). w.trees) (same_value put.2))) (applied db put.0 edit put.1),
+        subst (Applies stored Enforced db edit) (sym (ap (λ (w : Written). w.trees) (same_value put.2))) (applied db put.0 edit put.1),
       )
 
   tried : (clauses : List Upsert) (new : Row) (db : Trees) (one : Written) → Tries task Abort clauses new db (Ok one) → Upserts task Abort new db clauses (Ok one)
@@ -136,22 +147,22 @@ module _ (task : Task) (keys : task.keys ≡ Enforced) (schema : task.schema ≡
 
 -- ---- the whole statement
 
-module _ (sql : List ℕ) (params : Row) (old new : State) (known : old.now.schema ≡ stored_schema) (place : ℕ) (table : Table) (terms : List Term) (width : ℕ) (target : List ℕ) (slot : ℕ) (columns : List Term)
-    (is : command_of (understood stored_schema sql) ≡ put_command place terms width (update_at target table.tree slot columns)) (plain : IsPlain (understood stored_schema sql))
-    (listed : slice_get stored_schema.tables place ≡ Some table) (uncounted : table.is_counted ≡ false)
+module _ (stored : Schema) (acts : HasNoActs stored) (sql : List ℕ) (params : Row) (old new : State) (known : old.now.schema ≡ stored) (place : ℕ) (table : Table) (terms : List Term) (width : ℕ) (target : List ℕ) (slot : ℕ) (columns : List Term)
+    (is : command_of (understood stored sql) ≡ put_command place terms width (update_at target table.tree slot columns)) (plain : IsPlain (understood stored sql))
+    (listed : slice_get stored.tables place ≡ Some table) (uncounted : table.is_counted ≡ false)
     (source : Row) (values : value_rows (stamped table params) width (length terms / width) terms ≡ source ∷ []) where
   pub settles : (count : ℕ) → Executes sql params old new (Ok count)
-      → (new.now.schema ≡ stored_schema) × IsDatabase new.now × Settles old.now.trees table target params (update_at target table.tree slot columns) (with_rowid Chosen (old.now.trees table.tree) (cast_row table source)) new.now.trees
+      → (new.now.schema ≡ stored) × IsDatabase new.now × Settles stored old.now.trees table target params (update_at target table.tree slot columns) (with_rowid Chosen (old.now.trees table.tree) (cast_row table source)) new.now.trees
   settles count h =
       let db = old.now.trees in
       let clause = update_at target table.tree slot columns in
       let command = put_command place terms width clause in
-      let task : Task = record { limit = old.step_limit; keys = Enforced; schema = stored_schema; table = table; params = params } in
-      let w = runs_as sql params old new stored_schema known command is plain count h in
-      let text = statement_of sql (understood stored_schema sql) in
+      let task : Task = record { limit = old.step_limit; keys = Enforced; schema = stored; table = table; params = params } in
+      let w = runs_as sql params old new stored known command is plain count h in
+      let text = statement_of sql (understood stored sql) in
       let does = subst (λ s. Does old.step_limit (mode_of old) params (record old.now { schema = s }) text None command (Ok (w.tally, new.now))) known w.changed in
-      let done = went (subst (λ o. AtPlace (λ t. OnRows (record { limit = old.step_limit; keys = Enforced; schema = stored_schema; table = t; params = params }) (mode_of old) None command db) o (Ok (w.tally, new.now))) listed does) in
-      let now : new.now ≡ record { schema = stored_schema; trees = done.0.trees } = ap (λ (p : Tally × Database). p.1) (same_value (went (went done.2).2).2) in
+      let done = went (subst (λ o. AtPlace (λ t. OnRows (record { limit = old.step_limit; keys = Enforced; schema = stored; table = t; params = params }) (mode_of old) None command db) o (Ok (w.tally, new.now))) listed does) in
+      let now : new.now ≡ record { schema = stored; trees = done.0.trees } = ap (λ (p : Tally × Database). p.1) (same_value (went (went done.2).2).2) in
       let given = went done.1 in
       let counted = went given.2 in
       let each = went counted.2 in
@@ -161,8 +172,8 @@ module _ (sql : List ℕ) (params : Row) (old new : State) (known : old.now.sche
       let first = with_rowid Chosen (db table.tree) (cast_row table source) in
       let chosen : with_rowid (rowids_for table (count_of counted.0)) (db table.tree) (cast_row table source) ≡ first =
       ap (λ b. with_rowid (cond b (Above (count_of counted.0)) Chosen) (db table.tree) (cast_row table source)) uncounted in
-      let ran = upserted task refl refl target slot columns first db one.0 (tried task refl refl (clause ∷ []) first db one.0 (subst (λ n. Tries task Abort (clause ∷ []) n db (Ok one.0)) chosen one.1)) in
+      let ran = upserted stored acts task refl refl target slot columns first db one.0 (tried stored acts task refl refl (clause ∷ []) first db one.0 (subst (λ n. Tries task Abort (clause ∷ []) n db (Ok one.0)) chosen one.1)) in
       let trees : new.now.trees ≡ one.0.trees =
-      ap (λ (d : Database). d.trees) now ∙ ap (λ (it : Written). it.trees) (same_value ended.2) ∙ not_counted task refl refl uncounted each.0.0.trees ended.0 counted.0 each.0.1 ended.1
+      ap (λ (d : Database). d.trees) now ∙ ap (λ (it : Written). it.trees) (same_value ended.2) ∙ not_counted stored acts task refl refl uncounted each.0.0.trees ended.0 counted.0 each.0.1 ended.1
       ∙ ap (λ (p : Written × ℤ). p.0.trees) (same_value one.2) in
-      (ap (λ (d : Database). d.schema) now, w.sound, subst (Settles db table target params clause first) (sym trees) ran)
+      (ap (λ (d : Database). d.schema) now, w.sound, subst (Settles stored db table target params clause first) (sym trees) ran)

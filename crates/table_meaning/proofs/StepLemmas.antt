@@ -24,7 +24,7 @@ use Rattle.sqlite.proofs.Callers.{IsPlain, runs_as, survives_begin}
 use Rattle.sqlite.proofs.StateLemmas.{survives_then}
 use Rattle.table_meaning.specs.declared.tables.TableName.TheVariants.{Instance}
 use Rattle.table_meaning.specs.declared.rows.StoredRow.{StoredRow}
-use Rattle.table_meaning.specs.Schema.{stored_schema, table_by, place_of}
+use Rattle.table_meaning.specs.Schema.{newest, stored_schema, table_by, place_of}
 use Rattle.table_meaning.specs.Texts.{Made, made_table, made_index, definitions, definition_texts, put_text}
 use Rattle.table_meaning.specs.Making.{with_made, MakeInTurn, AreFree, IsLeft, no_rows}
 use Rattle.table_meaning.specs.Rows.{table_of, columns_of}
@@ -53,7 +53,10 @@ moved_more a b c rows row first one =
 pub row_moved : (row : StoredRow) (old new : State) (count : ℕ) → ExecutesInside 0 (put_text (table_of row)) (columns_of row) old new (Ok count) → Moves old new (row ∷ [])
 row_moved row old new count h = record {
   inside = h.1.mode;
-  puts = λ contents holds. let ran = puts (table_of row) (columns_of row) (facts _ _ (typed row)) old new holds.known count h.0 in hold_put row old.now new.now holds.known ran.0 ran.1 ran.2 contents holds;
+  puts = λ contents holds.
+      let t = table_of row in
+      let ran = puts newest (omega arith, omega arith) t (columns_of row) (facts _ _ (typed row)) old new holds.known.schema (holds.known.ordered t) (holds.known.apart t) count h.0 in
+      hold_put row old.now new.now ran.0 ran.1 ran.2 contents holds;
 }
 
 -- ---- nothing is committed on the way

@@ -9,7 +9,7 @@ use Rattle.sqlite.specs.Values.{or_null, bound_value, bound}
 use Rattle.table_meaning.specs.declared.rows.SettingValue.{SettingValue}
 use Rattle.table_meaning.specs.declared.rows.SettingValue.TheVariants.{Number, Word}
 use Rattle.table_meaning.specs.declared.rows.StoredRow.{StoredRow}
-use Rattle.table_meaning.specs.declared.rows.StoredRow.TheVariants.{Setting, Account, App, Version, Unit, Host, Instance, Kept, Batch}
+use Rattle.table_meaning.specs.declared.rows.StoredRow.TheVariants.{Setting, Account, App, Version, Unit, Host, Instance, Kept, Batch, VersionClass, UnitMark}
 use Rattle.table_meaning.specs.Kinds.{number, integer, words, optional, either}
 use Rattle.table_meaning.specs.Layouts.{layout_of, of_key}
 use Rattle.table_meaning.specs.Rows.{key_places, shown, whole, setting_value, table_of, columns_of, key_columns, key_of, slots_of}
@@ -44,6 +44,8 @@ typed (Host h) = refl
 typed (Instance x) = λ i. or_number x.host_id i && (or_integer x.sent i && (or_integer x.deadline i && (or_number x.outcome i && (or_words x.output i && (or_number x.place i && true)))))
 typed (Kept k) = refl
 typed (Batch b) = refl
+typed (VersionClass c) = refl
+typed (UnitMark m) = λ i. or_words m.class i && true
 
 pub key_first : (row : StoredRow) → of_key (layout_of (table_of row)) (columns_of row) ≡ key_columns (key_of row)
 key_first (Setting s) = refl
@@ -55,6 +57,8 @@ key_first (Host h) = refl
 key_first (Instance x) = refl
 key_first (Kept k) = refl
 key_first (Batch b) = refl
+key_first (VersionClass c) = refl
+key_first (UnitMark m) = refl
 
 -- a row of the tree that shows the columns has the columns of their key
 pub row_key_shown : (row : StoredRow) (raw : Row) → shown (table_of row) raw ≡ columns_of row → map (column raw) (key_places (table_of row)) ≡ map (column (key_columns (key_of row))) (slots_of (key_of row))

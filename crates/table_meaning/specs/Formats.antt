@@ -1,4 +1,4 @@
--- The format of the stored rows: of which kind each column of a table is.
+-- Rule. The format of the stored rows: of which kind each column of a table is.
 use Rattle.std.specs.Prelude.{◌≡◌, ℕ, suc, List, [], ◌∷◌, map, length, ⊤}
 use Rattle.std.specs.List.{range_with_len}
 use Rattle.sqlite_value.specs.Order.{Row, column}

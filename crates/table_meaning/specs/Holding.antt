@@ -1,4 +1,4 @@
--- What the tables hold, as look-ups.
+-- Rule. What the tables hold, as look-ups.
 use Rattle.std.specs.Prelude.{◌≡◌, ℕ, true, List, fold, if◌then◌else◌, Option, Some, option_map}
 use Rattle.sqlite_value.specs.Order.{Row}
 use Rattle.sqlite_value.specs.Keys.{plain}

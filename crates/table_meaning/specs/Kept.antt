@@ -1,4 +1,4 @@
--- What the tables keep of calls and of imports.
+-- Rule. What the tables keep of calls and of imports.
 use Rattle.std.specs.Prelude.{ℕ, pos, List, Option, option_map}
 use Rattle.reply_register.specs.declared.kept.Kept.{Kept}
 use Rattle.sqlite_trees.specs.Tree.{Trees}

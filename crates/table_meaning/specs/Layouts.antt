@@ -1,4 +1,4 @@
--- The layouts of the stored tables. What differs between two tables stands here: a name, a tree, a key and columns. All else that is said of a table follows.
+-- Rule. The layouts of the stored tables. What differs between two tables stands here: a name, a tree, a key and columns. All else that is said of a table follows.
 use Rattle.std.specs.Prelude.{ℕ, List, [], ◌∷◌, map, take, drop, length, codes, Option, Some, None}
 use Rattle.std.specs.List.{range_with_len}
 use Prim.Native.String.{String}
@@ -112,6 +112,20 @@ layout_of table.Kept = record {
   uniques = [];
 }
 layout_of table.Batch = record { name = codes "batch"; tree = 15; key = by_first 2; columns = has "kind" words ∷ has "name" words ∷ has "text" octets ∷ has "answer" words ∷ []; uniques = [] }
+layout_of table.VersionClass = record {
+  name = codes "version_class";
+  tree = 23;
+  key = numbered;
+  columns = refers_to table.Version "version_id" number ∷ has "class" words ∷ [];
+  uniques = [];
+}
+layout_of table.UnitMark = record {
+  name = codes "unit_mark";
+  tree = 24;
+  key = numbered;
+  columns = refers_to table.Unit "unit_id" number ∷ has "marked" flag ∷ has "class" (optional words) ∷ [];
+  uniques = [];
+}
 
 -- The table in which the first schema keeps the last call of each host. The later ones leave it as it is, and look at it no more.
 abbrev pub former_kept : Layout

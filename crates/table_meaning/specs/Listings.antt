@@ -1,4 +1,4 @@
--- The rows of a table that pass a test of their columns, and the statements that list them.
+-- Words. The rows of a table that pass a test of their columns, and the statements that list them.
 use Rattle.std.specs.Prelude.{ℕ, pos, Bool, ◌&&◌, int_lt, true, List, [], ◌∷◌, map, filter, filter_map, codes, None, unwrap_or}
 use Rattle.std.specs.List.{range_with_len, last_or}
 use Rattle.sqlite_value.specs.declared.value.Value.{Value}
@@ -81,6 +81,14 @@ versions_text = codes "SELECT num FROM version WHERE id > 0 AND app_id = ?1 AND 
 -- the version is of this application and for this platform
 abbrev pub is_version_for : ℕ → List ℕ → Row → Bool
 is_version_for app platform row = equal Binary (column row 1) (whole app) && has_text 2 platform row
+
+-- where a version stands: that of an application, for a platform, with a number
+abbrev pub version_text : List ℕ
+version_text = codes "SELECT id FROM version WHERE id > 0 AND app_id = ?1 AND platform = ?2 AND num = ?3 ORDER BY id"
+
+-- the version is of this application, for this platform, and has this number
+abbrev pub is_version_known : ℕ → List ℕ → ℕ → Row → Bool
+is_version_known app platform num row = equal Binary (column row 1) (whole app) && (has_text 2 platform row && equal Binary (column row 3) (whole num))
 
 -- ---- the last row
 

@@ -1,4 +1,4 @@
--- How the CREATE texts make a schema, one after another.
+-- Words. How the CREATE texts make a schema, one after another.
 use Rattle.std.specs.Prelude.{◌≡◌, ℕ, ⊤, false, List, [], ◌∷◌, fold, if◌then◌else◌, slice_get, Some, Ok}
 use Rattle.std.specs.List.{AllByRecursion}
 use Rattle.sqlite_schema.specs.declared.schema.Schema.{Schema}

@@ -1,4 +1,4 @@
--- The instances by place: the list of all places at which one stands, what a test of their rows leaves of it, and the statements that list them.
+-- Words. The instances by place: the list of all places at which one stands, what a test of their rows leaves of it, and the statements that list them.
 use Rattle.std.specs.Prelude.{◌≡◌, ◌⊎◌, ◌≤◌, ◌<◌, ℕ, ℤ, pos, Bool, false, ◌&&◌, ◌||◌, ◌==◌, List, [], ◌∷◌, ◌++◌, map, filter, filter_map, codes, Option, Some, None}
 use Rattle.std.specs.List.{AllByRecursion}
 use Rattle.sched_book.specs.declared.instance.Place.{Place}
@@ -18,6 +18,8 @@ use Rattle.sqlite_sql.specs.Term.{Term, lit, col, op2}
 use Rattle.sqlite_sql.specs.Query.{Query}
 use Rattle.sqlite_rules.specs.Lists.{Has}
 use Rattle.sqlite.specs.Held.{Held}
+use Rattle.table_meaning.specs.declared.tables.Page.{Page}
+use Rattle.table_meaning.specs.declared.tables.Page.TheVariants.{First, Further}
 use Rattle.table_meaning.specs.declared.rows.StoredRow.{StoredRow}
 use Rattle.table_meaning.specs.Rows.{whole, columns_of, instance_key}
 use Rattle.table_meaning.specs.Formats.{columns_in}
@@ -129,8 +131,14 @@ held_text = codes "SELECT unit_id, num FROM instance WHERE unit_id > 0 AND num >
 abbrev pub owned_text : List ℕ
 owned_text = codes "SELECT unit_id, num FROM instance WHERE unit_id > 0 AND num >= 0 AND host_id = ?1 ORDER BY unit_id, num"
 
-abbrev pub queued_text : List ℕ
-queued_text = codes "SELECT unit_id, num FROM instance WHERE unit_id > 0 AND num >= 0 AND queued = 1 AND unit_id >= ?1 AND (unit_id > ?1 OR num >= ?2) ORDER BY unit_id, num LIMIT 64"
+-- how many places a page of what waits has at most
+abbrev pub page_size : Page → ℕ
+page_size First = 8
+page_size Further = 64
+
+abbrev pub queued_text : Page → List ℕ
+queued_text First = codes "SELECT unit_id, num FROM instance WHERE unit_id > 0 AND num >= 0 AND queued = 1 AND unit_id >= ?1 AND (unit_id > ?1 OR num >= ?2) ORDER BY unit_id, num LIMIT 8"
+queued_text Further = codes "SELECT unit_id, num FROM instance WHERE unit_id > 0 AND num >= 0 AND queued = 1 AND unit_id >= ?1 AND (unit_id > ?1 OR num >= ?2) ORDER BY unit_id, num LIMIT 64"
 
 abbrev pub sent_text : List ℕ
 sent_text = codes "SELECT unit_id, num FROM instance WHERE unit_id > 0 AND num >= 0 AND host_id = ?1 AND sent >= ?2 AND sent < ?3 ORDER BY sent"

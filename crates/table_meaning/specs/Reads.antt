@@ -1,4 +1,4 @@
--- The form of the statements that read a table whole, and what a read leaves of a connection.
+-- Rule. The form of the statements that read a table whole, and what a read leaves of a connection.
 use Rattle.std.specs.Prelude.{◌≡◌, ℕ, pos, negsuc, true, false, List, [], ◌∷◌, map, None, IsTrue}
 use Rattle.sqlite_value.specs.declared.value.Value.TheVariants.{Int}
 use Rattle.sqlite_value.specs.declared.keys.Collation.TheVariants.{Binary}

@@ -1,4 +1,4 @@
--- The rows of the tables as SQL has them: which columns each shows, and what its key is.
+-- Rule. The rows of the tables as SQL has them: which columns each shows, and what its key is.
 use Rattle.std.specs.Prelude.{ℕ, pos, Bool, ◌&&◌, ◌==◌, if◌then◌else◌, List, [], ◌∷◌, map, length, find, Option, option_map}
 use Rattle.std.specs.List.{range_with_len}
 use Rattle.sqlite_value.specs.declared.value.Value.{Value}
@@ -13,7 +13,7 @@ use Rattle.table_meaning.specs.declared.tables.TableName.TheVariants as table
 use Rattle.table_meaning.specs.declared.rows.SettingValue.{SettingValue}
 use Rattle.table_meaning.specs.declared.rows.SettingValue.TheVariants.{Number, Word}
 use Rattle.table_meaning.specs.declared.rows.StoredRow.{StoredRow}
-use Rattle.table_meaning.specs.declared.rows.StoredRow.TheVariants.{Setting, Account, App, Version, Unit, Host, Instance, Kept, Batch}
+use Rattle.table_meaning.specs.declared.rows.StoredRow.TheVariants.{Setting, Account, App, Version, Unit, Host, Instance, Kept, Batch, VersionClass, UnitMark}
 use Rattle.table_meaning.specs.Layouts.{layout_of, places_in, of_key}
 
 -- the tree of a table's rows
@@ -81,6 +81,8 @@ columns_of (Instance i) =
     ∷ []
 columns_of (Kept k) = whole k.host_id ∷ whole k.slot ∷ whole k.seqno ∷ Text k.text ∷ Text k.reply ∷ []
 columns_of (Batch b) = Text b.kind ∷ Text b.name ∷ Blob b.text ∷ Text b.answer ∷ []
+columns_of (VersionClass c) = whole c.version_id ∷ Text c.class ∷ []
+columns_of (UnitMark m) = whole m.unit_id ∷ whole (if m.marked then 1 else 0) ∷ or_null Text m.class ∷ []
 
 -- ---- keys
 
@@ -98,6 +100,9 @@ pub data RowKey : Type 0 where
   kept_key : ℕ → ℕ → RowKey
   -- the kind and the name
   batch_key : List ℕ → List ℕ → RowKey
+  -- of a version, and of a workunit
+  class_key : ℕ → RowKey
+  mark_key : ℕ → RowKey
 
 abbrev pub table_at : RowKey → TableName
 table_at (setting_key name) = table.Setting
@@ -109,6 +114,8 @@ table_at (host_key id) = table.Host
 table_at (instance_key unit num) = table.Instance
 table_at (kept_key host slot) = table.Kept
 table_at (batch_key kind name) = table.Batch
+table_at (class_key id) = table.VersionClass
+table_at (mark_key id) = table.UnitMark
 
 abbrev pub key_columns : RowKey → Row
 key_columns (setting_key name) = Text name ∷ []
@@ -120,6 +127,8 @@ key_columns (host_key id) = whole id ∷ []
 key_columns (instance_key unit num) = whole unit ∷ whole num ∷ []
 key_columns (kept_key host slot) = whole host ∷ whole slot ∷ []
 key_columns (batch_key kind name) = Text kind ∷ Text name ∷ []
+key_columns (class_key id) = whole id ∷ []
+key_columns (mark_key id) = whole id ∷ []
 
 abbrev pub key_of : StoredRow → RowKey
 key_of (Setting s) = setting_key s.name
@@ -131,6 +140,8 @@ key_of (Host h) = host_key h.id
 key_of (Instance i) = instance_key i.unit_id i.num
 key_of (Kept k) = kept_key k.host_id k.slot
 key_of (Batch b) = batch_key b.kind b.name
+key_of (VersionClass c) = class_key c.version_id
+key_of (UnitMark m) = mark_key m.unit_id
 
 abbrev pub table_of : StoredRow → TableName
 table_of row = table_at (key_of row)

@@ -1,4 +1,4 @@
--- The schema of the stored tables as SQL has it, by their layouts. A schema is the front of one list of tables and indexes; what is new stands behind all that is there.
+-- Rule. The schema of the stored tables as SQL has it, by their layouts. A schema is the front of one list of tables and indexes; what is new stands behind all that is there.
 use Rattle.std.specs.Prelude.{ℕ, ◌+◌, Bool, true, false, not, ◌&&◌, ◌||◌, ◌==◌, if◌then◌else◌, List, [], ◌∷◌, map, take, zip, filter_map, flat_map, codes, slice_index, Some, None, option_map}
 use Rattle.std.specs.List.{enumerate_from, position_or_len}
 use Rattle.sqlite_value.specs.declared.value.Value.TheVariants.{Null}
@@ -14,7 +14,7 @@ use Rattle.sqlite_schema.specs.declared.schema.Index.{Index}
 use Rattle.sqlite_schema.specs.declared.schema.Schema.{Schema}
 use Rattle.sqlite_catalog.specs.Change.{automatics}
 use Rattle.table_meaning.specs.declared.tables.TableName.{TableName}
-use Rattle.table_meaning.specs.declared.tables.TableName.TheVariants.{Setting, Account, App, Version, Unit, Host, Instance, Kept, Batch}
+use Rattle.table_meaning.specs.declared.tables.TableName.TheVariants.{Setting, Account, App, Version, Unit, Host, Instance, Kept, Batch, VersionClass, UnitMark}
 use Rattle.table_meaning.specs.Kinds.{Kind, number, integer, words, flag, octets, optional, either}
 use Rattle.table_meaning.specs.Layouts.{Column, Key, numbered, by_first, Layout, layout_of, former_kept, places_in, of_key}
 
@@ -119,18 +119,20 @@ parts =
     ∷ an_index (record { name = codes "instance_sent"; tree = 19; columns = 2 ∷ 3 ∷ [] })
     ∷ an_index (record { name = codes "instance_deadline"; tree = 20; columns = 4 ∷ [] })
     ∷ a_table Kept
+    ∷ a_table VersionClass
+    ∷ a_table UnitMark
     ∷ []
 
 -- how many of them each schema has, by its number; there is none of number 0
 abbrev sizes : List ℕ
-sizes = 0 ∷ 13 ∷ 14 ∷ []
+sizes = 0 ∷ 13 ∷ 14 ∷ 16 ∷ []
 
 abbrev pub parts_at : ℕ → List Part
 parts_at schema = take (slice_index sizes schema) parts
 
 -- the number of the schema that is worked on
 abbrev pub newest : ℕ
-newest = 2
+newest = 3
 
 abbrev tables_in : Part → List TableName
 tables_in (a_table t) = t ∷ []

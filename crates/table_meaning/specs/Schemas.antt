@@ -1,4 +1,4 @@
--- Tables of whichever schema, by its number: the newest one, or an earlier one.
+-- Rule. Tables of whichever schema, by its number: the newest one, or an earlier one.
 use Rattle.std.specs.Prelude.{◌≡◌, ℕ, ◌≤◌, ◌<◌, Bool, true, ◌==◌, if◌then◌else◌, List, drop, take, length, codes, Option, Some, None, option_map}
 use Rattle.std.specs.List.{AllByRecursion, list_any}
 use Rattle.sqlite_value.specs.declared.value.Value.{Value}

@@ -1,4 +1,4 @@
--- What the steps of a transaction make of the tables.
+-- Words. What the steps of a transaction make of the tables.
 use Rattle.std.specs.Prelude.{◌≡◌, List, [], None, IsTrue}
 use Rattle.sqlite.specs.Effect.{Database, IsDatabase}
 use Rattle.sqlite.specs.State.{State}
@@ -17,7 +17,7 @@ pub record Moves (old new : State) (rows : List StoredRow) : Type 0 where
   pub inside : IsTrue new.in_transaction
   pub puts : PutsRows old.now new.now rows
 
--- the nine tables, each with no row
+-- the tables, each with no row
 pub record AreNew (db : Database) : Type 0 where
   pub schema : db.schema ≡ stored_schema
   pub sound : IsDatabase db

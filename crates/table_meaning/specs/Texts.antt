@@ -1,4 +1,4 @@
--- The SQL texts: what makes the tables, what reads each whole or at a key, and what puts a row of each.
+-- Rule. The SQL texts: what makes the tables, what reads each whole or at a key, and what puts a row of each.
 use Rattle.std.specs.Prelude.{ℕ, ◌+◌, ◌/◌, ◌%◌, Bool, ◌&&◌, ◌==◌, nat_lt, if◌then◌else◌, List, [], ◌∷◌, ◌++◌, map, filter, flat_map, length, codes, slice_index, slice_index_or, Option, Some, None}
 use Rattle.std.specs.List.{range_with_len, enumerate_from, list_any}
 use Rattle.sqlite_schema.specs.declared.schema.Kind.{Kind as SqlKind}

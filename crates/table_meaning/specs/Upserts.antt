@@ -1,4 +1,4 @@
--- The form of the statements that put a row: INSERT, with DO UPDATE over the row that has the key.
+-- Words. The form of the statements that put a row: INSERT, with DO UPDATE over the row that has the key.
 use Rattle.std.specs.Prelude.{ℕ, pos, negsuc, false, List, [], ◌∷◌, Some, None}
 use Rattle.sqlite_value.specs.declared.value.Value.TheVariants.{Int}
 use Rattle.sqlite_value.specs.declared.keys.Collation.TheVariants.{Binary}

@@ -1,13 +1,16 @@
--- What the tables hold of a world: at each key the row that the world, the kept calls and the kept batches have there.
+-- Rule. What the tables hold of a world: at each key the row that the world, the kept calls and the kept batches have there.
 -- A status, what is held, a credit and what is queued are counted from the world's other rows.
-use Rattle.std.specs.Prelude.{ℕ, pos, Bool, ◌&&◌, ◌==◌, if◌then◌else◌, List, [], ◌∷◌, ◌++◌, flat_map, length, codes, slice_get, Option, Some, None, is_none, option_map, option_and_then, unwrap_or}
+use Rattle.std.specs.Prelude.{ℕ, pos, Bool, true, false, ◌&&◌, ◌==◌, if◌then◌else◌, List, [], ◌∷◌, ◌++◌, flat_map, length, codes, slice_get, Option, Some, None, is_none, option_map, option_and_then, unwrap_or}
 use Rattle.std.specs.Str.{bytes_eq}
 use Rattle.reply_register.specs.declared.kept.Kept.{Kept as Call}
+use Rattle.sched_book.specs.Classes.{class_of}
 use Rattle.sched_book.specs.Places.{nth, place_where, unit_at, host_at, status_of, held_by, host_credit}
 use Rattle.sched_book.specs.declared.rows.Account.{Account}
 use Rattle.sched_book.specs.declared.rows.Agreement.{Agreement}
 use Rattle.sched_book.specs.declared.rows.Agreement.TheVariants.{Exact, Within}
 use Rattle.sched_book.specs.declared.rows.App.{App}
+use Rattle.sched_book.specs.declared.rows.ClassRule.{ClassRule}
+use Rattle.sched_book.specs.declared.rows.ClassRule.TheVariants.{Any, OfFirst, Only}
 use Rattle.sched_book.specs.declared.rows.HostRow.{HostRow}
 use Rattle.sched_book.specs.declared.rows.Version.{Version}
 use Rattle.sched_book.specs.declared.instance.Instance.{Instance as Job}
@@ -28,8 +31,10 @@ use Rattle.table_meaning.specs.declared.rows.StoredUnit.{StoredUnit}
 use Rattle.table_meaning.specs.declared.rows.StoredHost.{StoredHost}
 use Rattle.table_meaning.specs.declared.rows.StoredInstance.{StoredInstance}
 use Rattle.table_meaning.specs.declared.rows.StoredCall.{StoredCall}
+use Rattle.table_meaning.specs.declared.rows.StoredVersionClass.{StoredVersionClass}
+use Rattle.table_meaning.specs.declared.rows.StoredUnitMark.{StoredUnitMark}
 use Rattle.table_meaning.specs.declared.rows.StoredRow.TheVariants as stored
-use Rattle.table_meaning.specs.Rows.{setting_key, account_key, app_key, version_key, unit_key, host_key, instance_key, kept_key, batch_key}
+use Rattle.table_meaning.specs.Rows.{setting_key, account_key, app_key, version_key, unit_key, host_key, instance_key, kept_key, batch_key, class_key, mark_key}
 use Rattle.table_meaning.specs.Schema.{newest}
 use Rattle.table_meaning.specs.Holding.{Contents, Hold}
 
@@ -61,6 +66,12 @@ abbrev pub lapse_code : Option Lapse → ℕ
 lapse_code None = 0
 lapse_code (Some Late) = 1
 lapse_code (Some Dropped) = 2
+
+-- a workunit is marked where it keeps to the versions of one class, or will
+abbrev pub is_marked : ClassRule → Bool
+is_marked Any = false
+is_marked OfFirst = true
+is_marked (Only class) = true
 
 -- words joined by commas
 abbrev pub joined : List (List ℕ) → List ℕ
@@ -136,6 +147,12 @@ instance_row w b unit num x = record {
 abbrev pub call_row : ℕ → ℕ → Call → StoredCall
 call_row host slot k = record { host_id = host; slot = slot; seqno = k.seqno; text = k.text; reply = k.reply }
 
+abbrev pub class_row : ℕ → Version → StoredVersionClass
+class_row id v = record { version_id = id; class = v.class }
+
+abbrev pub mark_row : ℕ → UnitBook → StoredUnitMark
+mark_row id b = record { unit_id = id; marked = is_marked b.unit.class_rule; class = class_of b.unit.class_rule }
+
 -- what is kept of a batch: its bytes and its answer
 abbrev pub BatchText : Type 0
 BatchText = List ℕ × List ℕ
@@ -155,6 +172,8 @@ module _ (w : World) (calls : SlotCalls) (batches : List ℕ → List ℕ → Op
   contents_of (instance_key unit num) = option_and_then (λ b. option_map (λ x. stored.Instance (instance_row w b unit num x)) (slice_get b.instances num)) (unit_at w unit)
   contents_of (kept_key host slot) = option_map (λ k. stored.Kept (call_row host slot k)) (calls host slot)
   contents_of (batch_key kind name) = option_map (λ b. stored.Batch (record { kind = kind; name = name; text = b.0; answer = b.1 })) (batches kind name)
+  contents_of (class_key id) = option_map (λ v. stored.VersionClass (class_row id v)) (nth w.versions id)
+  contents_of (mark_key id) = option_map (λ b. stored.UnitMark (mark_row id b)) (unit_at w id)
 
 -- The tables hold this world, with these calls by host and slot and these batches by kind and name.
 abbrev pub HoldWorld : Database → World → SlotCalls → (List ℕ → List ℕ → Option BatchText) → Type 0

@@ -111,6 +111,21 @@ pub struct StoredBatch {
     pub answer: Text,
 }
 
+/// The class of a version.
+#[derive(Drop)]
+pub struct StoredVersionClass {
+    pub version_id: u32,
+    pub class: Text,
+}
+
+/// Whether a workunit is marked, and the class that it keeps to, if it has one by now.
+#[derive(Drop)]
+pub struct StoredUnitMark {
+    pub unit_id: u32,
+    pub marked: bool,
+    pub class: Option<Text>,
+}
+
 /// A row of some table.
 #[derive(Drop)]
 pub enum StoredRow {
@@ -123,4 +138,6 @@ pub enum StoredRow {
     Instance(StoredInstance),
     Kept(StoredCall),
     Batch(StoredBatch),
+    VersionClass(StoredVersionClass),
+    UnitMark(StoredUnitMark),
 }

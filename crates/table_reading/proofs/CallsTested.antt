@@ -39,6 +39,8 @@ one_fits w n (stored.Unit r) = none_fits (nat_le n (length w.hosts))
 one_fits w n (stored.Host r) = none_fits (nat_le n (length w.hosts))
 one_fits w n (stored.Instance r) = none_fits (nat_le n (length w.hosts))
 one_fits w n (stored.Batch r) = none_fits (nat_le n (length w.hosts))
+one_fits w n (stored.VersionClass r) = none_fits (nat_le n (length w.hosts))
+one_fits w n (stored.UnitMark r) = none_fits (nat_le n (length w.hosts))
 
 calls_fit : (w : World) (b : Bool) (n : ℕ) (calls : List StoredRow) → ((b && list_all is_call calls) && nat_le (fold later_host n calls) (length w.hosts)) ≡ ((b && nat_le n (length w.hosts)) && list_all (is_call_of w) calls)
 calls_fit w b n [] = no_call b (nat_le n (length w.hosts))

@@ -1,4 +1,4 @@
--- What is noted of rows of workunits and instances tells how many there are of each.
+-- What is noted of rows of workunits, marks and instances tells how many there are of each.
 use Rattle.std.proofs.Common.{◌≡◌, ◌≢◌, ◌≤◌, ◌<◌, ◌⊎◌, ℕ, zero, suc, ◌+◌, ◌-◌, max, Bool, true, false, cond, not, ◌&&◌, ◌==◌, nat_le, List, [], ◌∷◌, ◌++◌, fold, length, get_or, Some, refl, sym, ap, subst, ◌∙◌, arith, inl, inr, true≢false}
 use Rattle.std.specs.List.{AllByRecursion}
 use Rattle.std.specs.Prelude.{slice_get, slice_set}
@@ -8,11 +8,12 @@ use Rattle.std.proofs.lemmas.Option.{none-some}
 use Rattle.sqlite_rules.specs.Lists.{Has}
 use Rattle.table_meaning.specs.declared.rows.StoredInstance.{StoredInstance}
 use Rattle.table_meaning.specs.declared.rows.StoredUnit.{StoredUnit}
+use Rattle.table_meaning.specs.declared.rows.StoredUnitMark.{StoredUnitMark}
 use Rattle.table_meaning.specs.declared.rows.StoredRow.{StoredRow}
 use Rattle.table_meaning.specs.declared.rows.StoredRow.TheVariants as stored
 use Rattle.table_meaning.specs.declared.tables.TableName.TheVariants as name
-use Rattle.table_meaning.specs.Rows.{table_of, key_of, unit_key}
-use Rattle.table_worlds.proofs.ColumnsBack.{is_unit_row, is_instance_row}
+use Rattle.table_meaning.specs.Rows.{RowKey, table_of, key_of, unit_key, mark_key}
+use Rattle.table_worlds.proofs.ColumnsBack.{is_unit_row, is_mark_row, is_instance_row}
 use Rattle.table_reading.specs.Counting.{is_numbered, next_number, counted, noted}
 use Rattle.table_reading.specs.declared.counts.UnitCounts.{UnitCounts}
 
@@ -181,6 +182,17 @@ of_units_counted (r ∷ rows) c most typed of_units turn before bound =
     (λ j. subst (λ (d : UnitCounts). get_or d.counts j 0 ≤ most j) (sym now) (count_bounded c.counts i.0.unit_id i.0.num most before (bound i.0 has) is j))
     (λ k later. bound k (inr later))
 
+-- the last mark stays
+pub same_mark : (rows : List StoredRow) (c : UnitCounts) → AreInstances rows → (fold noted c rows).last_mark ≡ c.last_mark
+same_mark [] c typed = refl
+same_mark (r ∷ rows) c typed =
+    let i = is_instance_row r typed.0 in
+    same_mark rows (noted c r) typed.1 ∙ ap (λ s. (noted c s).last_mark) i.1 ∙ go (is_numbered c.counts i.0.unit_id) i.0 refl
+  where
+    go : (b : Bool) (i : StoredInstance) → is_numbered c.counts i.unit_id ≡ b → (noted c (stored.Instance i)).last_mark ≡ c.last_mark
+    go true i is = ap (λ (d : UnitCounts). d.last_mark) (one_noted c i is)
+    go false i is = ap (λ (d : UnitCounts). d.last_mark) (none_of c i is)
+
 -- ---- workunits
 
 abbrev AreUnits : List StoredRow → Type 0
@@ -196,9 +208,9 @@ zero_more [] (suc j) is = refl
 zero_more (x ∷ xs) zero is = is
 zero_more (x ∷ xs) (suc j) is = zero_more xs j is
 
--- they have the numbers behind so many, in turn
-abbrev pub AreInTurn : ℕ → List StoredRow → Type 0
-AreInTurn before rows = (i : ℕ) (r : StoredRow) → slice_get rows i ≡ Some r → key_of r ≡ unit_key (i + before + 1)
+-- they have the keys of the numbers behind so many, in turn
+abbrev pub AreInTurn : (ℕ → RowKey) → ℕ → List StoredRow → Type 0
+AreInTurn key before rows = (i : ℕ) (r : StoredRow) → slice_get rows i ≡ Some r → key_of r ≡ key (i + before + 1)
 
 -- so many more workunits, of which none has an instance
 pub units_counted : (rows : List StoredRow) (c : UnitCounts) → AreUnits rows → length (fold noted c rows).counts ≡ length c.counts + length rows
@@ -215,8 +227,15 @@ units_without (r ∷ rows) c typed none j =
     let u = is_unit_row r typed.0 in
     units_without rows (noted c r) typed.1 (λ k. ap (λ s. get_or (noted c s).counts k 0) u.1 ∙ zero_more c.counts k (none k)) j
 
+-- of which no mark was noted
+pub units_marked : (rows : List StoredRow) (c : UnitCounts) → AreUnits rows → (fold noted c rows).last_mark ≡ c.last_mark
+units_marked [] c typed = refl
+units_marked (r ∷ rows) c typed =
+    let u = is_unit_row r typed.0 in
+    units_marked rows (noted c r) typed.1 ∙ ap (λ s. (noted c s).last_mark) u.1
+
 -- they are in turn just where that is noted
-pub units_told : (rows : List StoredRow) (c : UnitCounts) → AreUnits rows → (fold noted c rows).are_in_turn ≡ true → (c.are_in_turn ≡ true) × AreInTurn (length c.counts) rows
+pub units_told : (rows : List StoredRow) (c : UnitCounts) → AreUnits rows → (fold noted c rows).are_in_turn ≡ true → (c.are_in_turn ≡ true) × AreInTurn unit_key (length c.counts) rows
 units_told [] c typed turn = (turn, λ i r is. absurd (none-some r is))
 units_told (r ∷ rows) c typed turn =
     let u = is_unit_row r typed.0 in
@@ -227,7 +246,7 @@ units_told (r ∷ rows) c typed turn =
     (parts.0, λ i s is. at i s is u.0 u.1 ((Decides-eqb u.0.id (length c.counts + 1)).0 parts.1) one later.1)
   where
     at : (i : ℕ) (s : StoredRow) → slice_get (r ∷ rows) i ≡ Some s → (u : StoredUnit) → r ≡ stored.Unit u → u.id ≡ length c.counts + 1 → length (noted c r).counts ≡ length c.counts + 1
-        → AreInTurn (length (noted c r).counts) rows → key_of s ≡ unit_key (i + length c.counts + 1)
+        → AreInTurn unit_key (length (noted c r).counts) rows → key_of s ≡ unit_key (i + length c.counts + 1)
     at zero s is u unit id one rest =
         let same : r ≡ s = some_same is in
         ap key_of (sym same ∙ unit) ∙ ap unit_key (let number : u.id ≡ 0 + length c.counts + 1 = omega (arith, id) in number)
@@ -236,7 +255,7 @@ units_told (r ∷ rows) c typed turn =
         some_same e = cc
     at (suc i) s is u unit id one rest = rest i s is ∙ ap unit_key (let number : i + length (noted c r).counts + 1 ≡ suc i + length c.counts + 1 = omega (arith, one) in number)
 
-pub units_turned : (rows : List StoredRow) (c : UnitCounts) → AreUnits rows → c.are_in_turn ≡ true → AreInTurn (length c.counts) rows → (fold noted c rows).are_in_turn ≡ true
+pub units_turned : (rows : List StoredRow) (c : UnitCounts) → AreUnits rows → c.are_in_turn ≡ true → AreInTurn unit_key (length c.counts) rows → (fold noted c rows).are_in_turn ≡ true
 units_turned [] c typed turn are = turn
 units_turned (r ∷ rows) c typed turn are =
     let u = is_unit_row r typed.0 in
@@ -248,4 +267,57 @@ units_turned (r ∷ rows) c typed turn are =
     (λ i s is. are (suc i) s is ∙ ap unit_key (let number : suc i + length c.counts + 1 ≡ i + length (noted c r).counts + 1 = omega (arith, one) in number))
   where
     same_number : (n m : ℕ) → unit_key n ≡ unit_key m → n ≡ m
+    same_number n m e = cc
+
+-- ---- marks
+
+abbrev AreMarks : List StoredRow → Type 0
+AreMarks rows = AllByRecursion (λ r. table_of r ≡ name.UnitMark) rows
+
+-- they count no instance
+pub marks_count : (rows : List StoredRow) (c : UnitCounts) → AreMarks rows → (fold noted c rows).counts ≡ c.counts
+marks_count [] c typed = refl
+marks_count (r ∷ rows) c typed =
+    let m = is_mark_row r typed.0 in
+    marks_count rows (noted c r) typed.1 ∙ ap (λ s. (noted c s).counts) m.1
+
+-- where all is in turn they are so, and the last one has the number of them all
+pub marks_told : (rows : List StoredRow) (c : UnitCounts) → AreMarks rows → (fold noted c rows).are_in_turn ≡ true
+    → (c.are_in_turn ≡ true) × AreInTurn mark_key c.last_mark rows × ((fold noted c rows).last_mark ≡ c.last_mark + length rows)
+marks_told [] c typed turn = (turn, (λ i r is. absurd (none-some r is)), omega arith)
+marks_told (r ∷ rows) c typed turn =
+    let m = is_mark_row r typed.0 in
+    let later = marks_told rows (noted c r) typed.1 turn in
+    let here : (c.are_in_turn && (m.0.unit_id == c.last_mark + 1)) ≡ true = sym (ap (λ s. (noted c s).are_in_turn) m.1) ∙ later.0 in
+    let parts = and_parts c.are_in_turn (m.0.unit_id == c.last_mark + 1) here in
+    let id : m.0.unit_id ≡ c.last_mark + 1 = (Decides-eqb m.0.unit_id (c.last_mark + 1)).0 parts.1 in
+    let one : (noted c r).last_mark ≡ c.last_mark + 1 = ap (λ s. (noted c s).last_mark) m.1 ∙ id in
+    let last = later.2 in
+    (parts.0, (λ i s is. at i s is m.0 m.1 id one later.1), omega (arith, one, last))
+  where
+    at : (i : ℕ) (s : StoredRow) → slice_get (r ∷ rows) i ≡ Some s → (m : StoredUnitMark) → r ≡ stored.UnitMark m → m.unit_id ≡ c.last_mark + 1
+        → (noted c r).last_mark ≡ c.last_mark + 1 → AreInTurn mark_key (noted c r).last_mark rows → key_of s ≡ mark_key (i + c.last_mark + 1)
+    at zero s is m mark id one rest =
+        ap key_of (sym (some_same is) ∙ mark) ∙ ap mark_key (let number : m.unit_id ≡ 0 + c.last_mark + 1 = omega (arith, id) in number)
+      where
+        some_same : Some r ≡ Some s → r ≡ s
+        some_same e = cc
+    at (suc i) s is m mark id one rest = rest i s is ∙ ap mark_key (let number : i + (noted c r).last_mark + 1 ≡ suc i + c.last_mark + 1 = omega (arith, one) in number)
+
+-- and where they are so, all is in turn
+pub marks_turned : (rows : List StoredRow) (c : UnitCounts) → AreMarks rows → c.are_in_turn ≡ true → AreInTurn mark_key c.last_mark rows
+    → ((fold noted c rows).are_in_turn ≡ true) × ((fold noted c rows).last_mark ≡ c.last_mark + length rows)
+marks_turned [] c typed turn are = (turn, omega arith)
+marks_turned (r ∷ rows) c typed turn are =
+    let m = is_mark_row r typed.0 in
+    let key : mark_key m.0.unit_id ≡ mark_key (0 + c.last_mark + 1) = sym (ap key_of m.1) ∙ are 0 r refl in
+    let id : m.0.unit_id ≡ c.last_mark + 1 = same_number m.0.unit_id (0 + c.last_mark + 1) key ∙ (let one : 0 + c.last_mark + 1 ≡ c.last_mark + 1 = omega arith in one) in
+    let one : (noted c r).last_mark ≡ c.last_mark + 1 = ap (λ s. (noted c s).last_mark) m.1 ∙ id in
+    let later = marks_turned rows (noted c r) typed.1
+    (ap (λ s. (noted c s).are_in_turn) m.1 ∙ and_from _ _ turn ((Decides-eqb m.0.unit_id (c.last_mark + 1)).1 id))
+    (λ i s is. are (suc i) s is ∙ ap mark_key (let number : suc i + c.last_mark + 1 ≡ i + (noted c r).last_mark + 1 = omega (arith, one) in number)) in
+    let last = later.1 in
+    (later.0, omega (arith, one, last))
+  where
+    same_number : (n m : ℕ) → mark_key n ≡ mark_key m → n ≡ m
     same_number n m e = cc

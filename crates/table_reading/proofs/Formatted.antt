@@ -1,16 +1,14 @@
 -- The rows of a sound world, and of what may be kept beside it, have the formats of their tables, where their texts are UTF-8.
-use Rattle.std.proofs.Common.{◌≡◌, ℕ, zero, suc, ◌≤◌, ◌<◌, ℤ, pos, Bool, true, false, ◌&&◌, ◌||◌, List, [], ◌∷◌, ◌++◌, length, Option, Some, None, option_map, refl, sym, ap, subst, ◌∙◌, inl, inr, arith, IsTrue}
+use Rattle.std.proofs.Common.{◌≡◌, ℕ, zero, suc, ◌≤◌, ◌<◌, ℤ, pos, Bool, true, false, ◌&&◌, ◌||◌, List, [], ◌∷◌, ◌++◌, length, Option, Some, None, option_map, refl, sym, subst, ◌∙◌, inl, inr, arith, IsTrue}
 use Rattle.std.specs.Prelude.{◌==◌, All, IfSome, IsUtf8, codes, flat_map, is_some, nat_le, nat_lt, option_and_then, slice_get, if◌then◌else◌}
 use Rattle.std.specs.List.{AllByRecursion, list_all}
 use Rattle.std.specs.Str.{bytes_eq}
 use Rattle.std.proofs.lemmas.Bool.{and_parts, and_from}
 use Rattle.std.proofs.lemmas.Bool.Decides.{nat_tests}
 use Rattle.std.proofs.lemmas.List.Elements.{All-head, All-tail}
-use Rattle.std.proofs.lemmas.Option.{none-some, slice_get_within}
+use Rattle.std.proofs.lemmas.Option.{slice_get_within}
 use Rattle.std.proofs.lemmas.Slice.Eq.{bytes_eq-Decides}
 use Rattle.sqlite.specs.Values.{or_null}
-use Rattle.sqlite_rules.specs.Lists.{Has}
-use Rattle.sqlite_value.specs.declared.value.Value.{Value}
 use Rattle.sqlite_value.specs.declared.value.Value.TheVariants.{Int, Text}
 use Rattle.texts.specs.Words.{is_word_byte, is_word}
 use Rattle.texts.proofs.Words.{IsUtf8-list_all, IsUtf8-word}
@@ -18,7 +16,7 @@ use Rattle.rpc_records.specs.Ranges.{IsWord}
 use Rattle.reply_register.specs.declared.kept.Kept.{Kept as Call}
 use Rattle.reply_register.specs.Keeping.{most_kept}
 use Rattle.stores.specs.Kinds.{kind_of}
-use Rattle.stores.specs.declared.kind.Kind.{Kind as ImportKind}
+use Rattle.sched_book.specs.Classes.{class_of}
 use Rattle.sched_book.specs.Imports.{has_app}
 use Rattle.sched_book.specs.Limits.{most_instances, IsBounded, IsAccountInLimits, IsAppInLimits, IsInstanceInLimits, distance_of}
 use Rattle.sched_book.specs.Places.{nth, unit_at, host_at, held_by, host_credit, host_of, status_of}
@@ -44,8 +42,8 @@ use Rattle.table_meaning.specs.declared.rows.StoredRow.TheVariants as stored
 use Rattle.table_meaning.specs.declared.tables.TableName.{TableName}
 use Rattle.table_meaning.specs.declared.tables.TableName.TheVariants as name
 use Rattle.table_meaning.specs.Formats.{IsStored, IsOf, number, integer, words, flag, optional}
-use Rattle.table_meaning.specs.Rows.{RowKey, setting_key, account_key, app_key, version_key, unit_key, host_key, instance_key, kept_key, batch_key, columns_of, whole}
-use Rattle.table_meaning.specs.Worlds.{BatchText, SlotCalls, setting_in, agreement_limit, status_code, lapse_code, joined, app_place, account_row, app_row, version_row, host_row, unit_row, instance_row, call_row, contents_of}
+use Rattle.table_meaning.specs.Rows.{setting_key, account_key, app_key, version_key, class_key, unit_key, mark_key, host_key, instance_key, kept_key, batch_key, columns_of, whole}
+use Rattle.table_meaning.specs.Worlds.{BatchText, SlotCalls, agreement_limit, status_code, lapse_code, joined, app_place, is_marked, account_row, app_row, version_row, class_row, host_row, unit_row, mark_row, instance_row, call_row, contents_of}
 use Rattle.table_worlds.specs.RowsOf.{setting_rows}
 use Rattle.table_worlds.proofs.AppsNamed.{named_app}
 use Rattle.table_worlds.proofs.ByPlace.{all_nth, all_got}
@@ -207,7 +205,7 @@ module _ (w : World) (sound : Sound w) where
       let to_send : s.max_wus_to_send < 4294967296 = omega (arith, limits.to_send.1) in
       let delay : s.request_delay < 4294967296 = omega (arith, limits.delay) in
       let resend : (if s.resend_lost_results then 1 else 0) < 4294967296 = elim s.resend_lost_results as (λ b. (if b then 1 else 0) < 4294967296) [ true ↦ omega arith | false ↦ omega arith ] in (
-        (refl, (of_word (codes "schema") refl, (inl (of_number 2 (omega arith)), tt))),
+        (refl, (of_word (codes "schema") refl, (inl (of_number 3 (omega arith)), tt))),
         (
           (refl, (of_word (codes "daily_result_quota") refl, (inl (of_number s.daily_result_quota quota), tt))),
           (
@@ -249,6 +247,11 @@ module _ (w : World) (sound : Sound w) where
       let num : v.version_num < 4294967296 = omega (arith, one.limits.number.1) in
       (refl, (of_number id (omega (arith, at_most w.versions id v is, few_versions)), (of_number (app_place w v.app) (app_small v.app one.app), (of_word v.platform one.limits.platform, (of_number v.version_num num, tt)))))
 
+  class_format : (id : ℕ) (v : Version) → nth w.versions id ≡ Some v → IsStored name.VersionClass (columns_of (stored.VersionClass (class_row id v)))
+  class_format id v is =
+      let one = all_nth (IsSoundVersion w.apps) w.versions id v is sound.rows.versions in
+      (refl, (of_number id (omega (arith, at_most w.versions id v is, few_versions)), (of_word v.class one.limits.class, tt)))
+
   unit_format : (id : ℕ) (b : UnitBook) → unit_at w id ≡ Some b → IsStored name.Unit (columns_of (stored.Unit (unit_row w id b)))
   unit_format id b is =
       let one = all_nth (IsSoundUnit w.hosts w.apps) w.units id b is sound.units in
@@ -261,6 +264,13 @@ module _ (w : World) (sound : Sound w) where
       let successes : u.max_success_results < 4294967296 = omega (arith, limits.successes) in
       let delay : u.delay_bound < 4294967296 = omega (arith, limits.delay.1) in
       let credit : u.credit < 4294967296 = omega (arith, limits.credit) in (refl, (of_number id (omega (arith, at_most w.units id b is, few_units)), (of_word u.name limits.name, (of_number (app_place w u.app) (app_small u.app one.well.app), (of_number u.min_quorum quorum, (of_number u.target_nresults target, (of_number u.max_error_results errors, (of_number u.max_total_results total, (of_number u.max_success_results successes, (of_number u.delay_bound delay, ((pos u.rsc_fpops_est, refl), ((pos u.rsc_memory_bound, refl), ((pos u.rsc_disk_bound, refl), (of_number u.credit credit, (of_number (status_code (status_of w b)) (status_small (status_of w b)), tt)))))))))))))))
+
+  mark_format : (id : ℕ) (b : UnitBook) → unit_at w id ≡ Some b → IsStored name.UnitMark (columns_of (stored.UnitMark (mark_row id b)))
+  mark_format id b is =
+      let one = all_nth (IsSoundUnit w.hosts w.apps) w.units id b is sound.units in
+      let rule = b.unit.class_rule in
+      let class = weaker (class_of rule) (λ class word. IsUtf8-word class word) one.well.limits.rule in
+      (refl, (of_number id (omega (arith, at_most w.units id b is, few_units)), (of_flag (is_marked rule), (of_text_or_none (class_of rule) class, tt))))
 
   host_format : (id : ℕ) (h : HostRow) → host_at w id ≡ Some h → IsStored name.Host (columns_of (stored.Host (host_row (length (held_by w id)) (host_credit w id) id h)))
   host_format id h is =
@@ -304,7 +314,9 @@ have_formats w calls batches sound beside utf8 (account_key id) =
     made (λ (a : Account). stored.Account (account_row id a)) name.Account (nth w.accounts id) (λ a is. account_format w sound id a is (all_nth (λ (a : Account). IsUtf8 a.name) w.accounts id a is utf8.names))
 have_formats w calls batches sound beside utf8 (app_key id) = made (λ (a : App). stored.App (app_row id a)) name.App (nth w.apps id) (app_format w sound id)
 have_formats w calls batches sound beside utf8 (version_key id) = made (λ (v : Version). stored.Version (version_row w id v)) name.Version (nth w.versions id) (version_format w sound id)
+have_formats w calls batches sound beside utf8 (class_key id) = made (λ (v : Version). stored.VersionClass (class_row id v)) name.VersionClass (nth w.versions id) (class_format w sound id)
 have_formats w calls batches sound beside utf8 (unit_key id) = made (λ (b : UnitBook). stored.Unit (unit_row w id b)) name.Unit (unit_at w id) (unit_format w sound id)
+have_formats w calls batches sound beside utf8 (mark_key id) = made (λ (b : UnitBook). stored.UnitMark (mark_row id b)) name.UnitMark (unit_at w id) (mark_format w sound id)
 have_formats w calls batches sound beside utf8 (host_key id) =
     made (λ (h : HostRow). stored.Host (host_row (length (held_by w id)) (host_credit w id) id h)) name.Host (host_at w id) (host_format w sound id)
 have_formats w calls batches sound beside utf8 (instance_key unit num) = go (unit_at w unit) refl

@@ -12,7 +12,6 @@ use Rattle.sched_book.specs.Sound.{Sound}
 use Rattle.sched_book.specs.declared.world.World.{World}
 use Rattle.table_meaning.specs.declared.rows.StoredRow.{StoredRow}
 use Rattle.table_meaning.specs.declared.rows.StoredRow.TheVariants as stored
-use Rattle.table_meaning.specs.declared.tables.TableName.{TableName}
 use Rattle.table_meaning.specs.declared.tables.TableName.TheVariants as name
 use Rattle.table_meaning.specs.Formats.{IsStored}
 use Rattle.table_meaning.specs.Holding.{Contents, Hold}
@@ -123,7 +122,9 @@ module _ (db : Database) (w : World) (calls : SlotCalls) (batches : List ℕ →
           accounts = (rows name.Account).0;
           apps = (rows name.App).0;
           versions = (rows name.Version).0;
+          classes = (rows name.VersionClass).0;
           units = (rows name.Unit).0;
+          marks = (rows name.UnitMark).0;
           hosts = (rows name.Host).0;
           instances = (rows name.Instance).0;
         };
@@ -136,7 +137,9 @@ module _ (db : Database) (w : World) (calls : SlotCalls) (batches : List ℕ →
           accounts = (rows name.Account).1;
           apps = (rows name.App).1;
           versions = (rows name.Version).1;
+          classes = (rows name.VersionClass).1;
           units = (rows name.Unit).1;
+          marks = (rows name.UnitMark).1;
           hosts = (rows name.Host).1;
           instances = (rows name.Instance).1;
         };

@@ -35,6 +35,8 @@ call_table w (stored.Unit r) is = absurd (true≢false (sym is))
 call_table w (stored.Host r) is = absurd (true≢false (sym is))
 call_table w (stored.Instance r) is = absurd (true≢false (sym is))
 call_table w (stored.Batch r) is = absurd (true≢false (sym is))
+call_table w (stored.VersionClass r) is = absurd (true≢false (sym is))
+call_table w (stored.UnitMark r) is = absurd (true≢false (sym is))
 
 pub import_table : (r : StoredRow) → is_import r ≡ true → table_at (key_of r) ≡ name.Batch
 import_table (stored.Batch b) is = refl
@@ -46,6 +48,8 @@ import_table (stored.Unit r) is = absurd (true≢false (sym is))
 import_table (stored.Host r) is = absurd (true≢false (sym is))
 import_table (stored.Instance r) is = absurd (true≢false (sym is))
 import_table (stored.Kept r) is = absurd (true≢false (sym is))
+import_table (stored.VersionClass r) is = absurd (true≢false (sym is))
+import_table (stored.UnitMark r) is = absurd (true≢false (sym is))
 
 -- ---- a row at a key is what is kept there
 
@@ -85,6 +89,8 @@ call_shown w host slot (stored.Unit r) is key = absurd (true≢false (sym is))
 call_shown w host slot (stored.Host r) is key = absurd (true≢false (sym is))
 call_shown w host slot (stored.Instance r) is key = absurd (true≢false (sym is))
 call_shown w host slot (stored.Batch r) is key = absurd (true≢false (sym is))
+call_shown w host slot (stored.VersionClass r) is key = absurd (true≢false (sym is))
+call_shown w host slot (stored.UnitMark r) is key = absurd (true≢false (sym is))
 
 pub import_shown : (kind text : List ℕ) (s : StoredRow) → is_import s ≡ true → key_of s ≡ batch_key kind text → columns_of s ≡ columns_of (import_row kind text (columns_of s))
 unfolding kind_in name_in
@@ -99,6 +105,8 @@ import_shown kind text (stored.Unit r) is key = absurd (true≢false (sym is))
 import_shown kind text (stored.Host r) is key = absurd (true≢false (sym is))
 import_shown kind text (stored.Instance r) is key = absurd (true≢false (sym is))
 import_shown kind text (stored.Kept r) is key = absurd (true≢false (sym is))
+import_shown kind text (stored.VersionClass r) is key = absurd (true≢false (sym is))
+import_shown kind text (stored.UnitMark r) is key = absurd (true≢false (sym is))
 
 module _ (trees : Trees) (w : World) where
   calls_stand : (calls : List StoredRow) → map columns_of calls ≡ rows_in trees name.Kept → list_all (is_call_of w) calls ≡ true → (host slot : ℕ)

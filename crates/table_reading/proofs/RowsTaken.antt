@@ -22,7 +22,9 @@ with_more name.Setting r rows = record r { rows = record r.rows { settings = r.r
 with_more name.Account r rows = record r { rows = record r.rows { accounts = r.rows.accounts ++ rows } }
 with_more name.App r rows = record r { rows = record r.rows { apps = r.rows.apps ++ rows } }
 with_more name.Version r rows = record r { rows = record r.rows { versions = r.rows.versions ++ rows } }
+with_more name.VersionClass r rows = record r { rows = record r.rows { classes = r.rows.classes ++ rows } }
 with_more name.Unit r rows = record r { units = fold noted r.units rows }
+with_more name.UnitMark r rows = record r { units = fold noted r.units rows }
 with_more name.Host r rows = record r { rows = record r.rows { hosts = r.rows.hosts ++ rows } }
 with_more name.Instance r rows = record r { units = fold noted r.units rows }
 with_more name.Kept r rows = record r { are_calls = r.are_calls && list_all is_call rows; last_host = fold later_host r.last_host rows }
@@ -41,7 +43,9 @@ none_more name.Setting r = ap (λ xs. record r { rows = record r.rows { settings
 none_more name.Account r = ap (λ xs. record r { rows = record r.rows { accounts = xs } }) (append-nil r.rows.accounts)
 none_more name.App r = ap (λ xs. record r { rows = record r.rows { apps = xs } }) (append-nil r.rows.apps)
 none_more name.Version r = ap (λ xs. record r { rows = record r.rows { versions = xs } }) (append-nil r.rows.versions)
+none_more name.VersionClass r = ap (λ xs. record r { rows = record r.rows { classes = xs } }) (append-nil r.rows.classes)
 none_more name.Unit r = refl
+none_more name.UnitMark r = refl
 none_more name.Host r = ap (λ xs. record r { rows = record r.rows { hosts = xs } }) (append-nil r.rows.hosts)
 none_more name.Instance r = refl
 none_more name.Kept r = ap (λ b. record r { are_calls = b }) (and_true r.are_calls)
@@ -52,7 +56,9 @@ one_more r (stored.Setting x) rows = ap (λ xs. record r { rows = record r.rows 
 one_more r (stored.Account x) rows = ap (λ xs. record r { rows = record r.rows { accounts = xs } }) (append_assoc r.rows.accounts (stored.Account x ∷ []) rows)
 one_more r (stored.App x) rows = ap (λ xs. record r { rows = record r.rows { apps = xs } }) (append_assoc r.rows.apps (stored.App x ∷ []) rows)
 one_more r (stored.Version x) rows = ap (λ xs. record r { rows = record r.rows { versions = xs } }) (append_assoc r.rows.versions (stored.Version x ∷ []) rows)
+one_more r (stored.VersionClass x) rows = ap (λ xs. record r { rows = record r.rows { classes = xs } }) (append_assoc r.rows.classes (stored.VersionClass x ∷ []) rows)
 one_more r (stored.Unit x) rows = refl
+one_more r (stored.UnitMark x) rows = refl
 one_more r (stored.Host x) rows = ap (λ xs. record r { rows = record r.rows { hosts = xs } }) (append_assoc r.rows.hosts (stored.Host x ∷ []) rows)
 one_more r (stored.Instance x) rows = refl
 one_more r (stored.Kept x) rows = ap (λ b. record r { are_calls = b; last_host = fold later_host r.last_host (stored.Kept x ∷ rows) }) (and_assoc r.are_calls (is_call (stored.Kept x)) (list_all is_call rows))
@@ -79,13 +85,13 @@ tables_more trees (first ∷ tables) t old mid new (next, one, rest) visits = (n
 
 pub all_taken : (trees : Trees) (new : Reading) → VisitsTables Takes trees (reading_of no_rows) all_tables new → (all : AllRows) × AreAllRead trees all × AreTyped all × (new ≡ reading_of all)
 all_taken trees new took =
-    let (settings, settings_are, _, (accounts, accounts_are, _, (apps, apps_are, _, (versions, versions_are, _, (units, units_are, of_units, (hosts, hosts_are, _, (instances, instances_are, of_instances, (calls, calls_are, _, (batches, batches_are, _, same))))))))) = tables_taken trees all_tables (reading_of no_rows) new took in (
-      record { world = record { settings = settings; accounts = accounts; apps = apps; versions = versions; units = units; hosts = hosts; instances = instances }; calls = calls; batches = batches },
+    let (settings, settings_are, _, (accounts, accounts_are, _, (apps, apps_are, _, (versions, versions_are, _, (classes, classes_are, _, (units, units_are, of_units, (marks, marks_are, of_marks, (hosts, hosts_are, _, (instances, instances_are, of_instances, (calls, calls_are, _, (batches, batches_are, _, same))))))))))) = tables_taken trees all_tables (reading_of no_rows) new took in (
+      record { world = record { settings = settings; accounts = accounts; apps = apps; versions = versions; classes = classes; units = units; marks = marks; hosts = hosts; instances = instances }; calls = calls; batches = batches },
       record {
-        world = record { settings = settings_are; accounts = accounts_are; apps = apps_are; versions = versions_are; units = units_are; hosts = hosts_are; instances = instances_are };
+        world = record { settings = settings_are; accounts = accounts_are; apps = apps_are; versions = versions_are; classes = classes_are; units = units_are; marks = marks_are; hosts = hosts_are; instances = instances_are };
         calls = calls_are;
         batches = batches_are;
       },
-      record { units = of_units; instances = of_instances },
+      record { units = of_units; marks = of_marks; instances = of_instances },
       same,
     )

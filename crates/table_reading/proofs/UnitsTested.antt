@@ -26,7 +26,7 @@ use Rattle.table_worlds.specs.RowsOf.{having, rows_of_unit}
 use Rattle.table_worlds.specs.Totals.{with_unit, with_units, totals_of}
 use Rattle.table_worlds.specs.declared.totals.Total.{Total}
 use Rattle.table_worlds.specs.declared.unit_rows.UnitRows.{UnitRows}
-use Rattle.table_worlds.proofs.ColumnsBack.{one_unit, one_instance}
+use Rattle.table_worlds.proofs.ColumnsBack.{one_unit, one_mark, one_instance}
 use Rattle.table_worlds.proofs.ReadBack.{unit_back, job_back}
 use Rattle.table_worlds.proofs.TotalsCounted.{unit_more, no_unit_left, all_counted}
 use Rattle.table_reading.specs.Testing.{AreInstancesFound, AreFound, HasGap, StandsAt, AreTested, has_name}
@@ -86,12 +86,14 @@ module _ (trees : Trees) (id n : ℕ) where
       let unit = one_unit rows.unit others.unit (one_row _ _ _ found.unit_at also.unit_at) in
       let instances = same_each rows.instances others.instances (found.instances_at.count ∙ sym also.instances_at.count)
       (λ k x y here there. one_instance x y (one_row _ _ _ (found.instances_at.at k x here) (also.instances_at.at k y there))) in
-      λ i. record { unit = unit i; instances = instances i }
+      let mark = one_mark rows.mark others.mark (one_row _ _ _ found.mark_at also.mark_at) in
+      λ i. record { unit = unit i; mark = mark i; instances = instances i }
 
   module _ (w : World) (b : UnitBook) (stands : StandsAt trees w id n b) where
     -- so no key is without its row
     pub has_no_gap : HasGap trees id n → ⊥
-    has_no_gap (inl none) = none-some _ (sym none ∙ stands.found.unit_at)
+    has_no_gap (inl (inl none)) = none-some _ (sym none ∙ stands.found.unit_at)
+    has_no_gap (inl (inr none)) = none-some _ (sym none ∙ stands.found.mark_at)
     has_no_gap (inr gap) =
         let found = stands.found.instances_at in
         let count : length (rows_of_unit w id b).instances ≡ n = found.count in
@@ -107,9 +109,9 @@ jobs_back w b id m (x ∷ xs) =
     λ i. first i ∷ rest i
 
 book_back : (w : World) (id : ℕ) (b : UnitBook) → IsSoundUnit w.hosts w.apps b → (rows : UnitRows) → rows ≡ rows_of_unit w id b
-    → record { unit = unit_in w.apps (columns_of (stored.Unit rows.unit)); instances = map (λ (i : StoredInstance). job_in (columns_of (stored.Instance i))) rows.instances } ≡ b
+    → record { unit = unit_in w.apps (columns_of (stored.Unit rows.unit)) (columns_of (stored.UnitMark rows.mark)); instances = map (λ (i : StoredInstance). job_in (columns_of (stored.Instance i))) rows.instances } ≡ b
 book_back w id b sound rows are =
-    let unit = ap (λ (r : UnitRows). unit_in w.apps (columns_of (stored.Unit r.unit))) are ∙ unit_back w.apps w refl id b sound.well.app in
+    let unit = ap (λ (r : UnitRows). unit_in w.apps (columns_of (stored.Unit r.unit)) (columns_of (stored.UnitMark r.mark))) are ∙ unit_back w.apps w refl id b sound.well.app in
     let instances = ap (λ (r : UnitRows). map (λ (i : StoredInstance). job_in (columns_of (stored.Instance i))) r.instances) are ∙ jobs_back w b id 1 b.instances in
     λ i. record { unit = unit i; instances = instances i }
 

@@ -1,4 +1,5 @@
--- Rows are those of a sound world just where its workunits stand at their keys, and the other rows are those of it beside them.
+-- Rows are those of a sound world just where its workunits stand at their keys with their marks, and the other rows are those
+-- of it beside them.
 use Rattle.std.proofs.Common.{◌≡◌, ◌≤◌, ◌<◌, ℕ, zero, suc, ◌+◌, ◌-◌, true, List, [], ◌∷◌, map, filter_map, fold, length, get_or, Option, Some, option_map, All, refl, sym, ap, subst, ◌∙◌, inl, inr, arith}
 use Rattle.std.specs.List.{AllByRecursion, cons_option, range_with_len}
 use Rattle.std.specs.Prelude.{slice_get, unwrap_or, option_and_then}
@@ -19,29 +20,30 @@ use Rattle.table_meaning.specs.declared.rows.StoredRow.TheVariants as stored
 use Rattle.table_meaning.specs.declared.tables.TableName.TheVariants as name
 use Rattle.table_meaning.specs.Holding.{AreKnown}
 use Rattle.table_meaning.specs.Kept.{calls_in, batches_in}
-use Rattle.table_meaning.specs.Rows.{unit_key, instance_key, columns_of, table_of, table_at, key_of, look_up}
-use Rattle.table_meaning.specs.Worlds.{HoldWorld, unit_row, instance_row}
+use Rattle.table_meaning.specs.Rows.{RowKey, unit_key, mark_key, instance_key, columns_of, table_of, table_at, key_of, look_up}
+use Rattle.table_meaning.specs.Worlds.{HoldWorld, unit_row, mark_row, instance_row}
+use Rattle.table_meaning.proofs.ColumnsTold.{columns_told}
 use Rattle.table_meaning.proofs.RowsHeld.{held_row}
 use Rattle.table_worlds.specs.Keys.{row_in, row_beside, keyed, numbered}
 use Rattle.table_worlds.specs.RowsOf.{AreRowsBeside, having, rows_beside, rows_of_unit}
 use Rattle.table_worlds.specs.declared.keys.NumberedTable.TheVariants as table
 use Rattle.table_worlds.specs.declared.keys.WorldKey.{WorldKey}
 use Rattle.table_worlds.proofs.ByPlace.{nth_next, all_got}
-use Rattle.table_worlds.proofs.ColumnsBack.{one_unit, one_instance, is_unit_row, is_instance_row}
+use Rattle.table_worlds.proofs.ColumnsBack.{one_instance, is_unit_row, is_mark_row, is_instance_row}
 use Rattle.table_worlds.proofs.HostTotals.{slice_get-map_from}
 use Rattle.table_worlds.proofs.InstanceRows.{own_rows, own_listed, listed_own}
 use Rattle.table_worlds.proofs.Members.{has_got}
 use Rattle.table_worlds.proofs.RowsFound.{found_at_key}
 use Rattle.table_worlds.proofs.UnitRowsRead.{length-map_from, written_at}
-use Rattle.table_decoding.specs.Decoding.{of_unit}
-use Rattle.table_decoding.proofs.RowsInOrder.{unit_rows}
+use Rattle.table_decoding.specs.Decoding.{of_unit, of_mark}
+use Rattle.table_decoding.proofs.RowsInOrder.{unit_rows, mark_rows}
 use Rattle.table_reading.specs.Counting.{is_numbered, next_number, noted, none_noted}
 use Rattle.table_reading.specs.Reading.{AllRows, AreAllRead, AreTyped, StandFor, reading_of}
 use Rattle.table_reading.specs.Testing.{StandsAt, AreTested, IsFit}
 use Rattle.table_reading.specs.declared.counts.UnitCounts.{UnitCounts}
 use Rattle.table_reading.specs.declared.rows.Reading.{Reading}
 use Rattle.table_reading.proofs.CallsTested.{calls_tested}
-use Rattle.table_reading.proofs.CountsNoted.{AreInTurn, AreOfUnits, same_count, in_turn_told, was_in_turn, of_units_counted, units_counted, units_without, units_told, units_turned}
+use Rattle.table_reading.proofs.CountsNoted.{AreInTurn, AreOfUnits, same_count, same_mark, in_turn_told, was_in_turn, of_units_counted, units_counted, units_without, units_marked, units_told, units_turned, marks_count, marks_told, marks_turned}
 use Rattle.table_reading.proofs.KeptRows.{held_by_rows}
 use Rattle.table_reading.proofs.UnitsTested.{stands_within, same_each}
 
@@ -64,9 +66,6 @@ same_rows f g key each (id ∷ ids) = ap (λ o. cons_option o (filter_map f (map
 one_row : (r s : Row) (o : Option Row) → o ≡ Some r → o ≡ Some s → r ≡ s
 one_row r s o first other = ap (λ p. unwrap_or p r) (sym first ∙ other)
 
-same_number : (n m : ℕ) → unit_key n ≡ unit_key m → n ≡ m
-same_number n m e = cc
-
 numbered_within : (cs : List ℕ) (n : ℕ) → is_numbered cs n ≡ true → (1 ≤ n) × (n ≤ length cs)
 numbered_within cs n is = (grind (arith, nat_tests, is), grind (arith, nat_tests, is))
 
@@ -80,9 +79,12 @@ module _ (db : Database) (known : AreKnown db) (all : AllRows) (read : AreAllRea
   abbrev w : World
   w = having d books
 
-  -- what was noted of workunits, and then of instances
+  -- what was noted of workunits, then of marks, and then of instances
+  abbrev of_all_units : UnitCounts
+  of_all_units = fold noted none_noted all.world.units
+
   abbrev before : UnitCounts
-  before = fold noted none_noted all.world.units
+  before = fold noted of_all_units all.world.marks
 
   abbrev after : UnitCounts
   after = fold noted before all.world.instances
@@ -93,14 +95,24 @@ module _ (db : Database) (known : AreKnown db) (all : AllRows) (read : AreAllRea
   count_units : length counts ≡ length all.world.units
   count_units =
       let instances : length counts ≡ length before.counts = same_count all.world.instances before typed.instances in
-      let units : length before.counts ≡ 0 + length all.world.units = units_counted all.world.units none_noted typed.units in
-      omega (arith, instances, units)
+      let marks : length before.counts ≡ length of_all_units.counts = ap length (marks_count all.world.marks of_all_units typed.marks) in
+      let units : length of_all_units.counts ≡ 0 + length all.world.units = units_counted all.world.units none_noted typed.units in
+      omega (arith, instances, marks, units)
 
-  units_of_table : (r : StoredRow) → Has all.world.units r → table_at (key_of r) ≡ name.Unit
-  units_of_table r has = let u = is_unit_row r (each_of (λ s. table_of s ≡ name.Unit) all.world.units r has typed.units) in ap (λ s. table_at (key_of s)) u.1
+  no_mark : of_all_units.last_mark ≡ 0
+  no_mark = units_marked all.world.units none_noted typed.units
+
+  last_mark : after.last_mark ≡ before.last_mark
+  last_mark = same_mark all.world.instances before typed.instances
 
   instances_of_table : (r : StoredRow) → Has all.world.instances r → table_at (key_of r) ≡ name.Instance
   instances_of_table r has = let x = is_instance_row r (each_of (λ s. table_of s ≡ name.Instance) all.world.instances r has typed.instances) in ap (λ s. table_at (key_of s)) x.1
+
+  -- a row stands at its key
+  found_at : (r : StoredRow) {q : StoredRow} → r ≡ q → (key : RowKey) → key_of r ≡ key → look_up db.trees (key_of q) ≡ Some (columns_of q)
+      → look_up db.trees key ≡ Some (columns_of r)
+  found_at r same key at found =
+      subst (λ k. look_up db.trees k ≡ Some (columns_of r)) at (subst (λ s. look_up db.trees (key_of s) ≡ Some (columns_of s)) (sym same) found)
 
   -- ---- where all was tested
 
@@ -124,26 +136,53 @@ module _ (db : Database) (known : AreKnown db) (all : AllRows) (read : AreAllRea
         ∙ ap (option_map (λ (y : Job). instance_row d b (i + 1) (k + 1 - 1) y)) is
         ∙ ap (λ m. Some (instance_row d b (i + 1) m x)) (let same : k + 1 - 1 ≡ k = omega arith in same))
 
-    in_turn : AreInTurn 0 all.world.units
-    in_turn = (units_told all.world.units none_noted typed.units (was_in_turn all.world.instances before typed.instances fit.in_turn)).1
+    marks_in_turn : (of_all_units.are_in_turn ≡ true) × AreInTurn mark_key of_all_units.last_mark all.world.marks × (before.last_mark ≡ of_all_units.last_mark + length all.world.marks)
+    marks_in_turn = marks_told all.world.marks of_all_units typed.marks (was_in_turn all.world.instances before typed.instances fit.in_turn)
+
+    units_in_turn : AreInTurn unit_key 0 all.world.units
+    units_in_turn = (units_told all.world.units none_noted typed.units marks_in_turn.0).1
+
+    count_marks : length all.world.marks ≡ length books
+    count_marks =
+        let marked : after.last_mark ≡ length counts = fit.marked in
+        let all_marks = marks_in_turn.2 in
+        omega (arith, marked, all_marks, no_mark, last_mark, tested.all)
+
+    -- rows of which there are as many as workunits, and each stands at the key of a row of the workunit, are these
+    rows_listed : (f : ℕ → UnitBook → StoredRow) (key : ℕ → RowKey) (rows : List StoredRow) → length rows ≡ length books
+        → ((i : ℕ) (r : StoredRow) → slice_get rows i ≡ Some r → look_up db.trees (key (i + 1)) ≡ Some (columns_of r))
+        → ((i n : ℕ) (b : UnitBook) → StandsAt db.trees d (i + 1) n b → look_up db.trees (key (i + 1)) ≡ Some (columns_of (f (i + 1) b)))
+        → rows ≡ map_from 1 f books
+    rows_listed f key rows few found here = same_each rows (map_from 1 f books) (few ∙ sym (length-map_from f 1 books)) one
+      where
+        one : (i : ℕ) (r s : StoredRow) → slice_get rows i ≡ Some r → slice_get (map_from 1 f books) i ≡ Some s → r ≡ s
+        one i r s is other =
+            let within = slice_get_within rows i r is in
+            let b = stands_within books i (omega (arith, within, few)) in
+            let at = stands i b.0 b.1 in
+            let row : r ≡ f (i + 1) b.0 = columns_told r (f (i + 1) b.0) (one_row _ _ _ (found i r is) (here i at.0 b.0 at.2)) in
+            let written : Some (f (i + 1) b.0) ≡ Some s = sym (ap (option_map (f (i + 1))) b.1) ∙ sym (slice_get-map_from f 1 books i) ∙ other in
+            row ∙ ap (λ o. unwrap_or o s) written
+
+    unit_found : (i : ℕ) (r : StoredRow) → slice_get all.world.units i ≡ Some r → look_up db.trees (unit_key (i + 1)) ≡ Some (columns_of r)
+    unit_found i r is =
+        let u = is_unit_row r (each_at (λ q. table_of q ≡ name.Unit) all.world.units i r is typed.units) in
+        let has : Has all.world.units (stored.Unit u.0) = subst (Has all.world.units) u.1 (has_got all.world.units i r is) in
+        found_at r u.1 (unit_key (i + 1)) (units_in_turn i r is ∙ ap unit_key (let same : i + 0 + 1 ≡ i + 1 = omega arith in same))
+        (found_at_key db known (stored.Unit u.0) all.world.units read.world.units has)
+
+    mark_found : (i : ℕ) (r : StoredRow) → slice_get all.world.marks i ≡ Some r → look_up db.trees (mark_key (i + 1)) ≡ Some (columns_of r)
+    mark_found i r is =
+        let m = is_mark_row r (each_at (λ q. table_of q ≡ name.UnitMark) all.world.marks i r is typed.marks) in
+        let has : Has all.world.marks (stored.UnitMark m.0) = subst (Has all.world.marks) m.1 (has_got all.world.marks i r is) in
+        found_at r m.1 (mark_key (i + 1)) (marks_in_turn.1 i r is ∙ ap mark_key (let same : i + of_all_units.last_mark + 1 ≡ i + 1 = omega (arith, no_mark) in same))
+        (found_at_key db known (stored.UnitMark m.0) all.world.marks read.world.marks has)
 
     units_listed : all.world.units ≡ filter_map (row_in w) (numbered table.Unit (length books))
-    units_listed =
-        same_each all.world.units (map_from 1 (of_unit w) books) (let few = length-map_from (of_unit w) 1 books in omega (arith, few, count_units, tested.all)) one
-        ∙ sym (unit_rows w)
-      where
-        one : (i : ℕ) (r s : StoredRow) → slice_get all.world.units i ≡ Some r → slice_get (map_from 1 (of_unit w) books) i ≡ Some s → r ≡ s
-        one i r s is other =
-            let within = slice_get_within all.world.units i r is in
-            let b = stands_within books i (omega (arith, within, count_units, tested.all)) in
-            let at = stands i b.0 b.1 in
-            let u = is_unit_row r (each_at (λ q. table_of q ≡ name.Unit) all.world.units i r is typed.units) in
-            let has : Has all.world.units (stored.Unit u.0) = subst (Has all.world.units) u.1 (has_got all.world.units i r is) in
-            let found = found_at_key db known (stored.Unit u.0) all.world.units read.world.units has in
-            let id : u.0.id ≡ i + 1 = same_number u.0.id (i + 0 + 1) (sym (ap key_of u.1) ∙ in_turn i r is) ∙ (let same : i + 0 + 1 ≡ i + 1 = omega arith in same) in
-            let row : u.0 ≡ unit_row d (i + 1) b.0 = one_unit u.0 (unit_row d (i + 1) b.0) (one_row _ _ _ (subst (λ n. look_up db.trees (unit_key n) ≡ Some (columns_of (stored.Unit u.0))) id found) at.2.found.unit_at) in
-            let written : Some (of_unit w (i + 1) b.0) ≡ Some s = sym (ap (option_map (of_unit w (i + 1))) b.1) ∙ sym (slice_get-map_from (of_unit w) 1 books i) ∙ other in
-            u.1 ∙ ap stored.Unit row ∙ ap (λ o. unwrap_or o s) written
+    units_listed = rows_listed (of_unit w) unit_key all.world.units (omega (arith, count_units, tested.all)) unit_found (λ i n b at. at.found.unit_at) ∙ sym (unit_rows w)
+
+    marks_listed : all.world.marks ≡ filter_map (row_in w) (numbered table.Mark (length books))
+    marks_listed = rows_listed of_mark mark_key all.world.marks count_marks mark_found (λ i n b at. at.found.mark_at) ∙ sym (mark_rows w)
 
     -- an instance that was read is one of the world's
     of_row : (i : StoredInstance) → Has all.world.instances (stored.Instance i) → Has (own_rows w) (stored.Instance i)
@@ -223,7 +262,9 @@ module _ (db : Database) (known : AreKnown db) (all : AllRows) (read : AreAllRea
         accounts = beside.accounts ∙ same_rows (row_beside w) (row_in w) (keyed table.Account) (λ id. refl) (range_with_len 1 (length d.accounts));
         apps = beside.apps ∙ same_rows (row_beside w) (row_in w) (keyed table.App) (λ id. refl) (range_with_len 1 (length d.apps));
         versions = beside.versions ∙ same_rows (row_beside w) (row_in w) (keyed table.Version) (λ id. refl) (range_with_len 1 (length d.versions));
+        classes = beside.classes ∙ same_rows (row_beside w) (row_in w) (keyed table.Class) (λ id. refl) (range_with_len 1 (length d.versions));
         units = units_listed;
+        marks = marks_listed;
         hosts = beside.hosts ∙ same_rows (row_beside w) (row_in w) (keyed table.Host) (λ id. refl) (range_with_len 1 (length d.hosts));
         instances = (listed, among);
       };
@@ -240,16 +281,33 @@ module _ (db : Database) (known : AreKnown db) (all : AllRows) (read : AreAllRea
     units_are : all.world.units ≡ map_from 1 (of_unit w) books
     units_are = stand.rows.units ∙ unit_rows w
 
+    marks_are : all.world.marks ≡ map_from 1 of_mark books
+    marks_are = stand.rows.marks ∙ mark_rows w
+
     count_books : length counts ≡ length books
     count_books = count_units ∙ ap length units_are ∙ length-map_from (of_unit w) 1 books
 
-    units_turn : AreInTurn 0 all.world.units
-    units_turn i r is =
-        let written = written_at (of_unit w) all.world.units books i units_are in
-        let within = slice_get_within all.world.units i r is in
-        let b = stands_within books i (omega (arith, within, count_units, count_books)) in
-        let row : Some r ≡ Some (of_unit w (i + 1) b.0) = sym is ∙ written ∙ ap (option_map (of_unit w (i + 1))) b.1 in
-        ap (λ o. key_of (unwrap_or o r)) row ∙ ap unit_key (let same : i + 1 ≡ i + 0 + 1 = omega arith in same)
+    rows_turn : (f : ℕ → UnitBook → StoredRow) (key : ℕ → RowKey) (rows : List StoredRow) → rows ≡ map_from 1 f books
+        → ((n : ℕ) (b : UnitBook) → key_of (f n b) ≡ key n) → AreInTurn key 0 rows
+    rows_turn f key rows are of_key i r is =
+        let few : length rows ≡ length books = ap length are ∙ length-map_from f 1 books in
+        let within = slice_get_within rows i r is in
+        let b = stands_within books i (omega (arith, within, few)) in
+        let row : Some r ≡ Some (f (i + 1) b.0) = sym is ∙ written_at f rows books i are ∙ ap (option_map (f (i + 1))) b.1 in
+        ap (λ o. key_of (unwrap_or o r)) row ∙ of_key (i + 1) b.0 ∙ ap key (let same : i + 1 ≡ i + 0 + 1 = omega arith in same)
+
+    marks_turn : (before.are_in_turn ≡ true) × (before.last_mark ≡ of_all_units.last_mark + length all.world.marks)
+    marks_turn =
+        let units = rows_turn (of_unit w) unit_key all.world.units units_are (λ n b. refl) in
+        let marks = rows_turn of_mark mark_key all.world.marks marks_are (λ n b. refl) in
+        marks_turned all.world.marks of_all_units typed.marks (units_turned all.world.units none_noted typed.units refl units)
+        (subst (λ n. AreInTurn mark_key n all.world.marks) (sym no_mark) marks)
+
+    marked : after.last_mark ≡ length counts
+    marked =
+        let marks = marks_turn.1 in
+        let few : length all.world.marks ≡ length books = ap length marks_are ∙ length-map_from of_mark 1 books in
+        omega (arith, marks, few, no_mark, last_mark, count_books)
 
     -- the instance of a row
     abbrev IsOf : StoredInstance → Type 0
@@ -275,8 +333,11 @@ module _ (db : Database) (known : AreKnown db) (all : AllRows) (read : AreAllRea
 
     counted : (after.are_in_turn ≡ true) × ((j : ℕ) → get_or counts j 0 ≤ most j)
     counted =
-        of_units_counted all.world.instances before most typed.instances of_units (units_turned all.world.units none_noted typed.units refl units_turn)
-        (λ j. let none = units_without all.world.units none_noted typed.units (λ k. refl) j in omega (arith, none))
+        of_units_counted all.world.instances before most typed.instances of_units marks_turn.0
+        (λ j.
+        let none = units_without all.world.units none_noted typed.units (λ k. refl) j in
+        let marks : get_or before.counts j 0 ≡ get_or of_all_units.counts j 0 = ap (λ cs. get_or cs j 0) (marks_count all.world.marks of_all_units typed.marks) in
+        omega (arith, marks, none))
         (λ i has.
         let x = instance_of i has in
         let index : i.unit_id - 1 ≡ x.0 = omega (arith, x.3) in
@@ -325,6 +386,7 @@ module _ (db : Database) (known : AreKnown db) (all : AllRows) (read : AreAllRea
         sound = all_got (IsSoundUnit d.hosts d.apps) books i b is stand.sound.units;
         found = record {
           unit_at = holds.rows (unit_key (i + 1)) ∙ ap (λ o. option_map columns_of (option_map (λ (c : UnitBook). stored.Unit (unit_row w (i + 1) c)) o)) (nth_next books i ∙ is);
+          mark_at = holds.rows (mark_key (i + 1)) ∙ ap (λ o. option_map columns_of (option_map (λ (c : UnitBook). stored.UnitMark (mark_row (i + 1) c)) o)) (nth_next books i ∙ is);
           instances_at = record {
             count = length-map_from (λ k x. instance_row d b (i + 1) (k - 1) x) 1 b.instances ∙ instances_count i n b count is;
             at = λ k r row. instance_found i k b r is row;
@@ -340,6 +402,7 @@ module _ (db : Database) (known : AreKnown db) (all : AllRows) (read : AreAllRea
       accounts = stand.rows.accounts ∙ sym (same_rows (row_beside w) (row_in w) (keyed table.Account) (λ id. refl) (range_with_len 1 (length d.accounts)));
       apps = stand.rows.apps ∙ sym (same_rows (row_beside w) (row_in w) (keyed table.App) (λ id. refl) (range_with_len 1 (length d.apps)));
       versions = stand.rows.versions ∙ sym (same_rows (row_beside w) (row_in w) (keyed table.Version) (λ id. refl) (range_with_len 1 (length d.versions)));
+      classes = stand.rows.classes ∙ sym (same_rows (row_beside w) (row_in w) (keyed table.Class) (λ id. refl) (range_with_len 1 (length d.versions)));
       hosts = stand.rows.hosts ∙ sym (same_rows (row_beside w) (row_in w) (keyed table.Host) (λ id. refl) (range_with_len 1 (length d.hosts)));
     }
 
@@ -373,6 +436,7 @@ module _ (db : Database) (known : AreKnown db) (all : AllRows) (read : AreAllRea
       sound = sound_without none;
       in_turn = counted.0;
       few = let few : length books ≤ 200000 = stand.sound.rows.unit_count in omega (arith, few, count_books);
+      marked = marked;
       calls = calls_tested w all ∙ stand.calls;
       imports = stand.batches;
     }

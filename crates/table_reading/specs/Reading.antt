@@ -1,4 +1,4 @@
--- What the rows of tables have to be for a world to be read from them.
+-- Rule. What the rows of tables have to be for a world to be read from them.
 use Rattle.std.specs.Prelude.{◌≡◌, ℕ, Bool, false, not, ◌&&◌, ◌==◌, nat_le, nat_lt, max, IsTrue, List, [], ◌∷◌, ◌++◌, map, fold, length, is_some, All, Option, IfSome, IsUtf8}
 use Rattle.std.specs.List.{AllByRecursion, list_all}
 use Rattle.sqlite.specs.State.{State, HasCleanDisk}
@@ -25,7 +25,7 @@ use Rattle.table_reading.specs.declared.rows.Reading.{Reading}
 
 -- the tables, in the order in which they are read
 abbrev pub all_tables : List TableName
-all_tables = name.Setting ∷ name.Account ∷ name.App ∷ name.Version ∷ name.Unit ∷ name.Host ∷ name.Instance ∷ name.Kept ∷ name.Batch ∷ []
+all_tables = name.Setting ∷ name.Account ∷ name.App ∷ name.Version ∷ name.VersionClass ∷ name.Unit ∷ name.UnitMark ∷ name.Host ∷ name.Instance ∷ name.Kept ∷ name.Batch ∷ []
 
 -- the rows of all tables
 pub record AllRows : Type 0 where
@@ -39,9 +39,10 @@ pub record AreAllRead (trees : Trees) (all : AllRows) : Type 0 where
   pub calls : map columns_of all.calls ≡ rows_in trees name.Kept
   pub batches : map columns_of all.batches ≡ rows_in trees name.Batch
 
--- those of workunits and of instances have the types of their tables
+-- those of workunits, of marks and of instances have the types of their tables
 pub record AreTyped (all : AllRows) : Type 0 where
   pub units : AllByRecursion (λ r. table_of r ≡ name.Unit) all.world.units
+  pub marks : AllByRecursion (λ r. table_of r ≡ name.UnitMark) all.world.marks
   pub instances : AllByRecursion (λ r. table_of r ≡ name.Instance) all.world.instances
 
 -- the last number of a call
@@ -75,10 +76,10 @@ later_host n (stored.Kept k) = max n k.host_id
 later_host n other = n
 
 abbrev pub reading_of : AllRows → Reading
-reading_of all = record { rows = rows_beside all.world; units = fold noted (fold noted none_noted all.world.units) all.world.instances; are_calls = list_all is_call all.calls; last_host = fold later_host 0 all.calls; are_imports = list_all is_import all.batches }
+reading_of all = record { rows = rows_beside all.world; units = fold noted (fold noted (fold noted none_noted all.world.units) all.world.marks) all.world.instances; are_calls = list_all is_call all.calls; last_host = fold later_host 0 all.calls; are_imports = list_all is_import all.batches }
 
 abbrev pub no_rows : AllRows
-no_rows = record { world = record { settings = []; accounts = []; apps = []; versions = []; units = []; hosts = []; instances = [] }; calls = []; batches = [] }
+no_rows = record { world = record { settings = []; accounts = []; apps = []; versions = []; classes = []; units = []; marks = []; hosts = []; instances = [] }; calls = []; batches = [] }
 
 -- a reading with one row more
 abbrev pub with_row : Reading → StoredRow → Reading
@@ -86,7 +87,9 @@ with_row r (stored.Setting s) = record r { rows = record r.rows { settings = r.r
 with_row r (stored.Account a) = record r { rows = record r.rows { accounts = r.rows.accounts ++ stored.Account a ∷ [] } }
 with_row r (stored.App a) = record r { rows = record r.rows { apps = r.rows.apps ++ stored.App a ∷ [] } }
 with_row r (stored.Version v) = record r { rows = record r.rows { versions = r.rows.versions ++ stored.Version v ∷ [] } }
+with_row r (stored.VersionClass c) = record r { rows = record r.rows { classes = r.rows.classes ++ stored.VersionClass c ∷ [] } }
 with_row r (stored.Unit u) = record r { units = noted r.units (stored.Unit u) }
+with_row r (stored.UnitMark m) = record r { units = noted r.units (stored.UnitMark m) }
 with_row r (stored.Host h) = record r { rows = record r.rows { hosts = r.rows.hosts ++ stored.Host h ∷ [] } }
 with_row r (stored.Instance i) = record r { units = noted r.units (stored.Instance i) }
 with_row r (stored.Kept k) = record r { are_calls = r.are_calls && is_call (stored.Kept k); last_host = later_host r.last_host (stored.Kept k) }

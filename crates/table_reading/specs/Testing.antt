@@ -1,4 +1,4 @@
--- What is tested of the workunits and instances that stand at their keys, and of the other rows beside them.
+-- Words. What is tested of the workunits and instances that stand at their keys, and of the other rows beside them.
 use Rattle.std.specs.Prelude.{◌≡◌, ◌≢◌, ◌≤◌, ◌<◌, ◌⊎◌, ℕ, ◌+◌, Bool, ◌&&◌, nat_le, IsTrue, List, length, slice_get, AllPairs, Some, None}
 use Rattle.std.specs.Str.{bytes_eq}
 use Rattle.texts.specs.SeenSet.{has_seen}
@@ -10,7 +10,7 @@ use Rattle.sched_book.specs.declared.instance.UnitBook.{UnitBook}
 use Rattle.sched_book.specs.declared.world.World.{World}
 use Rattle.table_meaning.specs.declared.rows.StoredInstance.{StoredInstance}
 use Rattle.table_meaning.specs.declared.rows.StoredRow.TheVariants as stored
-use Rattle.table_meaning.specs.Rows.{unit_key, instance_key, columns_of, look_up}
+use Rattle.table_meaning.specs.Rows.{unit_key, mark_key, instance_key, columns_of, look_up}
 use Rattle.table_worlds.specs.RowsOf.{rows_of_unit}
 use Rattle.table_worlds.specs.declared.unit_rows.UnitRows.{UnitRows}
 use Rattle.table_reading.specs.declared.rows.Reading.{Reading}
@@ -20,14 +20,19 @@ pub record AreInstancesFound (trees : Trees) (id n : ℕ) (rows : List StoredIns
   pub count : length rows ≡ n
   pub at : (k : ℕ) (i : StoredInstance) → slice_get rows k ≡ Some i → look_up trees (instance_key id k) ≡ Some (columns_of (stored.Instance i))
 
--- the rows stand at the keys of a workunit and of its first so many instances
+-- the rows stand at the keys of a workunit, of its mark and of its first so many instances
 pub record AreFound (trees : Trees) (id n : ℕ) (rows : UnitRows) : Type 0 where
   pub unit_at : look_up trees (unit_key id) ≡ Some (columns_of (stored.Unit rows.unit))
+  pub mark_at : look_up trees (mark_key id) ≡ Some (columns_of (stored.UnitMark rows.mark))
   pub instances_at : AreInstancesFound trees id n rows.instances
 
--- nothing stands at one of these keys
+-- nothing stands at the key of a workunit, or at that of its mark
+abbrev pub LacksRow : Trees → ℕ → Type 0
+LacksRow trees id = (look_up trees (unit_key id) ≡ None) ⊎ (look_up trees (mark_key id) ≡ None)
+
+-- nothing stands at one of these keys, or at one of its first so many instances
 abbrev pub HasGap : Trees → ℕ → ℕ → Type 0
-HasGap trees id n = (look_up trees (unit_key id) ≡ None) ⊎ ((k : ℕ) × (k < n) × (look_up trees (instance_key id k) ≡ None))
+HasGap trees id n = LacksRow trees id ⊎ ((k : ℕ) × (k < n) × (look_up trees (instance_key id k) ≡ None))
 
 -- A workunit is sound beside the hosts and applications of a world, and its rows stand at their keys.
 pub record StandsAt (trees : Trees) (w : World) (id n : ℕ) (b : UnitBook) : Type 0 where
@@ -44,10 +49,11 @@ pub record AreTested (trees : Trees) (w : World) (counts : List ℕ) (most : ℕ
   pub each : (i n : ℕ) (b : UnitBook) → slice_get counts i ≡ Some n → slice_get books i ≡ Some b → StandsAt trees w (i + 1) n b
   pub names : AllPairs (λ a b. a.unit.name ≢ b.unit.name) books
 
--- A world without its workunits is sound, these are numbered in turn and not too many, and what is kept may stand beside it.
+-- A world without its workunits is sound, these are numbered in turn and not too many, each has a mark, and what is kept may stand beside it.
 pub record IsFit (w : World) (reading : Reading) : Type 0 where
   pub sound : Sound w
   pub in_turn : IsTrue reading.units.are_in_turn
   pub few : length reading.units.counts ≤ most_workunits
+  pub marked : reading.units.last_mark ≡ length reading.units.counts
   pub calls : IsTrue (reading.are_calls && nat_le reading.last_host (length w.hosts))
   pub imports : IsTrue reading.are_imports

@@ -1,4 +1,4 @@
-//! How many instances each workunit has, as the rows of both are read.
+//! How many instances each workunit has, and whether each has a mark, as the rows of all three are read.
 
 ghost use Rattle.std.specs.Prelude.{◌≡◌, [], OnOk};
 ghost use Rattle.table_meaning.specs.declared.rows.StoredRow.TheVariants as stored;
@@ -6,7 +6,7 @@ ghost use Rattle.table_reading.specs.Counting.{noted, none_noted};
 
 use sched_book::limits::MOST_INSTANCES;
 use std::alloc::Global;
-use table_meaning::rows::{StoredInstance, StoredUnit};
+use table_meaning::rows::{StoredInstance, StoredUnit, StoredUnitMark};
 use texts::{Listed, Memory};
 
 /// How many instances each workunit has, if its instances are all that have lower numbers than the last one.
@@ -15,7 +15,10 @@ pub struct UnitCounts {
     /// Of each workunit, by its number, one more than the greatest number of its instances, and one past the most that a
     /// workunit may have where that is greater.
     pub counts: Listed<u32>,
-    /// Whether the workunits have the numbers from 1 on, in turn, and each instance is of one of them.
+    /// The number of the workunit of the last mark that came by.
+    pub last_mark: u32,
+    /// Whether the workunits have the numbers from 1 on, in turn, the marks are of the workunits from 1 on, in turn, and each
+    /// instance is of one of the workunits.
     pub are_in_turn: bool,
 }
 
@@ -26,6 +29,7 @@ impl UnitCounts {
     {
         UnitCounts {
             counts: Listed::new(alloc),
+            last_mark: 0,
             are_in_turn: true,
         }
     }
@@ -38,6 +42,15 @@ impl UnitCounts {
         self.are_in_turn = self.are_in_turn && in_turn;
         self.counts.push(0)?;
         Ok(())
+    }
+
+    /// Takes note of the row of a mark, which stands behind those before it.
+    pub(crate) fn note_mark(&mut self, row: &StoredUnitMark)
+        ensures { self.new ≡ noted self.old (stored.UnitMark row.now) }
+    {
+        let in_turn = row.unit_id.checked_sub(1) == Some(self.last_mark);
+        self.are_in_turn = self.are_in_turn && in_turn;
+        self.last_mark = row.unit_id;
     }
 
     /// Takes note of the row of an instance, once those of all workunits came by.

@@ -17,25 +17,27 @@ use table_worlds::TableRows;
 use texts::Listed;
 
 /// The tables, in the order in which they are read.
-const ALL_TABLES: [TableName; 9] = [
+const ALL_TABLES: [TableName; 11] = [
     TableName::Setting,
     TableName::Account,
     TableName::App,
     TableName::Version,
+    TableName::VersionClass,
     TableName::Unit,
+    TableName::UnitMark,
     TableName::Host,
     TableName::Instance,
     TableName::Kept,
     TableName::Batch,
 ];
 
-/// What was read of the tables. The rows of workunits and instances are counted and not held; what is kept of calls and of
+/// What was read of the tables. The rows of workunits, their marks and instances are counted and not held; what is kept of calls and of
 /// imports is tested row by row.
 #[derive(Drop)]
 pub struct Reading {
     /// The rows of the other tables that hold a world.
     pub rows: TableRows,
-    /// How many instances each workunit has.
+    /// How many instances each workunit has, and whether each has a mark.
     pub units: UnitCounts,
     /// Whether each row that is kept of a call may be one, of whatever host.
     pub are_calls: bool,
@@ -56,6 +58,7 @@ impl Reading {
                 accounts: Listed::new(alloc),
                 apps: Listed::new(alloc),
                 versions: Listed::new(alloc),
+                classes: Listed::new(alloc),
                 hosts: Listed::new(alloc),
             },
             units: UnitCounts::new(alloc),
@@ -80,7 +83,9 @@ impl RowVisitor for Reading {
             StoredRow::Account(_) => self.rows.accounts.push(row)?,
             StoredRow::App(_) => self.rows.apps.push(row)?,
             StoredRow::Version(_) => self.rows.versions.push(row)?,
+            StoredRow::VersionClass(_) => self.rows.classes.push(row)?,
             StoredRow::Unit(unit) => self.units.note_unit(&unit)?,
+            StoredRow::UnitMark(mark) => self.units.note_mark(&mark),
             StoredRow::Host(_) => self.rows.hosts.push(row)?,
             StoredRow::Instance(instance) => self.units.note_instance(&instance),
             StoredRow::Kept(call) => {

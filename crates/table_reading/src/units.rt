@@ -1,6 +1,6 @@
-//! Workunits and their instances, read by their keys and tested one workunit at a time.
+//! Workunits with their marks and their instances, read by their keys and tested one workunit at a time.
 
-ghost use Rattle.std.specs.Prelude.{◌≡◌, ◌<◌, ℕ, false, ◌||◌, List, length, Some, None, IsTrue, IfOk, IfErr, OnOk};
+ghost use Rattle.std.specs.Prelude.{◌≡◌, ◌<◌, ℕ, false, ◌||◌, ◌⊎◌, List, length, Some, None, IsTrue, IfOk, IfErr, OnOk};
 ghost use Rattle.std.specs.Str.{bytes_eq};
 ghost use Rattle.sqlite.specs.Held.{state};
 ghost use Rattle.sqlite.specs.State.{HasCleanDisk};
@@ -9,19 +9,19 @@ ghost use Rattle.sched_book.specs.Sound.{IsSoundUnit};
 ghost use Rattle.sched_book.specs.declared.instance.UnitBook.{UnitBook as Book};
 ghost use Rattle.table_meaning.specs.Holding.{AreKnown};
 ghost use Rattle.table_meaning.specs.Reads.{Reads};
-ghost use Rattle.table_meaning.specs.Rows.{unit_key, instance_key, columns_of, look_up};
+ghost use Rattle.table_meaning.specs.Rows.{unit_key, mark_key, instance_key, columns_of, look_up};
 ghost use Rattle.table_meaning.specs.declared.rows.StoredRow.TheVariants as stored;
 ghost use Rattle.table_worlds.specs.RowsOf.{rows_of_unit};
 ghost use Rattle.table_worlds.specs.Totals.{with_unit, with_units};
 ghost use Rattle.table_reading.specs.Reading.{WereKnown};
-ghost use Rattle.table_reading.specs.Testing.{AreInstancesFound, AreFound, HasGap, StandsAt, AreTested, has_name};
+ghost use Rattle.table_reading.specs.Testing.{AreInstancesFound, AreFound, LacksRow, HasGap, StandsAt, AreTested, has_name};
 
 use sched_book::{UnitBook, World};
 use sqlite::{Alter, Connection};
 use std::alloc::Global;
 use table_decoding::{RowFault, unit_book};
-use table_meaning::rows::{StoredInstance, StoredUnit};
-use table_rows::{OpenFault, instance_of, unit_of};
+use table_meaning::rows::{StoredInstance, StoredUnit, StoredUnitMark};
+use table_rows::{OpenFault, instance_of, mark_of, unit_of};
 use table_worlds::{Total, UnitRows, are_unit_rows, count_unit};
 use texts::{Listed, SeenSet, Text};
 use world_soundness::is_sound_unit;
@@ -43,6 +43,42 @@ fn standing_unit<S: Alter>(
         Ok(None) => Err(OpenFault::BadRow),
         Err(_) => Err(OpenFault::Unavailable),
     }
+}
+
+/// The row of the mark of the workunit of a number. `BadRow` where none stands.
+fn standing_mark<S: Alter>(
+    alloc: Global,
+    conn: &mut Connection<S>,
+    id: u32,
+) -> Result<StoredUnitMark, OpenFault>
+    ensures reads { Reads (state S.Store conn.old) (state S.Store conn.new) }
+    ensures found { HasCleanDisk (state S.Store conn.new) → AreKnown (state S.Store conn.old).now
+        → IfOk result (λ row. look_up (state S.Store conn.old).now.trees (mark_key id) ≡ Some (columns_of (stored.UnitMark row))) }
+    ensures bad { HasCleanDisk (state S.Store conn.new) → AreKnown (state S.Store conn.old).now
+        → IfErr result (λ e. e ≡ OpenFault.BadRow → look_up (state S.Store conn.old).now.trees (mark_key id) ≡ None) }
+{
+    match mark_of(alloc, conn, id) {
+        Ok(Some(row)) => Ok(row),
+        Ok(None) => Err(OpenFault::BadRow),
+        Err(_) => Err(OpenFault::Unavailable),
+    }
+}
+
+/// The rows of the workunit of a number and of its mark. `BadRow` where one of them does not stand.
+fn unit_and_mark<S: Alter>(
+    alloc: Global,
+    conn: &mut Connection<S>,
+    id: u32,
+) -> Result<(StoredUnit, StoredUnitMark), OpenFault>
+    ensures reads { Reads (state S.Store conn.old) (state S.Store conn.new) }
+    ensures found { WereKnown (state S.Store conn.old) (state S.Store conn.new)
+        → IfOk result (λ rows. (look_up (state S.Store conn.old).now.trees (unit_key id) ≡ Some (columns_of (stored.Unit rows.0)))
+        × (look_up (state S.Store conn.old).now.trees (mark_key id) ≡ Some (columns_of (stored.UnitMark rows.1)))) }
+    ensures bad { WereKnown (state S.Store conn.old) (state S.Store conn.new) → IfErr result (λ e. e ≡ OpenFault.BadRow → LacksRow (state S.Store conn.old).now.trees id) }
+{
+    let unit = standing_unit(alloc, conn, id)?;
+    let mark = standing_mark(alloc, conn, id)?;
+    Ok((unit, mark))
 }
 
 /// The row of the instance of a workunit that has this number. `BadRow` where none stands.
@@ -85,7 +121,7 @@ fn instance_rows<S: Alter>(
     Ok(rows)
 }
 
-/// The rows of a workunit and of its first so many instances. `BadRow` where one of them does not stand.
+/// The rows of a workunit, of its mark and of its first so many instances. `BadRow` where one of them does not stand.
 fn unit_rows<S: Alter>(
     alloc: Global,
     conn: &mut Connection<S>,
@@ -97,8 +133,12 @@ fn unit_rows<S: Alter>(
     ensures bad { WereKnown (state S.Store conn.old) (state S.Store conn.new) → IfErr result (λ e. e ≡ OpenFault.BadRow → HasGap (state S.Store conn.old).now.trees id count) }
 {
     let instances = instance_rows(alloc, conn, id, count)?;
-    let unit = standing_unit(alloc, conn, id)?;
-    Ok(UnitRows { unit, instances })
+    let (unit, mark) = unit_and_mark(alloc, conn, id)?;
+    Ok(UnitRows {
+        unit,
+        mark,
+        instances,
+    })
 }
 
 /// Tests a workunit against its rows and takes note of its name, and of what its hosts hold and earned. `BadRow` where the

@@ -35,8 +35,8 @@ pub struct KeptBeside {
     pub apps: Listed<App>,
 }
 
-/// Whether a world without its workunits is sound, these are numbered in turn and not too many, and what is kept may stand
-/// beside it.
+/// Whether a world without its workunits is sound, these are numbered in turn and not too many, each has a mark, and what is
+/// kept may stand beside it.
 fn is_fit(alloc: Global, world: &World, reading: &Reading) -> Result<bool, Unavailable>
     ensures { IfOk result (λ fit. IsTrue fit ↔ IsFit world.now reading.now) }
 {
@@ -45,6 +45,7 @@ fn is_fit(alloc: Global, world: &World, reading: &Reading) -> Result<bool, Unava
         sound
             && reading.units.are_in_turn
             && reading.units.counts.len() <= MOST_WORKUNITS
+            && reading.units.last_mark as usize == reading.units.counts.len()
             && are_calls_of(world, reading)
             && reading.are_imports,
     )
@@ -119,7 +120,7 @@ fn world_beside(alloc: Global, reading: &Reading) -> Result<World, OpenFault>
 /// stand for no sound world: a value is out of its range, a reference leads to nothing, a number is left out, or what is
 /// counted of other rows is off. The connection shows what it showed.
 ///
-/// Workunits and instances are read by their keys, one workunit at a time; of the others the rows are held while they are
+/// Workunits, marks and instances are read by their keys, one workunit at a time; of the others the rows are held while they are
 /// tested, and of each workunit its name and how many instances it has.
 pub fn stored_world<S: Alter>(
     alloc: Global,

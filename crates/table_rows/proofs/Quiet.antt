@@ -12,7 +12,7 @@ use Rattle.sqlite_tied.specs.Compute.{everything}
 use Rattle.sqlite.specs.Given.{Returns}
 use Rattle.sqlite.specs.Listing.{understood, reads_listing, if_select, listing_schema, is_select}
 use Rattle.table_meaning.specs.declared.tables.TableName.{TableName}
-use Rattle.table_meaning.specs.declared.tables.TableName.TheVariants.{Setting, Account, App, Version, Unit, Host, Instance, Kept, Batch}
+use Rattle.table_meaning.specs.declared.tables.TableName.TheVariants.{Setting, Account, App, Version, Unit, Host, Instance, Kept, Batch, VersionClass, UnitMark}
 use Rattle.table_meaning.specs.Texts.{read_text}
 
 -- it has no RETURNING
@@ -32,6 +32,8 @@ are_quiet t = elim t as (λ t. IsQuiet (first (read_text t))) [
   | Instance ↦ λ schema base. refl
   | Kept ↦ λ schema base. refl
   | Batch ↦ λ schema base. refl
+  | VersionClass ↦ λ schema base. refl
+  | UnitMark ↦ λ schema base. refl
 ]
 
 quiet_plan : (schema : Schema) (p : Parsed) → IsQuiet (Ok p) → ¬ Returns (and_then (planned schema p) (λ plan. Ok (with_command p plan)))

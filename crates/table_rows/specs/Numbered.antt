@@ -1,4 +1,4 @@
--- The tables whose rows are named by a number alone, among all tables, and the statements that read their greatest numbers.
+-- Words. The tables whose rows are named by a number alone, among all tables, and the statements that read their greatest numbers.
 use Rattle.std.specs.Prelude.{ℕ, List, codes}
 use Rattle.table_meaning.specs.declared.tables.TableName.{TableName}
 use Rattle.table_meaning.specs.declared.tables.TableName.TheVariants as table

@@ -1,4 +1,4 @@
--- Schemas that have none of what is not compared: no default, no CHECK and no view.
+-- Words. Schemas that have none of what is not compared: no default, no CHECK and no view.
 use Rattle.std.specs.Prelude.{◌≡◌, List, []}
 use Rattle.sqlite_value.specs.declared.value.Value.TheVariants.{Null}
 use Rattle.sqlite_rules.specs.Lists.{Has}

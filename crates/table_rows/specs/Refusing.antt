@@ -1,4 +1,4 @@
--- Why a connection is not taken, as a fault, and what is given back with it.
+-- Rule. Why a connection is not taken, as a fault, and what is given back with it.
 use Rattle.std.specs.Prelude.{◌≡◌, ◌≢◌, ℕ, false, Option, Some, None, IsTrue}
 use Rattle.sqlite.specs.Effect.{Database}
 use Rattle.sqlite.specs.Held.{Held}

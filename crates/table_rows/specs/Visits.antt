@@ -1,4 +1,4 @@
--- What a visitor of a table is given.
+-- Words. What a visitor of a table is given.
 use Rattle.std.specs.Prelude.{◌≡◌, List, [], ◌∷◌, ◌++◌, map}
 use Rattle.std.specs.List.{AllByRecursion}
 use Rattle.sqlite_trees.specs.Tree.{Trees}

@@ -47,6 +47,10 @@ fn definition(at: usize) -> &'static str
         12 => "CREATE INDEX instance_deadline ON instance (deadline)",
         13 =>
             "CREATE TABLE kept4 (host_id INTEGER NOT NULL REFERENCES host, slot INTEGER NOT NULL, seqno INTEGER NOT NULL, text TEXT NOT NULL, reply TEXT NOT NULL, PRIMARY KEY (host_id, slot)) STRICT",
+        14 =>
+            "CREATE TABLE version_class (version_id INTEGER PRIMARY KEY REFERENCES version, class TEXT NOT NULL) STRICT",
+        15 =>
+            "CREATE TABLE unit_mark (unit_id INTEGER PRIMARY KEY REFERENCES unit, marked INTEGER NOT NULL, class TEXT) STRICT",
         _ => "",
     }
 }
@@ -59,7 +63,8 @@ fn size_of(schema: u32) -> usize
     match schema {
         0 => 0,
         1 => 13,
-        _ => 14,
+        2 => 14,
+        _ => 16,
     }
 }
 

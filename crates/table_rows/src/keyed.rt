@@ -5,7 +5,7 @@ ghost use Rattle.sqlite.specs.Held.{state};
 ghost use Rattle.sqlite.specs.State.{HasCleanDisk};
 ghost use Rattle.table_meaning.specs.declared.rows.StoredRow.TheVariants as stored;
 ghost use Rattle.table_meaning.specs.ByKey.{status_in, call_number_in};
-ghost use Rattle.table_meaning.specs.Rows.{whole as sql_whole, unit_key, host_key, instance_key, kept_key, batch_key, columns_of, look_up};
+ghost use Rattle.table_meaning.specs.Rows.{whole as sql_whole, unit_key, host_key, instance_key, kept_key, batch_key, class_key, mark_key, columns_of, look_up};
 ghost use Rattle.table_meaning.specs.Reads.{Reads};
 ghost use Rattle.table_meaning.specs.Holding.{AreKnown};
 
@@ -16,7 +16,10 @@ use crate::values::whole;
 use sqlite::types::ValueRef;
 use sqlite::{Alter, Connection};
 use std::alloc::Global;
-use table_meaning::rows::{StoredBatch, StoredCall, StoredHost, StoredInstance, StoredUnit};
+use table_meaning::rows::{
+    StoredBatch, StoredCall, StoredHost, StoredInstance, StoredUnit, StoredUnitMark,
+    StoredVersionClass,
+};
 
 /// The call that is kept of the host of this number in this slot. The connection shows what it showed.
 pub fn kept_of<S: Alter>(
@@ -135,6 +138,44 @@ pub fn instance_of<S: Alter>(
         "SELECT unit_id, num, host_id, sent, deadline, lapse, outcome, output, place, queued FROM instance WHERE unit_id = ?1 AND num = ?2 ORDER BY rowid",
         &[whole(unit), whole(number)],
         typed::instance,
+    )
+}
+
+/// The class of the version of this number, as its row has it. The connection shows what it showed.
+pub fn class_of<S: Alter>(
+    alloc: Global,
+    conn: &mut Connection<S>,
+    version: u32,
+) -> Result<Option<StoredVersionClass>, OpenFault>
+    ensures reads { Reads (state S.Store conn.old) (state S.Store conn.new) }
+    ensures row { HasCleanDisk (state S.Store conn.new) → AreKnown (state S.Store conn.old).now
+        → IfOk result (λ row. option_map (λ c. columns_of (stored.VersionClass c)) row ≡ look_up (state S.Store conn.old).now.trees (class_key version)) }
+{
+    first_shown(
+        alloc,
+        conn,
+        "SELECT version_id, class FROM version_class WHERE version_id = ?1 ORDER BY version_id",
+        &[whole(version)],
+        typed::version_class,
+    )
+}
+
+/// The mark of the workunit of this number, as its row has it. The connection shows what it showed.
+pub fn mark_of<S: Alter>(
+    alloc: Global,
+    conn: &mut Connection<S>,
+    unit: u32,
+) -> Result<Option<StoredUnitMark>, OpenFault>
+    ensures reads { Reads (state S.Store conn.old) (state S.Store conn.new) }
+    ensures row { HasCleanDisk (state S.Store conn.new) → AreKnown (state S.Store conn.old).now
+        → IfOk result (λ row. option_map (λ m. columns_of (stored.UnitMark m)) row ≡ look_up (state S.Store conn.old).now.trees (mark_key unit)) }
+{
+    first_shown(
+        alloc,
+        conn,
+        "SELECT unit_id, marked, class FROM unit_mark WHERE unit_id = ?1 ORDER BY unit_id",
+        &[whole(unit)],
+        typed::unit_mark,
     )
 }
 

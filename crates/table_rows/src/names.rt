@@ -7,7 +7,7 @@ ghost use Rattle.sqlite_value.specs.Order.{column};
 ghost use Rattle.table_meaning.specs.declared.rows.StoredRow.TheVariants as stored;
 ghost use Rattle.table_meaning.specs.declared.tables.TableName.TheVariants as named;
 ghost use Rattle.table_meaning.specs.Rows.{whole as sql_whole, columns_of};
-ghost use Rattle.table_meaning.specs.Listings.{rows_where, has_text, is_host_known, last_number_in};
+ghost use Rattle.table_meaning.specs.Listings.{rows_where, has_text, is_host_known, is_version_known, last_number_in};
 ghost use Rattle.table_meaning.specs.Reads.{Reads};
 ghost use Rattle.table_meaning.specs.Holding.{AreKnown};
 ghost use Rattle.table_rows.specs.Numbered.{numbered_table, last_text as sql_last};
@@ -75,6 +75,27 @@ pub fn host_known<S: Alter>(
         conn,
         "SELECT id FROM host WHERE id > 0 AND account_id = ?1 AND cpid = ?2 ORDER BY id",
         &[whole(account), ValueRef::Text(cpid.as_bytes())],
+    )
+}
+
+/// The number of the first version of this application for this platform with this number of its own. The connection
+/// shows what it showed.
+pub fn version_known<S: Alter>(
+    alloc: Global,
+    conn: &mut Connection<S>,
+    app: u32,
+    platform: &str,
+    num: u32,
+) -> Result<Option<u32>, OpenFault>
+    ensures reads { Reads (state S.Store conn.old) (state S.Store conn.new) }
+    ensures first { HasCleanDisk (state S.Store conn.new) → AreKnown (state S.Store conn.old).now
+        → IfOk result (λ version. option_map sql_whole version ≡ option_map (λ row. column row 0) (slice_get (rows_where (state S.Store conn.old).now.trees named.Version (is_version_known app platform.now num)) 0)) }
+{
+    first_number(
+        alloc,
+        conn,
+        "SELECT id FROM version WHERE id > 0 AND app_id = ?1 AND platform = ?2 AND num = ?3 ORDER BY id",
+        &[whole(app), ValueRef::Text(platform.as_bytes()), whole(num)],
     )
 }
 

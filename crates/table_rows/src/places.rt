@@ -9,7 +9,7 @@ ghost use Rattle.sqlite.specs.Values.{bound};
 ghost use Rattle.sqlite_value.specs.Value.{owned};
 ghost use Rattle.sqlite_value.specs.declared.value.Value.TheVariants.{Int as SqlInt};
 ghost use Rattle.table_meaning.specs.declared.rows.StoredRow.TheVariants as stored;
-ghost use Rattle.table_meaning.specs.Places.{place_row, AreAllPlaces, ShowsPlaces, places_where, instances_within, is_of_host, is_held_by, waits_from, is_sent_between, is_due};
+ghost use Rattle.table_meaning.specs.Places.{place_row, AreAllPlaces, ShowsPlaces, places_where, instances_within, is_of_host, is_held_by, page_size, queued_text as sql_queued, waits_from, is_sent_between, is_due};
 ghost use Rattle.table_meaning.specs.Rows.{columns_of};
 ghost use Rattle.table_meaning.specs.Formats.{columns_in};
 ghost use Rattle.table_meaning.specs.Reads.{Reads};
@@ -25,7 +25,7 @@ use sqlite::types::ValueRef;
 use sqlite::{Alter, Connection, Row};
 use std::alloc::Global;
 use table_meaning::rows::{StoredInstance, StoredRow};
-use table_meaning::tables::TableName;
+use table_meaning::tables::{Page, TableName};
 use texts::Listed;
 
 /// A moment as a parameter, in seconds since 1970-01-01T00:00:00Z.
@@ -145,21 +145,34 @@ pub fn places_owned<S: Alter>(
     )
 }
 
-/// The places of the first 64 instances that wait to be given out, from this place on. The connection shows what
-/// it showed.
+/// The statement that shows a page of what waits.
+fn queued_text(page: Page) -> &'static str
+    ensures { result.now ≡ sql_queued page }
+{
+    match page {
+        Page::First =>
+            "SELECT unit_id, num FROM instance WHERE unit_id > 0 AND num >= 0 AND queued = 1 AND unit_id >= ?1 AND (unit_id > ?1 OR num >= ?2) ORDER BY unit_id, num LIMIT 8",
+        Page::Further =>
+            "SELECT unit_id, num FROM instance WHERE unit_id > 0 AND num >= 0 AND queued = 1 AND unit_id >= ?1 AND (unit_id > ?1 OR num >= ?2) ORDER BY unit_id, num LIMIT 64",
+    }
+}
+
+/// A page of the places of the instances that wait to be given out, from this place on: the first of them, so many as the
+/// page has at most. The connection shows what it showed.
 pub fn queued_from<S: Alter>(
     alloc: Global,
     conn: &mut Connection<S>,
     from: Place,
+    page: Page,
 ) -> Result<Listed<Place>, OpenFault>
     ensures reads { Reads (state S.Store conn.old) (state S.Store conn.new) }
     ensures queued { HasCleanDisk (state S.Store conn.new) → (contents : Contents) (places : List BookPlace) → Hold (state S.Store conn.old).now contents → AreAllPlaces contents places
-        → IfOk result (λ queued. queued ≡ take 64 (places_where contents (waits_from from) places)) }
+        → IfOk result (λ queued. queued ≡ take (page_size page) (places_where contents (waits_from from) places)) }
 {
     places_shown(
         alloc,
         conn,
-        "SELECT unit_id, num FROM instance WHERE unit_id > 0 AND num >= 0 AND queued = 1 AND unit_id >= ?1 AND (unit_id > ?1 OR num >= ?2) ORDER BY unit_id, num LIMIT 64",
+        queued_text(page),
         &[whole(from.unit), whole(from.number)],
     )
 }

@@ -39,6 +39,10 @@ fn put_text(row: &StoredRow) -> &'static str
             "INSERT INTO kept4 (host_id, slot, seqno, text, reply) VALUES (?1, ?2, ?3, ?4, ?5) ON CONFLICT (host_id, slot) DO UPDATE SET host_id = excluded.host_id, slot = excluded.slot, seqno = excluded.seqno, text = excluded.text, reply = excluded.reply",
         StoredRow::Batch(_) =>
             "INSERT INTO batch (kind, name, text, answer) VALUES (?1, ?2, ?3, ?4) ON CONFLICT (kind, name) DO UPDATE SET kind = excluded.kind, name = excluded.name, text = excluded.text, answer = excluded.answer",
+        StoredRow::VersionClass(_) =>
+            "INSERT INTO version_class (version_id, class) VALUES (?1, ?2) ON CONFLICT (version_id) DO UPDATE SET class = excluded.class",
+        StoredRow::UnitMark(_) =>
+            "INSERT INTO unit_mark (unit_id, marked, class) VALUES (?1, ?2, ?3) ON CONFLICT (unit_id) DO UPDATE SET marked = excluded.marked, class = excluded.class",
     }
 }
 

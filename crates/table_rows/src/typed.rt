@@ -14,7 +14,7 @@ use sqlite::Row;
 use std::alloc::Global;
 use table_meaning::rows::{
     StoredAccount, StoredApp, StoredBatch, StoredCall, StoredHost, StoredInstance, StoredRow,
-    StoredSetting, StoredUnit, StoredVersion,
+    StoredSetting, StoredUnit, StoredUnitMark, StoredVersion, StoredVersionClass,
 };
 use table_meaning::tables::TableName;
 
@@ -23,8 +23,8 @@ fn width(table: TableName) -> usize
     ensures { result ≡ length (kinds_of table) }
 {
     match table {
-        TableName::Setting => 2,
-        TableName::Account | TableName::App => 3,
+        TableName::Setting | TableName::VersionClass => 2,
+        TableName::Account | TableName::App | TableName::UnitMark => 3,
         TableName::Version | TableName::Batch => 4,
         TableName::Kept => 5,
         TableName::Unit => 14,
@@ -159,6 +159,27 @@ pub(crate) fn batch(alloc: Global, row: &Row) -> Result<StoredBatch, OpenFault>
     })
 }
 
+pub(crate) fn version_class(alloc: Global, row: &Row) -> Result<StoredVersionClass, OpenFault>
+    ensures read { IfOk result (λ c. columns_of (stored.VersionClass c) ≡ columns_in row.now 2) }
+    ensures bad { IfErr result (λ e. e ≡ OpenFault.BadRow → ¬ AreOf (kinds_of named.VersionClass) row.now 0) }
+{
+    Ok(StoredVersionClass {
+        version_id: whole(alloc, row, 0)?,
+        class: text(alloc, row, 1)?,
+    })
+}
+
+pub(crate) fn unit_mark(alloc: Global, row: &Row) -> Result<StoredUnitMark, OpenFault>
+    ensures read { IfOk result (λ m. columns_of (stored.UnitMark m) ≡ columns_in row.now 3) }
+    ensures bad { IfErr result (λ e. e ≡ OpenFault.BadRow → ¬ AreOf (kinds_of named.UnitMark) row.now 0) }
+{
+    Ok(StoredUnitMark {
+        unit_id: whole(alloc, row, 0)?,
+        marked: flag(alloc, row, 1)?,
+        class: optional_text(alloc, row, 2)?,
+    })
+}
+
 /// The row of a table with its types. BadRow where it has not the format of the table.
 pub(crate) fn stored_row(alloc: Global, table: TableName, row: &Row) -> Result<StoredRow, OpenFault>
     ensures exact { IfOk result (λ stored. columns_of stored ≡ row.now) }
@@ -178,5 +199,7 @@ pub(crate) fn stored_row(alloc: Global, table: TableName, row: &Row) -> Result<S
         TableName::Instance => StoredRow::Instance(instance(alloc, row)?),
         TableName::Kept => StoredRow::Kept(call(alloc, row)?),
         TableName::Batch => StoredRow::Batch(batch(alloc, row)?),
+        TableName::VersionClass => StoredRow::VersionClass(version_class(alloc, row)?),
+        TableName::UnitMark => StoredRow::UnitMark(unit_mark(alloc, row)?),
     })
 }

@@ -1,17 +1,16 @@
-//! Tables of an earlier schema made into those of the newest one, in one transaction and one row at a time.
+//! Tables of an earlier schema made into those of the newest one: one schema after another, each in one transaction, and one row
+//! at a time.
 
-ghost use Rattle.std.specs.Prelude.{◌≡◌, ◌≢◌, ◌+◌, ◌<◌, ℕ, false, [], ◌∷◌, Some, IsTrue, IfOk, IfErr, OnOk, OnErr};
+ghost use Rattle.std.specs.Prelude.{◌≡◌, ◌≢◌, ◌+◌, ◌<◌, ℕ, false, Some, IsTrue, IfOk, IfErr, OnOk, OnErr};
 ghost use Rattle.sqlite_trees.specs.declared.store.Shape.TheVariants.{Table as TableTree};
 ghost use Rattle.sqlite_trees.specs.View.{IsShaped};
 ghost use Rattle.sqlite.specs.Held.{state};
 ghost use Rattle.sqlite.specs.State.{HasCleanDisk, KeepsCommit, Survives};
-ghost use Rattle.table_meaning.specs.Layouts.{former_kept};
 ghost use Rattle.table_meaning.specs.Schema.{newest, schema_at, stored_schema};
 ghost use Rattle.table_meaning.specs.Schemas.{IsSchema, IsEarlier, AreKnownAt, AreEarlier, schema_said};
 ghost use Rattle.table_meaning.specs.Rows.{whole as sql_whole};
-ghost use Rattle.table_meaning.specs.Holding.{AreKnown};
-ghost use Rattle.table_meaning.specs.Steps.{Moves};
-ghost use Rattle.table_meaning.specs.Upgrades.{schema_row, IsNextCaller, Copies, CopiesNext, CopiesAll, Upgrades};
+ghost use Rattle.table_meaning.specs.Fills.{source_of, schema_with, next_text as sql_next, fill_text as sql_fill, IsNextRow, Fills, FillsNext, FillsAll, FillsNew};
+ghost use Rattle.table_meaning.specs.Upgrades.{PutsSchema, MakesNext, Upgrades, IsLeftBehind, StaysOrHalfway};
 ghost use Rattle.table_rows.specs.Refusing.{SparesSchema};
 
 use crate::connection::test_open;
@@ -24,89 +23,114 @@ use crate::values::whole;
 use sqlite::types::ValueRef;
 use sqlite::{Alter, Connection, Error, Transaction};
 use std::alloc::Global;
-use table_meaning::tables::NEWEST_SCHEMA;
+use table_meaning::tables::{Fill, NEWEST_SCHEMA};
 
-/// The next host, from this number on, of which the first schema keeps a call. `BadRow` where its number is out of range.
-fn next_caller<S: Alter>(
+/// The statement that reads the next number of a row from which the fill takes one.
+fn next_text(fill: Fill) -> &'static str
+    ensures { result.now ≡ sql_next fill }
+{
+    match fill {
+        Fill::Calls => "SELECT host_id FROM kept WHERE host_id >= ?1 ORDER BY host_id LIMIT 1",
+        Fill::Classes => "SELECT id FROM version WHERE id >= ?1 ORDER BY id LIMIT 1",
+        Fill::Marks => "SELECT id FROM unit WHERE id >= ?1 ORDER BY id LIMIT 1",
+    }
+}
+
+/// The statement that puts what the fill takes from the row of a number.
+fn fill_text(fill: Fill) -> &'static str
+    ensures { result.now ≡ sql_fill fill }
+{
+    match fill {
+        Fill::Calls =>
+            "INSERT INTO kept4 (host_id, slot, seqno, text, reply) SELECT host_id, 0, seqno, text, reply FROM kept WHERE host_id = ?1 ORDER BY host_id",
+        Fill::Classes =>
+            "INSERT INTO version_class (version_id, class) SELECT id, platform FROM version WHERE id = ?1 ORDER BY id",
+        Fill::Marks =>
+            "INSERT INTO unit_mark (unit_id, marked, class) SELECT id, 0, NULL FROM unit WHERE id = ?1 ORDER BY id",
+    }
+}
+
+/// The next number, from this one on, of a row from which the fill takes one. `BadRow` where it is out of range.
+fn next_number<S: Alter>(
     alloc: Global,
     tx: &mut Transaction<'_, S>,
+    fill: Fill,
     from: u32,
 ) -> Result<Option<u32>, OpenFault>
     ensures same_reference { tx.new.conn.ghost_name ≡ tx.old.conn.ghost_name }
     ensures survives { Survives (state S.Store tx.old.conn.now) (state S.Store tx.new.conn.now) (λ _. ⊥) }
     ensures kept { HasCleanDisk (state S.Store tx.new.conn.now) → IsTrue (state S.Store tx.old.conn.now).in_transaction → KeepsCommit (state S.Store tx.old.conn.now) (state S.Store tx.new.conn.now) }
     ensures inside { HasCleanDisk (state S.Store tx.new.conn.now) → IsTrue (state S.Store tx.old.conn.now).in_transaction → OnOk result (IsTrue (state S.Store tx.new.conn.now).in_transaction) }
-    ensures next { HasCleanDisk (state S.Store tx.new.conn.now) → AreKnown (state S.Store tx.old.conn.now).now
-        → IsShaped TableTree ((state S.Store tx.old.conn.now).now.trees former_kept.tree)
-        → IfOk result (λ next. ((state S.Store tx.new.conn.now).now ≡ (state S.Store tx.old.conn.now).now) × IsNextCaller (state S.Store tx.old.conn.now).now.trees from next) }
+    ensures next { HasCleanDisk (state S.Store tx.new.conn.now) → (state S.Store tx.old.conn.now).now.schema ≡ schema_at (schema_with fill)
+        → IsShaped TableTree ((state S.Store tx.old.conn.now).now.trees (source_of fill).tree)
+        → IfOk result (λ next. ((state S.Store tx.new.conn.now).now ≡ (state S.Store tx.old.conn.now).now) × IsNextRow (source_of fill) (state S.Store tx.old.conn.now).now.trees from next) }
     ensures fault { IfErr result SparesSchema }
 {
-    let rows = tx.query_all(
-        "SELECT host_id FROM kept WHERE host_id >= ?1 ORDER BY host_id LIMIT 1",
-        &[whole(from)],
-    )?;
+    let rows = tx.query_all(next_text(fill), &[whole(from)])?;
     let Some(row) = rows.first() else {
         return Ok(None);
     };
-    let Ok(host) = fields::whole(alloc, row, 0) else {
+    let Ok(number) = fields::whole(alloc, row, 0) else {
         return Err(OpenFault::BadRow);
     };
-    Ok(Some(host))
+    Ok(Some(number))
 }
 
-/// Copies the call that the first schema keeps of this host, if it keeps one, into the first slot of the host.
-fn copy_call<S: Alter>(tx: &mut Transaction<'_, S>, host: u32) -> Result<(), Error>
+/// Puts what the fill takes from the row of this number, if there is one.
+fn fill_one<S: Alter>(tx: &mut Transaction<'_, S>, fill: Fill, number: u32) -> Result<(), Error>
     ensures same_reference { tx.new.conn.ghost_name ≡ tx.old.conn.ghost_name }
     ensures survives { Survives (state S.Store tx.old.conn.now) (state S.Store tx.new.conn.now) (λ _. ⊥) }
     ensures kept { HasCleanDisk (state S.Store tx.new.conn.now) → KeepsCommit (state S.Store tx.old.conn.now) (state S.Store tx.new.conn.now) }
     ensures inside { HasCleanDisk (state S.Store tx.new.conn.now) → IsTrue (state S.Store tx.old.conn.now).in_transaction → OnOk result (IsTrue (state S.Store tx.new.conn.now).in_transaction) }
-    ensures copies { HasCleanDisk (state S.Store tx.new.conn.now) → IsTrue (state S.Store tx.old.conn.now).in_transaction
-        → OnOk result (Copies host (host + 1) (state S.Store tx.old.conn.now).now (state S.Store tx.new.conn.now).now) }
+    ensures fills { HasCleanDisk (state S.Store tx.new.conn.now) → IsTrue (state S.Store tx.old.conn.now).in_transaction
+        → OnOk result (Fills fill number (number + 1) (state S.Store tx.old.conn.now).now (state S.Store tx.new.conn.now).now) }
 {
-    tx.execute(
-        "INSERT INTO kept4 (host_id, slot, seqno, text, reply) SELECT host_id, 0, seqno, text, reply FROM kept WHERE host_id = ?1 ORDER BY host_id",
-        &[whole(host)],
-    )?;
+    tx.execute(fill_text(fill), &[whole(number)])?;
     Ok(())
 }
 
-/// Copies the call of the next host from this number on, and gives the number to go on from, if there is one.
-fn copy_next<S: Alter>(
+/// Puts what the fill takes from the next row from this number on, and gives the number to go on from, if there is one.
+fn fill_next<S: Alter>(
     alloc: Global,
     tx: &mut Transaction<'_, S>,
+    fill: Fill,
     from: u32,
 ) -> Result<Option<u32>, OpenFault>
     ensures same_reference { tx.new.conn.ghost_name ≡ tx.old.conn.ghost_name }
     ensures survives { Survives (state S.Store tx.old.conn.now) (state S.Store tx.new.conn.now) (λ _. ⊥) }
     ensures kept { HasCleanDisk (state S.Store tx.new.conn.now) → IsTrue (state S.Store tx.old.conn.now).in_transaction → KeepsCommit (state S.Store tx.old.conn.now) (state S.Store tx.new.conn.now) }
     ensures inside { HasCleanDisk (state S.Store tx.new.conn.now) → IsTrue (state S.Store tx.old.conn.now).in_transaction → OnOk result (IsTrue (state S.Store tx.new.conn.now).in_transaction) }
-    ensures copies { HasCleanDisk (state S.Store tx.new.conn.now) → IsTrue (state S.Store tx.old.conn.now).in_transaction
-        → IfOk result (λ next. CopiesNext from next (state S.Store tx.old.conn.now).now (state S.Store tx.new.conn.now).now) }
+    ensures fills { HasCleanDisk (state S.Store tx.new.conn.now) → IsTrue (state S.Store tx.old.conn.now).in_transaction
+        → IfOk result (λ next. FillsNext fill from next (state S.Store tx.old.conn.now).now (state S.Store tx.new.conn.now).now) }
     ensures fault { IfErr result SparesSchema }
 {
-    let Some(host) = next_caller(alloc, tx, from)? else {
+    let Some(number) = next_number(alloc, tx, fill, from)? else {
         return Ok(None);
     };
-    copy_call(tx, host)?;
-    let Some(next) = host.checked_add(1) else {
+    fill_one(tx, fill, number)?;
+    let Some(next) = number.checked_add(1) else {
         return Err(OpenFault::BadRow);
     };
     Ok(Some(next))
 }
 
-/// Copies each call that the first schema keeps, one host after another.
-fn copy_calls<S: Alter>(alloc: Global, tx: &mut Transaction<'_, S>) -> Result<(), OpenFault>
+/// Puts all that the fill takes, one row after another.
+fn fill_all<S: Alter>(
+    alloc: Global,
+    tx: &mut Transaction<'_, S>,
+    fill: Fill,
+) -> Result<(), OpenFault>
     ensures same_reference { tx.new.conn.ghost_name ≡ tx.old.conn.ghost_name }
     ensures survives { Survives (state S.Store tx.old.conn.now) (state S.Store tx.new.conn.now) (λ _. ⊥) }
     ensures kept { HasCleanDisk (state S.Store tx.new.conn.now) → IsTrue (state S.Store tx.old.conn.now).in_transaction → KeepsCommit (state S.Store tx.old.conn.now) (state S.Store tx.new.conn.now) }
     ensures inside { HasCleanDisk (state S.Store tx.new.conn.now) → IsTrue (state S.Store tx.old.conn.now).in_transaction → OnOk result (IsTrue (state S.Store tx.new.conn.now).in_transaction) }
-    ensures copies { HasCleanDisk (state S.Store tx.new.conn.now) → IsTrue (state S.Store tx.old.conn.now).in_transaction
-        → OnOk result (CopiesAll 0 (state S.Store tx.old.conn.now).now (state S.Store tx.new.conn.now).now) }
+    ensures fills { HasCleanDisk (state S.Store tx.new.conn.now) → IsTrue (state S.Store tx.old.conn.now).in_transaction
+        → OnOk result (FillsAll fill 0 (state S.Store tx.old.conn.now).now (state S.Store tx.new.conn.now).now) }
     ensures fault { IfErr result SparesSchema }
 {
     let mut from = 0;
-    'hosts: for _ in 0..u64::MAX {
-        let Some(next) = copy_next(alloc, tx, from)? else {
+    'rows: for _ in 0..u64::MAX {
+        let Some(next) = fill_next(alloc, tx, fill, from)? else {
             return Ok(());
         };
         from = next;
@@ -114,22 +138,46 @@ fn copy_calls<S: Alter>(alloc: Global, tx: &mut Transaction<'_, S>) -> Result<()
     Err(OpenFault::Unavailable)
 }
 
-/// Puts the row that says of which schema the tables are: the newest.
-fn put_schema<S: Alter>(tx: &mut Transaction<'_, S>) -> Result<(), Error>
+/// Fills the tables that the schema behind this one gains.
+fn fill_tables<S: Alter>(
+    alloc: Global,
+    tx: &mut Transaction<'_, S>,
+    schema: u32,
+) -> Result<(), OpenFault>
+    requires { IsEarlier schema }
+    ensures same_reference { tx.new.conn.ghost_name ≡ tx.old.conn.ghost_name }
+    ensures survives { Survives (state S.Store tx.old.conn.now) (state S.Store tx.new.conn.now) (λ _. ⊥) }
+    ensures kept { HasCleanDisk (state S.Store tx.new.conn.now) → IsTrue (state S.Store tx.old.conn.now).in_transaction → KeepsCommit (state S.Store tx.old.conn.now) (state S.Store tx.new.conn.now) }
+    ensures inside { HasCleanDisk (state S.Store tx.new.conn.now) → IsTrue (state S.Store tx.old.conn.now).in_transaction → OnOk result (IsTrue (state S.Store tx.new.conn.now).in_transaction) }
+    ensures fills { HasCleanDisk (state S.Store tx.new.conn.now) → IsTrue (state S.Store tx.old.conn.now).in_transaction
+        → OnOk result (FillsNew schema (state S.Store tx.old.conn.now).now (state S.Store tx.new.conn.now).now) }
+    ensures fault { IfErr result SparesSchema }
+{
+    if schema == 1 {
+        return fill_all(alloc, tx, Fill::Calls);
+    }
+    fill_all(alloc, tx, Fill::Classes)?;
+    fill_all(alloc, tx, Fill::Marks)
+}
+
+/// Puts the row that says of which schema the tables are.
+fn put_schema<S: Alter>(tx: &mut Transaction<'_, S>, schema: u32) -> Result<(), Error>
+    requires { IsSchema schema }
     ensures same_reference { tx.new.conn.ghost_name ≡ tx.old.conn.ghost_name }
     ensures survives { Survives (state S.Store tx.old.conn.now) (state S.Store tx.new.conn.now) (λ _. ⊥) }
     ensures kept { HasCleanDisk (state S.Store tx.new.conn.now) → KeepsCommit (state S.Store tx.old.conn.now) (state S.Store tx.new.conn.now) }
-    ensures moves { HasCleanDisk (state S.Store tx.new.conn.now) → IsTrue (state S.Store tx.old.conn.now).in_transaction
-        → OnOk result (Moves (state S.Store tx.old.conn.now) (state S.Store tx.new.conn.now) (schema_row ∷ [])) }
+    ensures inside { HasCleanDisk (state S.Store tx.new.conn.now) → IsTrue (state S.Store tx.old.conn.now).in_transaction → OnOk result (IsTrue (state S.Store tx.new.conn.now).in_transaction) }
+    ensures puts { HasCleanDisk (state S.Store tx.new.conn.now) → IsTrue (state S.Store tx.old.conn.now).in_transaction
+        → OnOk result (PutsSchema schema (state S.Store tx.old.conn.now).now (state S.Store tx.new.conn.now).now) }
 {
     tx.execute(
         PUT_SETTING,
-        &[ValueRef::Text("schema".as_bytes()), whole(NEWEST_SCHEMA)],
+        &[ValueRef::Text("schema".as_bytes()), whole(schema)],
     )?;
     Ok(())
 }
 
-/// Makes what the newest schema has and this one lacks, copies what comes into it, and puts the row of the schema last.
+/// Makes what the next schema has and this one lacks, fills it, and puts the row of the schema last.
 fn upgrade_tables<S: Alter>(
     alloc: Global,
     tx: &mut Transaction<'_, S>,
@@ -139,20 +187,20 @@ fn upgrade_tables<S: Alter>(
     ensures same_reference { tx.new.conn.ghost_name ≡ tx.old.conn.ghost_name }
     ensures survives { Survives (state S.Store tx.old.conn.now) (state S.Store tx.new.conn.now) (λ _. ⊥) }
     ensures kept { HasCleanDisk (state S.Store tx.new.conn.now) → KeepsCommit (state S.Store tx.old.conn.now) (state S.Store tx.new.conn.now) }
-    ensures upgrades { HasCleanDisk (state S.Store tx.new.conn.now) → IsTrue (state S.Store tx.old.conn.now).in_transaction → (state S.Store tx.old.conn.now).now.schema ≡ schema_at schema
-        → OnOk result (Upgrades (state S.Store tx.old.conn.now).now (state S.Store tx.new.conn.now).now) }
+    ensures makes { HasCleanDisk (state S.Store tx.new.conn.now) → IsTrue (state S.Store tx.old.conn.now).in_transaction
+        → OnOk result (MakesNext schema (state S.Store tx.old.conn.now).now (state S.Store tx.new.conn.now).now) }
     ensures was_open { HasCleanDisk (state S.Store tx.new.conn.now) → OnOk result (IsTrue (state S.Store tx.old.conn.now).is_open) }
     ensures inside { HasCleanDisk (state S.Store tx.new.conn.now) → OnOk result (IsTrue (state S.Store tx.new.conn.now).in_transaction) }
     ensures fault { IfErr result SparesSchema }
 {
-    define(tx, schema, NEWEST_SCHEMA)?;
-    copy_calls(alloc, tx)?;
-    put_schema(tx)?;
+    define(tx, schema, schema + 1)?;
+    fill_tables(alloc, tx, schema)?;
+    put_schema(tx, schema + 1)?;
     Ok(())
 }
 
-/// Upgrades tables of the schema of this number: all of it or nothing.
-fn upgrade_from<S: Alter>(
+/// Makes tables of the schema of this number into those of the next: all of it or nothing.
+fn upgrade_step<S: Alter>(
     alloc: Global,
     conn: &mut Connection<S>,
     schema: u32,
@@ -161,12 +209,12 @@ fn upgrade_from<S: Alter>(
     ensures was_open { HasCleanDisk (state S.Store conn.new) → IsTrue (state S.Store conn.new).is_open → IsTrue (state S.Store conn.old).is_open }
     ensures open { HasCleanDisk (state S.Store conn.new) → OnOk result (IsTrue (state S.Store conn.new).is_open) }
     ensures idle { (state S.Store conn.old).in_transaction ≡ false → (state S.Store conn.new).in_transaction ≡ false }
-    ensures upgrades { HasCleanDisk (state S.Store conn.new) → (state S.Store conn.old).now.schema ≡ schema_at schema → OnOk result (Upgrades (state S.Store conn.old).now (state S.Store conn.new).committed) }
+    ensures makes { HasCleanDisk (state S.Store conn.new) → OnOk result (MakesNext schema (state S.Store conn.old).now (state S.Store conn.new).committed) }
     ensures rest { HasCleanDisk (state S.Store conn.new) → OnOk result ((state S.Store conn.new).now ≡ (state S.Store conn.new).committed) }
     ensures neither { HasCleanDisk (state S.Store conn.new) → IsTrue (state S.Store conn.new).is_open
         → OnErr result (((state S.Store conn.new).now ≡ (state S.Store conn.old).now) × ((state S.Store conn.new).committed ≡ (state S.Store conn.old).committed)) }
     ensures crash { Survives (state S.Store conn.old) (state S.Store conn.new)
-        (λ trees. IsTrue (state S.Store conn.old).is_open × (db : _) × ((state S.Store conn.old).now.schema ≡ schema_at schema → Upgrades (state S.Store conn.old).now db) × (trees ≡ db.trees)) }
+        (λ trees. IsTrue (state S.Store conn.old).is_open × (db : _) × MakesNext schema (state S.Store conn.old).now db × (trees ≡ db.trees)) }
     ensures fault { IfErr result SparesSchema }
 {
     if !conn.is_autocommit() {
@@ -178,16 +226,59 @@ fn upgrade_from<S: Alter>(
     Ok(())
 }
 
-/// Makes tables of an earlier schema into those of the newest one, with what they hold, and gives the number of that: all of
-/// it or nothing. Tables of the newest schema stay as they are. `NotTables` where they are those of no schema, or say that
-/// they are of another one. A stop at any moment leaves what a stop could leave before, or the upgraded tables.
+/// Makes tables of the first schema into those of the second, and these into those of the third.
+fn upgrade_first<S: Alter>(alloc: Global, conn: &mut Connection<S>) -> Result<(), OpenFault>
+    ensures was_open { HasCleanDisk (state S.Store conn.new) → IsTrue (state S.Store conn.new).is_open → IsTrue (state S.Store conn.old).is_open }
+    ensures open { HasCleanDisk (state S.Store conn.new) → OnOk result (IsTrue (state S.Store conn.new).is_open) }
+    ensures idle { (state S.Store conn.old).in_transaction ≡ false → (state S.Store conn.new).in_transaction ≡ false }
+    ensures upgrades { HasCleanDisk (state S.Store conn.new) → (state S.Store conn.old).now.schema ≡ schema_at 1 → OnOk result (Upgrades (state S.Store conn.old).now (state S.Store conn.new).committed) }
+    ensures rest { HasCleanDisk (state S.Store conn.new) → OnOk result ((state S.Store conn.new).now ≡ (state S.Store conn.new).committed) }
+    ensures neither { HasCleanDisk (state S.Store conn.new) → IsTrue (state S.Store conn.new).is_open → (state S.Store conn.old).now.schema ≡ schema_at 1
+        → OnErr result (StaysOrHalfway (state S.Store conn.old) (state S.Store conn.new)) }
+    ensures crash { Survives (state S.Store conn.old) (state S.Store conn.new)
+        (λ trees. IsTrue (state S.Store conn.old).is_open × (db : _) × ((state S.Store conn.old).now.schema ≡ schema_at 1 → IsLeftBehind (state S.Store conn.old).now db) × (trees ≡ db.trees)) }
+    ensures fault { IfErr result SparesSchema }
+{
+    upgrade_step(alloc, conn, 1)?;
+    upgrade_step(alloc, conn, 2)
+}
+
+/// Makes tables of the schema of this number into those of the newest, one schema after another.
+fn upgrade_from<S: Alter>(
+    alloc: Global,
+    conn: &mut Connection<S>,
+    schema: u32,
+) -> Result<(), OpenFault>
+    requires { IsEarlier schema }
+    ensures was_open { HasCleanDisk (state S.Store conn.new) → IsTrue (state S.Store conn.new).is_open → IsTrue (state S.Store conn.old).is_open }
+    ensures open { HasCleanDisk (state S.Store conn.new) → OnOk result (IsTrue (state S.Store conn.new).is_open) }
+    ensures idle { (state S.Store conn.old).in_transaction ≡ false → (state S.Store conn.new).in_transaction ≡ false }
+    ensures upgrades { HasCleanDisk (state S.Store conn.new) → (state S.Store conn.old).now.schema ≡ schema_at schema → OnOk result (Upgrades (state S.Store conn.old).now (state S.Store conn.new).committed) }
+    ensures rest { HasCleanDisk (state S.Store conn.new) → OnOk result ((state S.Store conn.new).now ≡ (state S.Store conn.new).committed) }
+    ensures neither { HasCleanDisk (state S.Store conn.new) → IsTrue (state S.Store conn.new).is_open → (state S.Store conn.old).now.schema ≡ schema_at schema
+        → OnErr result (StaysOrHalfway (state S.Store conn.old) (state S.Store conn.new)) }
+    ensures crash { Survives (state S.Store conn.old) (state S.Store conn.new)
+        (λ trees. IsTrue (state S.Store conn.old).is_open × (db : _) × ((state S.Store conn.old).now.schema ≡ schema_at schema → IsLeftBehind (state S.Store conn.old).now db) × (trees ≡ db.trees)) }
+    ensures fault { IfErr result SparesSchema }
+{
+    if schema == 1 {
+        return upgrade_first(alloc, conn);
+    }
+    upgrade_step(alloc, conn, schema)
+}
+
+/// Makes tables of an earlier schema into those of the newest one, with what they hold, and gives the number of that: one
+/// schema after another, each of them all or not at all. Tables of the newest schema stay as they are. `NotTables` where they
+/// are those of no schema, or say that they are of another one. A refusal leaves them as they were, or, where they were of
+/// the first schema, as those of the second that it made of them. A stop at any moment leaves what a stop could leave before,
+/// or the tables of the second schema, or the upgraded ones.
 pub fn upgrade<S: Alter>(alloc: Global, conn: &mut Connection<S>) -> Result<u32, OpenFault>
     ensures was_open { HasCleanDisk (state S.Store conn.new) → IsTrue (state S.Store conn.new).is_open → IsTrue (state S.Store conn.old).is_open }
     ensures open { HasCleanDisk (state S.Store conn.new) → OnOk result (IsTrue (state S.Store conn.new).is_open) }
     ensures idle { (state S.Store conn.old).in_transaction ≡ false → (state S.Store conn.new).in_transaction ≡ false }
     ensures number { IfOk result (λ n. n ≡ newest) }
     ensures of_schema { OnOk result ((n : ℕ) × IsSchema n × ((state S.Store conn.old).now.schema ≡ schema_at n)) }
-    ensures upgrades { HasCleanDisk (state S.Store conn.new) → (state S.Store conn.old).now.schema ≡ schema_at 1 → OnOk result (Upgrades (state S.Store conn.old).now (state S.Store conn.new).committed) }
+    ensures upgrades { HasCleanDisk (state S.Store conn.new) → OnOk result (Upgrades (state S.Store conn.old).now (state S.Store conn.new).committed) }
     ensures said { HasCleanDisk (state S.Store conn.new) → OnOk result ((n : ℕ) → IsEarlier n → AreKnownAt n (state S.Store conn.old).now → schema_said (state S.Store conn.old).now.trees ≡ Some (sql_whole n)) }
     ensures newest { HasCleanDisk (state S.Store conn.new) → (state S.Store conn.old).now.schema ≡ stored_schema
         → OnOk result (((state S.Store conn.new).now ≡ (state S.Store conn.old).now) × ((state S.Store conn.new).committed ≡ (state S.Store conn.old).committed)) }
@@ -195,10 +286,9 @@ pub fn upgrade<S: Alter>(alloc: Global, conn: &mut Connection<S>) -> Result<u32,
     ensures taken { HasCleanDisk (state S.Store conn.new) → IfErr result (λ e. e ≡ OpenFault.NotTables
         → ((state S.Store conn.old).now.schema ≢ stored_schema) × ((n : ℕ) → ¬ AreEarlier n (state S.Store conn.old).now)) }
     ensures never_old { IfErr result (λ e. (n : ℕ) → e ≢ OpenFault.OldSchema n) }
-    ensures neither { HasCleanDisk (state S.Store conn.new) → IsTrue (state S.Store conn.new).is_open
-        → OnErr result (((state S.Store conn.new).now ≡ (state S.Store conn.old).now) × ((state S.Store conn.new).committed ≡ (state S.Store conn.old).committed)) }
+    ensures neither { HasCleanDisk (state S.Store conn.new) → IsTrue (state S.Store conn.new).is_open → OnErr result (StaysOrHalfway (state S.Store conn.old) (state S.Store conn.new)) }
     ensures crash { Survives (state S.Store conn.old) (state S.Store conn.new)
-        (λ trees. IsTrue (state S.Store conn.old).is_open × (db : _) × Upgrades (state S.Store conn.old).now db × (trees ≡ db.trees)) }
+        (λ trees. IsTrue (state S.Store conn.old).is_open × (db : _) × IsLeftBehind (state S.Store conn.old).now db × (trees ≡ db.trees)) }
 {
     if !conn.is_autocommit() {
         return Err(OpenFault::Unavailable);

@@ -140,5 +140,14 @@ pub fn values_of<'a>(alloc: Global, row: &'a StoredRow) -> Result<Vec<ValueRef<'
             ValueRef::Blob(row.text.as_slice()),
             text(&row.answer),
         ]?),
+        StoredRow::VersionClass(row) => Ok(vec![in alloc;
+            whole(row.version_id),
+            text(&row.class),
+        ]?),
+        StoredRow::UnitMark(row) => Ok(vec![in alloc;
+            whole(row.unit_id),
+            whole(u32::from(row.marked)),
+            optional_text(&row.class),
+        ]?),
     }
 }

@@ -34,6 +34,9 @@ fn read_text(table: TableName) -> &'static str
             "SELECT unit_id, num, host_id, sent, deadline, lapse, outcome, output, place, queued FROM instance ORDER BY rowid",
         TableName::Kept => "SELECT host_id, slot, seqno, text, reply FROM kept4 ORDER BY rowid",
         TableName::Batch => "SELECT kind, name, text, answer FROM batch ORDER BY rowid",
+        TableName::VersionClass =>
+            "SELECT version_id, class FROM version_class ORDER BY version_id",
+        TableName::UnitMark => "SELECT unit_id, marked, class FROM unit_mark ORDER BY unit_id",
     }
 }
 

@@ -43,22 +43,19 @@ all_found f (x ∷ xs) from (suc count) few is =
 
 -- ---- tables by numbers
 
--- a table whose keys go by the number in a column, and how an item is written as a row and read back
+-- A table whose keys go by the number in a column, how an item is written as a row, and what is found at a number: nothing where no row is.
 module _ {X : Type 0} (trees : Trees) (t : TableName) (column : ℕ) (key : ℕ → RowKey) (of_table : (n : ℕ) → table_at (key n) ≡ t)
-    (row : ℕ → X → StoredRow) (numbered : (n : ℕ) (x : X) → number_at (columns_of (row n x)) column ≡ n) (read : ℕ → Row → X) (xs : List X) where
-  -- what is found at a number
-  abbrev item_at : ℕ → Option X
-  item_at n = option_map (read n) (look_up trees (key n))
-
-  -- where the items stand at the numbers from one on
+    (row : ℕ → X → StoredRow) (numbered : (n : ℕ) (x : X) → number_at (columns_of (row n x)) column ≡ n)
+    (found : ℕ → Option X) (nothing : (n : ℕ) → look_up trees (key n) ≡ None → found n ≡ None) (xs : List X) where
+  -- where the items stand at the numbers from one on, and each is found where it stands
   module _ (from : ℕ) (stands : (i n : ℕ) → n ≡ i + from → look_up trees (key n) ≡ option_map columns_of (option_map (row n) (slice_get xs i)))
-      (back : (i n : ℕ) (x : X) → n ≡ i + from → slice_get xs i ≡ Some x → read n (columns_of (row n x)) ≡ x) where
-    item_back : (i n : ℕ) → n ≡ i + from → item_at n ≡ slice_get xs i
-    item_back i n at = ap (option_map (read n)) (stands i n at) ∙ go (slice_get xs i) (λ x is. back i n x at is)
+      (back : (i n : ℕ) (x : X) → n ≡ i + from → slice_get xs i ≡ Some x → look_up trees (key n) ≡ Some (columns_of (row n x)) → found n ≡ Some x) where
+    item_back : (i n : ℕ) → n ≡ i + from → found n ≡ slice_get xs i
+    item_back i n at = go (slice_get xs i) refl (stands i n at)
       where
-        go : (o : Option X) → ((x : X) → o ≡ Some x → read n (columns_of (row n x)) ≡ x) → option_map (read n) (option_map columns_of (option_map (row n) o)) ≡ o
-        go None each = refl
-        go (Some x) each = ap Some (each x refl)
+        go : (o : Option X) → slice_get xs i ≡ o → look_up trees (key n) ≡ option_map columns_of (option_map (row n) o) → found n ≡ o
+        go None is shows = nothing n shows
+        go (Some x) is shows = back i n x at is shows
 
     -- the number of an item is at most the greatest
     number_within : (i : ℕ) (x : X) → slice_get xs i ≡ Some x → i + from ≤ greatest column (rows_in trees t)
@@ -70,20 +67,37 @@ module _ {X : Type 0} (trees : Trees) (t : TableName) (column : ℕ) (key : ℕ 
         subst (λ u. i + from ≤ greatest column (rows_in trees u)) (of_table (i + from)) (omega (arith, most, numbered (i + from) x))
 
     -- so the list is what is found at enough numbers
-    pub list_back : (count : ℕ) → greatest column (rows_in trees t) < count + from → filter_map item_at (range_with_len from count) ≡ xs
-    list_back count enough = all_found item_at xs from count (no_longer xs count (λ i x is. omega (arith, number_within i x is, enough))) item_back
+    pub list_found : (count : ℕ) → greatest column (rows_in trees t) < count + from → filter_map found (range_with_len from count) ≡ xs
+    list_found count enough = all_found found xs from count (no_longer xs count (λ i x is. omega (arith, number_within i x is, enough))) item_back
 
--- the same where the items stand at their places and the number is the first column
+-- the same where the row alone tells the item
+pub list_back : {X : Type 0} (trees : Trees) (t : TableName) (column : ℕ) (key : ℕ → RowKey) → ((n : ℕ) → table_at (key n) ≡ t)
+    → (row : ℕ → X → StoredRow) → ((n : ℕ) (x : X) → number_at (columns_of (row n x)) column ≡ n) → (read : ℕ → Row → X) (xs : List X) (from : ℕ)
+    → ((i n : ℕ) → n ≡ i + from → look_up trees (key n) ≡ option_map columns_of (option_map (row n) (slice_get xs i)))
+    → ((i n : ℕ) (x : X) → n ≡ i + from → slice_get xs i ≡ Some x → read n (columns_of (row n x)) ≡ x)
+    → (count : ℕ) → greatest column (rows_in trees t) < count + from → filter_map (λ n. option_map (read n) (look_up trees (key n))) (range_with_len from count) ≡ xs
+list_back trees t column key of_table row numbered read xs from stands back =
+    list_found trees t column key of_table row numbered (λ n. option_map (read n) (look_up trees (key n))) (λ n none. ap (option_map (read n)) none) xs from stands
+    (λ i n x at is shows. ap (option_map (read n)) shows ∙ ap Some (back i n x at is))
+
+-- and where the items stand at their places and the number is the first column
 module _ {X : Type 0} (trees : Trees) (t : TableName) (key : ℕ → RowKey) (of_table : (n : ℕ) → table_at (key n) ≡ t)
-    (row : ℕ → X → StoredRow) (numbered : (n : ℕ) (x : X) → number_at (columns_of (row n x)) 0 ≡ n) (read : ℕ → Row → X) (xs : List X)
-    (stands : (n : ℕ) → look_up trees (key n) ≡ option_map columns_of (option_map (row n) (nth xs n))) (back : (n : ℕ) (x : X) → nth xs n ≡ Some x → read n (columns_of (row n x)) ≡ x) where
+    (row : ℕ → X → StoredRow) (numbered : (n : ℕ) (x : X) → number_at (columns_of (row n x)) 0 ≡ n) where
   -- what stands at the place behind an index
-  at_index : (i n : ℕ) → n ≡ i + 1 → nth xs n ≡ slice_get xs i
-  at_index i n at = ap (nth xs) at ∙ nth_next xs i
+  at_index : (xs : List X) (i n : ℕ) → n ≡ i + 1 → nth xs n ≡ slice_get xs i
+  at_index xs i n at = ap (nth xs) at ∙ nth_next xs i
 
-  pub places_back : filter_map (λ n. option_map (read n) (look_up trees (key n))) (numbers_in trees t) ≡ xs
-  places_back =
-      list_back trees t 0 key of_table row numbered read xs 1
-      (λ i n at. stands n ∙ ap (λ o. option_map columns_of (option_map (row n) o)) (at_index i n at))
-      (λ i n x at is. back n x (at_index i n at ∙ is))
+  pub places_found : (found : ℕ → Option X) → ((n : ℕ) → look_up trees (key n) ≡ None → found n ≡ None) → (xs : List X)
+      → ((n : ℕ) → look_up trees (key n) ≡ option_map columns_of (option_map (row n) (nth xs n)))
+      → ((n : ℕ) (x : X) → nth xs n ≡ Some x → look_up trees (key n) ≡ Some (columns_of (row n x)) → found n ≡ Some x) → filter_map found (numbers_in trees t) ≡ xs
+  places_found found nothing xs stands back =
+      list_found trees t 0 key of_table row numbered found nothing xs 1
+      (λ i n at. stands n ∙ ap (λ o. option_map columns_of (option_map (row n) o)) (at_index xs i n at))
+      (λ i n x at is shows. back n x (at_index xs i n at ∙ is) shows)
       (greatest 0 (rows_in trees t)) (omega arith)
+
+  pub places_back : (read : ℕ → Row → X) (xs : List X) → ((n : ℕ) → look_up trees (key n) ≡ option_map columns_of (option_map (row n) (nth xs n)))
+      → ((n : ℕ) (x : X) → nth xs n ≡ Some x → read n (columns_of (row n x)) ≡ x) → filter_map (λ n. option_map (read n) (look_up trees (key n))) (numbers_in trees t) ≡ xs
+  places_back read xs stands back =
+      places_found (λ n. option_map (read n) (look_up trees (key n))) (λ n none. ap (option_map (read n)) none) xs stands
+      (λ n x is shows. ap (option_map (read n)) shows ∙ ap Some (back n x is))

@@ -1,7 +1,8 @@
--- A workunit's row and an instance's are told by their columns.
+-- The rows of a workunit, of its mark and of an instance are told by their columns.
 use Rattle.std.proofs.Common.{◌≡◌, refl, ap}
 use Rattle.table_meaning.specs.declared.rows.StoredInstance.{StoredInstance}
 use Rattle.table_meaning.specs.declared.rows.StoredUnit.{StoredUnit}
+use Rattle.table_meaning.specs.declared.rows.StoredUnitMark.{StoredUnitMark}
 use Rattle.table_meaning.specs.declared.rows.StoredRow.{StoredRow}
 use Rattle.table_meaning.specs.declared.rows.StoredRow.TheVariants as stored
 use Rattle.table_meaning.specs.declared.tables.TableName.TheVariants as name
@@ -14,6 +15,13 @@ one_unit u v same = ap (unit_in u) (columns_told (stored.Unit u) (stored.Unit v)
     unit_in : StoredUnit → StoredRow → StoredUnit
     unit_in other (stored.Unit x) = x
     unit_in other row = other
+
+pub one_mark : (m n : StoredUnitMark) → columns_of (stored.UnitMark m) ≡ columns_of (stored.UnitMark n) → m ≡ n
+one_mark m n same = ap (mark_in m) (columns_told (stored.UnitMark m) (stored.UnitMark n) same)
+  where
+    mark_in : StoredUnitMark → StoredRow → StoredUnitMark
+    mark_in other (stored.UnitMark x) = x
+    mark_in other row = other
 
 pub one_instance : (x y : StoredInstance) → columns_of (stored.Instance x) ≡ columns_of (stored.Instance y) → x ≡ y
 one_instance x y same = ap (instance_in x) (columns_told (stored.Instance x) (stored.Instance y) same)
@@ -33,6 +41,21 @@ is_unit_row (stored.Host x) is = absurd (cc)
 is_unit_row (stored.Instance x) is = absurd (cc)
 is_unit_row (stored.Kept x) is = absurd (cc)
 is_unit_row (stored.Batch x) is = absurd (cc)
+is_unit_row (stored.VersionClass x) is = absurd (cc)
+is_unit_row (stored.UnitMark x) is = absurd (cc)
+
+pub is_mark_row : (r : StoredRow) → table_of r ≡ name.UnitMark → (m : StoredUnitMark) × (r ≡ stored.UnitMark m)
+is_mark_row (stored.UnitMark x) is = (x, refl)
+is_mark_row (stored.Setting x) is = absurd (cc)
+is_mark_row (stored.Account x) is = absurd (cc)
+is_mark_row (stored.App x) is = absurd (cc)
+is_mark_row (stored.Version x) is = absurd (cc)
+is_mark_row (stored.Unit x) is = absurd (cc)
+is_mark_row (stored.Host x) is = absurd (cc)
+is_mark_row (stored.Instance x) is = absurd (cc)
+is_mark_row (stored.Kept x) is = absurd (cc)
+is_mark_row (stored.Batch x) is = absurd (cc)
+is_mark_row (stored.VersionClass x) is = absurd (cc)
 
 pub is_instance_row : (r : StoredRow) → table_of r ≡ name.Instance → (x : StoredInstance) × (r ≡ stored.Instance x)
 is_instance_row (stored.Instance x) is = (x, refl)
@@ -44,3 +67,5 @@ is_instance_row (stored.Unit x) is = absurd (cc)
 is_instance_row (stored.Host x) is = absurd (cc)
 is_instance_row (stored.Kept x) is = absurd (cc)
 is_instance_row (stored.Batch x) is = absurd (cc)
+is_instance_row (stored.VersionClass x) is = absurd (cc)
+is_instance_row (stored.UnitMark x) is = absurd (cc)

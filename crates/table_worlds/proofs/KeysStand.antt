@@ -16,7 +16,7 @@ use Rattle.table_meaning.specs.Rows.{RowKey, key_of}
 use Rattle.table_meaning.specs.Worlds.{instance_row}
 use Rattle.table_worlds.specs.declared.keys.NumberedTable.{NumberedTable}
 use Rattle.table_worlds.specs.declared.keys.WorldKey.{WorldKey}
-use Rattle.table_worlds.specs.declared.keys.WorldKey.TheVariants.{Account, App, Version, Unit, Host, Instance}
+use Rattle.table_worlds.specs.declared.keys.WorldKey.TheVariants.{Account, App, Version, Class, Unit, Mark, Host, Instance}
 use Rattle.table_worlds.specs.Keys.{row_key, row_in, keyed, numbered}
 
 -- ---- members of lists put together
@@ -110,7 +110,9 @@ pub row_has_key : (w : World) (key : WorldKey) (r : StoredRow) → row_in w key 
 row_has_key w (Account id) r is = of_row _ _ (λ x. refl) _ r is
 row_has_key w (App id) r is = of_row _ _ (λ x. refl) _ r is
 row_has_key w (Version id) r is = of_row _ _ (λ x. refl) _ r is
+row_has_key w (Class id) r is = of_row _ _ (λ x. refl) _ r is
 row_has_key w (Unit id) r is = of_row _ _ (λ x. refl) _ r is
+row_has_key w (Mark id) r is = of_row _ _ (λ x. refl) _ r is
 row_has_key w (Host id) r is = of_row _ _ (λ x. refl) _ r is
 row_has_key w (Instance p) r is = of_unit (unit_at w p.unit) is
   where

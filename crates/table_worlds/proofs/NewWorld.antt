@@ -8,7 +8,7 @@ use Rattle.sched_book.specs.Step.{empty_world}
 use Rattle.sched_book.specs.declared.settings.Settings.{Settings}
 use Rattle.sched_book.proofs.PlacesOf.{nth-suc}
 use Rattle.table_meaning.specs.declared.rows.StoredRow.TheVariants as stored
-use Rattle.table_meaning.specs.Rows.{RowKey, setting_key, account_key, app_key, version_key, unit_key, host_key, instance_key, kept_key, batch_key, key_of, same_key}
+use Rattle.table_meaning.specs.Rows.{RowKey, setting_key, account_key, app_key, version_key, class_key, unit_key, mark_key, host_key, instance_key, kept_key, batch_key, key_of, same_key}
 use Rattle.table_meaning.specs.Holding.{Contents, with_rows}
 use Rattle.table_meaning.specs.Worlds.{setting_in, contents_of}
 use Rattle.table_meaning.proofs.Keys.{is_put, settled, key_itself}
@@ -66,7 +66,9 @@ module _ (s : Settings) where
   others_none (account_key id) none = ap (option_map _) (sym (none_there id))
   others_none (app_key id) none = ap (option_map _) (sym (none_there id))
   others_none (version_key id) none = ap (option_map _) (sym (none_there id))
+  others_none (class_key id) none = ap (option_map _) (sym (none_there id))
   others_none (unit_key id) none = ap (option_map _) (sym (none_there id))
+  others_none (mark_key id) none = ap (option_map _) (sym (none_there id))
   others_none (host_key id) none = ap (option_map _) (sym (none_there id))
   others_none (instance_key unit num) none = ap (option_and_then _) (sym (none_there unit))
   others_none (kept_key host slot) none = refl

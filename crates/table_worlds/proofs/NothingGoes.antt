@@ -5,6 +5,7 @@ use Rattle.std.proofs.lemmas.Bool.{eqb-true}
 use Rattle.std.proofs.lemmas.List.{length-append, length-set}
 use Rattle.std.proofs.lemmas.Option.{none-some}
 use Rattle.sched_book.specs.Delta.{set_at, set_nth, with_instance, applied_one, applied}
+use Rattle.sched_book.specs.Classes.{with_class}
 use Rattle.sched_book.specs.Imports.{new_unit}
 use Rattle.sched_book.specs.Places.{nth, unit_at}
 use Rattle.sched_book.specs.Reports.{modify_nth}
@@ -17,7 +18,7 @@ use Rattle.sched_book.proofs.Fitting.{settings_stay as settings_one}
 use Rattle.sched_book.proofs.PlacesOf.{nth-suc, nth-push, nth-modify_nth, length-modify_nth}
 use Rattle.table_meaning.specs.declared.rows.StoredRow.{StoredRow}
 use Rattle.table_worlds.specs.declared.keys.WorldKey.{WorldKey}
-use Rattle.table_worlds.specs.declared.keys.WorldKey.TheVariants.{Account, App, Version, Unit, Host, Instance}
+use Rattle.table_worlds.specs.declared.keys.WorldKey.TheVariants.{Account, App, Version, Class, Unit, Mark, Host, Instance}
 use Rattle.table_worlds.specs.Keys.{row_in}
 
 -- ---- by lengths
@@ -97,12 +98,13 @@ new_unit_jobs bs b unit number none =
         past (suc i) is = nth-suc bs i ∙ none_beyond bs i (omega (arith, is))
     cases false old none = none
 
-changed_jobs : (p : ℕ) (k : ℕ) (x : Job) (bs : List UnitBook) (unit number : ℕ) → job_at number (nth (modify_nth (with_instance k x) bs p) unit) ≡ None → job_at number (nth bs unit) ≡ None
-changed_jobs p k x bs unit number none = cases (eqb p unit) (nth bs unit) (sym (ap (job_at number) (nth-modify_nth (with_instance k x) bs p unit)) ∙ none)
+changed_jobs : (f : UnitBook → UnitBook) → ((b : UnitBook) → length b.instances ≤ length (f b).instances)
+    → (p : ℕ) (bs : List UnitBook) (unit number : ℕ) → job_at number (nth (modify_nth f bs p) unit) ≡ None → job_at number (nth bs unit) ≡ None
+changed_jobs f more p bs unit number none = cases (eqb p unit) (nth bs unit) (sym (ap (job_at number) (nth-modify_nth f bs p unit)) ∙ none)
   where
-    cases : (c : Bool) (o : Option UnitBook) → job_at number (cond c (option_map (with_instance k x) o) o) ≡ None → job_at number o ≡ None
+    cases : (c : Bool) (o : Option UnitBook) → job_at number (cond c (option_map f o) o) ≡ None → job_at number o ≡ None
     cases true None none = refl
-    cases true (Some b) none = no_more b.instances (set_at b.instances k x) number (more_set b.instances k x) none
+    cases true (Some b) none = no_more b.instances (f b).instances number (more b) none
     cases false o none = none
 
 one_change : (w : World) (c : Change) → NoFewer w (applied_one w c)
@@ -152,14 +154,24 @@ one_change w (change.Instance p x) = record {
   versions = same (length w.versions);
   units = let long = length-modify_nth (with_instance p.number x) w.units p.unit in omega (arith, long);
   hosts = same (length w.hosts);
-  jobs = changed_jobs p.unit p.number x w.units;
+  jobs = changed_jobs (with_instance p.number x) (λ b. more_set b.instances p.number x) p.unit w.units;
+}
+one_change w (change.Class unit class) = record {
+  accounts = same (length w.accounts);
+  apps = same (length w.apps);
+  versions = same (length w.versions);
+  units = let long = length-modify_nth (with_class class) w.units unit in omega (arith, long);
+  hosts = same (length w.hosts);
+  jobs = changed_jobs (with_class class) (λ b. same (length b.instances)) unit w.units;
 }
 
 none_between : (w w' : World) → NoFewer w w' → (key : WorldKey) → row_in w' key ≡ None → row_in w key ≡ None
 none_between w w' grown (Account id) none = ap (option_map _) (none_at w.accounts w'.accounts id grown.accounts (no_source _ _ none))
 none_between w w' grown (App id) none = ap (option_map _) (none_at w.apps w'.apps id grown.apps (no_source _ _ none))
 none_between w w' grown (Version id) none = ap (option_map _) (none_at w.versions w'.versions id grown.versions (no_source _ _ none))
+none_between w w' grown (Class id) none = ap (option_map _) (none_at w.versions w'.versions id grown.versions (no_source _ _ none))
 none_between w w' grown (Unit id) none = ap (option_map _) (none_at w.units w'.units id grown.units (no_source _ _ none))
+none_between w w' grown (Mark id) none = ap (option_map _) (none_at w.units w'.units id grown.units (no_source _ _ none))
 none_between w w' grown (Host id) none = ap (option_map _) (none_at w.hosts w'.hosts id grown.hosts (no_source _ _ none))
 none_between w w' grown (Instance p) none = no_job_row _ p.number (unit_at w p.unit) (grown.jobs p.unit p.number (no_job _ p.number (unit_at w' p.unit) none))
 

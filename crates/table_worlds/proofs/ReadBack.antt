@@ -2,11 +2,14 @@
 use Rattle.std.proofs.Common.{◌≡◌, ◌≤◌, ℕ, pos, Bool, true, false, List, length, Option, Some, None, option_map, refl}
 use Rattle.std.specs.Prelude.{All, ◌==◌, if◌then◌else◌, option_and_then}
 use Rattle.rpc_records.specs.Ranges.{IsWord}
+use Rattle.sched_book.specs.Classes.{class_of}
 use Rattle.sched_book.specs.Imports.{has_app}
 use Rattle.sched_book.specs.declared.rows.Account.{Account}
 use Rattle.sched_book.specs.declared.rows.Agreement.{Agreement}
 use Rattle.sched_book.specs.declared.rows.Agreement.TheVariants.{Exact, Within}
 use Rattle.sched_book.specs.declared.rows.App.{App}
+use Rattle.sched_book.specs.declared.rows.ClassRule.{ClassRule}
+use Rattle.sched_book.specs.declared.rows.ClassRule.TheVariants.{Any, OfFirst, Only}
 use Rattle.sched_book.specs.declared.rows.HostRow.{HostRow}
 use Rattle.sched_book.specs.declared.rows.Version.{Version}
 use Rattle.sched_book.specs.declared.instance.Instance.{Instance as Job}
@@ -22,8 +25,8 @@ use Rattle.sqlite_value.specs.Order.{bytes}
 use Rattle.table_meaning.specs.declared.rows.StoredRow.TheVariants as stored
 use Rattle.table_meaning.specs.Kept.{number_of}
 use Rattle.table_meaning.specs.Rows.{columns_of, whole}
-use Rattle.table_meaning.specs.Worlds.{agreement_limit, lapse_code, account_row, app_row, version_row, unit_row, host_row, instance_row}
-use Rattle.table_worlds.specs.ReadBack.{number_in, account_in, agreement_in, app_in, version_in, unit_in, host_in, owner_in, lapse_in, report_in, job_in}
+use Rattle.table_meaning.specs.Worlds.{is_marked, agreement_limit, lapse_code, account_row, app_row, version_row, class_row, unit_row, mark_row, host_row, instance_row}
+use Rattle.table_worlds.specs.ReadBack.{number_in, account_in, agreement_in, app_in, version_in, rule_in, unit_in, host_in, owner_in, lapse_in, report_in, job_in}
 use Rattle.table_worlds.proofs.AppsNamed.{name_back}
 use Rattle.table_worlds.proofs.JoinedWords.{split_joined}
 
@@ -51,14 +54,20 @@ app_back id a = λ i. record { name = a.name; agreement = agreement_back a.agree
 
 -- ---- versions and workunits, where these are the applications
 
+-- the rule of a workunit is told by the columns of its mark
+rule_back : (id : ℕ) (rule : ClassRule) → rule_in (columns_of (stored.UnitMark (record { unit_id = id; marked = is_marked rule; class = class_of rule }))) ≡ rule
+rule_back id Any = refl
+rule_back id OfFirst = refl
+rule_back id (Only class) = refl
+
 module _ (apps : List App) (w : World) (are : apps ≡ w.apps) (id : ℕ) where
-  -- a version of an application that stands is told by its row
-  pub version_back : (v : Version) → has_app w.apps v.app ≡ true → version_in apps (columns_of (stored.Version (version_row w id v))) ≡ v
+  -- a version of an application that stands is told by its row and its class
+  pub version_back : (v : Version) → has_app w.apps v.app ≡ true → version_in apps (columns_of (stored.Version (version_row w id v))) (columns_of (stored.VersionClass (class_row id v))) ≡ v
   version_back v has = λ i. record v { app = name_back apps w v.app are has i }
 
-  -- a workunit of an application that stands is told by its row
-  pub unit_back : (b : UnitBook) → has_app w.apps b.unit.app ≡ true → unit_in apps (columns_of (stored.Unit (unit_row w id b))) ≡ b.unit
-  unit_back b has = λ i. record b.unit { app = name_back apps w b.unit.app are has i }
+  -- a workunit of an application that stands is told by its row and its mark
+  pub unit_back : (b : UnitBook) → has_app w.apps b.unit.app ≡ true → unit_in apps (columns_of (stored.Unit (unit_row w id b))) (columns_of (stored.UnitMark (mark_row id b))) ≡ b.unit
+  unit_back b has = λ i. record b.unit { app = name_back apps w b.unit.app are has i; class_rule = rule_back id b.unit.class_rule i }
 
 -- ---- hosts
 

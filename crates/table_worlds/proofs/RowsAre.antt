@@ -23,7 +23,7 @@ use Rattle.table_meaning.specs.Listings.{is_numbered, standing}
 use Rattle.table_meaning.specs.Rows.{RowKey, tree_of, shown, rows_in, columns_of, table_at, key_columns, key_of, whole}
 use Rattle.table_meaning.specs.Worlds.{BatchText, SlotCalls, contents_of, HoldWorld}
 use Rattle.table_meaning.proofs.Keys.{key_from, key_is, number_in}
-use Rattle.table_meaning.proofs.Listings.{IsByNumber, all_listed, accounts_by_number, apps_by_number, versions_by_number, units_by_number, hosts_by_number}
+use Rattle.table_meaning.proofs.Listings.{IsByNumber, all_listed, accounts_by_number, apps_by_number, versions_by_number, classes_by_number, units_by_number, marks_by_number, hosts_by_number}
 use Rattle.table_meaning.proofs.RowsHeld.{mapped, source}
 use Rattle.table_meaning.proofs.RowsKeyed.{all_told, shown_stands, rows_stand, all_are_read}
 use Rattle.table_worlds.specs.declared.keys.NumberedTable.{NumberedTable}
@@ -52,21 +52,27 @@ by_number : (t : NumberedTable) → IsByNumber (table_name t) (key_at t)
 by_number table.Account = accounts_by_number
 by_number table.App = apps_by_number
 by_number table.Version = versions_by_number
+by_number table.Class = classes_by_number
 by_number table.Unit = units_by_number
+by_number table.Mark = marks_by_number
 by_number table.Host = hosts_by_number
 
 key_numbered : (t : NumberedTable) (key : RowKey) → table_at key ≡ table_name t → key ≡ key_at t (number_in (column (key_columns key) 0))
 key_numbered table.Account key at = key_of_table name.Account key at
 key_numbered table.App key at = key_of_table name.App key at
 key_numbered table.Version key at = key_of_table name.Version key at
+key_numbered table.Class key at = key_of_table name.VersionClass key at
 key_numbered table.Unit key at = key_of_table name.Unit key at
+key_numbered table.Mark key at = key_of_table name.UnitMark key at
 key_numbered table.Host key at = key_of_table name.Host key at
 
 number_shown : (t : NumberedTable) (raw : Row) → column (shown (table_name t) raw) 0 ≡ rowid raw
 number_shown table.Account raw = refl
 number_shown table.App raw = refl
 number_shown table.Version raw = refl
+number_shown table.Class raw = refl
 number_shown table.Unit raw = refl
+number_shown table.Mark raw = refl
 number_shown table.Host raw = refl
 
 -- a row that is made of what stands has the number of its key
@@ -82,21 +88,27 @@ module _ (db : Database) (w : World) (calls : SlotCalls) (batches : List ℕ →
   count_of table.Account = length w.accounts
   count_of table.App = length w.apps
   count_of table.Version = length w.versions
+  count_of table.Class = length w.versions
   count_of table.Unit = length w.units
+  count_of table.Mark = length w.units
   count_of table.Host = length w.hosts
 
   row_number : (t : NumberedTable) (n : ℕ) (r : StoredRow) → contents (key_at t n) ≡ Some r → column (columns_of r) 0 ≡ whole n
   row_number table.Account n r is = of_column _ _ (λ x. refl) _ r is
   row_number table.App n r is = of_column _ _ (λ x. refl) _ r is
   row_number table.Version n r is = of_column _ _ (λ x. refl) _ r is
+  row_number table.Class n r is = of_column _ _ (λ x. refl) _ r is
   row_number table.Unit n r is = of_column _ _ (λ x. refl) _ r is
+  row_number table.Mark n r is = of_column _ _ (λ x. refl) _ r is
   row_number table.Host n r is = of_column _ _ (λ x. refl) _ r is
 
   none_at_zero : (t : NumberedTable) → contents (key_at t 0) ≡ None
   none_at_zero table.Account = refl
   none_at_zero table.App = refl
   none_at_zero table.Version = refl
+  none_at_zero table.Class = refl
   none_at_zero table.Unit = refl
+  none_at_zero table.Mark = refl
   none_at_zero table.Host = refl
 
   past : {X : Type 0} (xs : List X) (n : ℕ) → length xs < n → nth xs n ≡ None
@@ -108,14 +120,18 @@ module _ (db : Database) (w : World) (calls : SlotCalls) (batches : List ℕ →
   none_past table.Account n lt = no_row _ _ (past w.accounts n lt)
   none_past table.App n lt = no_row _ _ (past w.apps n lt)
   none_past table.Version n lt = no_row _ _ (past w.versions n lt)
+  none_past table.Class n lt = no_row _ _ (past w.versions n lt)
   none_past table.Unit n lt = no_row _ _ (past w.units n lt)
+  none_past table.Mark n lt = no_row _ _ (past w.units n lt)
   none_past table.Host n lt = no_row _ _ (past w.hosts n lt)
 
   same_row : (t : NumberedTable) (n : ℕ) → contents (key_at t n) ≡ row_in w (keyed t n)
   same_row table.Account n = refl
   same_row table.App n = refl
   same_row table.Version n = refl
+  same_row table.Class n = refl
   same_row table.Unit n = refl
+  same_row table.Mark n = refl
   same_row table.Host n = refl
 
   -- each row has a number above 0
@@ -178,7 +194,9 @@ module _ (db : Database) (w : World) (calls : SlotCalls) (batches : List ℕ →
     accounts = rows_are table.Account rows.accounts read.accounts;
     apps = rows_are table.App rows.apps read.apps;
     versions = rows_are table.Version rows.versions read.versions;
+    classes = rows_are table.Class rows.classes read.classes;
     units = rows_are table.Unit rows.units read.units;
+    marks = rows_are table.Mark rows.marks read.marks;
     hosts = rows_are table.Host rows.hosts read.hosts;
     instances = instances_are rows.instances read.instances;
   }

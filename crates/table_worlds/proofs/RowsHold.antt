@@ -17,7 +17,7 @@ use Rattle.table_meaning.specs.declared.rows.StoredRow.TheVariants as stored
 use Rattle.table_meaning.specs.declared.tables.TableName.{TableName}
 use Rattle.table_meaning.specs.declared.tables.TableName.TheVariants as name
 use Rattle.table_meaning.specs.Holding.{HaveKeys}
-use Rattle.table_meaning.specs.Rows.{RowKey, tree_of, setting_key, account_key, app_key, version_key, unit_key, host_key, instance_key, kept_key, batch_key, table_at, key_of, columns_of, rows_in, look_up, same_key}
+use Rattle.table_meaning.specs.Rows.{RowKey, tree_of, setting_key, account_key, app_key, version_key, class_key, unit_key, mark_key, host_key, instance_key, kept_key, batch_key, table_at, key_of, columns_of, rows_in, look_up, same_key}
 use Rattle.table_meaning.specs.Worlds.{BatchText, SlotCalls, setting_in, contents_of}
 use Rattle.table_meaning.proofs.Keys.{is_put, one_key}
 use Rattle.table_meaning.proofs.RowsHeld.{held_at, keyed_by, mapped, source}
@@ -56,14 +56,18 @@ abbrev pub table_name : NumberedTable → TableName
 table_name table.Account = name.Account
 table_name table.App = name.App
 table_name table.Version = name.Version
+table_name table.Class = name.VersionClass
 table_name table.Unit = name.Unit
+table_name table.Mark = name.UnitMark
 table_name table.Host = name.Host
 
 pub table_of_key : (t : NumberedTable) (id : ℕ) → table_at (row_key (keyed t id)) ≡ table_name t
 table_of_key table.Account id = refl
 table_of_key table.App id = refl
 table_of_key table.Version id = refl
+table_of_key table.Class id = refl
 table_of_key table.Unit id = refl
+table_of_key table.Mark id = refl
 table_of_key table.Host id = refl
 
 module _ (trees : Trees) (w : World) where
@@ -158,7 +162,9 @@ world_held trees w rows read are calls batches kept imports (setting_key text) =
 world_held trees w rows read are calls batches kept imports (account_key id) = numbered_at trees w table.Account w.accounts rows.accounts read.accounts are.accounts id (no_row _ (nth w.accounts id))
 world_held trees w rows read are calls batches kept imports (app_key id) = numbered_at trees w table.App w.apps rows.apps read.apps are.apps id (no_row _ (nth w.apps id))
 world_held trees w rows read are calls batches kept imports (version_key id) = numbered_at trees w table.Version w.versions rows.versions read.versions are.versions id (no_row _ (nth w.versions id))
+world_held trees w rows read are calls batches kept imports (class_key id) = numbered_at trees w table.Class w.versions rows.classes read.classes are.classes id (no_row _ (nth w.versions id))
 world_held trees w rows read are calls batches kept imports (unit_key id) = numbered_at trees w table.Unit w.units rows.units read.units are.units id (no_row _ (nth w.units id))
+world_held trees w rows read are calls batches kept imports (mark_key id) = numbered_at trees w table.Mark w.units rows.marks read.marks are.marks id (no_row _ (nth w.units id))
 world_held trees w rows read are calls batches kept imports (host_key id) = numbered_at trees w table.Host w.hosts rows.hosts read.hosts are.hosts id (no_row _ (nth w.hosts id))
 world_held trees w rows read are calls batches kept imports (instance_key unit num) = instances_at trees w rows.instances read.instances are.instances (record { unit = unit; number = num })
 world_held trees w rows read are calls batches kept imports (kept_key host slot) = kept host slot
@@ -171,7 +177,9 @@ world_keyed trees w rows read are calls imports name.Setting = keyed_by trees na
 world_keyed trees w rows read are calls imports name.Account = numbered_keyed trees w table.Account (length w.accounts) rows.accounts read.accounts are.accounts
 world_keyed trees w rows read are calls imports name.App = numbered_keyed trees w table.App (length w.apps) rows.apps read.apps are.apps
 world_keyed trees w rows read are calls imports name.Version = numbered_keyed trees w table.Version (length w.versions) rows.versions read.versions are.versions
+world_keyed trees w rows read are calls imports name.VersionClass = numbered_keyed trees w table.Class (length w.versions) rows.classes read.classes are.classes
 world_keyed trees w rows read are calls imports name.Unit = numbered_keyed trees w table.Unit (length w.units) rows.units read.units are.units
+world_keyed trees w rows read are calls imports name.UnitMark = numbered_keyed trees w table.Mark (length w.units) rows.marks read.marks are.marks
 world_keyed trees w rows read are calls imports name.Host = numbered_keyed trees w table.Host (length w.hosts) rows.hosts read.hosts are.hosts
 world_keyed trees w rows read are calls imports name.Instance =
     rows_keyed trees w name.Instance (map Instance (places w)) rows.instances read.instances are.instances.0 (λ k has. let from = source Instance (places w) k has in ap (λ j. table_at (row_key j)) from.2)

@@ -10,6 +10,7 @@ use Rattle.std.proofs.lemmas.List.Folds.{list_any-append}
 use Rattle.std.proofs.lemmas.List.Sums.{AllPass-from_list_all}
 use Rattle.texts.specs.Words.{is_word}
 use Rattle.rpc_records.specs.Ranges.{IsWord}
+use Rattle.sched_book.specs.Classes.{with_class}
 use Rattle.sched_book.specs.Delta.{set_nth, with_instance, applied_one}
 use Rattle.sched_book.specs.Imports.{has_app, new_unit}
 use Rattle.sched_book.specs.Reports.{modify_at, modify_nth}
@@ -98,6 +99,11 @@ after_one w (change.Host number h) readable pass = record {
 after_one w (change.Instance p x) readable pass = record {
   versions = readable.versions;
   units = all_changed (IsOfApp w.apps) (with_instance p.number x) (λ b has. has) w.units p.unit readable.units;
+  hosts = readable.hosts;
+}
+after_one w (change.Class unit class) readable pass = record {
+  versions = readable.versions;
+  units = all_changed (IsOfApp w.apps) (with_class class) (λ b has. has) w.units unit readable.units;
   hosts = readable.hosts;
 }
 

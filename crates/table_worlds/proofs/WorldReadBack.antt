@@ -16,12 +16,12 @@ use Rattle.sched_book.specs.declared.rows.Version.{Version}
 use Rattle.sched_book.specs.declared.world.World.{World}
 use Rattle.table_meaning.specs.declared.rows.StoredRow.TheVariants as stored
 use Rattle.table_meaning.specs.declared.tables.TableName.TheVariants as table
-use Rattle.table_meaning.specs.Rows.{setting_key, account_key, app_key, version_key, unit_key, host_key, instance_key, columns_of, rows_in}
-use Rattle.table_meaning.specs.Worlds.{BatchText, SlotCalls, HoldWorld, account_row, app_row, version_row, unit_row, host_row, instance_row}
+use Rattle.table_meaning.specs.Rows.{setting_key, account_key, app_key, version_key, class_key, unit_key, mark_key, host_key, instance_key, columns_of, rows_in, look_up}
+use Rattle.table_meaning.specs.Worlds.{BatchText, SlotCalls, HoldWorld, account_row, app_row, version_row, class_row, unit_row, mark_row, host_row, instance_row}
 use Rattle.table_worlds.specs.ReadBack.{number_at, text_at, account_in, app_in, version_in, host_in, job_in}
 use Rattle.table_worlds.specs.Readable.{IsReadable}
-use Rattle.table_worlds.specs.StoredWorld.{settings_in, accounts_in, apps_in, versions_in, hosts_in, jobs_in, book_in, units_in, greatest, world_in, HeldIsReadBack}
-use Rattle.table_worlds.proofs.ByNumber.{list_back, places_back}
+use Rattle.table_worlds.specs.StoredWorld.{settings_in, accounts_in, apps_in, versions_in, hosts_in, jobs_in, version_of, book_in, book_of, units_in, greatest, world_in, HeldIsReadBack}
+use Rattle.table_worlds.proofs.ByNumber.{list_back, places_found, places_back}
 use Rattle.table_worlds.proofs.ByPlace.{all_nth}
 use Rattle.table_worlds.proofs.ReadBack.{account_back, app_back, version_back, unit_back, host_back, job_back}
 
@@ -71,9 +71,14 @@ module _ (db : Database) (w : World) (calls : SlotCalls) (batches : List ℕ →
 
   versions_back : versions_in trees ≡ w.versions
   versions_back =
-      places_back trees table.Version version_key (λ n. refl) (λ n (v : Version). stored.Version (version_row w n v)) (λ n v. refl) (λ n. version_in (apps_in trees)) w.versions
+      places_found trees table.Version version_key (λ n. refl) (λ n (v : Version). stored.Version (version_row w n v)) (λ n v. refl)
+      (λ n. option_and_then (version_of trees n) (look_up trees (version_key n))) (λ n none. ap (option_and_then (version_of trees n)) none) w.versions
       (λ n. holds.rows (version_key n))
-      (λ n v stands. version_back (apps_in trees) w apps_back n v (all_nth (λ (v : Version). has_app w.apps v.app ≡ true) w.versions n v stands readable.versions))
+      (λ n v stands shows.
+      let row = columns_of (stored.Version (version_row w n v)) in
+      let class = holds.rows (class_key n) ∙ ap (λ o. option_map columns_of (option_map (λ (v : Version). stored.VersionClass (class_row n v)) o)) stands in
+      ap (option_and_then (version_of trees n)) shows ∙ ap (option_map (version_in (apps_in trees) row)) class
+      ∙ ap Some (version_back (apps_in trees) w apps_back n v (all_nth (λ (v : Version). has_app w.apps v.app ≡ true) w.versions n v stands readable.versions)))
 
   hosts_back : hosts_in trees ≡ w.hosts
   hosts_back =
@@ -96,12 +101,15 @@ module _ (db : Database) (w : World) (calls : SlotCalls) (batches : List ℕ →
   -- so is each workunit with its instances
   units_back : units_in trees ≡ w.units
   units_back =
-      places_back trees table.Unit unit_key (λ n. refl) (λ n (b : UnitBook). stored.Unit (unit_row w n b)) (λ n b. refl) (book_in trees) w.units
+      places_found trees table.Unit unit_key (λ n. refl) (λ n (b : UnitBook). stored.Unit (unit_row w n b)) (λ n b. refl)
+      (λ n. option_and_then (book_of trees n) (look_up trees (unit_key n))) (λ n none. ap (option_and_then (book_of trees n)) none) w.units
       (λ n. holds.rows (unit_key n))
-      (λ n b stands.
+      (λ n b stands shows.
+      let row = columns_of (stored.Unit (unit_row w n b)) in
+      let mark = holds.rows (mark_key n) ∙ ap (λ o. option_map columns_of (option_map (λ (b : UnitBook). stored.UnitMark (mark_row n b)) o)) stands in
       let unit = unit_back (apps_in trees) w apps_back n b (all_nth (λ (b : UnitBook). has_app w.apps b.unit.app ≡ true) w.units n b stands readable.units) in
       let instances = jobs_back n b stands in
-      λ i. record { unit = unit i; instances = instances i })
+      ap (option_and_then (book_of trees n)) shows ∙ ap (option_map (book_in trees n row)) mark ∙ (λ i. Some (record { unit = unit i; instances = instances i })))
 
   world_back : world_in db.trees ≡ w
   unfolding world_in

@@ -8,12 +8,12 @@ use Rattle.sched_book.specs.declared.delta.Change.{Change}
 use Rattle.sched_book.specs.declared.world.World.{World}
 use Rattle.table_meaning.specs.declared.rows.StoredRow.{StoredRow}
 use Rattle.table_meaning.specs.declared.rows.StoredRow.TheVariants as stored
-use Rattle.table_meaning.specs.Rows.{RowKey, setting_key, account_key, app_key, version_key, unit_key, host_key, instance_key, kept_key, batch_key, key_of}
+use Rattle.table_meaning.specs.Rows.{RowKey, setting_key, account_key, app_key, version_key, class_key, unit_key, mark_key, host_key, instance_key, kept_key, batch_key, key_of}
 use Rattle.table_meaning.specs.Holding.{with_rows}
 use Rattle.table_meaning.specs.Worlds.{setting_in, call_row, BatchText, SlotCalls, contents_of}
 use Rattle.table_meaning.proofs.Keys.{is_put, settled}
 use Rattle.table_worlds.specs.declared.keys.WorldKey.{WorldKey}
-use Rattle.table_worlds.specs.declared.keys.WorldKey.TheVariants.{Account, App, Version, Unit, Host, Instance}
+use Rattle.table_worlds.specs.declared.keys.WorldKey.TheVariants.{Account, App, Version, Class, Unit, Mark, Host, Instance}
 use Rattle.table_worlds.specs.Keys.{row_key, row_in}
 use Rattle.table_worlds.specs.Changes.{AreChanges}
 use Rattle.table_worlds.proofs.KeysStand.{row_has_key}
@@ -24,7 +24,9 @@ at_world_key : (w : World) (calls : SlotCalls) (batches : List ℕ → List ℕ 
 at_world_key w calls batches (Account id) = refl
 at_world_key w calls batches (App id) = refl
 at_world_key w calls batches (Version id) = refl
+at_world_key w calls batches (Class id) = refl
 at_world_key w calls batches (Unit id) = refl
+at_world_key w calls batches (Mark id) = refl
 at_world_key w calls batches (Host id) = refl
 at_world_key w calls batches (Instance p) = refl
 
@@ -62,7 +64,9 @@ module _ (w : World) (cs : List Change) (rows : List StoredRow) (changes : AreCh
   others_hold (account_key id) none = same_at (Account id) none
   others_hold (app_key id) none = same_at (App id) none
   others_hold (version_key id) none = same_at (Version id) none
+  others_hold (class_key id) none = same_at (Class id) none
   others_hold (unit_key id) none = same_at (Unit id) none
+  others_hold (mark_key id) none = same_at (Mark id) none
   others_hold (host_key id) none = same_at (Host id) none
   others_hold (instance_key unit num) none = same_at (Instance (record { unit = unit; number = num })) none
   others_hold (kept_key host slot) none = ap (option_map (λ (k : Call). stored.Kept (call_row host slot k))) (other_calls host slot (not_put (kept_key host slot) none).1)

@@ -1,4 +1,4 @@
--- The rows that lead from one world to another.
+-- Rule. The rows that lead from one world to another.
 use Rattle.std.specs.Prelude.{◌≡◌, ◌⊎◌, false, List, Option, Some, None}
 use Rattle.std.specs.List.{AllByRecursion, list_any}
 use Rattle.sched_book.specs.declared.world.World.{World}

@@ -1,4 +1,4 @@
--- What tables say of the world that they hold.
+-- Words. What tables say of the world that they hold.
 use Rattle.std.specs.Prelude.{◌≡◌, ℕ, List, Option}
 use Rattle.sched_book.specs.Sound.{Sound}
 use Rattle.sched_book.specs.declared.world.World.{World}

@@ -1,4 +1,4 @@
--- Accounts, applications, versions, workunits, hosts and instances, read back from the columns of their rows.
+-- Rule. Accounts, applications, versions, workunits, hosts and instances, read back from the columns of their rows.
 use Rattle.std.specs.Prelude.{ℕ, pos, Bool, eqb, ◌==◌, if◌then◌else◌, List, [], Option, Some, None, option_map, unwrap_or}
 use Rattle.std.specs.List.{slice_split}
 use Rattle.sched_book.specs.Places.{nth}
@@ -6,6 +6,8 @@ use Rattle.sched_book.specs.declared.rows.Account.{Account}
 use Rattle.sched_book.specs.declared.rows.Agreement.{Agreement}
 use Rattle.sched_book.specs.declared.rows.Agreement.TheVariants.{Exact, Within}
 use Rattle.sched_book.specs.declared.rows.App.{App}
+use Rattle.sched_book.specs.declared.rows.ClassRule.{ClassRule}
+use Rattle.sched_book.specs.declared.rows.ClassRule.TheVariants.{Any, OfFirst, Only}
 use Rattle.sched_book.specs.declared.rows.HostRow.{HostRow}
 use Rattle.sched_book.specs.declared.rows.Version.{Version}
 use Rattle.sched_book.specs.declared.rows.Workunit.{Workunit}
@@ -15,7 +17,7 @@ use Rattle.sched_book.specs.declared.instance.Lapse.TheVariants.{Late, Dropped}
 use Rattle.sched_book.specs.declared.instance.Outcome.{Outcome}
 use Rattle.sched_book.specs.declared.instance.Owner.{Owner}
 use Rattle.sqlite_value.specs.declared.value.Value.{Value}
-use Rattle.sqlite_value.specs.declared.value.Value.TheVariants.{Int}
+use Rattle.sqlite_value.specs.declared.value.Value.TheVariants.{Int, Text}
 use Rattle.sqlite_value.specs.Order.{Row, bytes, column}
 use Rattle.table_meaning.specs.Kept.{number_of}
 
@@ -32,6 +34,11 @@ text_at row at = bytes (column row at)
 abbrev pub number_in : Value → Option ℕ
 number_in (Int (pos n)) = Some n
 number_in other = None
+
+-- a text or none
+abbrev pub text_in : Value → Option (List ℕ)
+text_in (Text t) = Some t
+text_in other = None
 
 -- ---- accounts and applications
 
@@ -54,13 +61,22 @@ app_in row = record { name = text_at row 1; agreement = agreement_in (number_in 
 abbrev pub app_name_at : List App → ℕ → List ℕ
 app_name_at apps at = unwrap_or (option_map (λ (a : App). a.name) (nth apps at)) []
 
--- the version of a row
-abbrev pub version_in : List App → Row → Version
-version_in apps row = record { app = app_name_at apps (number_at row 1); platform = text_at row 2; version_num = number_at row 3 }
+-- the version of a row, with the class of another
+abbrev pub version_in : List App → Row → Row → Version
+version_in apps row class = record { app = app_name_at apps (number_at row 1); platform = text_at row 2; version_num = number_at row 3; class = text_at class 1 }
 
--- the workunit of a row
-abbrev pub unit_in : List App → Row → Workunit
-unit_in apps row = record {
+-- the rule of a marked workunit with this class or none
+abbrev pub rule_marked : Option (List ℕ) → ClassRule
+rule_marked None = OfFirst
+rule_marked (Some class) = Only class
+
+-- the rule of a mark
+abbrev pub rule_in : Row → ClassRule
+rule_in mark = if number_at mark 1 == 0 then Any else rule_marked (text_in (column mark 2))
+
+-- the workunit of a row, with the rule of its mark
+abbrev pub unit_in : List App → Row → Row → Workunit
+unit_in apps row mark = record {
   name = text_at row 1;
   app = app_name_at apps (number_at row 2);
   min_quorum = number_at row 3;
@@ -73,6 +89,7 @@ unit_in apps row = record {
   rsc_memory_bound = number_at row 10;
   rsc_disk_bound = number_at row 11;
   credit = number_at row 12;
+  class_rule = rule_in mark;
 }
 
 -- ---- hosts

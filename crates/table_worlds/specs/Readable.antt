@@ -1,4 +1,4 @@
--- The worlds that are told by their rows, and the changes that keep them so.
+-- Rule. The worlds that are told by their rows, and the changes that keep them so.
 use Rattle.std.specs.Prelude.{◌≤◌, Bool, true, ◌&&◌, nat_le, IsTrue, ℕ, List, [], ◌∷◌, All, length}
 use Rattle.std.specs.List.{list_all}
 use Rattle.texts.specs.Words.{is_word}
@@ -28,6 +28,7 @@ is_readable_change w (change.Version v) = has_app w.apps v.app
 is_readable_change w (change.Workunit u) = has_app w.apps u.app
 is_readable_change w (change.Host number h) = are_words h.platforms
 is_readable_change w (change.Instance p x) = true
+is_readable_change w (change.Class unit class) = true
 
 -- so does each change, in the world that those before it leave
 abbrev pub are_readable_changes : World → List Change → Bool

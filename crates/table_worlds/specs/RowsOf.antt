@@ -1,4 +1,4 @@
--- The rows of a world, a table each.
+-- Rule. The rows of a world, a table each.
 use Rattle.std.specs.Prelude.{◌≡◌, ℕ, ◌-◌, List, [], ◌∷◌, map, filter_map, length, codes, option_map}
 use Rattle.sqlite_rules.specs.Lists.{Has}
 use Rattle.sqlite_trees.specs.Tree.{Trees}
@@ -11,7 +11,7 @@ use Rattle.table_meaning.specs.declared.rows.StoredRow.{StoredRow}
 use Rattle.table_meaning.specs.declared.rows.StoredRow.TheVariants as stored
 use Rattle.table_meaning.specs.declared.tables.TableName.TheVariants as name
 use Rattle.table_meaning.specs.Rows.{columns_of, rows_in}
-use Rattle.table_meaning.specs.Worlds.{setting_in, unit_row, instance_row}
+use Rattle.table_meaning.specs.Worlds.{setting_in, unit_row, mark_row, instance_row}
 use Rattle.table_worlds.specs.declared.matching.TableRows.{TableRows}
 use Rattle.table_worlds.specs.declared.unit_rows.UnitRows.{UnitRows}
 use Rattle.table_worlds.specs.declared.keys.NumberedTable.TheVariants as table
@@ -44,7 +44,9 @@ pub record WorldRows : Type 0 where
   pub accounts : List StoredRow
   pub apps : List StoredRow
   pub versions : List StoredRow
+  pub classes : List StoredRow
   pub units : List StoredRow
+  pub marks : List StoredRow
   pub hosts : List StoredRow
   pub instances : List StoredRow
 
@@ -54,7 +56,9 @@ pub record AreRowsOf (w : World) (rows : WorldRows) : Type 0 where
   pub accounts : rows.accounts ≡ filter_map (row_in w) (numbered table.Account (length w.accounts))
   pub apps : rows.apps ≡ filter_map (row_in w) (numbered table.App (length w.apps))
   pub versions : rows.versions ≡ filter_map (row_in w) (numbered table.Version (length w.versions))
+  pub classes : rows.classes ≡ filter_map (row_in w) (numbered table.Class (length w.versions))
   pub units : rows.units ≡ filter_map (row_in w) (numbered table.Unit (length w.units))
+  pub marks : rows.marks ≡ filter_map (row_in w) (numbered table.Mark (length w.units))
   pub hosts : rows.hosts ≡ filter_map (row_in w) (numbered table.Host (length w.hosts))
   pub instances : HaveSame rows.instances (filter_map (row_in w) (map Instance (places w)))
 
@@ -64,11 +68,13 @@ pub record AreRead (trees : Trees) (rows : WorldRows) : Type 0 where
   pub accounts : map columns_of rows.accounts ≡ rows_in trees name.Account
   pub apps : map columns_of rows.apps ≡ rows_in trees name.App
   pub versions : map columns_of rows.versions ≡ rows_in trees name.Version
+  pub classes : map columns_of rows.classes ≡ rows_in trees name.VersionClass
   pub units : map columns_of rows.units ≡ rows_in trees name.Unit
+  pub marks : map columns_of rows.marks ≡ rows_in trees name.UnitMark
   pub hosts : map columns_of rows.hosts ≡ rows_in trees name.Host
   pub instances : map columns_of rows.instances ≡ rows_in trees name.Instance
 
--- ---- workunits and instances apart from the others
+-- ---- workunits, their marks and instances apart from the others
 
 -- a world with these workunits in place of its own
 abbrev pub having : World → List UnitBook → World
@@ -79,16 +85,17 @@ without_units w = having w []
 
 -- the rows of all tables but those
 abbrev pub rows_beside : WorldRows → TableRows
-rows_beside rows = record { settings = rows.settings; accounts = rows.accounts; apps = rows.apps; versions = rows.versions; hosts = rows.hosts }
+rows_beside rows = record { settings = rows.settings; accounts = rows.accounts; apps = rows.apps; versions = rows.versions; classes = rows.classes; hosts = rows.hosts }
 
--- These are the rows of a world but for those of workunits and instances: of settings in any order.
+-- These are the rows of a world but for those of workunits, their marks and instances: of settings in any order.
 pub record AreRowsBeside (w : World) (rows : TableRows) : Type 0 where
   pub settings : HaveSame rows.settings (setting_rows w.settings)
   pub accounts : rows.accounts ≡ filter_map (row_beside w) (numbered table.Account (length w.accounts))
   pub apps : rows.apps ≡ filter_map (row_beside w) (numbered table.App (length w.apps))
   pub versions : rows.versions ≡ filter_map (row_beside w) (numbered table.Version (length w.versions))
+  pub classes : rows.classes ≡ filter_map (row_beside w) (numbered table.Class (length w.versions))
   pub hosts : rows.hosts ≡ filter_map (row_beside w) (numbered table.Host (length w.hosts))
 
--- the rows of a workunit of a number, and of its instances in their order, where these are the applications of the world
+-- the rows of a workunit of a number, of its mark, and of its instances in their order, where these are the applications of the world
 abbrev pub rows_of_unit : World → ℕ → UnitBook → UnitRows
-rows_of_unit w id b = record { unit = unit_row w id b; instances = map_from 1 (λ n x. instance_row w b id (n - 1) x) b.instances }
+rows_of_unit w id b = record { unit = unit_row w id b; mark = mark_row id b; instances = map_from 1 (λ n x. instance_row w b id (n - 1) x) b.instances }

@@ -1,5 +1,5 @@
--- The world that stands in tables, as a function of their rows: each part of it is found at its keys.
-use Rattle.std.specs.Prelude.{◌≡◌, ℕ, ◌+◌, max, ◌==◌, List, [], ◌∷◌, filter_map, codes, Option, option_map, unwrap_or}
+-- Rule. The world that stands in tables, as a function of their rows: each part of it is found at its keys.
+use Rattle.std.specs.Prelude.{◌≡◌, ℕ, ◌+◌, max, ◌==◌, List, [], ◌∷◌, filter_map, codes, Option, option_map, option_and_then, unwrap_or}
 use Rattle.std.specs.List.{range_with_len}
 use Rattle.sched_book.specs.declared.instance.Instance.{Instance as Job}
 use Rattle.sched_book.specs.declared.instance.UnitBook.{UnitBook}
@@ -14,7 +14,7 @@ use Rattle.sqlite_trees.specs.Tree.{Trees}
 use Rattle.sqlite_value.specs.Order.{Row}
 use Rattle.table_meaning.specs.declared.tables.TableName.{TableName}
 use Rattle.table_meaning.specs.declared.tables.TableName.TheVariants as table
-use Rattle.table_meaning.specs.Rows.{setting_key, account_key, app_key, version_key, unit_key, host_key, instance_key, rows_in, look_up}
+use Rattle.table_meaning.specs.Rows.{setting_key, account_key, app_key, version_key, class_key, unit_key, mark_key, host_key, instance_key, rows_in, look_up}
 use Rattle.table_meaning.specs.Worlds.{BatchText, SlotCalls, HoldWorld}
 use Rattle.table_worlds.specs.ReadBack.{number_at, text_at, account_in, app_in, version_in, unit_in, host_in, job_in}
 use Rattle.table_worlds.specs.Readable.{IsReadable}
@@ -53,8 +53,12 @@ accounts_in trees = filter_map (λ id. option_map account_in (look_up trees (acc
 abbrev pub apps_in : Trees → List App
 apps_in trees = filter_map (λ id. option_map app_in (look_up trees (app_key id))) (numbers_in trees table.App)
 
+-- the version of a number, where it has a class
+abbrev pub version_of : Trees → ℕ → Row → Option Version
+version_of trees id row = option_map (version_in (apps_in trees) row) (look_up trees (class_key id))
+
 abbrev pub versions_in : Trees → List Version
-versions_in trees = filter_map (λ id. option_map (version_in (apps_in trees)) (look_up trees (version_key id))) (numbers_in trees table.Version)
+versions_in trees = filter_map (λ id. option_and_then (version_of trees id) (look_up trees (version_key id))) (numbers_in trees table.Version)
 
 abbrev pub hosts_in : Trees → List HostRow
 hosts_in trees = filter_map (λ id. option_map host_in (look_up trees (host_key id))) (numbers_in trees table.Host)
@@ -63,12 +67,16 @@ hosts_in trees = filter_map (λ id. option_map host_in (look_up trees (host_key 
 abbrev pub jobs_in : Trees → ℕ → List Job
 jobs_in trees unit = filter_map (λ num. option_map job_in (look_up trees (instance_key unit num))) (range_with_len 0 (greatest 1 (rows_in trees table.Instance) + 1))
 
--- the workunit of a number, of which this is the row
-abbrev pub book_in : Trees → ℕ → Row → UnitBook
-book_in trees id row = record { unit = unit_in (apps_in trees) row; instances = jobs_in trees id }
+-- the workunit of a number, of which these are the row and the mark
+abbrev pub book_in : Trees → ℕ → Row → Row → UnitBook
+book_in trees id row mark = record { unit = unit_in (apps_in trees) row mark; instances = jobs_in trees id }
+
+-- it, where it has a mark
+abbrev pub book_of : Trees → ℕ → Row → Option UnitBook
+book_of trees id row = option_map (book_in trees id row) (look_up trees (mark_key id))
 
 abbrev pub units_in : Trees → List UnitBook
-units_in trees = filter_map (λ id. option_map (book_in trees id) (look_up trees (unit_key id))) (numbers_in trees table.Unit)
+units_in trees = filter_map (λ id. option_and_then (book_of trees id) (look_up trees (unit_key id))) (numbers_in trees table.Unit)
 
 -- ---- the world
 

@@ -1,4 +1,4 @@
--- What each host holds, and its credit: counted from scratch.
+-- Words. What each host holds, and its credit: counted from scratch.
 use Rattle.std.specs.Prelude.{ℕ, ◌+◌, ◌*◌, Bool, ◌&&◌, if◌then◌else◌, List, length, count_by, sum_by}
 use Rattle.sched_book.specs.Count.{is_held}
 use Rattle.sched_book.specs.Numbered.{map_from}

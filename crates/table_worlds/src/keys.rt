@@ -6,13 +6,16 @@ ghost use Rattle.table_worlds.specs.Keys.{keyed, numbered};
 use sched_book::{Place, Unavailable};
 use texts::Listed;
 
-/// What names a row of a world: a place or a number from 1 on, or the place of an instance.
+/// What names a row of a world: a place or a number from 1 on, or the place of an instance. A class is of the version, a mark
+/// of the workunit of that number.
 #[derive(Clone, Copy)]
 pub enum WorldKey {
     Account(u32),
     App(u32),
     Version(u32),
+    Class(u32),
     Unit(u32),
+    Mark(u32),
     Host(u32),
     Instance(Place),
 }
@@ -23,7 +26,9 @@ pub enum NumberedTable {
     Account,
     App,
     Version,
+    Class,
     Unit,
+    Mark,
     Host,
 }
 
@@ -36,7 +41,9 @@ impl NumberedTable {
             NumberedTable::Account => WorldKey::Account(number),
             NumberedTable::App => WorldKey::App(number),
             NumberedTable::Version => WorldKey::Version(number),
+            NumberedTable::Class => WorldKey::Class(number),
             NumberedTable::Unit => WorldKey::Unit(number),
+            NumberedTable::Mark => WorldKey::Mark(number),
             NumberedTable::Host => WorldKey::Host(number),
         }
     }

@@ -12,7 +12,9 @@ pub mod unit_rows;
 
 pub use keys::WorldKey;
 pub use matching::{TableRows, are_rows_beside};
-pub use rows::{account_row, app_row, host_row, instance_row, unit_row, version_row};
+pub use rows::{
+    account_row, app_row, class_row, host_row, instance_row, mark_row, unit_row, version_row,
+};
 pub use settings::setting_rows;
 pub use totals::{Total, count_unit, no_totals};
 pub use unit_rows::{UnitRows, are_unit_rows};

@@ -19,13 +19,14 @@ use std::alloc::Global;
 use table_meaning::rows::StoredRow;
 use texts::{Listed, Memory};
 
-/// The rows of the tables that hold a world but for its workunits and instances, as they were read.
+/// The rows of the tables that hold a world but for its workunits, their marks and instances, as they were read.
 #[derive(Drop)]
 pub struct TableRows {
     pub settings: Listed<StoredRow>,
     pub accounts: Listed<StoredRow>,
     pub apps: Listed<StoredRow>,
     pub versions: Listed<StoredRow>,
+    pub classes: Listed<StoredRow>,
     pub hosts: Listed<StoredRow>,
 }
 
@@ -147,6 +148,14 @@ pub fn are_rows_beside(
         world.versions.len(),
         rows.versions.as_slice(),
     )?;
+    let classes = are_table_rows(
+        alloc,
+        world,
+        totals,
+        NumberedTable::Class,
+        world.versions.len(),
+        rows.classes.as_slice(),
+    )?;
     let hosts = are_table_rows(
         alloc,
         world,
@@ -155,5 +164,5 @@ pub fn are_rows_beside(
         world.hosts.len(),
         rows.hosts.as_slice(),
     )?;
-    Ok(settings && accounts && apps && versions && hosts)
+    Ok(settings && accounts && apps && versions && classes && hosts)
 }

@@ -2,11 +2,13 @@
 
 ghost use Rattle.std.specs.Prelude.{◌≡◌, List, pos, position, option_map, option_and_then, if◌then◌else◌, IfOk};
 ghost use Rattle.std.specs.Str.{bytes_eq};
+ghost use Rattle.sched_book.specs.Classes.{class_of};
 ghost use Rattle.sched_book.specs.Places.{status_of};
 ghost use Rattle.sched_book.specs.declared.instance.UnitBook.{UnitBook};
+ghost use Rattle.sched_book.specs.declared.rows.ClassRule.{ClassRule as Rule};
 ghost use Rattle.sched_book.specs.declared.world.World.{World};
 ghost use Rattle.table_meaning.specs.declared.rows.StoredRow.TheVariants as stored;
-ghost use Rattle.table_meaning.specs.Worlds.{agreement_limit, status_code, lapse_code, joined, app_place, is_queued, account_row, app_row, version_row, unit_row, host_row, instance_row};
+ghost use Rattle.table_meaning.specs.Worlds.{agreement_limit, status_code, lapse_code, joined, app_place, is_queued, is_marked, account_row, app_row, version_row, class_row, unit_row, mark_row, host_row, instance_row};
 ghost use Rattle.table_worlds.specs.Keys.{row_in, row_beside};
 ghost use Rattle.table_worlds.specs.RowsOf.{having};
 ghost use Rattle.table_worlds.specs.declared.keys.WorldKey.TheVariants as key;
@@ -17,12 +19,13 @@ use crate::totals::Total;
 use sched_book::count::book_status;
 use sched_book::limits::MOST_INSTANCES;
 use sched_book::{
-    Account, Agreement, App, HostRow, Instance, Lapse, Outcome, Place, Status, Unavailable,
-    UnitBook, Version, Workunit, World, nth,
+    Account, Agreement, App, ClassRule, HostRow, Instance, Lapse, Outcome, Place, Status,
+    Unavailable, UnitBook, Version, Workunit, World, nth,
 };
 use std::alloc::Global;
 use table_meaning::rows::{
-    StoredAccount, StoredApp, StoredHost, StoredInstance, StoredRow, StoredUnit, StoredVersion,
+    StoredAccount, StoredApp, StoredHost, StoredInstance, StoredRow, StoredUnit, StoredUnitMark,
+    StoredVersion, StoredVersionClass,
 };
 use texts::{Memory, Text};
 
@@ -131,6 +134,46 @@ pub fn version_row(id: u32, app: u32, version: &Version) -> Result<StoredRow, Un
     }))
 }
 
+/// The row of a version's class. It is unavailable where memory is wanting.
+pub fn class_row(id: u32, version: &Version) -> Result<StoredRow, Unavailable>
+    ensures { IfOk result (λ row. row ≡ stored.VersionClass (class_row id version.now)) }
+{
+    Ok(StoredRow::VersionClass(StoredVersionClass {
+        version_id: id,
+        class: version.class.clone()?,
+    }))
+}
+
+fn is_marked(rule: &ClassRule) -> bool
+    ensures { result ≡ is_marked rule.now }
+{
+    match rule {
+        ClassRule::Any => false,
+        ClassRule::OfFirst | ClassRule::Only(_) => true,
+    }
+}
+
+/// The class that a workunit of this rule keeps to, where it has one.
+fn class_of(rule: &ClassRule) -> Result<Option<Text>, Memory>
+    ensures { IfOk result (λ class. class ≡ class_of rule.now) }
+{
+    match rule {
+        ClassRule::Any | ClassRule::OfFirst => Ok(None),
+        ClassRule::Only(class) => Ok(Some(class.clone()?)),
+    }
+}
+
+/// The row of the mark of each workunit of this rule. It is unavailable where memory is wanting.
+pub fn mark_row(id: u32, rule: &ClassRule) -> Result<StoredRow, Unavailable>
+    ensures { IfOk result (λ row. (b : UnitBook) → b.unit.class_rule ≡ rule.now → row ≡ stored.UnitMark (mark_row id b)) }
+{
+    Ok(StoredRow::UnitMark(StoredUnitMark {
+        unit_id: id,
+        marked: is_marked(rule),
+        class: class_of(rule)?,
+    }))
+}
+
 /// Where a workunit of the world stands; one with more instances than it may have is not told.
 pub(crate) fn status_of(world: &World, book: &UnitBook) -> Result<Status, Unavailable>
     ensures { IfOk result (λ status. status ≡ status_of world.now book.now) }
@@ -141,15 +184,15 @@ pub(crate) fn status_of(world: &World, book: &UnitBook) -> Result<Status, Unavai
     Ok(book_status(world.apps.as_slice(), book))
 }
 
-/// The row of a workunit in each world where its application is at this place and where it has this status. It is
-/// unavailable where memory is wanting, or a number is not one that a table can hold.
+/// The row of a workunit in each world where its application is at this place and where it has this status, whatever its
+/// rule for versions is. It is unavailable where memory is wanting, or a number is not one that a table can hold.
 pub fn unit_row(
     id: u32,
     app: u32,
     unit: &Workunit,
     status: Status,
 ) -> Result<StoredRow, Unavailable>
-    ensures { IfOk result (λ row. (w : World) (b : UnitBook) → b.unit ≡ unit.now → app ≡ app_place w unit.now.app → status ≡ status_of w b
+    ensures { IfOk result (λ row. (w : World) (b : UnitBook) (rule : Rule) → b.unit ≡ record unit.now { class_rule = rule } → app ≡ app_place w unit.now.app → status ≡ status_of w b
         → row ≡ stored.Unit (unit_row w id b)) }
 {
     Ok(StoredRow::Unit(StoredUnit {
@@ -268,7 +311,7 @@ fn host_at(
 }
 
 /// The row of a world at a key, whatever its workunits are, where these are the totals of its hosts; none at a key of a
-/// workunit or an instance. It is unavailable where memory is wanting, or a number is not one that a table can hold.
+/// workunit, its mark or an instance. It is unavailable where memory is wanting, or a number is not one that a table can hold.
 pub(crate) fn row_at(
     alloc: Global,
     world: &World,
@@ -294,7 +337,11 @@ pub(crate) fn row_at(
                 version,
             )?)),
         },
+        WorldKey::Class(id) => match nth(world.versions.as_slice(), id) {
+            None => Ok(None),
+            Some(version) => Ok(Some(class_row(id, version)?)),
+        },
         WorldKey::Host(id) => host_at(alloc, world, totals, id),
-        WorldKey::Unit(_) | WorldKey::Instance(_) => Ok(None),
+        WorldKey::Unit(_) | WorldKey::Mark(_) | WorldKey::Instance(_) => Ok(None),
     }
 }

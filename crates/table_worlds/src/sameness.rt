@@ -5,7 +5,7 @@ ghost use Rattle.std.specs.Bool.{Decides};
 
 use table_meaning::rows::{
     SettingValue, StoredAccount, StoredApp, StoredBatch, StoredCall, StoredHost, StoredInstance,
-    StoredRow, StoredSetting, StoredUnit, StoredVersion,
+    StoredRow, StoredSetting, StoredUnit, StoredUnitMark, StoredVersion, StoredVersionClass,
 };
 use texts::Text;
 
@@ -15,7 +15,7 @@ fn same_text(left: &Text, right: &Text) -> bool
     left.is(right.as_str())
 }
 
-fn same_output(left: &Option<Text>, right: &Option<Text>) -> bool
+fn same_optional(left: &Option<Text>, right: &Option<Text>) -> bool
     ensures { Decides result (left.now ≡ right.now) }
 {
     match (left, right) {
@@ -61,6 +61,20 @@ fn same_version(left: &StoredVersion, right: &StoredVersion) -> bool
         && left.app_id == right.app_id
         && same_text(&left.platform, &right.platform)
         && left.num == right.num
+}
+
+fn same_class(left: &StoredVersionClass, right: &StoredVersionClass) -> bool
+    ensures { Decides result (left.now ≡ right.now) }
+{
+    left.version_id == right.version_id && same_text(&left.class, &right.class)
+}
+
+pub(crate) fn same_mark(left: &StoredUnitMark, right: &StoredUnitMark) -> bool
+    ensures { Decides result (left.now ≡ right.now) }
+{
+    left.unit_id == right.unit_id
+        && left.marked == right.marked
+        && same_optional(&left.class, &right.class)
 }
 
 pub(crate) fn same_unit(left: &StoredUnit, right: &StoredUnit) -> bool
@@ -109,7 +123,7 @@ fn same_report(left: &StoredInstance, right: &StoredInstance) -> bool
     ensures { Decides result ((left.now.outcome ≡ right.now.outcome) × (left.now.output ≡ right.now.output) × (left.now.place ≡ right.now.place)) }
 {
     left.outcome == right.outcome
-        && same_output(&left.output, &right.output)
+        && same_optional(&left.output, &right.output)
         && left.place == right.place
 }
 
@@ -157,6 +171,8 @@ pub(crate) fn same_row(left: &StoredRow, right: &StoredRow) -> bool
         (StoredRow::Instance(left), StoredRow::Instance(right)) => same_instance(left, right),
         (StoredRow::Kept(left), StoredRow::Kept(right)) => same_call(left, right),
         (StoredRow::Batch(left), StoredRow::Batch(right)) => same_batch(left, right),
+        (StoredRow::VersionClass(left), StoredRow::VersionClass(right)) => same_class(left, right),
+        (StoredRow::UnitMark(left), StoredRow::UnitMark(right)) => same_mark(left, right),
         _ => false,
     }
 }

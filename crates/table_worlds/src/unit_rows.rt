@@ -6,20 +6,21 @@ ghost use Rattle.sched_book.specs.Numbered.{map_from};
 ghost use Rattle.sched_book.specs.Places.{status_of};
 ghost use Rattle.sched_book.specs.declared.instance.UnitBook.{UnitBook};
 ghost use Rattle.sched_book.specs.declared.world.World.{World};
-ghost use Rattle.table_meaning.specs.Worlds.{unit_row, instance_row};
+ghost use Rattle.table_meaning.specs.Worlds.{unit_row, mark_row, instance_row};
 ghost use Rattle.table_meaning.specs.declared.rows.StoredRow.TheVariants as stored;
 ghost use Rattle.table_worlds.specs.RowsOf.{rows_of_unit};
 
-use crate::rows::{app_place, instance_row, status_of, unit_row};
-use crate::sameness::{same_instance, same_unit};
-use sched_book::{Instance, Place, Status, Unavailable, UnitBook, World};
-use table_meaning::rows::{StoredInstance, StoredRow, StoredUnit};
+use crate::rows::{app_place, instance_row, mark_row, status_of, unit_row};
+use crate::sameness::{same_instance, same_mark, same_unit};
+use sched_book::{ClassRule, Instance, Place, Status, Unavailable, UnitBook, World};
+use table_meaning::rows::{StoredInstance, StoredRow, StoredUnit, StoredUnitMark};
 use texts::Listed;
 
-/// The rows of a workunit and of its instances in their order, as they were read.
+/// The rows of a workunit, of its mark, and of its instances in their order, as they were read.
 #[derive(Drop)]
 pub struct UnitRows {
     pub unit: StoredUnit,
+    pub mark: StoredUnitMark,
     pub instances: Listed<StoredInstance>,
 }
 
@@ -29,6 +30,16 @@ fn is_unit(own: &StoredRow, row: &StoredUnit) -> bool
 {
     match own {
         StoredRow::Unit(own) => same_unit(row, own),
+        _ => false,
+    }
+}
+
+/// Whether the row is this one of a mark.
+fn is_mark(own: &StoredRow, row: &StoredUnitMark) -> bool
+    ensures { Decides result (stored.UnitMark row.now ≡ own.now) }
+{
+    match own {
+        StoredRow::UnitMark(own) => same_mark(row, own),
         _ => false,
     }
 }
@@ -94,7 +105,15 @@ fn is_row_of_unit(
     Ok(is_unit(&own, row))
 }
 
-/// Whether these are the rows of a workunit of this number with its instances, where these are the applications of the
+/// Whether the row is that of the mark of a workunit of this number and of this rule.
+fn is_row_of_mark(id: u32, rule: &ClassRule, row: &StoredUnitMark) -> Result<bool, Unavailable>
+    ensures { (b : UnitBook) → b.unit.class_rule ≡ rule.now → IfOk result (λ same. Decides same (row.now ≡ mark_row id b)) }
+{
+    let own = mark_row(id, rule)?;
+    Ok(is_mark(&own, row))
+}
+
+/// Whether these are the rows of a workunit of this number with its mark and its instances, where these are the applications of the
 /// world. It is unavailable where memory is wanting, or a number is not one that a table can hold.
 pub fn are_unit_rows(
     world: &World,
@@ -106,11 +125,12 @@ pub fn are_unit_rows(
 {
     let status = status_of(world, book)?;
     let unit = is_row_of_unit(world, id, book, status, &rows.unit)?;
+    let mark = is_row_of_mark(id, &book.unit.class_rule, &rows.mark)?;
     let instances = are_instance_rows(
         id,
         status,
         book.instances.as_slice(),
         rows.instances.as_slice(),
     )?;
-    Ok(unit && instances)
+    Ok(unit && mark && instances)
 }

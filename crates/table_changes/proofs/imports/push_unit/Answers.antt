@@ -19,7 +19,8 @@ returns-clause-rows g c = λ honest kept v so_far.
     let stands = ap (has_app w.apps) (sym c.as_str.ensures) ∙ c.in_ok-app.ensures.stands honest kept in
     let agrees = c.in_ok-app.ensures.agreement honest kept ∙ ap (agreement_by w.apps) c.as_str.ensures in
     let first = first_status w v so_far.apps.0 c.in_ok-app.app.agreement s u so_far.apps.1 stands agrees c.in_ok-status.ensures in
-    let book = new_book w v c.args.count c.args.rows.now c.push.new.self c.push_fresh.new.rows n app s row u so_far c.in_ok-workunits.ensures place stands in
+    let mark = c.in_ok-mark_row.field-0 in
+    let book = new_book w v c.args.count c.args.rows.now c.push.new.self c.push-2.new.self c.push_fresh.new.rows n app s row mark u so_far c.in_ok-workunits.ensures place stands in
     let fresh = c.in_ok-push_fresh.ensures v (applied_one v (change.Workunit u)) (new_unit u) book refl first in
-    unit_added w v c.args.count c.args.rows.now c.push.new.self c.push_fresh.new.rows n app s row u so_far c.in_ok-workunits.ensures place stands
-    c.in_ok-unit_row.ensures first c.in_ok-push.ensures.ok fresh
+    unit_added w v c.args.count c.args.rows.now c.push.new.self c.push-2.new.self c.push_fresh.new.rows n app s row mark u so_far c.in_ok-workunits.ensures place stands
+    c.in_ok-unit_row.ensures c.in_ok-mark_row.ensures first c.in_ok-push.ensures.ok c.in_ok-push-2.ensures.ok fresh

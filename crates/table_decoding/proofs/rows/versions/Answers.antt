@@ -1,11 +1,15 @@
-use Rattle.std.proofs.Common.{rules}
-use Rattle.sched_book.specs.Sound.{IsSoundVersion}
-use Rattle.table_decoding.specs.Decoding.{of_version}
-use Rattle.table_worlds.proofs.ByPlace.{all_nth}
+use Rattle.std.proofs.Common.{map, ◌∙◌}
+use Rattle.sched_book.specs.declared.rows.Version.{Version}
+use Rattle.table_decoding.proofs.ClassesTold.{are_words, as_words}
+use Rattle.table_decoding.proofs.Refusals.{passed_on}
 use Rattle.table_decoding.proofs.rows.versions.Goals as goal
 
+pub returns-in_err-classes : goal.returns-in_err-classes
+returns-in_err-classes c = λ w apps all are classes.
+    passed_on c.from_residual.result w.versions c.in_err-classes.field-0.0 c.from_residual.ensures.1
+    (c.in_err-classes.ensures (map (λ (v : Version). v.class) w.versions) (are_words w.apps w.versions all) (classes ∙ as_words w.versions))
+
 pub returns : goal.returns
-returns c = λ w apps all are.
-    c.each.ensures (of_version w) w.versions
-    (λ id v told_as stands called. let sound : IsSoundVersion w.apps v = all_nth (IsSoundVersion w.apps) w.versions id v stands all in search rules)
-    are
+returns c = λ w apps all are classes.
+    let words = c.in_ok-classes.ensures (map (λ (v : Version). v.class) w.versions) (are_words w.apps w.versions all) (classes ∙ as_words w.versions) in
+    c.classed_versions.ensures w apps all (c.as_slice.ensures ∙ words) are

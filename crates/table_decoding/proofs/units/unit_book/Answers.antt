@@ -6,7 +6,7 @@ use Rattle.table_decoding.proofs.units.unit_book.Goals as goal
 pub returns-in_err-workunit : goal.returns-in_err-workunit
 returns-in_err-workunit c = λ w id b apps sound are.
     passed_on c.from_residual.result b c.in_err-workunit.field-0.0 c.from_residual.ensures.1
-    (c.in_err-workunit.ensures.given w id b apps sound.well.app sound.well.limits (ap (λ (r : UnitRows). r.unit) are))
+    (c.in_err-workunit.ensures.given w id b apps sound.well.app sound.well.limits (ap (λ (r : UnitRows). r.unit) are) (ap (λ (r : UnitRows). r.mark) are))
 
 pub returns-in_err-instances : goal.returns-in_err-instances
 returns-in_err-instances c = λ w id b apps sound are.
@@ -15,6 +15,6 @@ returns-in_err-instances c = λ w id b apps sound are.
 
 pub returns : goal.returns
 returns c = λ w id b apps sound are.
-    let unit = c.in_ok-workunit.ensures.given w id b apps sound.well.app sound.well.limits (ap (λ (r : UnitRows). r.unit) are) in
+    let unit = c.in_ok-workunit.ensures.given w id b apps sound.well.app sound.well.limits (ap (λ (r : UnitRows). r.unit) are) (ap (λ (r : UnitRows). r.mark) are) in
     let instances = c.in_ok-instances.ensures w b id sound.well.instances (c.as_slice.ensures ∙ ap (λ (r : UnitRows). r.instances) are) in
     λ i. record { unit = unit i; instances = instances i }

@@ -6,7 +6,7 @@ use Rattle.table_desk.specs.Asked.{Asked}
 use Rattle.table_desk.proofs.offers.unsent_from.Given as goal
 
 -- the offers so far lead to those from the next page on
-abbrev pub invariant-loop-page : goal.invariant-loop-page
-invariant-loop-page g l =
+abbrev pub invariant-loop-turn : goal.invariant-loop-turn
+invariant-loop-turn g l =
     Reads (state g.S.Store l.fn.conn) (state g.S.Store l.conn)
     × Asked g.S.Store l.fn.conn l.conn (λ w. l.apps ≡ w.apps → g.K.KnownUnits.are_of w l.known → Leads g.T.Taker.takes l.fn.taker (unsent w l.fn.from) l.taker (unsent w l.next))

@@ -9,5 +9,6 @@ use Rattle.table_rows.proofs.places.queued_from.Goals as goal
 pub returns-clause-queued : goal.returns-clause-queued
 returns-clause-queued g c clean contents places held are =
     let old = state g.S.Store (record c.args.conn.now { in_transaction = true }) in
-    IfOk-weaker c.places_shown.result (ShowsPlaces g.S.Store c.args.conn.now queued_text (whole c.args.from.unit ∷ whole c.args.from.number ∷ [])) _
-    (λ found shows. queued_shown old (state g.S.Store shows.1.0) contents held places are c.args.from shows.0 shows.1.1 found shows.2) (rw (c.whole.ensures, c.whole-2.ensures) at (c.places_shown.ensures.shown clean))
+    IfOk-weaker c.places_shown.result (ShowsPlaces g.S.Store c.args.conn.now (queued_text c.args.page) (whole c.args.from.unit ∷ whole c.args.from.number ∷ [])) _
+    (λ found shows. queued_shown old (state g.S.Store shows.1.0) contents held places are c.args.page c.args.from shows.0 shows.1.1 found shows.2)
+    (rw (c.queued_text.ensures, c.whole.ensures, c.whole-2.ensures) at (c.places_shown.ensures.shown clean))

@@ -8,3 +8,6 @@ returns-in-Host c = sym (ap (λ r. sql_put (table_at (key_of r))) c.in-Host.is)
 
 pub returns-in-Kept : goal.returns-in-Kept
 returns-in-Kept c = sym (ap (λ r. sql_put (table_at (key_of r))) c.in-Kept.is)
+
+pub returns-in-UnitMark : goal.returns-in-UnitMark
+returns-in-UnitMark c = sym (ap (λ r. sql_put (table_at (key_of r))) c.in-UnitMark.is)

@@ -1,52 +1,27 @@
-use Rattle.std.proofs.Common.{◌≡◌, IsTrue, refl, sym, subst, rules, arith}
+use Rattle.std.proofs.Common.{◌≡◌, IsTrue, sym, subst, rules}
+use Rattle.std.proofs.lemmas.Result.{on_ok_weaker}
 use Rattle.sqlite_trees.specs.Tree.{Trees}
 use Rattle.sqlite.specs.Effect.{Database}
 use Rattle.sqlite.specs.Held.{state}
-use Rattle.sqlite.specs.State.{HasCleanDisk, Survives}
-use Rattle.sqlite.proofs.StateLemmas.{survives_then}
-use Rattle.sqlite.proofs.Callers.{survives_begin}
+use Rattle.sqlite.specs.State.{Survives}
 use Rattle.table_meaning.specs.Schema.{schema_at}
-use Rattle.table_meaning.specs.Upgrades.{Upgrades}
+use Rattle.table_meaning.specs.Upgrades.{IsLeftBehind}
+use Rattle.table_rows.proofs.Upgraded.{third_alone, one_stopped}
 use Rattle.table_rows.proofs.upgrading.upgrade_from.Goals as goal
+
+pub returns-then-schema-eq1-clause-crash : goal.returns-then-schema-eq1-clause-crash
+returns-then-schema-eq1-clause-crash g c =
+    let old = state g.S.Store c.args.conn.now in
+    let new = state g.S.Store c.upgrade_first.new.conn in
+    let one : c.args.schema ≡ 1 = search rules in
+    subst (λ n. Survives old new (λ (trees : Trees). IsTrue old.is_open × (db : Database) × (old.now.schema ≡ schema_at n → IsLeftBehind old.now db) × (trees ≡ db.trees))) (sym one) c.upgrade_first.ensures.crash
 
 pub returns-clause-upgrades : goal.returns-clause-upgrades
 returns-clause-upgrades g c clean is =
-    let old = (state g.S.Store c.args.conn.now).now in
-    let mid = c.upgrade_tables.new.tx.conn.now in
-    let end = c.commit.new.self.0 in
-    let begun = c.transaction-tx.ensures.begun in
-    let same : end ≡ c.conn-2-1.given.0 = search rules in
-    let late : HasCleanDisk (state g.S.Store end) = search rules in
-    let early : HasCleanDisk (state g.S.Store mid) = omega (arith, c.commit.ensures.survives.clean) in
-    let made = (rw begun at c.in_ok-upgrade_tables.ensures.upgrades) early refl is in
-    subst (λ h. Upgrades old (state g.S.Store h).committed) same (subst (Upgrades old) (sym (c.in_ok-commit.ensures.ok late).1.committed_is) made)
+    let later : ¬ (c.args.schema ≡ 1) = search rules in
+    on_ok_weaker c.upgrade_step.result (third_alone c.args.schema c.requires later (state g.S.Store c.args.conn.now).now (state g.S.Store c.upgrade_step.new.conn).committed is) (c.upgrade_step.ensures.makes clean)
 
 pub returns-clause-crash : goal.returns-clause-crash
 returns-clause-crash g c =
-    let old = c.args.conn.now in
-    let mid = c.upgrade_tables.new.tx.conn.now in
-    let end = c.commit.new.self.0 in
-    let begun = c.transaction-tx.ensures.begun in
-    let same : end ≡ c.conn-2-1.given.0 = search rules in
-    let P = λ (trees : Trees). IsTrue (state g.S.Store old).is_open × (db : Database) × ((state g.S.Store old).now.schema ≡ schema_at c.args.schema → Upgrades (state g.S.Store old).now db) × (trees ≡ db.trees) in
-    let whole = survives_then (state g.S.Store old) (state g.S.Store mid) (state g.S.Store end) _ _ P (λ _ db none. absurd none)
-    (λ clean db is.
-    let early : HasCleanDisk (state g.S.Store mid) = omega (arith, c.commit.ensures.survives.clean) in
-    ((rw begun at c.in_ok-upgrade_tables.ensures.was_open) early, _, (rw begun at c.in_ok-upgrade_tables.ensures.upgrades) early refl, is))
-    (survives_begin g.S.Store old (state g.S.Store mid) _ (rw begun at c.upgrade_tables.ensures.survives)) c.commit.ensures.survives in
-    subst (λ h. Survives (state g.S.Store old) (state g.S.Store h) P) same whole
-
-pub returns-in_err-commit-clause-crash : goal.returns-in_err-commit-clause-crash
-returns-in_err-commit-clause-crash g c =
-    let old = c.args.conn.now in
-    let mid = c.upgrade_tables.new.tx.conn.now in
-    let end = c.commit.new.self.0 in
-    let begun = c.transaction-tx.ensures.begun in
-    let same : end ≡ c.conn-2-1.given.0 = search rules in
-    let P = λ (trees : Trees). IsTrue (state g.S.Store old).is_open × (db : Database) × ((state g.S.Store old).now.schema ≡ schema_at c.args.schema → Upgrades (state g.S.Store old).now db) × (trees ≡ db.trees) in
-    let whole = survives_then (state g.S.Store old) (state g.S.Store mid) (state g.S.Store end) _ _ P (λ _ db none. absurd none)
-    (λ clean db is.
-    let early : HasCleanDisk (state g.S.Store mid) = omega (arith, c.commit.ensures.survives.clean) in
-    ((rw begun at c.in_ok-upgrade_tables.ensures.was_open) early, _, (rw begun at c.in_ok-upgrade_tables.ensures.upgrades) early refl, is))
-    (survives_begin g.S.Store old (state g.S.Store mid) _ (rw begun at c.upgrade_tables.ensures.survives)) c.commit.ensures.survives in
-    subst (λ h. Survives (state g.S.Store old) (state g.S.Store h) P) same whole
+    let later : ¬ (c.args.schema ≡ 1) = search rules in
+    one_stopped c.args.schema c.requires later (state g.S.Store c.args.conn.now) (state g.S.Store c.upgrade_step.new.conn) c.upgrade_step.ensures.crash

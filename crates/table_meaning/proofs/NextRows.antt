@@ -1,4 +1,4 @@
--- The calls of the first schema, copied one after another: which host is next, and what the copy of its call makes of the tables.
+-- The rows of a table by their numbers, one after another: which is next.
 use Rattle.std.proofs.Common.{◌≡◌, ℕ, ◌≤◌, pos, ◌<ℤ◌, Bool, true, false, cond, List, [], ◌∷◌, map, find, slice_get, codes, Option, Some, None, option_map, unwrap_or, refl, sym, ap, subst, ◌∙◌, arith, int_eq, int_le}
 use Rattle.std.proofs.lemmas.Int.{ints}
 use Rattle.std.proofs.lemmas.Option.{none-some}
@@ -12,23 +12,28 @@ use Rattle.sqlite_trees.specs.View.{IsShaped}
 use Rattle.sqlite_sql.specs.declared.ops.BinaryOp.TheVariants.{Compare}
 use Rattle.sqlite_sql.specs.declared.ops.CompareOp.TheVariants.{Eq, Ge}
 use Rattle.sqlite_sql.specs.Term.{Term, lit, col, op2}
+use Rattle.sqlite_sql.specs.Program.{overlay}
 use Rattle.sqlite_schema.specs.declared.command.Command.TheVariants.{Select}
-use Rattle.sqlite_schema.specs.Rules.{agree}
+use Rattle.sqlite_schema.specs.Rules.{agree, equal}
 use Rattle.sqlite_rules.specs.Edit.{id_in}
+use Rattle.sqlite_rules.specs.Lists.{Has}
+use Rattle.sqlite_rules.proofs.ListLemmas.{all_has}
+use Rattle.sqlite_rules.proofs.TableLemmas.{int_is}
 use Rattle.sqlite_keyed.specs.Keyed.{IsKeyedBy, get_by}
 use Rattle.sqlite_keyed.proofs.ListLemmas.{all_weaker}
-use Rattle.sqlite_keyed.proofs.KeyedLemmas.{none_past}
+use Rattle.sqlite_keyed.proofs.KeyedLemmas.{none_past, same_int}
 use Rattle.sqlite_typed.proofs.AnswerLemmas.{first_shown}
 use Rattle.sqlite_typed.proofs.TestLemmas.{at_ints, last_term}
 use Rattle.sqlite_tied.specs.Compute.{everything}
 use Rattle.sqlite.specs.State.{State, Shown}
 use Rattle.sqlite.specs.Listing.{understood, reads_listing}
 use Rattle.sqlite.proofs.Callers.{IsPlain, command_of, reads_as}
-use Rattle.table_meaning.specs.Layouts.{former_kept, places_in}
-use Rattle.table_meaning.specs.Schema.{stored_schema}
+use Rattle.table_meaning.specs.declared.tables.Fill.{Fill}
+use Rattle.table_meaning.specs.declared.tables.Fill.TheVariants.{Calls, Classes, Marks}
+use Rattle.table_meaning.specs.Layouts.{Layout, places_in}
+use Rattle.table_meaning.specs.Schema.{schema_at}
 use Rattle.table_meaning.specs.Rows.{whole}
-use Rattle.table_meaning.specs.Holding.{AreKnown}
-use Rattle.table_meaning.specs.Upgrades.{former_call, next_caller_text, IsNextCaller}
+use Rattle.table_meaning.specs.Fills.{source_of, schema_with, next_text, numbered_row, IsNextRow}
 use Rattle.table_meaning.proofs.Reading.{Numbered, as_row, parted, as_rows, numbers_rise, projecting_query, projected_rows}
 use Rattle.table_meaning.proofs.Listings.{find-map}
 use Rattle.table_meaning.proofs.StepLemmas.{unchanged_shown}
@@ -42,6 +47,17 @@ is_of host r = agree plain (0 ∷ []) r (0 ∷ []) (whole host ∷ [])
 is_of_number : (host : ℕ) (x : Numbered) → is_of host (as_row x) ≡ int_eq x.0 (pos host)
 unfolding first_key
 is_of_number host x = last_term (at_ints false Eq x.0 (pos host))
+
+module _ (rows : List Row) (shaped : IsShaped TableTree rows) (n : ℕ) (x : Row) (has : Has rows x) where
+  pub int_number : rowid x ≡ Int (id_in (rowid x))
+  int_number = int_is (rowid x) (all_has _ rows x shaped.1 has)
+
+  pub is_of_int : is_of n x ≡ int_eq (id_in (rowid x)) (pos n)
+  unfolding first_key
+  is_of_int = last_term (ap (λ v. equal Binary v (whole n)) int_number ∙ at_ints false Eq (id_in (rowid x)) (pos n))
+
+  pub number_is : is_of n x ≡ true → rowid x ≡ whole n
+  number_is same = int_number ∙ ap Int (same_int _ _ (sym is_of_int ∙ same))
 
 abbrev is_from : ℕ → Row → Bool
 is_from from r = int_le (pos from) (id_in (rowid r))
@@ -69,39 +85,39 @@ first_passes (x ∷ xs) from y found = go (int_le (pos from) x.0) refl found (fi
     go true passes here more = subst (λ (z : Numbered). int_le (pos from) z.0 ≡ true) (ap (λ o. unwrap_or o x) here) passes
     go false low here more = more here
 
-module _ (trees : Trees) (shaped : IsShaped TableTree (trees former_kept.tree)) where
+module _ (l : Layout) (trees : Trees) (shaped : IsShaped TableTree (trees l.tree)) where
   abbrev in_turn : List Numbered
-  in_turn = map parted (trees former_kept.tree)
+  in_turn = map parted (trees l.tree)
 
-  is : trees former_kept.tree ≡ map as_row in_turn
-  is = as_rows (trees former_kept.tree) shaped.1
+  is : trees l.tree ≡ map as_row in_turn
+  is = as_rows (trees l.tree) shaped.1
 
   keyed : IsKeyedBy (λ (x : Numbered). x.0) in_turn
   keyed = numbers_rise in_turn (subst IsTable is shaped.0)
 
   -- the row that a number has
-  found_at : (host : ℕ) → find (is_of host) (trees former_kept.tree) ≡ option_map as_row (get_by (λ (x : Numbered). x.0) in_turn (pos host))
+  found_at : (host : ℕ) → find (is_of host) (trees l.tree) ≡ option_map as_row (get_by (λ (x : Numbered). x.0) in_turn (pos host))
   found_at host = ap (find (is_of host)) is ∙ find-map as_row (is_of host) _ (is_of_number host) in_turn
 
-  found_from : (from : ℕ) → find (is_from from) (trees former_kept.tree) ≡ option_map as_row (find (λ x. int_le (pos from) x.0) in_turn)
+  found_from : (from : ℕ) → find (is_from from) (trees l.tree) ≡ option_map as_row (find (λ x. int_le (pos from) x.0) in_turn)
   found_from from = ap (find (is_from from)) is ∙ find-map as_row (is_from from) _ (λ x. refl) in_turn
 
 -- ---- the next one
 
 -- what is found of the numbers tells who is next
-module _ (trees : Trees) (shaped : IsShaped TableTree (trees former_kept.tree)) (from : ℕ) where
-  none_at : (host : ℕ) → from ≤ host → ((y : Numbered) → find (λ x. int_le (pos from) x.0) (in_turn trees shaped) ≡ Some y → pos host <ℤ y.0) → former_call trees host ≡ None
+module _ (l : Layout) (trees : Trees) (shaped : IsShaped TableTree (trees l.tree)) (from : ℕ) where
+  none_at : (host : ℕ) → from ≤ host → ((y : Numbered) → find (λ x. int_le (pos from) x.0) (in_turn l trees shaped) ≡ Some y → pos host <ℤ y.0) → numbered_row l trees host ≡ None
   none_at host le before =
-      ap (option_map (λ row. map (column row) (places_in former_kept))) (found_at trees shaped host ∙ ap (option_map as_row) (none_before (in_turn trees shaped) (keyed trees shaped) from host le before))
+      ap (option_map (λ row. map (column row) (places_in l))) (found_at l trees shaped host ∙ ap (option_map as_row) (none_before (in_turn l trees shaped) (keyed l trees shaped) from host le before))
 
-  next_found : (first : Option Numbered) (next : Option ℕ) → find (λ (x : Numbered). int_le (pos from) x.0) (in_turn trees shaped) ≡ first → option_map whole next ≡ option_map (λ (x : Numbered). Int x.0) first
-      → IsNextCaller trees from next
+  next_found : (first : Option Numbered) (next : Option ℕ) → find (λ (x : Numbered). int_le (pos from) x.0) (in_turn l trees shaped) ≡ first → option_map whole next ≡ option_map (λ (x : Numbered). Int x.0) first
+      → IsNextRow l trees from next
   next_found None None found same = λ host le. none_at host le (λ y is. absurd (none-some y (sym found ∙ is)))
   next_found (Some x) None found same = absurd (none-some _ same)
   next_found None (Some next) found same = absurd (none-some _ (sym same))
   next_found (Some x) (Some next) found same =
       let is_next : pos next ≡ x.0 = ap (λ o. id_in (unwrap_or o Null)) same in
-      let passes = first_passes (in_turn trees shaped) from x found in (
+      let passes = first_passes (in_turn l trees shaped) from x found in (
         grind (arith, ints),
         λ host le lt. none_at host le (λ y is.
             let one : x ≡ y = ap (λ o. unwrap_or o x) (sym found ∙ is) in
@@ -111,23 +127,41 @@ module _ (trees : Trees) (shaped : IsShaped TableTree (trees former_kept.tree)) 
 abbrev next_terms : List Term
 next_terms = op2 (Compare Ge Binary) (col 1 0) (col 0 0) ∷ []
 
-next_is_read : (command_of (understood stored_schema next_caller_text) ≡ Select (record { lets = []; body = projecting_query 14 next_terms (col 1 0 ∷ []) [] (lit (Int (pos 1))) }) (codes "host_id" ∷ []))
-    × IsPlain (understood stored_schema next_caller_text) × (reads_listing stored_schema next_caller_text ≡ false)
+-- the name of the number
+abbrev number_name : Fill → List ℕ
+number_name Calls = codes "host_id"
+number_name Classes = codes "id"
+number_name Marks = codes "id"
+
+record Computed (f : Fill) : Type 0 where
+  reads : command_of (understood (schema_at (schema_with f)) (next_text f))
+      ≡ Select (record { lets = []; body = projecting_query (source_of f).tree next_terms (col 1 0 ∷ []) [] (lit (Int (pos 1))) }) (number_name f ∷ [])
+  plain_text : IsPlain (understood (schema_at (schema_with f)) (next_text f))
+  unlisted : reads_listing (schema_at (schema_with f)) (next_text f) ≡ false
+  own : (trees : Trees) → overlay trees [] (source_of f).tree ≡ trees (source_of f).tree
+
+computed : (f : Fill) → Computed f
 unfolding understood everything
-next_is_read = (refl, (refl, refl), refl)
+computed f = elim f as Computed [
+  | Calls ↦ record { reads = refl; plain_text = (refl, refl); unlisted = refl; own = λ trees. refl }
+  | Classes ↦ record { reads = refl; plain_text = (refl, refl); unlisted = refl; own = λ trees. refl }
+  | Marks ↦ record { reads = refl; plain_text = (refl, refl); unlisted = refl; own = λ trees. refl }
+]
 
 first_number : (first : Option Numbered) → option_map (λ r. column r 0) (option_map (λ r. column r 0 ∷ []) (option_map as_row first)) ≡ option_map (λ (x : Numbered). Int x.0) first
 first_number None = refl
 first_number (Some x) = refl
 
--- the text of the next host changes nothing, and tells who is next
-pub next_told : (old new : State) → AreKnown old.now → IsShaped TableTree (old.now.trees former_kept.tree) → (from : ℕ) (rows : List Row) → Shown next_caller_text (whole from ∷ []) old new rows
-    → (next : Option ℕ) → option_map whole next ≡ option_map (λ r. column r 0) (slice_get rows 0) → (new.now ≡ old.now) × IsNextCaller old.now.trees from next
-next_told old new known shaped from rows h next told =
+-- the text of the next row changes nothing, and tells which is next
+pub next_told : (f : Fill) (old new : State) → old.now.schema ≡ schema_at (schema_with f) → IsShaped TableTree (old.now.trees (source_of f).tree) → (from : ℕ) (rows : List Row) → Shown (next_text f) (whole from ∷ []) old new rows
+    → (next : Option ℕ) → option_map whole next ≡ option_map (λ r. column r 0) (slice_get rows 0) → (new.now ≡ old.now) × IsNextRow (source_of f) old.now.trees from next
+next_told f old new known shaped from rows h next told =
+    let l = source_of f in
     let trees = old.now.trees in
+    let it = computed f in
     let show = λ (r : Row). column r 0 ∷ [] in
-    let read = reads_as next_caller_text (whole from ∷ []) old new stored_schema known.schema _ next_is_read.0 next_is_read.1 next_is_read.2 rows h in
-    let paged = projected_rows trees 14 next_terms (whole from ∷ []) (is_from from) refl shaped (λ n. last_term (at_ints false Ge n.0 (pos from))) (col 1 0 ∷ []) [] (lit (Int (pos 1))) rows (read.answer Null) in
-    let first = first_shown show (is_from from) (trees 14) paged ∙ ap (option_map show) (found_from trees shaped from) in
-    let plain = subst (λ s. IsPlain (understood s next_caller_text)) (sym known.schema) next_is_read.1 in
-    ((unchanged_shown next_caller_text (whole from ∷ []) old new rows plain h).0.now_is, next_found trees shaped from _ next refl (told ∙ ap (option_map (λ r. column r 0)) first ∙ first_number _))
+    let read = reads_as (next_text f) (whole from ∷ []) old new (schema_at (schema_with f)) known _ it.reads it.plain_text it.unlisted rows h in
+    let paged = projected_rows trees l.tree next_terms (whole from ∷ []) (is_from from) (it.own trees) shaped (λ n. last_term (at_ints false Ge n.0 (pos from))) (col 1 0 ∷ []) [] (lit (Int (pos 1))) rows (read.answer Null) in
+    let first = first_shown show (is_from from) (trees l.tree) paged ∙ ap (option_map show) (found_from l trees shaped from) in
+    let plain = subst (λ s. IsPlain (understood s (next_text f))) (sym known) it.plain_text in
+    ((unchanged_shown (next_text f) (whole from ∷ []) old new rows plain h).0.now_is, next_found l trees shaped from _ next refl (told ∙ ap (option_map (λ r. column r 0)) first ∙ first_number _))

@@ -2,9 +2,9 @@ use Rattle.std.proofs.Common.{◌≡◌, IsTrue, Some, None, option_map, slice_g
 use Rattle.sqlite_value.specs.Order.{column}
 use Rattle.sqlite.specs.Held.{state}
 use Rattle.table_meaning.specs.Rows.{whole}
-use Rattle.table_meaning.proofs.FormerCalls.{next_told}
+use Rattle.table_meaning.proofs.NextRows.{next_told}
 use Rattle.table_meaning.proofs.StepLemmas.{kept_shown, kept_failed, inside_shown}
-use Rattle.table_rows.proofs.upgrading.next_caller.Goals as goal
+use Rattle.table_rows.proofs.upgrading.next_number.Goals as goal
 
 pub returns-in_err-rows-clause-kept : goal.returns-in_err-rows-clause-kept
 returns-in_err-rows-clause-kept g c clean inside = kept_failed _ _ _ _ _ (c.in_err-rows.ensures.err clean)
@@ -21,7 +21,7 @@ returns-in_default-clause-next g c clean known shaped =
     let new = state g.S.Store c.query_all.new.self.conn.now in
     let rows = c.in_ok-rows.rows.items in
     let none : None ≡ option_map (λ r. column r 0) (slice_get rows 0) = search rules in
-    next_told old new known shaped c.args.from rows (rw c.whole.ensures at (c.in_ok-rows.ensures.ok clean)) None none
+    next_told c.args.fill old new known shaped c.args.from rows (rw (c.whole.ensures, c.next_text.ensures) at (c.in_ok-rows.ensures.ok clean)) None none
 
 pub returns-in_default-whole-clause-kept : goal.returns-in_default-whole-clause-kept
 returns-in_default-whole-clause-kept g c clean inside = kept_shown _ _ _ _ _ inside (c.in_ok-rows.ensures.ok clean)
@@ -37,5 +37,5 @@ returns-clause-next g c clean known shaped =
     let old = state g.S.Store c.args.tx.now.conn.now in
     let new = state g.S.Store c.query_all.new.self.conn.now in
     let rows = c.in_ok-rows.rows.items in
-    let first : Some (whole c.in-Ok.host) ≡ option_map (λ r. column r 0) (slice_get rows 0) = search rules in
-    next_told old new known shaped c.args.from rows (rw c.whole.ensures at (c.in_ok-rows.ensures.ok clean)) (Some c.in-Ok.host) first
+    let first : Some (whole c.in-Ok.number) ≡ option_map (λ r. column r 0) (slice_get rows 0) = search rules in
+    next_told c.args.fill old new known shaped c.args.from rows (rw (c.whole.ensures, c.next_text.ensures) at (c.in_ok-rows.ensures.ok clean)) (Some c.in-Ok.number) first

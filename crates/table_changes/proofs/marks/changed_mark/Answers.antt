@@ -1,0 +1,16 @@
+use Rattle.std.proofs.Common.{rules, subst}
+use Rattle.std.specs.Option.{option_copied}
+use Rattle.call_sheet.specs.Sheets.{IsLeafAt}
+use Rattle.table_changes.proofs.PageRows.{mark_changed, mark_stays, mark_unread}
+use Rattle.table_changes.proofs.marks.changed_mark.Goals as goal
+
+pub returns-in_default : goal.returns-in_default
+returns-in_default c = λ w v at. mark_unread w v c.args.unit (subst (λ o. IsLeafAt w v c.args.unit (option_copied o)) c.in_default.is at)
+
+pub returns-then-same_rule : goal.returns-then-same_rule
+returns-then-same_rule c = λ w v at.
+    mark_stays w v c.args.unit c.in-Some.leaf.now (subst (λ o. IsLeafAt w v c.args.unit (option_copied o)) c.in-Some.is at) (c.same_rule.ensures c.if-same_rule.true)
+
+pub returns : goal.returns
+returns c = λ w v at.
+    mark_changed w v c.args.unit c.in-Some.leaf.now c.in_ok-mark_row.field-0 (subst (λ o. IsLeafAt w v c.args.unit (option_copied o)) c.in-Some.is at) c.in_ok-mark_row.ensures

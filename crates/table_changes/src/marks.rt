@@ -1,0 +1,56 @@
+//! The rows of the marks of workunits that a call gave a class.
+
+ghost use Rattle.std.specs.Prelude.{◌≡◌, IsTrue, IfOk, OnOk};
+ghost use Rattle.std.specs.Option.{option_copied};
+ghost use Rattle.sched_book.specs.Delta.{applied};
+ghost use Rattle.sched_book.specs.declared.world.World.{World};
+ghost use Rattle.call_sheet.specs.Sheets.{IsLeafAt, IsPageOf};
+ghost use Rattle.table_worlds.specs.Changes.{IsChange};
+ghost use Rattle.table_worlds.specs.Keys.{row_in};
+ghost use Rattle.table_worlds.specs.declared.keys.WorldKey.TheVariants as key;
+ghost use Rattle.table_changes.specs.Added.{is_mark_among, AreAdded};
+
+use call_sheet::{Leaf, Page};
+use sched_book::{ClassRule, Unavailable};
+use table_meaning::rows::StoredRow;
+use table_worlds::mark_row;
+use texts::Listed;
+
+fn same_rule(left: &ClassRule, right: &ClassRule) -> bool
+    ensures { IsTrue result → left.now ≡ right.now }
+{
+    match (left, right) {
+        (ClassRule::Any, ClassRule::Any) | (ClassRule::OfFirst, ClassRule::OfFirst) => true,
+        (ClassRule::Only(left), ClassRule::Only(right)) => left.is(right.as_str()),
+        _ => false,
+    }
+}
+
+/// The row of the mark of the workunit at a place, where its rule is another than before.
+fn changed_mark(unit: u32, leaf: Option<&Leaf>) -> Result<Option<StoredRow>, Unavailable>
+    ensures { (w v : World) → IsLeafAt w v unit (option_copied leaf.entry)
+        → IfOk result (IsChange (row_in w (key.Mark unit)) (row_in v (key.Mark unit))) }
+{
+    let Some(leaf) = leaf else {
+        return Ok(None);
+    };
+    if same_rule(&leaf.unit.class_rule, &leaf.rule) {
+        return Ok(None);
+    }
+    Ok(Some(mark_row(unit, &leaf.rule)?))
+}
+
+/// Puts behind the others the rows of the marks of those of the workunits whose rule is another than before.
+pub(crate) fn push_marks(
+    page: &Page,
+    units: &[u32],
+    rows: &mut Listed<StoredRow>,
+) -> Result<(), Unavailable>
+    ensures { (w : World) → IsPageOf w page.now
+        → OnOk result (AreAdded (is_mark_among units.now) w (applied w page.now.delta) rows.old rows.new) }
+{
+    for unit in units {
+        rows.push_some(changed_mark(*unit, page.leaf(*unit))?)?;
+    }
+    Ok(())
+}
