@@ -11,7 +11,7 @@ from bisect import bisect_left
 from collections import Counter
 from dataclasses import dataclass, field
 
-from plain_formats import KINDS, NUMBER, Refused, is_word, moment, read_json, record_of, rows_of, text
+from plain_formats import FURTHER, KINDS, NUMBER, Refused, is_word, moment, read_json, record_of, rows_of, text
 
 SETTINGS = {
     "daily_result_quota": 4,
@@ -57,6 +57,8 @@ class Unit:
         self.place, self.name, self.app = place, row[0], row[1]
         for column, said in zip(list(KINDS["workunits"][0])[2:], row[2:]):
             setattr(self, column, int(said))
+        self.marked = row[12] == "1"
+        self.version_class = None  # that of the version with which the first instance was granted, where it is marked
         self.status = "open"  # open, done, errors, success or total: the last three are failures
         self.instances = []
         self.judged = []  # the instances whose reports were judged, by the places of these
@@ -169,7 +171,7 @@ class Machine:
         self.settings = settings
         self.hosts = {}  # by key
         self.rows = {kind: {} for kind in KINDS}  # what stands of each kind, by name
-        self.newest = {}  # the greatest number of a version by app and platform
+        self.newest = {}  # the greatest number of a version by app and platform, with its class
         self.places = []  # the workunits by place
         self.queued = []  # the places of open workunits with an instance that nobody owns, in order
 
@@ -181,7 +183,7 @@ class Machine:
             self.rows[kind][name] = row[1]
         elif kind == "versions":
             self.rows[kind][name] = number = int(row[2])
-            self.newest[row[0], row[1]] = max(number, self.newest.get((row[0], row[1]), 0))
+            self.newest[row[0], row[1]] = max((number, row[3]), self.newest.get((row[0], row[1]), (0, "")))
         else:
             self.rows[kind][name] = unit = Unit(len(self.places), row)
             self.places.append(unit)
@@ -207,19 +209,22 @@ class Machine:
         return instance if instance.host is host else None
 
     def version(self, host, app):
-        """The newest version at the first of the host's platforms that has any, and that platform."""
+        """The newest version at the first of the host's platforms that has any: its number, that platform and its class."""
         for platform in host.platforms:
             if (app, platform) in self.newest:
-                return self.newest[app, platform], platform
+                number, version_class = self.newest[app, platform]
+                return number, platform, version_class
         return None
 
     def fits(self, host, unit):
-        """Whether the host can run the workunit in time."""
+        """Whether the host can run the workunit in time, by a version of the class that it keeps to."""
+        version = self.version(host, unit.app)
         return (
             unit.rsc_memory_bound <= host.facts["m_nbytes"]
             and unit.rsc_disk_bound <= host.facts["d_free"]
             and estimate(unit, host) <= unit.delay_bound
-            and self.version(host, unit.app) is not None
+            and version is not None
+            and unit.version_class in (None, version[2])
         )
 
     def settle_all(self, touched, charges):
@@ -295,16 +300,18 @@ class Machine:
             seconds += estimate(unit, host)
 
     def send(self, host, instance, now):
-        """The host becomes the owner of the instance."""
+        """The host becomes the owner of the instance, and a marked workunit takes the class of the version if it has none."""
         instance.host, instance.sent, instance.deadline = host, now, now + instance.unit.delay_bound
         host.held.append(instance)
         host.sent[now // 86400] += 1
         host.account.units.add(instance.unit.name)
+        if instance.unit.marked and instance.unit.version_class is None:
+            instance.unit.version_class = self.version(host, instance.unit.app)[2]
         self.requeue(instance.unit)
 
     def job(self, host, instance, resent):
         """What a reply says of a job."""
-        number, platform = self.version(host, instance.unit.app)
+        number, platform, _ = self.version(host, instance.unit.app)
         return {
             "app_name": instance.unit.app,
             "estimate": estimate(instance.unit, host),

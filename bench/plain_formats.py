@@ -170,6 +170,11 @@ def is_user_name(row, said):
     return is_text(1, 64)(said)
 
 
+def is_mark(row, said):
+    """The test of a column for a mark."""
+    return said in ("0", "1")
+
+
 def is_agreement(row, said):
     """The test of a column for the way in which outputs agree."""
     return said == "exact" or (said.startswith("within:") and is_count(0, 10**9)(row, said[7:]))
@@ -195,14 +200,23 @@ KINDS = {
         1, 1, 200000,
     ),
 }
+# of some kinds the column that a longer header has behind these, with its test; and what it says under the shorter one
+FURTHER = {
+    "versions": ("version_class", is_name, lambda row: row[1]),
+    "workunits": ("marked", is_mark, lambda row: "0"),
+}
 csv.field_size_limit(2**21)
 
 
 def rows_of(kind, said):
-    """The data rows of an import, each a list of texts."""
+    """The data rows of an import, each a list of texts, with what the longer header's column says."""
     columns = KINDS[kind][0]
+    further, test, otherwise = FURTHER.get(kind, (None, None, None))
     lines = io.StringIO(said.removeprefix("\ufeff"), newline="")
     records = [record for record in csv.reader(lines) if record]
+    is_longer = bool(records) and further is not None and len(records[0]) == len(columns) + 1
+    if is_longer:
+        columns = {**columns, further: test}
     if not records or len(records[0]) != len(columns):
         raise Refused(400, 14, "bad_csv", row=0, column=0)
     for column, (name, told) in enumerate(zip(columns, records[0]), 1):
@@ -214,7 +228,9 @@ def rows_of(kind, said):
         for column, (test, told) in enumerate(zip(columns.values(), row), 1):
             if not test(row, told):
                 raise Refused(400, 14, "bad_csv", row=number, column=column)
-    return records[1:]
+    if further is None or is_longer:
+        return records[1:]
+    return [[*row, otherwise(row)] for row in records[1:]]
 
 
 # ---- Instants

@@ -4,9 +4,9 @@
 usage: plain_tables.py [--once] TABLES PORT
        plain_tables.py --upgrade TABLES
 Serves the tables of a file, which stand, on 127.0.0.1, one connection after the other, over a blocking socket. It prints the
-port once it listens. docs/PROFILE.md states the formats, the rules and the stored tables; the rules of one workunit are
-those of plain.py. A message with a field `x-moment` is acted on as of that second. With --upgrade it carries tables of the
-first schema over to the second.
+port once it listens. docs/PROFILE.md states the formats and the rules, docs/STORED.md the stored tables; the rules of one
+workunit are those of plain.py. A message with a field `x-moment` is acted on as of that second. With --upgrade it carries
+tables of the first schema over to the newest.
 
 It keeps settings and applications beside the tables and looks all else up by the statements of the proved program, as
 often as the program does: rows of workunits, instances and hosts, and the account and the version read last, are kept
@@ -54,6 +54,11 @@ SECOND_SCHEMA = """
 CREATE TABLE kept4 (host_id INTEGER NOT NULL REFERENCES host, slot INTEGER NOT NULL, seqno INTEGER NOT NULL,
   text TEXT NOT NULL, reply TEXT NOT NULL, PRIMARY KEY (host_id, slot)) STRICT;
 """
+# what the third schema has beside these
+THIRD_SCHEMA = """
+CREATE TABLE version_class (version_id INTEGER PRIMARY KEY REFERENCES version, class TEXT NOT NULL) STRICT;
+CREATE TABLE unit_mark (unit_id INTEGER PRIMARY KEY REFERENCES unit, marked INTEGER NOT NULL, class TEXT) STRICT;
+"""
 # of each table its columns, and how many of them, from the first on, are the key of a row
 COLUMNS = {
     "setting": ("name, value", 1),
@@ -68,8 +73,12 @@ COLUMNS = {
     "instance": ("unit_id, num, host_id, sent, deadline, lapse, outcome, output, place, queued", 2),
     "kept4": ("host_id, slot, seqno, text, reply", 2),
     "batch": ("kind, name, text, answer", 2),
+    "version_class": ("version_id, class", 1),
+    "unit_mark": ("unit_id, marked, class", 1),
 }
+NEW_TABLES = ("kept4", "version_class", "unit_mark")  # which the first schema has not
 PLACES = "SELECT unit_id, num FROM instance WHERE unit_id > 0 AND num >= 0 AND "
+FIRST_PAGE, FURTHER_PAGE = 8, 64  # so many places of what waits are asked at a time
 # what is looked up, by its kind
 LOOK_UPS = {
     "account by authenticator": "SELECT id, auth, name FROM account WHERE id > 0 AND auth = ?1 ORDER BY id",
@@ -84,11 +93,17 @@ LOOK_UPS = {
     "credit of a user": "SELECT credit FROM host WHERE id > 0 AND account_id = ?1 ORDER BY id",
     "workunit by name": "SELECT id FROM unit WHERE id > 0 AND name = ?1 ORDER BY id",
     "workunit": f"SELECT {COLUMNS['unit'][0]} FROM unit WHERE id = ?1 ORDER BY id",
+    "mark of a workunit": f"SELECT {COLUMNS['unit_mark'][0]} FROM unit_mark WHERE unit_id = ?1 ORDER BY unit_id",
     "instances of a workunit": f"SELECT {COLUMNS['instance'][0]} FROM instance "
     "WHERE unit_id > 0 AND num >= 0 AND unit_id = ?1 ORDER BY unit_id, num",
     "version for a platform": "SELECT num FROM version WHERE id > 0 AND app_id = ?1 AND platform = ?2 ORDER BY id",
-    "what waits, 64 places": f"{PLACES}queued = 1 AND unit_id >= ?1 AND (unit_id > ?1 OR num >= ?2) "
-    "ORDER BY unit_id, num LIMIT 64",
+    "version of a number": "SELECT id FROM version WHERE id > 0 AND app_id = ?1 AND platform = ?2 AND num = ?3 ORDER BY id",
+    "class of a version": f"SELECT {COLUMNS['version_class'][0]} FROM version_class WHERE version_id = ?1 ORDER BY version_id",
+    **{
+        f"what waits, {size} places": f"{PLACES}queued = 1 AND unit_id >= ?1 AND (unit_id > ?1 OR num >= ?2) "
+        f"ORDER BY unit_id, num LIMIT {size}"
+        for size in (FIRST_PAGE, FURTHER_PAGE)
+    },
     "what is late": f"{PLACES}deadline >= 0 AND deadline < ?1 AND lapse = 0 AND outcome IS NULL ORDER BY deadline",
     "kept import": f"SELECT {COLUMNS['batch'][0]} FROM batch WHERE kind = ?1 AND name = ?2 ORDER BY rowid",
     **{
@@ -98,7 +113,7 @@ LOOK_UPS = {
 }
 SLOTS = 4  # so many calls of a host are kept
 # whose rows are kept until rows are put
-KEPT = {"account by authenticator", "host by number", "workunit", "instances of a workunit"}
+KEPT = {"account by authenticator", "host by number", "workunit", "mark of a workunit", "instances of a workunit"}
 
 
 def put_text(table):
@@ -116,7 +131,8 @@ PUTS = {table: put_text(table) for table in COLUMNS}
 STATUSES = ["open", "done", "errors", "success", "total"]
 LAPSES = [None, "late", "dropped"]
 OUTCOMES = {None: None, 1: 0, 3: 1}  # of a stored outcome, an exit status that means the same
-UnitRow = namedtuple("UnitRow", COLUMNS["unit"][0])
+UNIT_COLUMNS = COLUMNS["unit"][0].split(", ")
+UnitRow = namedtuple("UnitRow", [*UNIT_COLUMNS, "marked", "version_class"])
 PHRASES = {
     200: "OK", 400: "Bad Request", 403: "Forbidden", 404: "Not Found", 405: "Method Not Allowed", 409: "Conflict",
     411: "Length Required", 413: "Payload Too Large",
@@ -132,7 +148,7 @@ class Unit(plain.Unit):
     def __init__(self, row, agreement, rows):
         for column, value in zip(UnitRow._fields, row):
             setattr(self, column, value)
-        self.agreement, self.stored, self.was = agreement, rows, STATUSES[row.status]
+        self.agreement, self.stored, self.was, self.had_class = agreement, rows, STATUSES[row.status], row.version_class
         self.status, self.instances, judged = self.was, [], []
         for _, number, host, sent, deadline, lapse, outcome, output, place, _ in rows:
             instance = plain.Instance(self, number, host, sent, deadline, LAPSES[lapse], OUTCOMES[outcome], output)
@@ -152,7 +168,11 @@ class Unit(plain.Unit):
 
     def row(self):
         """Its row by now."""
-        return *(getattr(self, column) for column in UnitRow._fields[:-1]), STATUSES.index(self.status)
+        return *(getattr(self, column) for column in UNIT_COLUMNS[:-1]), STATUSES.index(self.status)
+
+    def mark_row(self):
+        """The row of its mark by now."""
+        return self.id, self.marked, self.version_class
 
     def instance_rows(self):
         """The rows of its instances by now."""
@@ -209,8 +229,8 @@ def split_name(name):
 def create(path, settings):
     """New tables in a file, as `bsched create` makes them."""
     connection = sqlite3.connect(path)
-    connection.executescript(f"PRAGMA journal_mode = WAL; BEGIN; {FIRST_SCHEMA} {SECOND_SCHEMA} COMMIT;")
-    connection.executemany(PUTS["setting"], [("schema", 2), *settings.items()])
+    connection.executescript(f"PRAGMA journal_mode = WAL; BEGIN; {FIRST_SCHEMA} {SECOND_SCHEMA} {THIRD_SCHEMA} COMMIT;")
+    connection.executemany(PUTS["setting"], [("schema", 3), *settings.items()])
     connection.commit()
     connection.close()
 
@@ -221,7 +241,7 @@ def make_former(path, newest):
     connection.executescript(f"PRAGMA journal_mode = WAL; BEGIN; {FIRST_SCHEMA} COMMIT;")
     connection.execute("ATTACH ? AS newest", (newest,))
     for table, (columns, _) in COLUMNS.items():
-        if table != "kept4":
+        if table not in NEW_TABLES:
             connection.execute(f"INSERT INTO {table} SELECT {columns} FROM newest.{table} ORDER BY rowid")
     connection.execute("INSERT INTO kept SELECT host_id, max(seqno), text, reply FROM newest.kept4 GROUP BY host_id")
     connection.execute("UPDATE setting SET value = 1 WHERE name = 'schema'")
@@ -229,15 +249,23 @@ def make_former(path, newest):
     connection.close()
 
 
-def upgrade(path):
-    """Carries tables of the first schema in a file over to the second, as `bsched upgrade` does, with one statement for all
-    kept calls."""
+# what carries tables over to a schema from the one before it
+STEPS = {
+    2: f"{SECOND_SCHEMA} INSERT INTO kept4 SELECT host_id, 0, seqno, text, reply FROM kept ORDER BY host_id; ",
+    3: f"{THIRD_SCHEMA} INSERT INTO version_class SELECT id, platform FROM version ORDER BY id; "
+    "INSERT INTO unit_mark SELECT id, 0, NULL FROM unit ORDER BY id; ",
+}
+
+
+def upgrade(path, schema=3):
+    """Carries tables of the first schema in a file over to that one, as `bsched upgrade` does to the newest: each step a
+    transaction, and one statement for all rows of a table."""
     connection = sqlite3.connect(path, isolation_level=None)
-    connection.executescript(
-        f"PRAGMA synchronous = FULL; PRAGMA foreign_keys = ON; BEGIN IMMEDIATE; {SECOND_SCHEMA} "
-        "INSERT INTO kept4 SELECT host_id, 0, seqno, text, reply FROM kept ORDER BY host_id; "
-        "UPDATE setting SET value = 2 WHERE name = 'schema'; COMMIT;"
-    )
+    connection.executescript("PRAGMA synchronous = FULL; PRAGMA foreign_keys = ON;")
+    for reached in range(2, schema + 1):
+        connection.executescript(
+            f"BEGIN IMMEDIATE; {STEPS[reached]} UPDATE setting SET value = {reached} WHERE name = 'schema'; COMMIT;"
+        )
     connection.close()
 
 
@@ -311,8 +339,9 @@ class Tables:
         return {table: self.number_of(f"count of {table}s") or 0 for table in ("account", "app", "version", "unit", "host")}
 
     def unit_row(self, number):
-        """The row of a workunit."""
-        return UnitRow._make(self.first("workunit", number))
+        """The row of a workunit, with its mark."""
+        row, (_, marked, version_class) = self.first("workunit", number), self.first("mark of a workunit", number)
+        return UnitRow(*row, marked, version_class)
 
     def unit(self, number):
         """A workunit, how its outputs are compared, and its instances."""
@@ -339,30 +368,34 @@ class Tables:
         return row[9]
 
     def version(self, host, app):
-        """The newest version at the first of the host's platforms that has any, and that platform."""
+        """The newest version at the first of the host's platforms that has any: its number, that platform and its class."""
         if self.last_version is not None and self.last_version[0] == (host.platforms, app):
             return self.last_version[1]
         for platform in host.platforms:
             if numbers := self.shown("version for a platform", app, platform):
-                self.last_version = (host.platforms, app), (max(numbers)[0], platform)
+                (newest,) = max(numbers)
+                _, version_class = self.first("class of a version", self.number_of("version of a number", app, platform, newest))
+                self.last_version = (host.platforms, app), (newest, platform, version_class)
                 return self.last_version[1]
         return None
 
     def offered(self, unit):
         """The row of a workunit that is offered: it may be one that is kept, but it is not kept itself."""
         if self.once or ("workunit", (unit,)) in self.seen:
-            return self.first("workunit", unit)
-        return self.connection.execute(LOOK_UPS["workunit"], (unit,)).fetchone()
+            return self.unit_row(unit)
+        row, mark = (self.connection.execute(LOOK_UPS[kind], (unit,)).fetchone() for kind in ("workunit", "mark of a workunit"))
+        return UnitRow(*row, *mark[1:])
 
     def waiting(self, unit, number):
         """What waits to be given out, from a place on: each place with its workunit's row."""
+        size = FIRST_PAGE
         while True:
-            places = self.shown("what waits, 64 places", unit, number)
+            places = self.shown(f"what waits, {size} places", unit, number)
             for unit, number in places:
-                yield unit, number, UnitRow._make(self.offered(unit))
-            if len(places) < 64:
+                yield unit, number, self.offered(unit)
+            if len(places) < size:
                 return
-            number += 1
+            size, number = FURTHER_PAGE, number + 1
 
 
 class Page:
@@ -393,7 +426,7 @@ class Page:
 
     def rows(self):
         """The rows that are others than before. What was put is read once more: hosts move by the difference."""
-        tables, units, instances, shares = self.tables, [], [], {}
+        tables, units, marks, instances, shares = self.tables, [], [], [], {}
         for number in self.put_hosts:
             if tables.host(number) is None:
                 tables.counts()
@@ -403,10 +436,12 @@ class Page:
             unit.add_shares(shares, 1)
             if unit.status != unit.was:
                 units.append(("unit", unit.row()))
+            if unit.version_class != unit.had_class:
+                marks.append(("unit_mark", unit.mark_row()))
             stored = unit.stored + [None] * (len(unit.instances) - len(unit.stored))
             instances += [("instance", row) for row, old in zip(unit.instance_rows(), stored) if row != old]
         hosts = [self.host_row(number, *shares.get(number, (0, 0))) for number in sorted({*self.put_hosts, *shares})]
-        return [*units, *filter(None, hosts), *instances]
+        return [*units, *marks, *filter(None, hosts), *instances]
 
     def host_row(self, number, held, credit):
         """The row of a host that was put, or whose share is another than before."""
@@ -435,12 +470,13 @@ class Machine:
         return instance if instance is not None and instance.host == host.number else None
 
     def fits(self, host, unit, version):
-        """Whether the host, which runs this version, can run the workunit in time."""
+        """Whether the host, which runs this version, can run the workunit in time, by a version of the class that it keeps to."""
         return (
             unit.rsc_memory_bound <= host.facts["m_nbytes"]
             and unit.rsc_disk_bound <= host.facts["d_free"]
             and plain.estimate(unit, host) <= unit.delay_bound
             and version is not None
+            and unit.version_class in (None, version[2])
         )
 
     def take_reports(self, page, host, results, charges):
@@ -539,7 +575,7 @@ class Machine:
 
     def job(self, host, instance, version, resent):
         """What a reply says of a job."""
-        number, platform = version
+        number, platform, _ = version
         return {
             "app_name": self.tables.apps[instance.unit.app_id][0],
             "estimate": plain.estimate(instance.unit, host),
@@ -577,6 +613,8 @@ class Machine:
         for unit, (place, version) in chosen.items():
             instance = page.unit(unit).at(place)
             instance.host, instance.sent, instance.deadline = host.number, now, now + instance.unit.delay_bound
+            if instance.unit.marked and instance.unit.version_class is None:
+                instance.unit.version_class = version[2]
             page.put_unit(unit)
             granted.append((instance, version))
         credit = tables.credit_of_host(host.number) + gains[host.number]
@@ -636,7 +674,7 @@ class Service(plain.Service):
         place = self.app_place(row[0])
         if kind == "apps" or place is None:
             return place is not None
-        return (int(row[2]),) in self.tables.shown("version for a platform", place, row[1])
+        return self.tables.first("version of a number", place, row[1], int(row[2])) is not None
 
     def checked_rows(self, kind, said):
         """The rows of an import, whose names are new."""
@@ -663,10 +701,10 @@ class Service(plain.Service):
             return [("app", (number, row[0], None if near == "exact" else int(near)))]
         place = self.app_place(row[kind == "workunits"])
         if kind == "versions":
-            return [("version", (number, place, row[1], int(row[2])))]
-        unit = Unit(UnitRow(number, row[0], place, *map(int, row[2:]), 0), self.tables.apps[place][1], [])
+            return [("version", (number, place, row[1], int(row[2]))), ("version_class", (number, row[3]))]
+        unit = Unit(UnitRow(number, row[0], place, *map(int, row[2:12]), 0, int(row[12]), None), self.tables.apps[place][1], [])
         unit.add(unit.target_nresults)
-        return [("unit", unit.row()), *(("instance", instance) for instance in unit.instance_rows())]
+        return [("unit", unit.row()), ("unit_mark", unit.mark_row()), *(("instance", instance) for instance in unit.instance_rows())]
 
     def imported(self, kind, batch, said):
         """The answer to an import."""

@@ -580,7 +580,7 @@ def upgrade(program, folder):
         wants((refused.stdout, refused.stderr, refused.returncode), ("", "bsched: old schema\n", 1), "an order on old tables")
         bare = bare_opening(program, ours)
         one, other = taken_by(0, program, "upgrade", "--tables", ours), taken_by(0, sys.executable, TWIN, "--upgrade", theirs)
-        wants(ordered(program, "upgrade", "--tables", ours), "schema 2\n", "what an upgrade of upgraded tables prints")
+        wants(ordered(program, "upgrade", "--tables", ours), "schema 3\n", "what an upgrade of upgraded tables prints")
         wants(ordered(*statement).splitlines()[-1], "total,,,,,,,0.000", "a statement of upgraded tables")
         same_rows(ours, theirs)
         wants((schema_in(ours), kept_before(ours)), (schema_in(new), kept_before(former)), "the schema, and the former table")
@@ -750,12 +750,12 @@ def profile(program, folder):
         told.append(counted(found))
     own, whole, calls = (after - before for before, after in zip(*told))
     twin = sum(statement.startswith("SELECT") for ran in Recorder(path, folder).ran_by(bodies) for statement, _ in ran)
-    print(f"profile: the program runs {calls['table_rows::read::shown_by']} look-ups in these calls, the twin {twin}")
+    print(f"profile: the program runs {calls['sqlite::connection::Connection::query_near']} look-ups in these calls, the twin {twin}")
     print(f"profile: {own.total() // len(bodies)} instructions a call, of which percent in")
     crates = Counter()
     for function, many in own.items():
         crates[function.split("::")[0] if "::" in function else "libc"] += many
-    stages = {"table_rows::read::shown_by": "look-ups", "table_rows::put::put_each": "puts"}
+    stages = {"sqlite::connection::Connection::query_near": "look-ups", "table_rows::put::put_each": "puts"}
     stages["sqlite::connection::Connection::commit"] = "the commit"
     for what, many in [
         *((f"all {stage}", whole[function]) for function, stage in stages.items()),

@@ -1,5 +1,6 @@
 //! The worked rows, and lines that are none, too long or broken.
 
+mod classes;
 mod cuts;
 mod desk;
 mod jobs;
@@ -176,6 +177,12 @@ fn credit_and_quotas(rt: HostRuntime) -> Result<(), Fail> {
 #[test]
 fn lapses_and_failures(rt: HostRuntime) -> Result<(), Fail> {
     assert_eq!(rt; first_wrong_twice(&rt, 5, lapses::ROWS)?, None);
+    Ok(())
+}
+
+#[test]
+fn classes_of_versions(rt: HostRuntime) -> Result<(), Fail> {
+    assert_eq!(rt; first_wrong_twice(&rt, 3, classes::ROWS)?, None);
     Ok(())
 }
 

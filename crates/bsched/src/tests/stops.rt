@@ -129,10 +129,12 @@ const ROWS_TOLD: &[&str] = &[
     "SELECT host_id || ' ' || seqno || ' ' || text || ' ' || reply FROM kept ORDER BY host_id",
     "SELECT host_id || ' ' || slot || ' ' || seqno || ' ' || text || ' ' || reply FROM kept4 ORDER BY host_id, slot",
     "SELECT kind || ' ' || name || ' ' || answer FROM batch ORDER BY kind, name",
+    "SELECT version_id || ' ' || class FROM version_class ORDER BY version_id",
+    "SELECT unit_id || ' ' || marked || ' ' || coalesce(class, '-') FROM unit_mark ORDER BY unit_id",
 ];
 
 /// All rows of the tables, a line each.
-fn rows_told<S: Alter>(alloc: Global, conn: &mut Connection<S>) -> Result<String, Fail> {
+pub fn rows_told<S: Alter>(alloc: Global, conn: &mut Connection<S>) -> Result<String, Fail> {
     let mut told = String::new(alloc);
     for sql in ROWS_TOLD {
         for row in &conn.query_all(sql, &[])? {

@@ -1,7 +1,8 @@
 //! Tables that are spoiled, and tables in a file.
 
 use super::repeats::{is_answered_again_in, settings};
-use super::{CALL_START, PROJECT, replayed, replayed_by, replayed_over, service_over};
+use super::rows::{NEXT, lines_of};
+use super::{CALL_START, PROJECT, classes, replayed, replayed_by, replayed_over, service_over};
 use commands::{Failure, Visit, default_settings, visit_file};
 use replay_lines::Ended;
 use sched_book::{Agreement, App, HostRow};
@@ -93,8 +94,10 @@ pub fn refused_after<S: Alter + Drop>(
 
 /// Statements that make tables of another schema.
 const OTHERS: &[&str] = &[
+    "UPDATE setting SET value = 2 WHERE name = 'schema'",
     "UPDATE setting SET value = 9 WHERE name = 'schema'",
     "DELETE FROM setting WHERE name = 'schema'",
+    "DROP TABLE unit_mark",
     "CREATE TABLE further (id INTEGER) STRICT",
     "CREATE INDEX further ON unit (credit)",
     "DROP INDEX instance_queue",
@@ -124,6 +127,8 @@ const SPOILED: &[&str] = &[
     "UPDATE version SET platform = 'li nux' WHERE id = 1",
     "UPDATE version SET num = 0 WHERE id = 1",
     "UPDATE version SET num = 1000001 WHERE id = 1",
+    "DELETE FROM version_class WHERE version_id = 1",
+    "UPDATE version_class SET class = 'li nux' WHERE version_id = 1",
     "INSERT INTO unit VALUES (4, 'w4', 1, 1, 1, 3, 6, 4, 7200, 3600000, 1000, 1000, 5000, 0)",
     "UPDATE unit SET name = 'w 1' WHERE id = 1",
     "UPDATE unit SET min_quorum = 0 WHERE id = 1",
@@ -139,6 +144,11 @@ const SPOILED: &[&str] = &[
     "UPDATE unit SET credit = 100000001 WHERE id = 1",
     "UPDATE unit SET status = 7 WHERE id = 1",
     "UPDATE unit SET status = 0 WHERE id = 1",
+    "DELETE FROM unit_mark WHERE unit_id = 1",
+    "UPDATE unit_mark SET marked = 2 WHERE unit_id = 1",
+    "UPDATE unit_mark SET class = 'linux' WHERE unit_id = 1",
+    "UPDATE unit_mark SET marked = 1, class = 'li nux' WHERE unit_id = 1",
+    "UPDATE unit_mark SET marked = 1 WHERE unit_id = 1",
     "INSERT INTO host VALUES (3, 1, 'c3', 'linux', 1000, 8000, 9000, 4, 0, 0)",
     "UPDATE host SET cpid = 'c 1'",
     "UPDATE host SET platforms = ''",
@@ -202,7 +212,14 @@ fn spoiled_rows_are_refused(rt: HostRuntime) -> Result<(), Fail> {
     Ok(())
 }
 
-/// How tables are refused in which an import has so many bytes, or none where they are opened.
+#[test]
+fn a_marked_workunit_with_a_class_is_sound(rt: HostRuntime) -> Result<(), Fail> {
+    let alloc = rt.alloc();
+    let marked = "UPDATE unit_mark SET marked = 1, class = 'linux' WHERE unit_id = 1";
+    assert_eq!(rt; refused_after(alloc, filled(alloc)?, marked, &[])?, None);
+    Ok(())
+}
+
 /// What is asked of tables, of the rows of the short life.
 #[derive(Clone, Copy, PartialEq, Eq)]
 enum LookUp {
@@ -237,6 +254,14 @@ const SPOILED_BEHIND: &[(&str, &[LookUp])] = &[
         &[LookUp::Version],
     ),
     (
+        "DELETE FROM version_class WHERE version_id = 2",
+        &[LookUp::Version],
+    ),
+    (
+        "UPDATE version_class SET class = 'li nux' WHERE version_id = 2",
+        &[LookUp::Version],
+    ),
+    (
         "UPDATE unit SET name = 'w 1' WHERE id = 1",
         &[LookUp::Workunit],
     ),
@@ -262,6 +287,16 @@ const SPOILED_BEHIND: &[(&str, &[LookUp])] = &[
     ),
     ("UPDATE unit SET rsc_disk_bound = -1", &[LookUp::Workunit]),
     ("UPDATE unit SET credit = 100000001", &[LookUp::Workunit]),
+    (
+        "DELETE FROM unit_mark WHERE unit_id = 1",
+        &[LookUp::Workunit],
+    ),
+    ("UPDATE unit_mark SET marked = 2", &[LookUp::Workunit]),
+    ("UPDATE unit_mark SET class = 'linux'", &[LookUp::Workunit]),
+    (
+        "UPDATE unit_mark SET marked = 1, class = 'li nux'",
+        &[LookUp::Workunit],
+    ),
     ("UPDATE unit SET status = 7", &[LookUp::Status]),
     ("UPDATE host SET cpid = 'c 1'", &[LookUp::Host]),
     ("UPDATE host SET platforms = ''", &[LookUp::Host]),
@@ -366,6 +401,7 @@ fn a_row_spoiled_behind_the_opening_is_unavailable_where_it_is_read(
     Ok(())
 }
 
+/// How tables are refused in which an import has so many bytes, or none where they are opened.
 fn refused_with_an_import_of(alloc: Global, length: usize) -> Result<Option<OpenFault>, Fail> {
     let text = vec![in alloc; b'x'; length]?;
     let longer = "UPDATE batch SET text = ?1 WHERE kind = 'apps'";
@@ -468,13 +504,28 @@ fn are_told_in_file(rt: &HostRuntime, path: &str, lines: &str, told: &str) -> Re
     Ok(true)
 }
 
-#[test]
-fn a_file_that_is_closed_behind_each_line_answers_on(rt: HostRuntime) -> Result<(), Fail> {
-    let lines = lines(rt.alloc())?;
+/// Whether new tables in a file, which is closed behind each of these lines, tell what tables in memory tell.
+fn answers_on(rt: &HostRuntime, path: &str, lines: &str) -> Result<bool, Fail> {
     let (told, _) = replayed(rt.alloc(), lines.as_bytes())?;
     let told = str::from_utf8(&told).unwrap_or("");
-    assert_eq!(rt; told.lines().count(), lines.as_str().lines().count());
-    assert!(rt; is_seen_in_file(&rt, "project.db", &Seen::Made)?);
-    assert!(rt; are_told_in_file(&rt, "project.db", lines.as_str(), told)?);
+    Ok(
+        told.lines().count() == lines.lines().count()
+            && is_seen_in_file(rt, path, &Seen::Made)?
+            && are_told_in_file(rt, path, lines, told)?,
+    )
+}
+
+/// The lines of a life in which a workunit takes a class, and a host that lost its job comes back with a version of another.
+fn lines_of_a_class(alloc: Global) -> Result<String, Fail> {
+    let row = classes::ROWS.split(NEXT).nth(2).unwrap_or("");
+    Ok(format!(in alloc; "{PROJECT}{}", lines_of(alloc, row)?)?)
+}
+
+#[test]
+fn a_file_that_is_closed_behind_each_line_answers_on(rt: HostRuntime) -> Result<(), Fail> {
+    let life = lines(rt.alloc())?;
+    assert!(rt; answers_on(&rt, "project.db", life.as_str())?);
+    let class = lines_of_a_class(rt.alloc())?;
+    assert!(rt; answers_on(&rt, "classes.db", class.as_str())?);
     Ok(())
 }

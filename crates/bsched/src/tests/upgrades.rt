@@ -1,10 +1,12 @@
-//! Tables of the first schema, which are carried over to the newest one.
+//! Tables of the earlier schemas, which are carried over to the newest one.
 
+use super::rows::{NEXT, lines_of, name_of};
 use super::stops::{
     Fused, Fuses, Image, LASTING, MOST_CALLS, closed, connected, empty, image_of, rows_in,
+    rows_told,
 };
 use super::stored::{WORKUNITS, filled_with, run};
-use super::{CALL_START, PROJECT, replayed_over};
+use super::{CALL_START, PROJECT, jobs, judging, lapses, replayed_over};
 use sched_tables::{OpenFault, SCHEMA_1, Tables, upgrade};
 use sqlite::{Alter, Connection, MemStore};
 use std::alloc::Global;
@@ -24,7 +26,44 @@ fn lines(alloc: Global) -> Result<String, Fail> {
     Ok(format!(in alloc; "{PROJECT}{WORKUNITS}{CALL_START},\"work_req_seconds\":7200}}\n{SECOND}")?)
 }
 
-/// How the rows of each table are read, and put into the first schema's: of the calls of a host the last one stays.
+/// A schema before the newest one.
+#[derive(Clone, Copy)]
+enum Former {
+    /// Of each host it keeps one call.
+    First,
+    /// It has a table more, for several calls of a host.
+    Second,
+}
+
+impl Former {
+    /// How the kept calls are read, and put into this schema's tables: in the first, of the calls of a host the last one stays.
+    fn calls(self) -> (&'static str, &'static str) {
+        match self {
+            Former::First => (
+                "SELECT host_id, seqno, text, reply FROM kept4 ORDER BY seqno",
+                "INSERT OR REPLACE INTO kept VALUES (?1, ?2, ?3, ?4)",
+            ),
+            Former::Second => (
+                "SELECT host_id, slot, seqno, text, reply FROM kept4 ORDER BY host_id, slot",
+                "INSERT INTO kept4 VALUES (?1, ?2, ?3, ?4, ?5)",
+            ),
+        }
+    }
+
+    /// The statement that sets the number of the schema to this one's.
+    fn numbering(self) -> &'static str {
+        match self {
+            Former::First => "UPDATE setting SET value = 1 WHERE name = 'schema'",
+            Former::Second => "UPDATE setting SET value = 2 WHERE name = 'schema'",
+        }
+    }
+}
+
+/// What the second schema has that the first lacks.
+const KEPT4: &str =
+    "CREATE TABLE kept4 (host_id INTEGER NOT NULL REFERENCES host, slot INTEGER NOT NULL, seqno INTEGER NOT NULL, text TEXT NOT NULL, reply TEXT NOT NULL, PRIMARY KEY (host_id, slot)) STRICT";
+
+/// How the rows of each table but for kept calls are read, and put into an earlier schema's.
 const COPIED: &[(&str, &str)] = &[
     (
         "SELECT name, value FROM setting ORDER BY rowid",
@@ -58,10 +97,6 @@ const COPIED: &[(&str, &str)] = &[
         "SELECT kind, name, text, answer FROM batch ORDER BY rowid",
         "INSERT INTO batch VALUES (?1, ?2, ?3, ?4)",
     ),
-    (
-        "SELECT host_id, seqno, text, reply FROM kept4 ORDER BY seqno",
-        "INSERT OR REPLACE INTO kept VALUES (?1, ?2, ?3, ?4)",
-    ),
 ];
 
 /// Puts the rows that a statement shows by another.
@@ -82,25 +117,50 @@ fn copy_rows<F: Alter, T: Alter>(
     Ok(())
 }
 
-/// Makes tables of the first schema in an empty database, with the rows of a project in which a host called twice.
-fn make_former<S: Alter>(alloc: Global, conn: &mut Connection<S>) -> Result<(), Fail> {
-    let mut newest = filled_with(alloc, lines(alloc)?.as_bytes())?;
+/// Makes the tables of an earlier schema in an empty database, with no row.
+fn make_tables<S: Alter>(conn: &mut Connection<S>, former: Former) -> Result<(), Fail> {
     conn.execute_batch(SCHEMA_1)?;
-    for (read, put) in COPIED {
-        copy_rows(alloc, &mut newest, conn, read, put)?;
+    if let Former::Second = former {
+        conn.execute_batch(KEPT4)?;
     }
-    run(conn, FIRST, &[])?;
     Ok(())
 }
 
-/// Sets the number of the schema to the first.
-const FIRST: &str = "UPDATE setting SET value = 1 WHERE name = 'schema'";
+/// Makes tables of an earlier schema in an empty database, with the rows that these tables of the newest one have.
+fn make_former<F: Alter, T: Alter>(
+    alloc: Global,
+    newest: &mut Connection<F>,
+    conn: &mut Connection<T>,
+    former: Former,
+) -> Result<(), Fail> {
+    make_tables(conn, former)?;
+    for (read, put) in COPIED {
+        copy_rows(alloc, newest, conn, read, put)?;
+    }
+    let (read, put) = former.calls();
+    copy_rows(alloc, newest, conn, read, put)?;
+    run(conn, former.numbering(), &[])?;
+    Ok(())
+}
 
-/// The same in memory.
-fn former(alloc: Global) -> Result<Connection<MemStore>, Fail> {
+/// Tables of an earlier schema in memory, with the rows that these tables of the newest one have.
+fn former_of<F: Alter>(
+    alloc: Global,
+    newest: &mut Connection<F>,
+    former: Former,
+) -> Result<Connection<MemStore>, Fail> {
     let mut conn = Connection::open_in_memory(alloc)?;
-    make_former(alloc, &mut conn)?;
+    make_former(alloc, newest, &mut conn, former)?;
     Ok(conn)
+}
+
+/// The same with the rows of a project in which a host called twice.
+fn filled_former(alloc: Global, former: Former) -> Result<Connection<MemStore>, Fail> {
+    former_of(
+        alloc,
+        &mut filled_with(alloc, lines(alloc)?.as_bytes())?,
+        former,
+    )
 }
 
 /// What lines over the tables of a database are told.
@@ -114,78 +174,233 @@ fn told_over<S: Alter + Drop>(
 }
 
 /// What lines over tables that were upgraded are told.
-fn told_upgraded(alloc: Global, lines: &str) -> Result<String, Fail> {
-    let mut conn = former(alloc)?;
+fn told_upgraded(alloc: Global, schema: Former, lines: &str) -> Result<String, Fail> {
+    let mut conn = filled_former(alloc, schema)?;
     let schema = upgrade(alloc, &mut conn)?;
     let again = upgrade(alloc, &mut conn)?;
-    if schema != 2 || again != 2 {
+    if schema != 3 || again != 3 {
         return Err(Fail::new("the newest schema has another number"));
     }
     told_over(alloc, conn, lines)
 }
 
-/// The bytes of the reply to the second call, as it was told first.
-fn second_reply(alloc: Global) -> Result<String, Fail> {
+/// The first call of Ann's host, which gets a job of each workunit.
+fn first(alloc: Global) -> Result<String, Fail> {
+    Ok(format!(in alloc; "{CALL_START},\"work_req_seconds\":7200}}\n")?)
+}
+
+/// The replies to the first call and to the second, as they were told first.
+fn replies(alloc: Global) -> Result<String, Fail> {
     let told = told_over(alloc, filled_with(alloc, &[])?, lines(alloc)?.as_str())?;
-    Ok(String::from_str(alloc, told.as_str().lines().last().unwrap_or(""))?)
+    let mut replies = String::new(alloc);
+    for line in told.as_str().lines().skip(4) {
+        replies.push_str(line)?;
+        replies.push_str("\n")?;
+    }
+    Ok(replies)
 }
 
 #[test]
-fn an_upgrade_keeps_the_last_call_of_a_host(rt: HostRuntime) -> Result<(), Fail> {
+fn an_upgrade_of_the_first_schema_keeps_the_last_call_of_a_host(
+    rt: HostRuntime,
+) -> Result<(), Fail> {
     let alloc = rt.alloc();
-    let first = format!(in alloc; "{CALL_START},\"work_req_seconds\":7200}}\n")?;
+    let first = first(alloc)?;
     let lines = format!(in alloc; "{SECOND}{first}{THIRD}{SECOND}{first}")?;
-    let told = told_upgraded(alloc, lines.as_str())?;
-    let second = second_reply(alloc)?;
+    let told = told_upgraded(alloc, Former::First, lines.as_str())?;
+    let replies = replies(alloc)?;
+    let second = replies.as_str().lines().last();
     let mut answers = told.as_str().lines();
-    assert!(rt; second.as_str().starts_with("200 {\"end_word\":"));
-    assert!(rt; answers.next() == Some(second.as_str()));
+    assert!(rt; second.is_some_and(|reply| reply.starts_with("200 {\"end_word\":")));
+    assert!(rt; answers.next() == second);
     assert!(rt; answers.next() == Some("409 {\"error\":\"stale\",\"last\":2,\"number\":10}"));
     assert!(rt;
         answers
             .next()
             .is_some_and(|answer| answer.starts_with("200 {\"end_word\":"))
     );
-    assert!(rt; answers.next() == Some(second.as_str()));
+    assert!(rt; answers.next() == second);
     assert!(rt; answers.next() == Some("409 {\"error\":\"stale\",\"last\":3,\"number\":10}"));
     Ok(())
 }
 
-/// How tables of the first schema are refused by an upgrade after a statement, or none where it upgrades them.
-fn refused_to_upgrade(alloc: Global, sql: &str) -> Result<Option<OpenFault>, Fail> {
-    let mut conn = former(alloc)?;
+#[test]
+fn an_upgrade_of_the_second_schema_keeps_all_calls(rt: HostRuntime) -> Result<(), Fail> {
+    let alloc = rt.alloc();
+    let lines = format!(in alloc; "{}{SECOND}", first(alloc)?)?;
+    let told = told_upgraded(alloc, Former::Second, lines.as_str())?;
+    let replies = replies(alloc)?;
+    assert_eq!(rt; told.as_str().lines().count(), 2);
+    assert!(rt; told == replies);
+    Ok(())
+}
+
+/// Has tables of the newest schema keep just the calls that tables of the first one keep, in the first slot of each host.
+fn keep_last_calls<F: Alter, T: Alter>(
+    alloc: Global,
+    first: &mut Connection<F>,
+    newest: &mut Connection<T>,
+) -> Result<(), Fail> {
+    run(newest, "DELETE FROM kept4", &[])?;
+    copy_rows(
+        alloc,
+        first,
+        newest,
+        "SELECT host_id, 0, seqno, text, reply FROM kept ORDER BY host_id",
+        "INSERT INTO kept4 VALUES (?1, ?2, ?3, ?4, ?5)",
+    )
+}
+
+/// What the statements of all hosts tell.
+fn statements<S: Alter + Drop>(alloc: Global, conn: Connection<S>) -> Result<String, Fail> {
+    let mut lines = String::new(alloc);
+    for host in 1..=5u32 {
+        let line = format!(in alloc; "1970-01-01T00:00:00Z hosts/{host}\n")?;
+        lines.push_str(line.as_str())?;
+    }
+    told_over(alloc, conn, lines.as_str())
+}
+
+/// Upgrades tables of an earlier schema: whether they have the rows of these tables of the newest one then, which keep just
+/// the calls that the earlier schema keeps.
+fn have_rows_upgraded<F: Alter, T: Alter>(
+    alloc: Global,
+    conn: &mut Connection<F>,
+    newest: &mut Connection<T>,
+    former: Former,
+) -> Result<bool, Fail> {
+    if let Former::First = former {
+        keep_last_calls(alloc, conn, newest)?;
+    }
+    upgrade(alloc, conn)?;
+    run(conn, "DELETE FROM kept", &[])?;
+    Ok(rows_told(alloc, conn)? == rows_told(alloc, newest)?)
+}
+
+/// Whether tables of an earlier schema with the rows of these tables of the newest one have them when they are upgraded, and
+/// tell the same statements.
+fn is_upgraded_to<S: Alter + Drop>(
+    alloc: Global,
+    mut newest: Connection<S>,
+    former: Former,
+) -> Result<bool, Fail> {
+    let mut conn = former_of(alloc, &mut newest, former)?;
+    let have_rows = have_rows_upgraded(alloc, &mut conn, &mut newest, former)?;
+    let told = statements(alloc, conn)?;
+    Ok(told == statements(alloc, newest)? && have_rows)
+}
+
+/// Whether tables of each earlier schema are upgraded to those of the newest one behind these lines.
+fn are_upgraded_behind(alloc: Global, lines: &[u8]) -> Result<bool, Fail> {
+    Ok(
+        is_upgraded_to(alloc, filled_with(alloc, lines)?, Former::First)?
+            && is_upgraded_to(alloc, filled_with(alloc, lines)?, Former::Second)?,
+    )
+}
+
+/// The name of the first row behind which tables of an earlier schema are upgraded to others than the newest one's.
+fn first_upgraded_otherwise(
+    alloc: Global,
+    text: &'static str,
+) -> Result<Option<&'static str>, Fail> {
+    for row in text.split(NEXT).skip(1) {
+        let lines = format!(in alloc; "{PROJECT}{}", lines_of(alloc, row)?)?;
+        if !are_upgraded_behind(alloc, lines.as_bytes())? {
+            return Ok(Some(name_of(row)));
+        }
+    }
+    Ok(None)
+}
+
+#[test]
+fn an_upgrade_keeps_grants_and_lost_jobs(rt: HostRuntime) -> Result<(), Fail> {
+    assert_eq!(rt; first_upgraded_otherwise(rt.alloc(), jobs::ROWS)?, None);
+    Ok(())
+}
+
+#[test]
+fn an_upgrade_keeps_reports_and_quorums(rt: HostRuntime) -> Result<(), Fail> {
+    assert_eq!(rt; first_upgraded_otherwise(rt.alloc(), judging::ROWS)?, None);
+    Ok(())
+}
+
+#[test]
+fn an_upgrade_keeps_lapses_and_failures(rt: HostRuntime) -> Result<(), Fail> {
+    assert_eq!(rt; first_upgraded_otherwise(rt.alloc(), lapses::ROWS)?, None);
+    Ok(())
+}
+
+/// How tables of an earlier schema are refused by an upgrade after a statement, or none where it upgrades them.
+fn refused_to_upgrade(alloc: Global, schema: Former, sql: &str) -> Result<Option<OpenFault>, Fail> {
+    let mut conn = filled_former(alloc, schema)?;
     run(&mut conn, sql, &[])?;
     Ok(upgrade(alloc, &mut conn).err())
 }
 
+/// The first of these statements after which tables of an earlier schema are upgraded, or refused as anything but no tables.
+fn first_upgraded(
+    alloc: Global,
+    schema: Former,
+    statements: &[&'static str],
+) -> Result<Option<&'static str>, Fail> {
+    for sql in statements {
+        if refused_to_upgrade(alloc, schema, sql)? != Some(OpenFault::NotTables) {
+            return Ok(Some(sql));
+        }
+    }
+    Ok(None)
+}
+
+/// Statements that make tables of no schema of those of an earlier one.
+const OTHERS: &[&str] = &[
+    "UPDATE setting SET value = 3 WHERE name = 'schema'",
+    "UPDATE setting SET value = 9 WHERE name = 'schema'",
+    "DELETE FROM setting WHERE name = 'schema'",
+    "DROP INDEX instance_queue",
+    "CREATE TABLE further (id INTEGER) STRICT",
+];
+
+/// The number of the schema of which the tables of a database are, by how they are opened; none where they are of no schema,
+/// or have a bad row.
+fn schema_of<S: Alter + Drop>(alloc: Global, conn: Connection<S>) -> Option<u32> {
+    match Tables::open(alloc, conn).err() {
+        Some(OpenFault::OldSchema(number)) => Some(number),
+        Some(_) => None,
+        None => Some(3),
+    }
+}
+
+/// Whether tables of an earlier schema are old, with this number, and are upgraded only as they are.
+fn are_old(alloc: Global, schema: Former, number: u32) -> Result<bool, Fail> {
+    let opened = schema_of(alloc, filled_former(alloc, schema)?);
+    let taken = refused_to_upgrade(alloc, schema, schema.numbering())?;
+    let others = first_upgraded(alloc, schema, OTHERS)?;
+    Ok(opened == Some(number) && taken.is_none() && others.is_none())
+}
+
 #[test]
-fn tables_of_the_first_schema_are_old(rt: HostRuntime) -> Result<(), Fail> {
+fn tables_of_an_earlier_schema_are_old(rt: HostRuntime) -> Result<(), Fail> {
     let alloc = rt.alloc();
-    let refused = Tables::open(alloc, former(alloc)?).err();
-    assert_eq!(rt; refused, Some(OpenFault::OldSchema(1)));
-    assert_eq!(rt; refused_to_upgrade(alloc, FIRST)?, None);
-    for other in [
-        "UPDATE setting SET value = 9 WHERE name = 'schema'",
-        "DELETE FROM setting WHERE name = 'schema'",
-        "DROP INDEX instance_queue",
-        "CREATE TABLE further (id INTEGER) STRICT",
+    assert!(rt; are_old(alloc, Former::First, 1)?);
+    assert!(rt; are_old(alloc, Former::Second, 2)?);
+    for (schema, other) in [
+        (Former::First, Former::Second),
+        (Former::Second, Former::First),
     ] {
-        assert_eq!(rt;
-            refused_to_upgrade(alloc, other)?,
-            Some(OpenFault::NotTables),
-            "{other}"
-        );
+        let refused = refused_to_upgrade(alloc, schema, other.numbering())?;
+        assert_eq!(rt; refused, Some(OpenFault::NotTables));
     }
     let mut conn = Connection::open_in_memory(alloc)?;
     assert_eq!(rt; upgrade(alloc, &mut conn).err(), Some(OpenFault::NotTables));
     Ok(())
 }
 
-/// Tables of the first schema in files, which are closed.
-fn former_image(alloc: Global) -> Result<Image, Fail> {
+/// Tables of an earlier schema in files, which are closed.
+fn former_image(alloc: Global, schema: Former) -> Result<Image, Fail> {
     match connected(alloc, &empty(alloc), LASTING)? {
         Ok(mut conn) => {
-            make_former(alloc, &mut conn)?;
+            let mut newest = filled_with(alloc, lines(alloc)?.as_bytes())?;
+            make_former(alloc, &mut newest, &mut conn, schema)?;
             closed(alloc, conn)
         }
         Err(_) => Err(Fail::new("new files are not opened")),
@@ -211,35 +426,66 @@ fn upgraded_over(
     }
 }
 
-/// Whether what a stop left of an upgrade is of one schema or the other: it is upgraded to these rows.
-fn is_upgraded_again(alloc: Global, left: &Image, rows: &str) -> Result<bool, Fail> {
-    let (ended, image) = upgraded_over(alloc, left, LASTING)?;
-    Ok(ended == Ok(2) && rows_in(alloc, &image)?.as_str() == rows)
+/// The number of the schema of which the tables of a database in files are whole, by how they are opened; none where they
+/// are of no schema, or have a bad row.
+fn schema_in(alloc: Global, image: &Image) -> Result<Option<u32>, Fail> {
+    match connected(alloc, image, LASTING)? {
+        Ok(conn) => Ok(schema_of(alloc, conn)),
+        Err(_) => Err(Fail::new("the files are not opened")),
+    }
 }
 
-/// How many stops of an upgrade, of the log or of the database file, left one schema or the other whole; none where one did
-/// not.
-fn upgrades_survived(alloc: Global, in_log: bool) -> Result<Option<u64>, Fail> {
-    let image = former_image(alloc)?;
+/// The number of the schema that a stop left of an upgrade, of which the tables are whole: they are upgraded to these rows. None
+/// where they are of no schema, or upgraded otherwise.
+fn schema_left(alloc: Global, left: &Image, rows: &str) -> Result<Option<u32>, Fail> {
+    let schema = schema_in(alloc, left)?;
+    let (ended, image) = upgraded_over(alloc, left, LASTING)?;
+    if ended == Ok(3) && rows_in(alloc, &image)?.as_str() == rows {
+        return Ok(schema);
+    }
+    Ok(None)
+}
+
+/// The numbers of the schemas that the stops of an upgrade left whole, of the log or of the database file, one for each call
+/// of it; none where one left no schema whole.
+fn schemas_left(alloc: Global, schema: Former, in_log: bool) -> Result<Option<Vec<u32>>, Fail> {
+    let image = former_image(alloc, schema)?;
     let (_, whole) = upgraded_over(alloc, &image, LASTING)?;
     let rows = rows_in(alloc, &whole)?;
+    let mut schemas = Vec::new(alloc);
     for calls in 0..MOST_CALLS {
         let (ended, left) = upgraded_over(alloc, &image, Fuses::behind(calls, in_log))?;
         if ended.is_ok() {
-            return Ok(Some(calls));
+            return Ok(Some(schemas));
         }
-        if !is_upgraded_again(alloc, &left, rows.as_str())? {
-            return Ok(None);
+        match schema_left(alloc, &left, rows.as_str())? {
+            Some(number) => schemas.push(number)?,
+            None => return Ok(None),
         }
     }
     Ok(None)
 }
 
+/// Whether each stop of an upgrade, of the log or of the database file, left tables whole, of a schema from this number on, and
+/// some those before each step of it.
+fn leaves_one_schema_whole(alloc: Global, schema: Former, least: u32) -> Result<bool, Fail> {
+    let in_log = schemas_left(alloc, schema, true)?.unwrap_or(Vec::new(alloc));
+    let in_file = schemas_left(alloc, schema, false)?;
+    Ok(
+        in_log.iter().all(|number| *number >= least)
+            && (least..3).all(|number| in_log.contains(&number))
+            && in_file.is_some_and(|left| left.iter().all(|number| *number >= least)),
+    )
+}
+
 #[test]
 fn a_stop_of_an_upgrade_leaves_one_schema_whole(rt: HostRuntime) -> Result<(), Fail> {
-    let in_log = upgrades_survived(rt.alloc(), true)?;
-    assert!(rt; in_log.is_some_and(|stops| stops > 5), "{in_log:?}");
-    let in_file = upgrades_survived(rt.alloc(), false)?;
-    assert!(rt; in_file.is_some(), "{in_file:?}");
+    assert!(rt; leaves_one_schema_whole(rt.alloc(), Former::First, 1)?);
+    Ok(())
+}
+
+#[test]
+fn a_stop_of_an_upgrade_of_the_second_schema_leaves_one_whole(rt: HostRuntime) -> Result<(), Fail> {
+    assert!(rt; leaves_one_schema_whole(rt.alloc(), Former::Second, 2)?);
     Ok(())
 }
