@@ -1,4 +1,4 @@
--- The numbers of a command line. (This profile.)
+-- Rule. The numbers of a command line. (This profile.)
 use Rattle.std.specs.Prelude.{ℕ, Bool, false, ◌&&◌, nat_le, if◌then◌else◌, List, [], ◌∷◌, Option, Some, None}
 use Rattle.std.specs.Char.{is_ascii_digit}
 use Rattle.std.specs.List.{list_all}

@@ -1,4 +1,4 @@
--- The words that the program takes, as a command of `clap`. (This profile.)
+-- Rule. The words that the program takes, as a command of `clap`. (This profile.)
 use Rattle.std.specs.Prelude.{◌≡◌, List, [], ◌∷◌, codes, Some, true, false}
 use Rattle.clap.specs.Words.{App, Rule, Text, app_of, new_app, new_rule}
 use Rattle.clap.specs.Simple.{new_shape}

@@ -1,4 +1,4 @@
--- How long the body of a request is (RFC 9112, section 6): Content-Length alone tells it here.
+-- Rule. How long the body of a request is (RFC 9112, section 6): Content-Length alone tells it here.
 use Rattle.std.specs.Prelude.{ℕ, nat_le, if◌then◌else◌, List, codes, Option, Some, None, Result, Ok, Err}
 use Rattle.rpc_records.specs.declared.fault.Fault.{Fault}
 use Rattle.rpc_records.specs.declared.fault.Fault.TheVariants.{BadHttp, LengthRequired, TooLarge}

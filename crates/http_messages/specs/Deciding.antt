@@ -1,4 +1,4 @@
--- What a request asks for, and which check refuses it first.
+-- Rule. What a request asks for, and which check refuses it first.
 use Rattle.std.specs.Prelude.{ℕ, Bool, false, ◌&&◌, not, nat_lt, ◌-◌, if◌then◌else◌, List, length, take, map, codes, Option, Some, None, Result, Ok, Err}
 use Rattle.std.specs.Str.{bytes_eq}
 use Rattle.httparse.specs.Grammar.{RequestHead}

@@ -1,4 +1,4 @@
--- Heads of requests: HTTP/1.0 and HTTP/1.1 as `httparse` reads them (RFC 9112, sections 2 to 5), within this profile's limits.
+-- Rule. Heads of requests: HTTP/1.0 and HTTP/1.1 as `httparse` reads them (RFC 9112, sections 2 to 5), within this profile's limits.
 use Rattle.std.specs.Prelude.{ℕ, ◌<◌, ◌≤◌, List, ◌++◌, length, take, drop}
 use Rattle.httparse.specs.Grammar.{RequestHead, print_request, ReadsRequest, MayBecomeRequest}
 use Rattle.httparse.specs.Spans.{IsRequestWithin, IsRequestAt}

@@ -1,4 +1,4 @@
--- What the code keeps of a decision, as the definitions have it.
+-- Words. What the code keeps of a decision, as the definitions have it.
 use Rattle.http_messages.specs.Deciding.{Decision, at_once, with_body}
 use Rattle.http_messages.specs.Meaning.{message_seen}
 use Rattle.http_messages.specs.Routing.{route_seen}

@@ -1,4 +1,4 @@
--- What each route asks of a request. (This profile's.)
+-- Rule. What each route asks of a request. (This profile's.)
 use Rattle.std.specs.Prelude.{ℕ, Bool, true, false, List, codes}
 use Rattle.http_responses.specs.declared.method.Method.{Method}
 use Rattle.http_responses.specs.declared.method.Method.TheVariants.{Get, Post}

@@ -1,4 +1,4 @@
--- The router of the routes, as `matchit` keeps it.
+-- Rule. The router of the routes, as `matchit` keeps it.
 use Rattle.std.specs.Prelude.{ℕ, List, [], codes, drop, nat_eq, if◌then◌else◌, Option, Some, None, option_map, option_and_then, Result, Ok, Err}
 use Rattle.std.specs.List.{starts_with}
 use Rattle.matchit.specs.Order.{placed}

@@ -1,4 +1,4 @@
--- The routes of requests, by their paths. (This profile's.)
+-- Rule. The routes of requests, by their paths. (This profile's.)
 use Rattle.std.specs.Prelude.{ℕ, Bool, ◌&&◌, ◌==◌, nat_eq, nat_lt, not, if◌then◌else◌, List, take, drop, length, codes, Option, Some, None, position, ◌+◌}
 use Rattle.std.specs.List.{before_first, list_any, starts_with}
 use Rattle.std.specs.Str.{bytes_eq}

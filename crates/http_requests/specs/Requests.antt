@@ -1,4 +1,4 @@
--- Messages as the program makes them: a request line, fields and a body (RFC 9112, sections 3, 5 and 6). (The routes and the
+-- Rule. Messages as the program makes them: a request line, fields and a body (RFC 9112, sections 3, 5 and 6). (The routes and the
 -- operator's key are this profile's.)
 use Rattle.std.specs.Prelude.{ℕ, List, ◌∷◌, ◌++◌, length, codes, decimal}
 

@@ -1,4 +1,4 @@
--- What a message is answered with.
+-- Rule. What a message is answered with.
 use Rattle.std.specs.Prelude.{ℕ, List}
 use Rattle.rpc_records.specs.declared.fault.Fault.TheVariants as fault
 use Rattle.http_responses.specs.Responses.{refusal_response, response_text}

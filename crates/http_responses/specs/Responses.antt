@@ -1,4 +1,4 @@
--- Responses and their bytes: a status line, fields, an empty line, and the body (RFC 9112, section 2.1). Lines end with CR LF.
+-- Rule. Responses and their bytes: a status line, fields, an empty line, and the body (RFC 9112, section 2.1). Lines end with CR LF.
 use Rattle.std.specs.Prelude.{ℕ, List, [], ◌++◌, length, codes, decimal, unwrap_or, Option, Some, None}
 use Rattle.http.specs.StatusCode.{code_digits, reason_phrase}
 use Rattle.rpc_records.specs.Replies.{status_of, fault_text_of}

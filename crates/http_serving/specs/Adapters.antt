@@ -1,4 +1,4 @@
--- What is known of one call of std's readers and writers.
+-- Words. What is known of one call of std's readers and writers.
 use Rattle.std.specs.Prelude.{ℕ, List, Option}
 use Rattle.std.specs.Io.KnownBytes.{Consumes}
 use Rattle.std.specs.declared.io.ErrorKind.{ErrorKind}

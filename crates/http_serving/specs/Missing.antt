@@ -1,4 +1,4 @@
--- How much of a message is missing.
+-- Words. How much of a message is missing.
 use Rattle.std.specs.Prelude.{◌<◌, ℕ, List, ◌++◌, length}
 
 -- So many bytes more have to come at the least: behind fewer something is wanting yet.

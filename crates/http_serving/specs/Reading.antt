@@ -1,4 +1,4 @@
--- What the reading of a message gives.
+-- Words. What the reading of a message gives.
 use Rattle.std.specs.Prelude.{◌≡◌, ◌<◌, ◌≤◌, ℕ, List, [], ◌++◌, length, Option}
 use Rattle.std.specs.Io.KnownBytes.{Consumes, IsAtEnd}
 use Rattle.http_serving.specs.Serving.{Comes, IsWhole}

@@ -1,4 +1,4 @@
--- How one message is served: read as far as it is wanted, handed over once, and answered.
+-- Rule. How one message is served: read as far as it is wanted, handed over once, and answered.
 use Rattle.std.specs.Prelude.{◌≡◌, ◌<◌, ◌≤◌, ◌⊎◌, ℕ, List, [], ◌++◌, length, Option}
 use Rattle.std.specs.Io.KnownBytes.{Consumes, IsAtEnd}
 use Rattle.http_responses.specs.Answers.{answer_bytes}

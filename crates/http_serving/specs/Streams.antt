@@ -1,4 +1,4 @@
--- What became of a stream.
+-- Rule. What became of a stream.
 use Rattle.std.specs.Prelude.{◌≡◌, ℕ, zero, suc, List, ◌++◌, Option}
 use Rattle.std.specs.Io.KnownBytes.{Appends}
 

@@ -1,4 +1,4 @@
--- Instants of ISO 8601, and the moments that they tell. (This profile.)
+-- Rule. Instants of ISO 8601, and the moments that they tell. (This profile.)
 use Rattle.std.specs.Prelude.{ℕ, ℤ, pos, negsuc, ◌/◌, ◌%◌, ◌==◌, ◌&&◌, nat_le, if◌then◌else◌, List, Option, Some, None, option_and_then}
 use Rattle.std.specs.Result.{result_ok}
 use Rattle.std.specs.Str.{is_utf8}

@@ -1,4 +1,4 @@
--- How a program ends. (This profile.)
+-- Words. How a program ends. (This profile.)
 use Rattle.std.specs.Prelude.{ℕ}
 use Rattle.replay_lines.specs.declared.Ended.{Ended}
 use Rattle.replay_lines.specs.declared.Ended.TheVariants.{Good, Line, File, Unavailable}

@@ -1,4 +1,4 @@
--- A line of a replay: INSTANT, one space, a word and, where a body follows, one space and the body; and the message of HTTP that it
+-- Rule. A line of a replay: INSTANT, one space, a word and, where a body follows, one space and the body; and the message of HTTP that it
 -- becomes. (This profile.)
 use Rattle.std.specs.Prelude.{ℕ, ◌+◌, ◌==◌, if◌then◌else◌, List, [], ◌∷◌, ◌++◌, codes, take, drop, Option, Some, None, option_and_then, option_map, unwrap_or, position}
 use Rattle.std.specs.Str.{bytes_eq}

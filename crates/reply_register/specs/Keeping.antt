@@ -1,4 +1,4 @@
--- What is kept of a key once a call more is kept. (This profile's.)
+-- Rule. What is kept of a key once a call more is kept. (This profile's.)
 use Rattle.std.specs.Prelude.{◌≡◌, ℕ, ◌<◌, ◌≤◌, ◌⊎◌, true, List, [], ◌∷◌, length, take, remove, slice_index_or, unwrap_or, All}
 use Rattle.std.specs.FinMap as map
 use Rattle.reply_register.specs.Calls.{is_above_all}

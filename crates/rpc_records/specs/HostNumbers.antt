@@ -1,4 +1,4 @@
--- Whether a request names its host.
+-- Rule. Whether a request names its host.
 use Rattle.std.specs.Prelude.{ℕ, Bool, false, ◌||◌, ◌==◌, Option, Some, None}
 
 -- the number is known, and is this one

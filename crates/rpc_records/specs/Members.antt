@@ -1,4 +1,4 @@
--- The members of a scheduler_request by name, and the kinds of text that they hold.
+-- Rule. The members of a scheduler_request by name, and the kinds of text that they hold.
 -- The names are those of BOINC's scheduler RPC protocol; the kinds are this profile's.
 use Rattle.std.specs.Prelude.{ℕ, List, length, Bool, ◌&&◌, nat_le, codes}
 use Rattle.texts.specs.Words.{is_word}

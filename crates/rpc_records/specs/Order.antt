@@ -1,4 +1,4 @@
--- Which members of an object are faulty, each judged by itself, and the order in which they are told.
+-- Rule. Which members of an object are faulty, each judged by itself, and the order in which they are told.
 use Rattle.std.specs.Prelude.{List, [], ◌∷◌, Bool, false, Option, Some, None, is_none, option_and_then, unwrap_or, Result, Ok, Err}
 use Rattle.serde_json.specs.Data.{Data, null}
 use Rattle.serde_json.specs.Find.{get}

@@ -1,4 +1,4 @@
--- The ranges of a request: what every request that was read is within, and what a canonical text can be read back from.
+-- Rule. The ranges of a request: what every request that was read is within, and what a canonical text can be read back from.
 use Rattle.std.specs.Prelude.{◌<◌, ◌≤◌, ◌^◌, ◌≤ℤ◌, ℕ, pos, negsuc, List, length, All, IfSome, IsTrue}
 use Rattle.texts.specs.Words.{is_word}
 use Rattle.rpc_records.specs.Members.{is_name, is_output}

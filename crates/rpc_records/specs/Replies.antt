@@ -1,4 +1,4 @@
--- The texts of the answers to a scheduler call: compact JSON as serde_json writes it, the members of each object in byte order of
+-- Rule. The texts of the answers to a scheduler call: compact JSON as serde_json writes it, the members of each object in byte order of
 -- their names. The names of a reply's members are those of BOINC's scheduler RPC protocol where it has them; the refusals are this profile's.
 use Rattle.std.specs.Prelude.{ℕ, List, [], ◌∷◌, codes}
 use Rattle.serde_json.specs.Data.{Data, string, boolean, object, member, no_members}

@@ -1,4 +1,4 @@
--- The canonical text of a request: compact JSON as serde_json writes it, every member with its default put in, but other_results only
+-- Rule. The canonical text of a request: compact JSON as serde_json writes it, every member with its default put in, but other_results only
 -- where the request has it, so that an absent list and an empty one are two texts. In each object the members stand in byte order of
 -- their names.
 use Rattle.std.specs.Prelude.{ℕ, List, [], ◌∷◌, drop, map, slice_index_or, codes, Option, Some, None}

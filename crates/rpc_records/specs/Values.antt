@@ -1,4 +1,4 @@
--- What one value of JSON says, where it is of the wanted form, and None where it isn't. `null` is of none of these forms.
+-- Rule. What one value of JSON says, where it is of the wanted form, and None where it isn't. `null` is of none of these forms.
 -- JSON's values are those of serde_json: a number is unsigned or negative within 64 bits, or a float. A number with a point or
 -- an exponent is a float there, and so are `-0` and an integer beyond 64 bits.
 use Rattle.std.specs.Prelude.{◌^◌, ℕ, ℤ, pos, negsuc, List, [], ◌∷◌, ◌&&◌, nat_le, int_le, codes, Option, Some, None, option_map, option_and_then}

@@ -1,4 +1,4 @@
--- Readings, each of which says a value or the first fault.
+-- Rule. Readings, each of which says a value or the first fault.
 use Rattle.std.specs.Prelude.{◌≡◌, ◌≢◌, Result, Ok, Err}
 
 -- A reading goes on with what was read, and is over at the first fault.

@@ -1,4 +1,4 @@
--- Which keys came by.
+-- Rule. Which keys came by.
 use Rattle.std.specs.Borrow.{Bor}
 use Rattle.std.specs.List.{list_any}
 use Rattle.std.specs.Prelude.{ℕ, Bool, List}

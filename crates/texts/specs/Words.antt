@@ -1,4 +1,4 @@
--- Words, the names that accounts, hosts, platforms, batches and applications go by. (This profile.)
+-- Rule. Words, the names that accounts, hosts, platforms, batches and applications go by. (This profile.)
 use Rattle.std.specs.Prelude.{ℕ, Bool, ◌&&◌, ◌||◌, ◌==◌, nat_le, if◌then◌else◌, List, length, Option, Some, None}
 use Rattle.std.specs.Char.{is_ascii_alphanumeric}
 use Rattle.std.specs.List.{list_all}
