@@ -97,6 +97,7 @@ def status_page(settings: Settings, status: Status) -> bytes:
         rows = [row + count for row, count in zip(rows, counts)]
         rows.append(("all", "", "", "", *map(sum, zip(*counts))))
     body += table(header, rows)
+    body += "<p>Credit is as the last reply to a host told it, of the host and of its user.</p>\n"
     if status.with_results:
         body += (
             "<p>Results are out until they are reported or their deadline passes. Those that wait are reported, and their "
