@@ -5,3 +5,4 @@ mod RowLemmas
 mod MeaningLemmas
 mod KindLemmas
 mod RouteLemmas
+pub mod ImportLemmas

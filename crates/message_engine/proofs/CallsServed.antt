@@ -42,6 +42,7 @@ use Rattle.pasts.proofs.ByNumber.{at_number, kept_by_number}
 use Rattle.pasts.proofs.ToldNone.{beside_none}
 use Rattle.message_engine.specs.Calls.{IsNamed, told_caller, MayAct, ServesCall, IsCallServed, entry_of_call}
 use Rattle.message_engine.proofs.EntriesKept.{told_serves, step_serves, IsStep}
+use Rattle.message_engine.proofs.KeptStanding.{call_may_be_kept}
 
 -- ---- who calls
 
@@ -181,6 +182,7 @@ module _ (old new : Held) (w : World) (world_is : old.world ≡ w) (c : Caller) 
       (told_acting old c r may ∙ ap told_fresh (has_room old.world.settings.max_hosts (length old.world.hosts) c.host step.room))
       refl (record { request = range; moment = moment }) step (here.sound sound.world admitted)
       (calls_kept old.world c r now delta reply sound.world step old.calls sound.hosts) (λ kind batch. refl)
+      (λ says. call_may_be_kept old.world (applied old.world delta) c r now reply (canonical_text r) range step)
       (subst (λ t. IsCommitted delta (entry_of_call r.rpc_seqno t reply) old new) spelt
       (commits (record { fits = here.fits sound.world admitted; newest = newest }) (here.sound sound.world admitted))) sound
 

@@ -10,6 +10,7 @@ use Rattle.sched_book.specs.declared.machine.Answered.{Answered}
 use Rattle.sched_book.specs.declared.machine.Call.{Call}
 use Rattle.sched_book.specs.declared.world.World.{World}
 use Rattle.stores.specs.Held.{Held, calls_with, batches_with, IsCommitted, IsLeft}
+use Rattle.stores.specs.Standing.{MayBeKept, MayStand}
 use Rattle.stores.specs.declared.entry.Entry.{Entry}
 use Rattle.stores.specs.declared.kind.Kind.{Kind}
 use Rattle.stores.proofs.ReadsAct.{left_is}
@@ -20,7 +21,8 @@ use Rattle.pasts.specs.Runs.{SaysCall, IsInLimits}
 use Rattle.pasts.specs.Stands.{Same, ServesAs, told_by}
 use Rattle.pasts.specs.declared.answer.Answer.{Answer}
 use Rattle.pasts.specs.declared.answer.Answer.TheVariants.{Good}
-use Rattle.message_engine.specs.Stores.{tables_by, IsSoundStore, ServesIn}
+use Rattle.message_engine.specs.Stores.{tables_by, IsSoundStore, MayBeSaid, ServesIn}
+use Rattle.message_engine.proofs.KeptStanding.{stands_with}
 
 -- what is left as it was says the same
 pub left_same : (old new : Held) → IsLeft old new → Same (tables_by new) (tables_by old)
@@ -33,6 +35,10 @@ left_same old new left = record {
 -- and is as sound as before
 pub left_sound : (old new : Held) → IsLeft old new → IsSoundStore old → IsSoundStore new
 left_sound old new left = subst IsSoundStore (sym (left_is old new left))
+
+-- and what may stand in a store still may
+pub left_stands : (old new : Held) → IsLeft old new → MayStand old → MayStand new
+left_stands old new left = subst MayStand (sym (left_is old new left))
 
 -- what was committed to is sound where what was put in is
 committed_sound : (delta : List Change) (e : Entry) (old new : Held) → IsCommitted delta e old new
@@ -47,7 +53,11 @@ committed_sound delta e old new done = subst IsSoundStore (λ i. record {
 pub told_serves : (m : Message) (answer : Answer) (old new : Held) → told_by (tables_by old) m.said ≡ Some answer → IsLeft old new → ServesIn m answer old new
 told_serves m answer old new told left sound =
     let P : Option Answer → Type 0 = λ o. ServesAs o (tables_by old) m answer (tables_by new) in
-    record { serves = subst P (sym told) (refl, left_same old new left); sound = left_sound old new left sound }
+    record {
+      serves = subst P (sym told) (refl, left_same old new left);
+      sound = left_sound old new left sound;
+      stands = λ says. left_stands old new left;
+    }
 
 -- A step was made of a sound world that may be asked for it: its changes fit, and leave a sound world.
 pub record IsStep (May : World → Type 0) (Steps : World → World → Type 0) (delta : List Change) (w : World) : Type 0 where
@@ -63,9 +73,10 @@ pub step_serves : (m : Message) (c : Call) (answered : Answered) (delta : List C
     × ((key : Key) → calls_by_number (applied old.world delta) (calls_with e old.calls) key
     ≡ kept_after m.era key m.said (body_of answered m.said) (calls_by_number old.world old.calls key))
     → ((kind : Kind) (batch : List ℕ) → batches_with e old.batches kind batch ≡ batch_after kind batch m.said (body_of answered m.said) (old.batches kind batch))
+    → (MayBeSaid m.said → MayBeKept (applied old.world delta) e)
     → IsCommitted delta e old new
     → ServesIn m (Good (body_of answered m.said)) old new
-step_serves m c answered delta e old new told is_call limits step after numbered batched done sound =
+step_serves m c answered delta e old new told is_call limits step after numbered batched fits done sound =
     let P : Option Answer → Type 0 = λ o. ServesAs o (tables_by old) m (Good (body_of answered m.said)) (tables_by new) in
     let Q : World → Type 0 = λ x. Step old.world c m.now x answered in
     record {
@@ -80,4 +91,5 @@ step_serves m c answered delta e old new told is_call limits step after numbered
         batches = λ kind batch. done.batches_are kind batch ∙ batched kind batch;
       });
       sound = committed_sound delta e old new done (record { world = after; hosts = numbered.0 });
+      stands = λ says stood. stands_with c m.now answered delta e old new step after (fits says) done stood;
     }

@@ -106,7 +106,7 @@ module _ (now count : ℕ) (kind : Kind) (batch text : List ℕ) (new_rows : Row
       refl (record { request = tt; moment = soon }) (here.step sound.world checked) (here.sound sound.world checked)
       (kept_by_number old.world (applied old.world delta) m.said (call.Import new_rows) now (answered.Imported count) sound.world refl (here.step sound.world checked) this_era old.calls
       sound.hosts)
-      (λ k b. refl) (done (record { fits = here.fits sound.world checked; newest = tt }) (here.sound sound.world checked)) sound
+      (λ k b. refl) (λ says. says) (done (record { fits = here.fits sound.world checked; newest = tt }) (here.sound sound.world checked)) sound
 
   pub rows_done : {E : Type 0} (result : Result Answer E) → IfOk result (λ answer. answer ≡ Good (imported_text (kind_name kind) batch count))
       → OnOk result (MayBeCommitted delta (entry_of_batch kind batch text count) old → IsCommitted delta (entry_of_batch kind batch text count) old new)

@@ -2,3 +2,4 @@ pub mod EntriesKept
 mod CallsServed
 mod ImportsServed
 mod TicksServed
+pub mod KeptStanding

@@ -27,7 +27,7 @@ module _ (now count : ℕ) (delta : List Change) (old new : Held) (w : World) (w
       step_serves (heard_now now Tick) call.Tick (answered.Lapsed count) delta entry.Nothing old new
       refl tt (record { request = tt; moment = soon }) (here.step sound.world tt) (here.sound sound.world tt)
       (kept_by_number old.world (applied old.world delta) Tick call.Tick now (answered.Lapsed count) sound.world tt (here.step sound.world tt) this_era old.calls sound.hosts)
-      (λ kind batch. refl) (done (record { fits = here.fits sound.world tt; newest = tt }) (here.sound sound.world tt)) sound
+      (λ kind batch. refl) (λ says. tt) (done (record { fits = here.fits sound.world tt; newest = tt }) (here.sound sound.world tt)) sound
 
   pub tick_done : {E : Type 0} (result : Result Answer E) → IfOk result (λ answer. answer ≡ Good (lapsed_text count))
       → OnOk result (MayBeCommitted delta entry.Nothing old → IsCommitted delta entry.Nothing old new)

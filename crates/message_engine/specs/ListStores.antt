@@ -1,5 +1,5 @@
 -- Words. What a store over lists in memory holds. (This project's own.)
-use Rattle.std.proofs.Common.{sym}
+use Rattle.std.proofs.Common.{sym, subst}
 use Rattle.std.specs.Prelude.{◌≡◌, ℕ, Bool, ◌&&◌, ◌==◌, List, map, filter, take, find, Option, option_map}
 use Rattle.std.specs.Str.{bytes_eq}
 use Rattle.reply_register.specs.Keeping.{most_kept}
@@ -7,6 +7,7 @@ use Rattle.reply_register.specs.declared.kept.Kept.{Kept}
 use Rattle.sched_book.specs.declared.world.World.{World}
 use Rattle.stores.specs.Held.{Held, IsLeft}
 use Rattle.stores.specs.Kinds.{same_kind}
+use Rattle.stores.specs.Standing.{MayStand}
 use Rattle.stores.specs.declared.batch.KeptBatch.{KeptBatch}
 use Rattle.stores.specs.declared.kind.Kind.{Kind}
 use Rattle.message_engine.specs.declared.list_store.Batch.{Batch}
@@ -39,3 +40,7 @@ stays_left_alone a b same = record {
   calls_are = λ host. λ i. (held_of (sym same i)).calls host;
   batches_are = λ kind batch. λ i. (held_of (sym same i)).batches kind batch;
 }
+
+-- and may stand in a store where that did
+pub stays_standing : (a b : ListStore) → a ≡ b → MayStand (held_of a) → MayStand (held_of b)
+stays_standing a b same stands = subst (λ s. MayStand (held_of s)) same stands

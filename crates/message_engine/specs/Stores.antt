@@ -1,8 +1,11 @@
 -- Rule. What one message does to a store. (This project's own.)
+use Rattle.std.specs.Prelude.{◌≤◌, IsTrue, length}
 use Rattle.sched_book.specs.Sound.{Sound}
+use Rattle.texts.specs.Words.{is_word}
 use Rattle.stores.specs.Held.{Held}
+use Rattle.stores.specs.Standing.{MayStand, most_import_bytes}
 use Rattle.pasts.specs.ByNumber.{calls_by_number, AreOfHosts}
-use Rattle.pasts.specs.Messages.{Message}
+use Rattle.pasts.specs.Messages.{Message, Said, Rpc, Import, Tick, Read, Refused}
 use Rattle.pasts.specs.Stands.{Tables, Serves}
 use Rattle.pasts.specs.declared.answer.Answer.{Answer}
 
@@ -15,10 +18,19 @@ pub record IsSoundStore (held : Held) : Type 0 where
   pub world : Sound held.world
   pub hosts : AreOfHosts held.world held.calls
 
--- what one message does to a sound store, and that it stays sound
+-- What a message says may be kept: an import has a word for its name, and is not too long.
+abbrev pub MayBeSaid : Said → Type 0
+MayBeSaid (Import kind batch text read) = IsTrue (is_word batch) × (length text ≤ most_import_bytes)
+MayBeSaid (Rpc request) = Unit {0}
+MayBeSaid Tick = Unit {0}
+MayBeSaid (Read tells) = Unit {0}
+MayBeSaid (Refused fault) = Unit {0}
+
+-- what one message does to a sound store, and that it stays sound, with what may stand in a store that can be opened again
 pub record ServesSoundly (m : Message) (answer : Answer) (old new : Held) : Type 0 where
   pub serves : Serves (tables_by old) m answer (tables_by new)
   pub sound : IsSoundStore new
+  pub stands : MayBeSaid m.said → MayStand old → MayStand new
 
 abbrev pub ServesIn : Message → Answer → Held → Held → Type 0
 ServesIn m answer old new = IsSoundStore old → ServesSoundly m answer old new

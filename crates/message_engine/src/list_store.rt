@@ -275,7 +275,8 @@ impl Desk for ListStore {
 
 impl Store for ListStore {
     ghost use Rattle.std.proofs.Common.{rules};
-    ghost use Rattle.message_engine.specs.ListStores.{stays_left_alone};
+    ghost use Rattle.stores.specs.Standing.{MayStand};
+    ghost use Rattle.message_engine.specs.ListStores.{stays_left_alone, stays_standing};
 
     ghost holds = { held_of };
 
@@ -285,6 +286,8 @@ impl Store for ListStore {
     ghost lasting = { ⊤ };
 
     ghost may_leave = { λ store held. ⊥ };
+
+    ghost reopens = { λ store. MayStand (held_of store) };
 
     fn kept(&mut self, alloc: Global, host: u32) -> Result<Listed<Kept>, Unavailable> {
         Ok(calls_of(alloc, self.calls.as_slice(), host)?)
@@ -324,6 +327,10 @@ impl Store for ListStore {
     ghost stays_held = { λ a b same h k. stays_left_alone a b same };
 
     ghost stays_left = { λ a b same h left. left };
+
+    ghost stays_reopened = { λ a b same kept stands. stays_standing a b same stands };
+
+    ghost may_stand = { λ a h k stands. stands };
 
     ghost settled = { λ a h k l held left. absurd left };
 }

@@ -27,6 +27,14 @@ use Rattle.sched_machine.proofs.RunLasting.{owners_stay_in_step}
 use Rattle.past_laws.specs.Laws.{IsSentAgainBy, DeadlinesMoveByResendsAlone, IsSentAgainBySome, DeadlinesMoveByResendsOverMessages, IsInSight, NoHeldJobDropsFromSight}
 use Rattle.past_laws.proofs.Sounds.{what_stands_is_sound}
 
+-- what is said by a message that says a call
+pub said_by : (said : Said) (caller : Caller) (r : Request) → SaysCall said (call.Rpc caller r) → said ≡ Rpc r
+said_by (Rpc request) caller r is = ap Rpc (sym is)
+said_by (Import kind batch text read) caller r is = absurd is
+said_by Tick caller r is = absurd is
+said_by (Read tells) caller r is = absurd is
+said_by (Refused fault) caller r is = absurd is
+
 -- ---- deadlines
 
 sent_again : (old new : World) (m : Message) (c : Call) (answer : Answered) → SaysCall m.said c → Step old c m.now new answer → (p : Place) (o : Owner)
@@ -34,17 +42,10 @@ sent_again : (old new : World) (m : Message) (c : Call) (answer : Answered) → 
 sent_again old new m (call.Rpc caller r) (answered.Rpc reply) is step p o again = record {
   caller = caller;
   request = r;
-  said = said_by m.said is;
+  said = said_by m.said caller r is;
   is_caller = step.caller;
   again = again;
 }
-  where
-    said_by : (said : Said) → SaysCall said (call.Rpc caller r) → said ≡ Rpc r
-    said_by (Rpc request) is = ap Rpc (sym is)
-    said_by (Import kind batch text read) is = absurd is
-    said_by Tick is = absurd is
-    said_by (Read tells) is = absurd is
-    said_by (Refused fault) is = absurd is
 sent_again old new m (call.Rpc caller r) (answered.Imported n) is step p o again = absurd step
 sent_again old new m (call.Rpc caller r) (answered.Lapsed n) is step p o again = absurd step
 sent_again old new m (call.Import rows) answer is step p o again = absurd again

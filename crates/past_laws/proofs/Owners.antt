@@ -15,7 +15,7 @@ use Rattle.sched_book.specs.declared.machine.Call.TheVariants as call
 use Rattle.sched_book.specs.declared.settings.Settings.{Settings}
 use Rattle.sched_book.specs.declared.world.World.{World}
 use Rattle.pasts.specs.Many.{ServesAll}
-use Rattle.pasts.specs.Messages.{Said, Rpc, Import, Tick, Read, Refused, Message}
+use Rattle.pasts.specs.Messages.{Message}
 use Rattle.pasts.specs.Runs.{Turn, SaysCall, world_of}
 use Rattle.pasts.specs.Stands.{Tables, Same, ServesAs, told_by}
 use Rattle.pasts.specs.declared.answer.Answer.{Answer}
@@ -28,6 +28,7 @@ use Rattle.sched_machine.proofs.ClassRuns.{still_given}
 use Rattle.sched_machine.proofs.ClassesKept.{classes_stay_in_step, stay_self, stay_then}
 use Rattle.sched_machine.proofs.StepsSound.{step_keeps_sound, the_empty_world_is_sound}
 use Rattle.past_laws.specs.Classes.{IsGivenByMessage, OwnersAreOfClassesAtAMessage, OwnersAreOfClassesOverMessages, IsGivenByATurn, OwnersWereGiven}
+use Rattle.past_laws.proofs.Calls.{said_by}
 use Rattle.past_laws.proofs.Holds.{classes_stay, have_stood_on}
 use Rattle.past_laws.proofs.Sounds.{what_stands_is_sound}
 
@@ -38,17 +39,10 @@ given_by : (old new : World) (m : Message) (c : Call) (answer : Answered) → Sa
 given_by old new m (call.Rpc caller r) (answered.Rpc reply) is step p o given = record {
   caller = caller;
   request = r;
-  said = said_by m.said is;
+  said = said_by m.said caller r is;
   is_caller = step.caller;
   given = given;
 }
-  where
-    said_by : (said : Said) → SaysCall said (call.Rpc caller r) → said ≡ Rpc r
-    said_by (Rpc request) is = ap Rpc (sym is)
-    said_by (Import kind batch text read) is = absurd is
-    said_by Tick is = absurd is
-    said_by (Read tells) is = absurd is
-    said_by (Refused fault) is = absurd is
 given_by old new m (call.Rpc caller r) (answered.Imported n) is step p o given = absurd step
 given_by old new m (call.Rpc caller r) (answered.Lapsed n) is step p o given = absurd step
 given_by old new m (call.Import rows) answer is step p o given = absurd given

@@ -19,6 +19,7 @@ use Rattle.sched_book.specs.Sound.{Sound}
 use Rattle.sched_book.specs.Step.{IsCaller, Step, host_number}
 use Rattle.sched_book.specs.declared.machine.Answered.{Answered}
 use Rattle.sched_book.specs.declared.machine.Answered.TheVariants as answered
+use Rattle.sched_book.specs.declared.machine.Call.{Call}
 use Rattle.sched_book.specs.declared.machine.Call.TheVariants as call
 use Rattle.sched_book.specs.declared.machine.Caller.{Caller}
 use Rattle.sched_book.specs.declared.rows.Account.{Account}
@@ -263,17 +264,22 @@ put_of m n number new kept of more within host beyond =
     unless (eqb number host) new (kept host) (λ equal. let same : number ≡ host = eqb-true number host equal in omega (arith, same, within, beyond))
     ∙ of host (omega (arith, more, beyond))
 
+-- a place that was found is a place
+some_place : (names : List (ℕ × List ℕ)) (a : ℕ × List ℕ) (n : ℕ) → place_of a names ≡ Some n → 1 ≤ n
+some_place names a n is = let x : FoundFrom (is_name a.0 a.1) 1 names n = found (is_name a.0 a.1) names n is in omega (arith, x.2)
+
 -- a call puts at the number of a host that stands after it
 names_stand : (names : List (ℕ × List ℕ)) (mine : ℕ × List ℕ) (o : Option ℕ) → place_of mine names ≡ o
-    → (length names ≤ length (names_after mine o names)) × (unwrap_or o (length names + 1) ≤ length (names_after mine o names))
+    → (length names ≤ length (names_after mine o names)) × (1 ≤ unwrap_or o (length names + 1)) × (unwrap_or o (length names + 1) ≤ length (names_after mine o names))
 names_stand names mine None here =
     let one_more : length (names ++ mine ∷ []) ≡ length names + 1 = length-append names (mine ∷ []) in
-    (omega (arith, one_more), omega (arith, one_more))
-names_stand names mine (Some n) here = (omega arith, within names mine n here)
+    (omega (arith, one_more), omega arith, omega (arith, one_more))
+names_stand names mine (Some n) here = (omega arith, some_place names mine n here, within names mine n here)
 
-call_of_hosts : (era : ℕ) (w after : World) (c : Caller) (r : Request) (now : ℕ) (answer : Answered) → IsCaller w c r → Step w (call.Rpc c r) now after answer
-    → (body : List ℕ) (kept : ℕ → List Kept) → AreOfHosts w kept → AreOfHosts after (numbered_after era w (call.Rpc c r) body kept)
-call_of_hosts era w after c r now answer caller step body kept of =
+-- the hosts behind a call: no fewer than before, and the caller's is one of them
+pub call_hosts : (w after : World) (c : Caller) (r : Request) (now : ℕ) (answer : Answered) → IsCaller w c r → Step w (call.Rpc c r) now after answer
+    → (length w.hosts ≤ length after.hosts) × (1 ≤ host_number w c) × (host_number w c ≤ length after.hosts)
+call_hosts w after c r now answer caller step =
     let names : List (ℕ × List ℕ) = map host_name w.hosts in
     let mine : ℕ × List ℕ = (c.account, r.host.host_cpid) in
     let here : place_of mine names ≡ c.host =
@@ -283,10 +289,15 @@ call_of_hosts era w after c r now answer caller step body kept of =
     let count : length after.hosts ≡ length (names_after mine c.host names) = sym (length-map after.hosts host_name) ∙ ap length hosts in
     let before : length names ≡ length w.hosts = length-map w.hosts host_name in
     let stand = names_stand names mine c.host here in
-    let P : ℕ → Type 0 = λ n. unwrap_or c.host (n + 1) ≤ length (names_after mine c.host names) in
-    let number : host_number w c ≤ length (names_after mine c.host names) = subst P before stand.1 in
-    put_of (length w.hosts) (length after.hosts) (host_number w c) (kept_call r body ∷ take (kept_beside era) (kept (host_number w c))) kept of
-    (omega (arith, count, before, stand.0)) (omega (arith, count, number))
+    let P : ℕ → Type 0 = λ n. (1 ≤ unwrap_or c.host (n + 1)) × (unwrap_or c.host (n + 1) ≤ length (names_after mine c.host names)) in
+    let number = subst P before (stand.1, stand.2) in
+    (omega (arith, count, before, stand.0), number.0, omega (arith, count, number.1))
+
+call_of_hosts : (era : ℕ) (w after : World) (c : Caller) (r : Request) (now : ℕ) (answer : Answered) → IsCaller w c r → Step w (call.Rpc c r) now after answer
+    → (body : List ℕ) (kept : ℕ → List Kept) → AreOfHosts w kept → AreOfHosts after (numbered_after era w (call.Rpc c r) body kept)
+call_of_hosts era w after c r now answer caller step body kept of =
+    let hosts = call_hosts w after c r now answer caller step in
+    put_of (length w.hosts) (length after.hosts) (host_number w c) (kept_call r body ∷ take (kept_beside era) (kept (host_number w c))) kept of hosts.0 hosts.2
 
 import_hosts : (w after : World) (new : Rows) (now : ℕ) (answer : Answered) → Step w (call.Import new) now after answer → length after.hosts ≡ length w.hosts
 import_hosts w after new now (answered.Imported n) step = ap (λ (v : World). length v.hosts) step.left ∙ ap length (hosts_with_rows w new)
@@ -330,3 +341,9 @@ kept_by_number w after Tick (call.Rpc c r) now answer sound is step era kept of 
 kept_by_number w after Tick (call.Import new) now answer sound is step era kept of = absurd is
 kept_by_number w after (Read tells) c now answer sound is step era kept of = absurd is
 kept_by_number w after (Refused fault) c now answer sound is step era kept of = absurd is
+
+-- no host goes
+pub no_host_goes : (w after : World) (c : Call) (now : ℕ) (answer : Answered) → Step w c now after answer → length w.hosts ≤ length after.hosts
+no_host_goes w after (call.Rpc c r) now answer step = (call_hosts w after c r now answer (caller_of w after c r now answer step) step).0
+no_host_goes w after (call.Import new) now answer step = let same = import_hosts w after new now answer step in omega (arith, same)
+no_host_goes w after call.Tick now answer step = let same = tick_hosts w after now answer step in omega (arith, same)

@@ -7,3 +7,4 @@ mod Begun
 mod Lasting
 mod Owners
 mod Former
+mod Standing

@@ -96,7 +96,8 @@ impl<S: Store> Service<S> {
     /// are opened again.
     ///
     /// A stop at any moment leaves what stands for all that was answered, or for that and one message more, whose answer
-    /// was unavailable or nobody read: it is answered again by the same bytes.
+    /// was unavailable or nobody read: it is answered again by the same bytes. And a store that could be opened again still
+    /// can, as it stands and as a stop may leave it.
     pub fn handle(&mut self, alloc: Global, now: Moment, bytes: &[u8]) -> Answer
         ensures acts { Acts S.Store (is_answered result) (IsHandled (key_of self.old) bytes.now now (S.holds (store_of self.old))) (store_of self.old) (store_of self.new) }
         ensures key { key_of self.new ≡ key_of self.old }
@@ -104,6 +105,7 @@ impl<S: Store> Service<S> {
             HandledAs (key_of self.old) bytes.now now result (S.holds (store_of self.old)) (S.holds (store_of self.new))) }
         ensures stands { (marks : List ℕ) (before : List Came) → StoreStandsFor S.Store (key_of self.old) marks before (store_of self.old) → S.clean (store_of self.new)
             → StoreStandsFor S.Store (key_of self.old) marks (record { arrival = record { now = now; bytes = bytes.now }; answer = result } ∷ before) (store_of self.new) }
+        ensures reopens { (S.honest (store_of self.old) → S.well_kept (store_of self.old)) → S.reopens (store_of self.old) → S.reopens (store_of self.new) }
     {
         let message = self.heard(bytes).message;
         let allowed = allowed_by(&message);
@@ -120,6 +122,7 @@ impl<S: Store> Handler for Service<S> {
     ghost handles = { λ old now bytes text new. (answer : given.Answer) × (text ≡ answer_bytes answer)
         × Acts S.Store (is_answered answer) (IsHandled (key_of old) bytes now (S.holds (store_of old))) (store_of old) (store_of new)
         × (key_of new ≡ key_of old)
+        × ((S.honest (store_of old) → S.well_kept (store_of old)) → S.reopens (store_of old) → S.reopens (store_of new))
         × Trusted S.Units (store_of old) (store_of new) (HandledAs (key_of old) bytes now answer (S.holds (store_of old)) (S.holds (store_of new))) };
 
     fn missing(&self, bytes: &[u8]) -> usize {

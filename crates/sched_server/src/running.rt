@@ -28,6 +28,7 @@ impl<S: Store> Service<S> {
         ensures lasts { S.lasting → S.honest (store_of self.old) → S.honest (store_of self.new) }
         ensures kept { Trusted S.Units (store_of self.old) (store_of self.new) (S.well_kept (store_of self.new)) }
         ensures key { key_of self.new ≡ key_of self.old }
+        ensures reopens { (S.honest (store_of self.old) → S.well_kept (store_of self.old)) → S.reopens (store_of self.old) → S.reopens (store_of self.new) }
         ensures count { IfOk result (λ answers. length answers.items ≡ length arrivals.now) }
         ensures acts { ActInTurn S.Store (key_of self.old) arrivals.now (λ answers. IfOk result (λ all. all.items ≡ answers)) (store_of self.old) (store_of self.new) }
     {

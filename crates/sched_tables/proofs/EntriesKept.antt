@@ -18,8 +18,8 @@ use Rattle.stores.specs.declared.kind.Kind.TheVariants.{Accounts, Apps, Versions
 use Rattle.texts.specs.Words.{is_word}
 use Rattle.reply_register.specs.Keeping.{most_kept}
 use Rattle.sched_book.specs.Places.{host_at}
-use Rattle.table_reading.specs.Reading.{MayStandBeside, is_call_of, is_import, last_seqno, most_import_bytes}
-use Rattle.sched_tables.specs.Reopening.{MayBeKept}
+use Rattle.stores.specs.Standing.{MayBeKept, last_seqno, most_import_bytes}
+use Rattle.table_reading.specs.Reading.{MayStandBeside, is_call_of, is_import}
 use Rattle.reply_register.specs.Calls.{is_above_all}
 use Rattle.reply_register.specs.declared.kept.Kept.{Kept}
 use Rattle.sched_book.specs.Delta.{applied_one, applied}

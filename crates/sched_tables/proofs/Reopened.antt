@@ -20,7 +20,8 @@ use Rattle.table_meaning.specs.Kept.{calls_in, batches_in}
 use Rattle.table_meaning.specs.Reads.{Reads}
 use Rattle.table_meaning.specs.Rows.{setting_key}
 use Rattle.table_meaning.specs.Worlds.{SlotCalls, call_row, contents_of, HoldWorld}
-use Rattle.table_reading.specs.Reading.{ReadFrom, MayStandBeside, is_call_of, last_seqno}
+use Rattle.stores.specs.Standing.{MayBeKept, last_seqno}
+use Rattle.table_reading.specs.Reading.{ReadFrom, MayStandBeside, is_call_of}
 use Rattle.table_reading.proofs.Formatted.{have_formats}
 use Rattle.table_reading.proofs.HeldRows.{read_beside, formed, held_is_read, stands_for_one}
 use Rattle.table_reading.proofs.KeptRows.{held_by_rows}
@@ -38,7 +39,7 @@ use Rattle.sched_tables.specs.Held.{IsHonest, AreWellKept}
 use Rattle.sched_tables.specs.Laws.{HeldCanBeOpened, OpenedAreTaken}
 use Rattle.sched_tables.specs.ReadLaws.{was_honest, was_clean}
 use Rattle.sched_tables.specs.Refusals.{AreNewest, AreRefusedFor}
-use Rattle.sched_tables.specs.Reopening.{CanBeOpened, Reopens, MayBeKept}
+use Rattle.sched_tables.specs.Reopening.{CanBeOpened, Reopens}
 use Rattle.sched_tables.proofs.EntriesKept.{beside_entry, now_held}
 use Rattle.sched_tables.proofs.Refusals.{none_earlier}
 
@@ -91,15 +92,6 @@ rest_reopens s is_open rests settled can = record {
   stop = λ clean db sound left. same_can_be_opened s.now db sound (settled db.trees (is_open clean) left ∙ ap (λ (d : Database). d.trees) (sym (rests clean))) (can clean);
 }
 
-pub reads_reopen : (old new : State) → Reads old new → old.now ≡ old.committed → Reopens old → Reopens new
-reads_reopen old new reads rests reopens = record {
-  now = λ honest. subst CanBeOpened (sym (reads.same honest.0 honest.1 rests).0) (reopens.now (was_honest old new reads honest));
-  stop = λ clean db sound left. elim (reads.survives.crash clean db.trees left) [
-    | inl before ↦ reopens.stop (was_clean old new reads clean) db sound before
-    | inr none ↦ absurd none
-  ];
-}
-
 -- ---- what is kept beside a world with changes made
 
 host_stays : (w : World) (cs : List Change) (host : ℕ) → is_some (host_at w host) ≡ true → is_some (host_at (applied w cs) host) ≡ true
@@ -124,23 +116,28 @@ beside_changes w cs calls batches beside = record { calls_fit = λ host slot. go
 
 -- ---- a commit
 
-module _ (old new : State) (cs : List Change) (e : Entry) (kept : AreWellKept old (world_in old.now.trees)) (sound : Sound (applied (world_in old.now.trees) cs)) (may : MayBeKept (applied (world_in old.now.trees) cs) e) (reopens : Reopens old) where
+-- what is asked of a commit that leaves what can be opened again
+abbrev pub MayReopen : State → List Change → Entry → Type 0 → Type 0
+MayReopen old cs e Kept = IsHonest old → Kept × Sound (applied (world_in old.now.trees) cs) × MayBeKept (applied (world_in old.now.trees) cs) e
+
+module _ (old new : State) (cs : List Change) (e : Entry) (Kept : Type 0) (well : Kept → AreWellKept old (world_in old.now.trees)) (may : MayReopen old cs e Kept) (reopens : Reopens old) where
   abbrev w : World
   w = world_in old.now.trees
 
   -- what it makes can be opened again
   made_can_be_opened : IsHonest old → (db : Database) → MakesWith w cs e old.now db → CanBeOpened db
   made_can_be_opened honest db made =
+      let kept = well (may honest).0 in
       let rows = (reopens.now honest).rows in
       let calls = calls_in old.now.trees in
       let batches = batches_in old.now.trees in
-      let beside = beside_entry (applied w cs) e made.0 calls batches made.1 may (beside_changes w cs calls batches (read_beside old.now w rows.0 rows.1 rows.2)) in
-      held_can_be_opened db (applied w cs) _ _ sound beside (now_held old.now db w cs e kept.holds made)
+      let beside = beside_entry (applied w cs) e made.0 calls batches made.1 (may honest).2 (beside_changes w cs calls batches (read_beside old.now w rows.0 rows.1 rows.2)) in
+      held_can_be_opened db (applied w cs) _ _ (may honest).1 beside (now_held old.now db w cs e kept.holds made)
 
-  pub commit_reopens : (Kept : Type 0) → Kept → Survives old new (λ trees. IsTrue old.is_open × (Kept → (db : Database) × MakesWith w cs e old.now db × (trees ≡ db.trees))) → (IsHonest new → IsHonest old)
-      → (IsHonest new → MakesWith w cs e old.now new.now ⊎ (new.now ≡ old.now)) → Reopens new
-  commit_reopens Kept well survives before made = record {
-    now = λ honest. elim (made honest) [
+  pub commit_reopens : Survives old new (λ trees. IsTrue old.is_open × (Kept → (db : Database) × MakesWith w cs e old.now db × (trees ≡ db.trees))) → (IsHonest new → IsHonest old)
+      → (IsHonest new → Kept → MakesWith w cs e old.now new.now ⊎ (new.now ≡ old.now)) → Reopens new
+  commit_reopens survives before made = record {
+    now = λ honest. elim (made honest (may (before honest)).0) [
       | inl went ↦ made_can_be_opened (before honest) new.now went
       | inr left ↦ subst CanBeOpened (sym left) (reopens.now (before honest))
     ];
@@ -148,6 +145,6 @@ module _ (old new : State) (cs : List Change) (e : Entry) (kept : AreWellKept ol
         let early : HasCleanDisk old = omega (arith, survives.clean, clean) in
         elim (survives.crash clean db.trees left) [
           | inl earlier ↦ reopens.stop early db is earlier
-          | inr ahead ↦ let went = ahead.1 well in same_can_be_opened went.0 db is went.2 (made_can_be_opened (early, ahead.0) went.0 went.1)
+          | inr ahead ↦ let went = ahead.1 (may (early, ahead.0)).0 in same_can_be_opened went.0 db is went.2 (made_can_be_opened (early, ahead.0) went.0 went.1)
         ];
   }

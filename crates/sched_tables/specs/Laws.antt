@@ -7,13 +7,12 @@ use Rattle.sqlite.specs.Effect.{Database}
 use Rattle.sched_book.specs.declared.world.World.{World}
 use Rattle.stores.specs.Held.{Held, IsLeft}
 use Rattle.table_meaning.specs.Kept.{calls_in, batches_in}
-use Rattle.table_meaning.specs.Reads.{Reads}
 use Rattle.table_meaning.specs.Upgrades.{HostCalls, HoldFirstWorld, HoldSecondWorld, UpgradesWorld}
 use Rattle.table_meaning.specs.Worlds.{SlotCalls, HoldWorld}
 use Rattle.table_reading.specs.Reading.{AreUtf8, MayStandBeside}
 use Rattle.table_worlds.specs.StoredWorld.{world_in}
 use Rattle.sched_tables.specs.Commits.{Imports}
-use Rattle.sched_tables.specs.Reopening.{AreTaken, CanBeOpened, Reopens}
+use Rattle.sched_tables.specs.Reopening.{AreTaken, CanBeOpened}
 use Rattle.sched_tables.specs.Upgrading.{first_held, second_held}
 use Rattle.sched_tables.specs.Stops.{MayBeFound}
 use Rattle.sched_tables.specs.Views.{state_of, world_of, held_of, AreKept}
@@ -32,10 +31,6 @@ HeldCanBeOpened = (db : Database) (w : World) (calls : SlotCalls) (batches : Imp
 -- Tables that can be opened again are taken, where their texts are UTF-8.
 abbrev pub OpenedAreTaken : Type 0
 OpenedAreTaken = (db : Database) → CanBeOpened db → AreUtf8 (world_in db.trees) (calls_in db.trees) (batches_in db.trees) → AreTaken db
-
--- A read leaves what can be opened again so.
-abbrev pub ReadsReopen : {S : Type 0} → Ghosts S → Type 0
-ReadsReopen {S} store = (old new : Tables S) → Reads (state_of store old) (state_of store new) → AreKept store old → Reopens (state_of store old) → Reopens (state_of store new)
 
 -- What tables of an earlier schema held is held: of the first one, with the last call of each host; of the second, with the calls in the slots.
 pub record UpgradedHold (old : Database) (held : Held) : Type 0 where

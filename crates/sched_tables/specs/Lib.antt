@@ -11,3 +11,4 @@ pub mod StopLaws
 pub mod Views
 pub mod Upgrading
 pub mod Laws
+pub mod ReopenLaws

@@ -12,7 +12,8 @@ ghost use Rattle.sched_book.specs.Sound.{Sound};
 ghost use Rattle.sched_book.specs.declared.world.World.{World};
 ghost use Rattle.sched_tables.specs.Held.{IsHonest};
 ghost use Rattle.sched_tables.specs.Remembering.{AreRemembered};
-ghost use Rattle.sched_tables.specs.Reopening.{Reopens, MayBeKept};
+ghost use Rattle.sched_tables.specs.Reopening.{Reopens};
+ghost use Rattle.stores.specs.Standing.{MayBeKept};
 ghost use Rattle.sched_tables.specs.Views.{state_of, world_of, AreKept};
 ghost use Rattle.table_meaning.specs.Reads.{Reads};
 
@@ -104,7 +105,7 @@ impl<S: Alter> Tables<S> {
         ensures crash { Survives (state_of S.Store self.old) (state_of S.Store self.new)
             (λ trees. IsTrue (state_of S.Store self.old).is_open × (AreKept S.Store self.old
             → (db : _) × MakesWith (world_of S.Store self.old) delta.now entry.now (state_of S.Store self.old).now db × (trees ≡ db.trees))) }
-        ensures reopens { AreKept S.Store self.old → Sound (applied (world_of S.Store self.old) delta.now) → MayBeKept (applied (world_of S.Store self.old) delta.now) entry.now
+        ensures reopens { (IsHonest (state_of S.Store self.old) → AreKept S.Store self.old × Sound (applied (world_of S.Store self.old) delta.now) × MayBeKept (applied (world_of S.Store self.old) delta.now) entry.now)
             → Reopens (state_of S.Store self.old) → Reopens (state_of S.Store self.new) }
     {
         let rows = self.rows_with(delta, entry);

@@ -2,7 +2,7 @@
 
 ghost use Rattle.sqlite.specs.Steps.{over_memory};
 ghost use Rattle.sched_tables.specs.Held.{NeverFails};
-ghost use Rattle.sched_tables.specs.Laws.{HeldCanBeOpened, OpenedAreTaken, ReadsReopen, ReopenedHolds, UpgradedHolds};
+ghost use Rattle.sched_tables.specs.Laws.{HeldCanBeOpened, OpenedAreTaken, ReopenedHolds, UpgradedHolds};
 
 use sqlite::Alter;
 
@@ -31,9 +31,4 @@ pub fn held_can_be_opened()
 /// memory or the disk refuses them.
 pub fn opened_are_taken()
     ensures { OpenedAreTaken }
-{}
-
-/// A read leaves tables that can be opened again so.
-pub fn reads_reopen<S: Alter>()
-    ensures { ReadsReopen S.Store }
 {}

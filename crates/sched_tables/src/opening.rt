@@ -116,6 +116,7 @@ impl Tables<MemStore> {
         ensures held { IfOk result (AreKept over_memory) }
         ensures new { IfOk result (λ t. IsNew settings.now (held_of over_memory t)) }
         ensures unavailable { IfErr result (λ e. e ≡ OpenFault.Unavailable) }
+        ensures reopens { Sound (empty_world settings.now) → IfOk result (λ t. Reopens (state_of over_memory t)) }
     {
         let conn = Connection::open_in_memory(alloc)?;
         Tables::create(alloc, conn, settings)

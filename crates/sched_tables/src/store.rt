@@ -14,6 +14,8 @@ impl<S: Alter> Store for Tables<S> {
     ghost use Rattle.sqlite.specs.State.{HasCleanDisk};
     ghost use Rattle.sched_tables.specs.Held.{NeverFails};
     ghost use Rattle.sched_tables.specs.ReadLaws.{was_clean, never_shut, reads_hold};
+    ghost use Rattle.sched_tables.specs.Reopening.{Reopens};
+    ghost use Rattle.sched_tables.specs.ReopenLaws.{reads_reopen, held_may_stand};
     ghost use Rattle.sched_tables.specs.Stops.{MayBeFound};
     ghost use Rattle.sched_tables.specs.StopLaws.{stays_found, found_is_committed};
     ghost use Rattle.sched_tables.specs.Views.{state_of, held_of};
@@ -25,6 +27,8 @@ impl<S: Alter> Store for Tables<S> {
     ghost lasting = { NeverFails S.Store };
 
     ghost may_leave = { λ t. MayBeFound (state_of S.Store t) };
+
+    ghost reopens = { λ t. Reopens (state_of S.Store t) };
 
     fn kept(&mut self, alloc: Global, host: u32) -> Result<Listed<Kept>, Unavailable> {
         self.calls_kept(alloc, host)
@@ -62,6 +66,10 @@ impl<S: Alter> Store for Tables<S> {
     ghost stays_held = { λ a b h k l. reads_hold _ _ h.0 k l.0 };
 
     ghost stays_left = { λ a b h held found. stays_found _ _ held h.0.survives found };
+
+    ghost stays_reopened = { λ a b h k reopens. reads_reopen _ _ h.0 (λ honest. (k honest).0.rests) reopens };
+
+    ghost may_stand = { λ a h k reopens. held_may_stand _ (reopens.now h) };
 
     ghost settled = { λ a h k l held found. found_is_committed _ _ held k.0 l (λ trees left. S.settled _ trees h.1 left) found };
 }

@@ -1,2 +1,3 @@
 pub mod ReadsAct
 pub mod Results
+pub mod Standing

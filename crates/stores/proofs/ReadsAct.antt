@@ -32,7 +32,8 @@ module _ {S : Type 0} (store : Parts S) (old mid : S)
     (stays_kept : store.honest mid → store.well_kept old → store.well_kept mid)
     (stays_open : store.lasting → store.honest old → store.honest mid)
     (stays_held : store.honest mid → store.well_kept old → IsLeft (store.holds old) (store.holds mid))
-    (stays_left : (h : Held) → store.may_leave mid h → store.may_leave old h) where
+    (stays_left : (h : Held) → store.may_leave mid h → store.may_leave old h)
+    (stays_reopened : (store.honest old → store.well_kept old) → store.reopens old → store.reopens mid) where
   -- an answer that is only given where the store is open owes no more
   pub reads_act : (good : Bool) (P : Held → Type 0) → (store.clean mid → good ≡ true → store.honest mid) → ActsWhole store good P old mid
   reads_act good P is_open = record {
@@ -43,6 +44,7 @@ module _ {S : Type 0} (store : Parts S) (old mid : S)
       lasts = stays_open;
       stays_kept = stays_kept;
       left = λ h may. inl (stays_left h may);
+      reopens = λ reopens more. stays_reopened (λ honest. (more honest).0) reopens;
     };
     unchanged = λ honest kept bad. stays_held honest kept;
   }
@@ -69,6 +71,12 @@ module _ {S : Type 0} (store : Parts S) (old mid : S)
           λ kept. on ahead.0 kept h (said_on (λ held. Q held h) ahead.0 kept (ahead.1 (stays_kept ahead.0 kept))),
         )
       ];
+      reopens = λ reopens more.
+          whole.acts.reopens (stays_reopened (λ honest. (more honest).0) reopens)
+          (λ honest. let kept = (more (was_honest honest)).0 in (
+            stays_kept honest kept,
+            λ h says. (more (was_honest honest)).1 h (on honest kept h (said_on (λ held. Q held h) honest kept says)),
+          ));
     };
     unchanged = λ honest kept bad.
         left_on _ _ _ (stays_held (whole.acts.was_honest honest) kept)
@@ -85,6 +93,7 @@ idle_acts store P old = record {
     lasts = λ lasting honest. honest;
     stays_kept = λ honest kept. kept;
     left = λ h may. inl may;
+    reopens = λ reopens more. reopens;
   };
   unchanged = λ honest kept bad. record { world_is = refl; calls_are = λ host. refl; batches_are = λ kind batch. refl };
 }
@@ -102,6 +111,7 @@ acts_too store good better P Q old new tells on acts = record {
     | inl before ↦ inl before
     | inr ahead ↦ inr (ahead.0, λ kept. on h (ahead.1 kept))
   ];
+  reopens = λ reopens more. acts.reopens reopens (λ honest. ((more honest).0, λ h says. (more honest).1 h (on h says)));
 }
 
 pub whole_too : {S : Type 0} (store : Parts S) (good : Bool) (P Q : Held → Type 0) (old new : S) → ((h : Held) → P h → Q h) → ActsWhole store good P old new → ActsWhole store good Q old new

@@ -3,6 +3,7 @@ use Rattle.std.specs.Prelude.{◌≡◌, ◌⊎◌, Bool, true, false}
 use Rattle.sched_book.specs.declared.desk.Units as units
 use Rattle.sched_book.specs.declared.world.World.{World}
 use Rattle.stores.specs.Held.{Held, IsLeft}
+use Rattle.stores.specs.Standing.{MayStand}
 
 -- What is said of stores of one kind.
 abbrev pub Parts : Type 0 → Type 1
@@ -15,11 +16,12 @@ Parts S = record {
   clean : S → Type 0;
   lasting : Type 0;
   may_leave : S → Held → Type 0;
+  reopens : S → Type 0;
 }
 
 -- a desk's parts, with those of its store
-abbrev pub parts_of : {S : Type 0} → units.Ghosts S → (S → Held) → (S → Type 0) → Type 0 → (S → Held → Type 0) → Parts S
-parts_of desk holds clean lasting may_leave = record {
+abbrev pub parts_of : {S : Type 0} → units.Ghosts S → (S → Held) → (S → Type 0) → Type 0 → (S → Held → Type 0) → (S → Type 0) → Parts S
+parts_of desk holds clean lasting may_leave reopens = record {
   world = desk.world;
   honest = desk.honest;
   well_kept = desk.well_kept;
@@ -28,6 +30,7 @@ parts_of desk holds clean lasting may_leave = record {
   clean = clean;
   lasting = lasting;
   may_leave = may_leave;
+  reopens = reopens;
 }
 
 -- The call answered well or not. P says what it makes of what the store held.
@@ -43,6 +46,8 @@ pub record Acts {S : Type 0} (store : Parts S) (good : Bool) (P : Held → Type 
   pub stays_kept : store.honest new → store.well_kept old → store.well_kept new
   -- A stop at any moment leaves what it could leave before; or what P says, where the store was open and well kept.
   pub left : (h : Held) → store.may_leave new h → store.may_leave old h ⊎ (store.honest old × (store.well_kept old → P h))
+  -- What could be opened again still can, where all that P says of may stand in a store.
+  pub reopens : store.reopens old → (store.honest old → store.well_kept old × ((h : Held) → P h → MayStand h)) → store.reopens new
 
 -- It acts, or, where its answer is not good and the store is open, it changed nothing.
 pub record ActsWhole {S : Type 0} (store : Parts S) (good : Bool) (P : Held → Type 0) (old new : S) : Type 0 where

@@ -2,3 +2,4 @@ pub mod Kinds
 pub mod Eras
 pub mod Held
 pub mod Acting
+pub mod Standing

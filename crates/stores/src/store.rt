@@ -5,6 +5,7 @@ ghost use Rattle.sched_book.specs.Sound.{Sound};
 ghost use Rattle.sched_book.specs.Trusted.{Trusted};
 ghost use Rattle.stores.specs.Acting.{ActsWhole, parts_of};
 ghost use Rattle.stores.specs.Held.{Held, IsCommitted, IsKeptSoundly, IsLeft, MayBeCommitted};
+ghost use Rattle.stores.specs.Standing.{MayStand};
 
 use crate::batch::KeptBatch;
 use crate::entry::Entry;
@@ -35,6 +36,10 @@ pub trait Store: Desk {
     /// again.
     ghost may_leave: { Self → Held → Type 0 };
 
+    /// It can be opened again, as it stands and as a stop may leave it now: what it would be opened over is a store's, and
+    /// only want of memory or the disk could refuse it.
+    ghost reopens: { Self → Type 0 };
+
     /// What is kept of the calls of the host of this number, the last call first.
     fn kept(&mut self, alloc: Global, host: u32) -> Result<Listed<Kept>, Unavailable>
         ensures reads { Self.reads self.old self.new }
@@ -63,7 +68,7 @@ pub trait Store: Desk {
     /// the store. A stop at any moment leaves what it could leave before, or, where the store was open, the whole. A call is
     /// the newest of its host: its number is above those that are kept.
     fn commit(&mut self, delta: &Delta, entry: &Entry) -> Result<(), Unavailable>
-        ensures acts { ActsWhole (parts_of Self.Units holds clean lasting may_leave) (is_ok result)
+        ensures acts { ActsWhole (parts_of Self.Units holds clean lasting may_leave reopens) (is_ok result)
             (IsKeptSoundly delta.now entry.now (holds self.old)) self.old self.new }
         ensures made { Trusted Self.Units self.old self.new (OnOk result (MayBeCommitted delta.now entry.now (holds self.old) →
             IsCommitted delta.now entry.now (holds self.old) (holds self.new))) };
@@ -84,6 +89,12 @@ pub trait Store: Desk {
 
     // A stop behind a read leaves nothing that it could not leave before.
     ghost stays_left: { (a b : Self) → Self.reads a b → (h : Held) → may_leave b h → may_leave a h };
+
+    // A read leaves what can be opened again so.
+    ghost stays_reopened: { (a b : Self) → Self.reads a b → (Self.honest a → Self.well_kept a) → reopens a → reopens b };
+
+    // What can be opened again holds what may stand in a store.
+    ghost may_stand: { (a : Self) → Self.honest a → Self.well_kept a → reopens a → MayStand (holds a) };
 
     // At rest it leaves what stands: all that was committed, and nothing else.
     ghost settled: { (a : Self) → Self.honest a → Self.well_kept a → Sound (holds a).world → (h : Held) → may_leave a h → IsLeft (holds a) h };

@@ -49,7 +49,8 @@ use Rattle.table_worlds.proofs.AppsNamed.{named_app}
 use Rattle.table_worlds.proofs.ByPlace.{all_nth, all_got}
 use Rattle.table_worlds.proofs.RowsHold.{all_have, setting_listed}
 use Rattle.table_reading.proofs.HeldRows.{HaveFormats}
-use Rattle.table_reading.specs.Reading.{MayStandBeside, AreUtf8, is_call_of, is_import, last_seqno, most_import_bytes}
+use Rattle.stores.specs.Standing.{last_seqno, most_import_bytes}
+use Rattle.table_reading.specs.Reading.{MayStandBeside, AreUtf8, is_call_of, is_import}
 
 -- ---- values
 

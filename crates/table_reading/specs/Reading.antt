@@ -7,6 +7,7 @@ use Rattle.sqlite_trees.specs.Tree.{Trees}
 use Rattle.texts.specs.Words.{is_word}
 use Rattle.reply_register.specs.Keeping.{most_kept}
 use Rattle.stores.specs.Kinds.{kind_of}
+use Rattle.stores.specs.Standing.{last_seqno, most_import_bytes}
 use Rattle.sched_book.specs.Places.{host_at}
 use Rattle.sched_book.specs.Sound.{Sound}
 use Rattle.sched_book.specs.declared.world.World.{World}
@@ -44,14 +45,6 @@ pub record AreTyped (all : AllRows) : Type 0 where
   pub units : AllByRecursion (λ r. table_of r ≡ name.Unit) all.world.units
   pub marks : AllByRecursion (λ r. table_of r ≡ name.UnitMark) all.world.marks
   pub instances : AllByRecursion (λ r. table_of r ≡ name.Instance) all.world.instances
-
--- the last number of a call
-abbrev pub last_seqno : ℕ
-last_seqno = 2147483647
-
--- the longest text of an import, in bytes
-abbrev pub most_import_bytes : ℕ
-most_import_bytes = 1048576
 
 -- what is kept of a call: its host stands, and its slot and its number are in their ranges
 abbrev pub is_call_of : World → StoredRow → Bool

@@ -11,9 +11,9 @@ pub returns-in-None-clause-acts : goal.returns-in-None-clause-acts
 returns-in-None-clause-acts g c =
     let reads = c.told_kept.ensures.reads in
     let old = c.args.store.now in
-    acts_on (parts_of g.S.Units g.S.Store.holds g.S.Store.clean g.S.Store.lasting g.S.Store.may_leave) old c.told_kept.new.store
+    acts_on (parts_of g.S.Units g.S.Store.holds g.S.Store.clean g.S.Store.lasting g.S.Store.may_leave g.S.Store.reopens) old c.told_kept.new.store
     (g.met.S.Store.stays_clean _ _ reads) (g.met.S.Units.stays_honest _ _ reads) (g.met.S.Units.stays_kept _ _ reads)
-    (λ lasting honest. g.met.S.Store.stays_open _ _ lasting reads honest) (g.met.S.Store.stays_held _ _ reads) (g.met.S.Store.stays_left _ _ reads)
+    (λ lasting honest. g.met.S.Store.stays_open _ _ lasting reads honest) (g.met.S.Store.stays_held _ _ reads) (g.met.S.Store.stays_left _ _ reads) (g.met.S.Store.stays_reopened _ _ reads)
     (is_ok c.call_fresh.result) (λ held h. MayAct held c.args.caller.now c.args.request.now → IsCallServed c.args.request.now c.args.now held h) _ c.call_fresh.new.store
     (λ honest kept h ahead named. ahead (may_act (g.S.Store.holds old) c.args.caller.now c.args.request.now c.as_str.result.now c.in_ok-answer.field-0
     (c.as_str.ensures ∙ c.in_ok-text.ensures.text) c.in-None.is (c.in_ok-answer.ensures.told honest kept) named))
@@ -30,18 +30,18 @@ returns-in-None-clause-exact g c = λ honest kept.
     (λ a. ServesCall c.args.request.now c.args.now a (g.S.Store.holds old) (g.S.Store.holds new))
     (may_act (g.S.Store.holds old) c.args.caller.now c.args.request.now c.as_str.result.now c.in_ok-answer.field-0
     (c.as_str.ensures ∙ c.in_ok-text.ensures.text) c.in-None.is (c.in_ok-answer.ensures.told honest_1 kept))
-    (said_on (parts_of g.S.Units g.S.Store.holds g.S.Store.clean g.S.Store.lasting g.S.Store.may_leave) old c.told_kept.new.store
+    (said_on (parts_of g.S.Units g.S.Store.holds g.S.Store.clean g.S.Store.lasting g.S.Store.may_leave g.S.Store.reopens) old c.told_kept.new.store
     (g.met.S.Store.stays_clean _ _ reads) (g.met.S.Units.stays_honest _ _ reads) (g.met.S.Units.stays_kept _ _ reads)
-    (λ lasting honest. g.met.S.Store.stays_open _ _ lasting reads honest) (g.met.S.Store.stays_held _ _ reads) (g.met.S.Store.stays_left _ _ reads)
+    (λ lasting honest. g.met.S.Store.stays_open _ _ lasting reads honest) (g.met.S.Store.stays_held _ _ reads) (g.met.S.Store.stays_left _ _ reads) (g.met.S.Store.stays_reopened _ _ reads)
     (λ held. IfOk c.call_fresh.result (λ a. MayAct held c.args.caller.now c.args.request.now → ServesCall c.args.request.now c.args.now a held (g.S.Store.holds new)))
     honest_1 kept (c.call_fresh.ensures.exact honest kept_1))
 
 pub returns-in-Some-clause-acts : goal.returns-in-Some-clause-acts
 returns-in-Some-clause-acts g c =
     let reads = g.met.S.Units.reads_on _ _ _ c.told_kept.ensures.reads c.confirmed.ensures.reads in
-    reads_act (parts_of g.S.Units g.S.Store.holds g.S.Store.clean g.S.Store.lasting g.S.Store.may_leave) c.args.store.now c.confirmed.new.store
+    reads_act (parts_of g.S.Units g.S.Store.holds g.S.Store.clean g.S.Store.lasting g.S.Store.may_leave g.S.Store.reopens) c.args.store.now c.confirmed.new.store
     (g.met.S.Store.stays_clean _ _ reads) (g.met.S.Units.stays_honest _ _ reads) (g.met.S.Units.stays_kept _ _ reads)
-    (λ lasting honest. g.met.S.Store.stays_open _ _ lasting reads honest) (g.met.S.Store.stays_held _ _ reads) (g.met.S.Store.stays_left _ _ reads)
+    (λ lasting honest. g.met.S.Store.stays_open _ _ lasting reads honest) (g.met.S.Store.stays_held _ _ reads) (g.met.S.Store.stays_left _ _ reads) (g.met.S.Store.stays_reopened _ _ reads)
     (is_ok c.confirmed.result) _ c.confirmed.ensures.open
 
 pub returns-in-Some-clause-exact : goal.returns-in-Some-clause-exact

@@ -15,9 +15,9 @@ returns-in-Ok-clause-acts g c =
     let reads = c.step_call.ensures.reads in
     let old = c.args.store.now in
     let e = entry_of_call c.args.request.now.rpc_seqno c.args.text c.in-Ok.reply in
-    acts_on (parts_of g.S.Units g.S.Store.holds g.S.Store.clean g.S.Store.lasting g.S.Store.may_leave) old c.step_call.new.desk
+    acts_on (parts_of g.S.Units g.S.Store.holds g.S.Store.clean g.S.Store.lasting g.S.Store.may_leave g.S.Store.reopens) old c.step_call.new.desk
     (g.met.S.Store.stays_clean _ _ reads) (g.met.S.Units.stays_honest _ _ reads) (g.met.S.Units.stays_kept _ _ reads)
-    (λ lasting honest. g.met.S.Store.stays_open _ _ lasting reads honest) (g.met.S.Store.stays_held _ _ reads) (g.met.S.Store.stays_left _ _ reads)
+    (λ lasting honest. g.met.S.Store.stays_open _ _ lasting reads honest) (g.met.S.Store.stays_held _ _ reads) (g.met.S.Store.stays_left _ _ reads) (g.met.S.Store.stays_reopened _ _ reads)
     (is_ok c.keep.result) (IsKeptSoundly c.in-Ok.delta e) _ c.keep.new.store
     (λ honest kept h ahead. kept_ahead (g.S.Store.holds old) h _ (g.met.S.Store.world_held old) c.args.caller.now c.args.request.now c.args.now c.in-Ok.delta c.in-Ok.reply c.args.text
     (search rules) c.requires.in_range c.requires.text
@@ -35,18 +35,18 @@ returns-in-Ok-clause-exact g c = λ honest kept.
     (search rules) c.requires.in_range c.requires.text
     (record { step = c.in-Ok.ensures.step honest_1 kept; sound = c.in-Ok.ensures.sound honest_1 kept; fits = c.in-Ok.ensures.fits honest_1 kept })
     c.keep.result c.keep.ensures.answer
-    (said_on (parts_of g.S.Units g.S.Store.holds g.S.Store.clean g.S.Store.lasting g.S.Store.may_leave) old c.step_call.new.desk
+    (said_on (parts_of g.S.Units g.S.Store.holds g.S.Store.clean g.S.Store.lasting g.S.Store.may_leave g.S.Store.reopens) old c.step_call.new.desk
     (g.met.S.Store.stays_clean _ _ reads) (g.met.S.Units.stays_honest _ _ reads) (g.met.S.Units.stays_kept _ _ reads)
-    (λ lasting honest. g.met.S.Store.stays_open _ _ lasting reads honest) (g.met.S.Store.stays_held _ _ reads) (g.met.S.Store.stays_left _ _ reads)
+    (λ lasting honest. g.met.S.Store.stays_open _ _ lasting reads honest) (g.met.S.Store.stays_held _ _ reads) (g.met.S.Store.stays_left _ _ reads) (g.met.S.Store.stays_reopened _ _ reads)
     (λ held. OnOk c.keep.result (MayBeCommitted c.in-Ok.delta e held → IsCommitted c.in-Ok.delta e held (g.S.Store.holds c.keep.new.store)))
     honest_1 kept (c.keep.ensures.made honest kept_1))
 
 pub returns-in-Err-HostsFull-clause-acts : goal.returns-in-Err-HostsFull-clause-acts
 returns-in-Err-HostsFull-clause-acts g c =
     let reads = g.met.S.Units.reads_on _ _ _ c.step_call.ensures.reads c.confirmed.ensures.reads in
-    reads_act (parts_of g.S.Units g.S.Store.holds g.S.Store.clean g.S.Store.lasting g.S.Store.may_leave) c.args.store.now c.confirmed.new.store
+    reads_act (parts_of g.S.Units g.S.Store.holds g.S.Store.clean g.S.Store.lasting g.S.Store.may_leave g.S.Store.reopens) c.args.store.now c.confirmed.new.store
     (g.met.S.Store.stays_clean _ _ reads) (g.met.S.Units.stays_honest _ _ reads) (g.met.S.Units.stays_kept _ _ reads)
-    (λ lasting honest. g.met.S.Store.stays_open _ _ lasting reads honest) (g.met.S.Store.stays_held _ _ reads) (g.met.S.Store.stays_left _ _ reads)
+    (λ lasting honest. g.met.S.Store.stays_open _ _ lasting reads honest) (g.met.S.Store.stays_held _ _ reads) (g.met.S.Store.stays_left _ _ reads) (g.met.S.Store.stays_reopened _ _ reads)
     (is_ok c.confirmed.result) _ c.confirmed.ensures.open
 
 pub returns-in-Err-HostsFull-clause-exact : goal.returns-in-Err-HostsFull-clause-exact
@@ -62,7 +62,7 @@ returns-in-Err-HostsFull-clause-exact g c = λ honest kept.
 pub returns-clause-acts : goal.returns-clause-acts
 returns-clause-acts g c =
     let reads = c.step_call.ensures.reads in
-    reads_act (parts_of g.S.Units g.S.Store.holds g.S.Store.clean g.S.Store.lasting g.S.Store.may_leave) c.args.store.now c.step_call.new.desk
+    reads_act (parts_of g.S.Units g.S.Store.holds g.S.Store.clean g.S.Store.lasting g.S.Store.may_leave g.S.Store.reopens) c.args.store.now c.step_call.new.desk
     (g.met.S.Store.stays_clean _ _ reads) (g.met.S.Units.stays_honest _ _ reads) (g.met.S.Units.stays_kept _ _ reads)
-    (λ lasting honest. g.met.S.Store.stays_open _ _ lasting reads honest) (g.met.S.Store.stays_held _ _ reads) (g.met.S.Store.stays_left _ _ reads)
+    (λ lasting honest. g.met.S.Store.stays_open _ _ lasting reads honest) (g.met.S.Store.stays_held _ _ reads) (g.met.S.Store.stays_left _ _ reads) (g.met.S.Store.stays_reopened _ _ reads)
     false _ (λ clean good. absurd (true≢false (sym good)))

@@ -24,7 +24,7 @@ returns-clause-acts g c =
     let old = c.args.store.now in
     let held = g.S.Store.holds old in
     let kept : c.in_ok-entry.entry ≡ entry_of_batch c.args.kind c.args.batch.now c.args.text.now c.in_ok-delta.count = search rules in
-    whole_too (parts_of g.S.Units g.S.Store.holds g.S.Store.clean g.S.Store.lasting g.S.Store.may_leave) (is_ok c.commit_and_answer.result) _ _ old c.commit_and_answer.new.store
+    whole_too (parts_of g.S.Units g.S.Store.holds g.S.Store.clean g.S.Store.lasting g.S.Store.may_leave g.S.Store.reopens) (is_ok c.commit_and_answer.result) _ _ old c.commit_and_answer.new.store
     (λ h made none unrefused. rows_ahead c.args.now c.in_ok-delta.count c.args.kind c.args.batch.now c.args.text.now c.args.rows.now c.in_ok-delta.delta held h held.world refl
     (search rules) c.requires.limits (a_step g c held.world) (subst (λ (e : Entry). IsKeptSoundly c.in_ok-delta.delta e held h) kept made) none unrefused)
     c.commit_and_answer.ensures.acts

@@ -15,9 +15,9 @@ returns-in-Ok-check_rows-clause-acts g c =
     let reads = c.check_rows.ensures.reads in
     let old = c.args.store.now in
     let rows = c.in-Ok.rows in
-    acts_on (parts_of g.S.Units g.S.Store.holds g.S.Store.clean g.S.Store.lasting g.S.Store.may_leave) old c.check_rows.new.desk
+    acts_on (parts_of g.S.Units g.S.Store.holds g.S.Store.clean g.S.Store.lasting g.S.Store.may_leave g.S.Store.reopens) old c.check_rows.new.desk
     (g.met.S.Store.stays_clean _ _ reads) (g.met.S.Units.stays_honest _ _ reads) (g.met.S.Units.stays_kept _ _ reads)
-    (λ lasting honest. g.met.S.Store.stays_open _ _ lasting reads honest) (g.met.S.Store.stays_held _ _ reads) (g.met.S.Store.stays_left _ _ reads)
+    (λ lasting honest. g.met.S.Store.stays_open _ _ lasting reads honest) (g.met.S.Store.stays_held _ _ reads) (g.met.S.Store.stays_left _ _ reads) (g.met.S.Store.stays_reopened _ _ reads)
     (is_ok c.add_rows.result)
     (λ held h. held.batches c.args.kind c.args.batch.now ≡ None → fault_of_rows (shelf_of held.world) rows ≡ None
     → IsServed (import_of c.args.now c.args.kind c.args.batch.now c.args.text.now (Ok rows)) held h) _ c.add_rows.new.store
@@ -33,9 +33,9 @@ returns-in-Ok-check_rows-clause-exact g c = λ honest kept.
     let rows = c.in-Ok.rows in
     let honest_1 = c.add_rows.ensures.acts.acts.was_honest honest in
     let kept_1 = g.met.S.Units.stays_kept _ _ reads honest_1 kept in
-    let says = said_on (parts_of g.S.Units g.S.Store.holds g.S.Store.clean g.S.Store.lasting g.S.Store.may_leave) old c.check_rows.new.desk
+    let says = said_on (parts_of g.S.Units g.S.Store.holds g.S.Store.clean g.S.Store.lasting g.S.Store.may_leave g.S.Store.reopens) old c.check_rows.new.desk
     (g.met.S.Store.stays_clean _ _ reads) (g.met.S.Units.stays_honest _ _ reads) (g.met.S.Units.stays_kept _ _ reads)
-    (λ lasting honest. g.met.S.Store.stays_open _ _ lasting reads honest) (g.met.S.Store.stays_held _ _ reads) (g.met.S.Store.stays_left _ _ reads)
+    (λ lasting honest. g.met.S.Store.stays_open _ _ lasting reads honest) (g.met.S.Store.stays_held _ _ reads) (g.met.S.Store.stays_left _ _ reads) (g.met.S.Store.stays_reopened _ _ reads)
     (λ held. IfOk c.add_rows.result (λ a. held.batches c.args.kind c.args.batch.now ≡ None → fault_of_rows (shelf_of held.world) rows ≡ None
     → ServesIn (import_of c.args.now c.args.kind c.args.batch.now c.args.text.now (Ok rows)) a held (g.S.Store.holds new)))
     honest_1 kept (c.add_rows.ensures.exact honest kept_1) in
@@ -45,9 +45,9 @@ returns-in-Ok-check_rows-clause-exact g c = λ honest kept.
 pub returns-in-Err-clause-acts : goal.returns-in-Err-clause-acts
 returns-in-Err-clause-acts g c =
     let reads = c.confirmed.ensures.reads in
-    reads_act (parts_of g.S.Units g.S.Store.holds g.S.Store.clean g.S.Store.lasting g.S.Store.may_leave) c.args.store.now c.confirmed.new.store
+    reads_act (parts_of g.S.Units g.S.Store.holds g.S.Store.clean g.S.Store.lasting g.S.Store.may_leave g.S.Store.reopens) c.args.store.now c.confirmed.new.store
     (g.met.S.Store.stays_clean _ _ reads) (g.met.S.Units.stays_honest _ _ reads) (g.met.S.Units.stays_kept _ _ reads)
-    (λ lasting honest. g.met.S.Store.stays_open _ _ lasting reads honest) (g.met.S.Store.stays_held _ _ reads) (g.met.S.Store.stays_left _ _ reads)
+    (λ lasting honest. g.met.S.Store.stays_open _ _ lasting reads honest) (g.met.S.Store.stays_held _ _ reads) (g.met.S.Store.stays_left _ _ reads) (g.met.S.Store.stays_reopened _ _ reads)
     (is_ok c.confirmed.result) _ c.confirmed.ensures.open
 
 pub returns-in-Err-clause-exact : goal.returns-in-Err-clause-exact
@@ -65,9 +65,9 @@ pub returns-clause-acts : goal.returns-clause-acts
 returns-clause-acts g c =
     let confirmed = c.confirmed-in-Err-check_rows in
     let reads = g.met.S.Units.reads_on _ _ _ c.check_rows.ensures.reads confirmed.ensures.reads in
-    reads_act (parts_of g.S.Units g.S.Store.holds g.S.Store.clean g.S.Store.lasting g.S.Store.may_leave) c.args.store.now confirmed.new.store
+    reads_act (parts_of g.S.Units g.S.Store.holds g.S.Store.clean g.S.Store.lasting g.S.Store.may_leave g.S.Store.reopens) c.args.store.now confirmed.new.store
     (g.met.S.Store.stays_clean _ _ reads) (g.met.S.Units.stays_honest _ _ reads) (g.met.S.Units.stays_kept _ _ reads)
-    (λ lasting honest. g.met.S.Store.stays_open _ _ lasting reads honest) (g.met.S.Store.stays_held _ _ reads) (g.met.S.Store.stays_left _ _ reads)
+    (λ lasting honest. g.met.S.Store.stays_open _ _ lasting reads honest) (g.met.S.Store.stays_held _ _ reads) (g.met.S.Store.stays_left _ _ reads) (g.met.S.Store.stays_reopened _ _ reads)
     (is_ok confirmed.result) _ confirmed.ensures.open
 
 pub returns-clause-exact : goal.returns-clause-exact

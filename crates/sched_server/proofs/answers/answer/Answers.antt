@@ -38,13 +38,13 @@ returns-in-Statement-clause-exact g c = λ honest kept.
 
 pub returns-in-Call-clause-acts : goal.returns-in-Call-clause-acts
 returns-in-Call-clause-acts g c =
-    whole_too (parts_of g.S.Units g.S.Store.holds g.S.Store.clean g.S.Store.lasting g.S.Store.may_leave) (is_ok c.call_in_body.result) _ _ c.args.store.now c.call_in_body.new.store
+    whole_too (parts_of g.S.Units g.S.Store.holds g.S.Store.clean g.S.Store.lasting g.S.Store.may_leave g.S.Store.reopens) (is_ok c.call_in_body.result) _ _ c.args.store.now c.call_in_body.new.store
     (λ h served. (said_by (meaning c.in-Call.body.now), says_so c.args.message _ _ c.in-Call.is refl, served))
     c.call_in_body.ensures.acts
 
 pub returns-in-Import-clause-acts : goal.returns-in-Import-clause-acts
 returns-in-Import-clause-acts g c =
-    whole_too (parts_of g.S.Units g.S.Store.holds g.S.Store.clean g.S.Store.lasting g.S.Store.may_leave) (is_ok c.import_batch.result) _ _ c.args.store.now c.import_batch.new.store
+    whole_too (parts_of g.S.Units g.S.Store.holds g.S.Store.clean g.S.Store.lasting g.S.Store.may_leave g.S.Store.reopens) (is_ok c.import_batch.result) _ _ c.args.store.now c.import_batch.new.store
     (λ h served. (
       Import c.in-Import.kind c.in-Import.batch.now c.in-Import.text.now served.0,
       import_says c.args.message _ c.in-Import.kind c.in-Import.batch.now c.in-Import.text.now served.0 c.in-Import.is refl served.1,
@@ -54,13 +54,13 @@ returns-in-Import-clause-acts g c =
 
 pub returns-in-Tick-clause-acts : goal.returns-in-Tick-clause-acts
 returns-in-Tick-clause-acts g c =
-    whole_too (parts_of g.S.Units g.S.Store.holds g.S.Store.clean g.S.Store.lasting g.S.Store.may_leave) (is_ok c.tick.result) _ _ c.args.store.now c.tick.new.store
+    whole_too (parts_of g.S.Units g.S.Store.holds g.S.Store.clean g.S.Store.lasting g.S.Store.may_leave g.S.Store.reopens) (is_ok c.tick.result) _ _ c.args.store.now c.tick.new.store
     (λ h served. (Tick, says_so c.args.message _ _ c.in-Tick.is refl, served))
     c.tick.ensures.acts
 
 pub returns-in-Statement-clause-acts : goal.returns-in-Statement-clause-acts
 returns-in-Statement-clause-acts g c =
-    whole_too (parts_of g.S.Units g.S.Store.holds g.S.Store.clean g.S.Store.lasting g.S.Store.may_leave) (is_ok c.statement.result) _ _ c.args.store.now c.statement.new.store
+    whole_too (parts_of g.S.Units g.S.Store.holds g.S.Store.clean g.S.Store.lasting g.S.Store.may_leave g.S.Store.reopens) (is_ok c.statement.result) _ _ c.args.store.now c.statement.new.store
     (λ h served. absurd served)
     c.statement.ensures.acts
 
@@ -76,9 +76,9 @@ returns-in-WrongMethod-clause-exact g c = λ honest kept.
 pub returns-in-WrongMethod-clause-acts : goal.returns-in-WrongMethod-clause-acts
 returns-in-WrongMethod-clause-acts g c =
     let reads = c.confirmed.ensures.reads in
-    reads_act (parts_of g.S.Units g.S.Store.holds g.S.Store.clean g.S.Store.lasting g.S.Store.may_leave) c.args.store.now c.confirmed.new.store
+    reads_act (parts_of g.S.Units g.S.Store.holds g.S.Store.clean g.S.Store.lasting g.S.Store.may_leave g.S.Store.reopens) c.args.store.now c.confirmed.new.store
     (g.met.S.Store.stays_clean _ _ reads) (g.met.S.Units.stays_honest _ _ reads) (g.met.S.Units.stays_kept _ _ reads)
-    (λ lasting honest. g.met.S.Store.stays_open _ _ lasting reads honest) (g.met.S.Store.stays_held _ _ reads) (g.met.S.Store.stays_left _ _ reads)
+    (λ lasting honest. g.met.S.Store.stays_open _ _ lasting reads honest) (g.met.S.Store.stays_held _ _ reads) (g.met.S.Store.stays_left _ _ reads) (g.met.S.Store.stays_reopened _ _ reads)
     (is_ok c.confirmed.result) _ c.confirmed.ensures.open
 
 pub returns-in-Refused-clause-exact : goal.returns-in-Refused-clause-exact
@@ -93,7 +93,7 @@ returns-in-Refused-clause-exact g c = λ honest kept.
 pub returns-in-Refused-clause-acts : goal.returns-in-Refused-clause-acts
 returns-in-Refused-clause-acts g c =
     let reads = c.confirmed-in-Refused.ensures.reads in
-    reads_act (parts_of g.S.Units g.S.Store.holds g.S.Store.clean g.S.Store.lasting g.S.Store.may_leave) c.args.store.now c.confirmed-in-Refused.new.store
+    reads_act (parts_of g.S.Units g.S.Store.holds g.S.Store.clean g.S.Store.lasting g.S.Store.may_leave g.S.Store.reopens) c.args.store.now c.confirmed-in-Refused.new.store
     (g.met.S.Store.stays_clean _ _ reads) (g.met.S.Units.stays_honest _ _ reads) (g.met.S.Units.stays_kept _ _ reads)
-    (λ lasting honest. g.met.S.Store.stays_open _ _ lasting reads honest) (g.met.S.Store.stays_held _ _ reads) (g.met.S.Store.stays_left _ _ reads)
+    (λ lasting honest. g.met.S.Store.stays_open _ _ lasting reads honest) (g.met.S.Store.stays_held _ _ reads) (g.met.S.Store.stays_left _ _ reads) (g.met.S.Store.stays_reopened _ _ reads)
     (is_ok c.confirmed-in-Refused.result) _ c.confirmed-in-Refused.ensures.open

@@ -1,4 +1,4 @@
-use Rattle.std.proofs.Common.{◌≡◌, inl, inr, ap, ◌∙◌, arith}
+use Rattle.std.proofs.Common.{◌≡◌, inl, inr, refl, ap, ◌∙◌, arith}
 use Rattle.std.specs.Prelude.{IsTrue}
 use Rattle.sqlite.specs.Effect.{Database}
 use Rattle.sched_tables.specs.Commits.{apps_with}
@@ -7,6 +7,9 @@ use Rattle.sched_tables.specs.ReadLaws.{left_world, left_kept, left_beside, neve
 use Rattle.sched_tables.specs.Views.{state_of, world_of, AreKept}
 use Rattle.sched_tables.proofs.EntriesKept.{kept_then, beside_then, committed}
 use Rattle.stores.proofs.Results.{on_ok, on_err}
+use Rattle.stores.proofs.Standing.{may_be_kept}
+use Rattle.stores.specs.Held.{calls_with, batches_with}
+use Rattle.sched_book.specs.Delta.{applied}
 use Rattle.sched_tables.proofs.Leads.{all_ok, either_way}
 use Rattle.sched_tables.proofs.Stops.{found_is_ahead}
 use Rattle.sched_tables.proofs.store.TablesStore.commit.Goals as goal
@@ -44,6 +47,12 @@ returns-clause-acts g c =
               | inl earlier ↦ inl earlier
               | inr ahead ↦ inr ahead
             ];
+        reopens = λ reopens more. c.commit.ensures.reopens
+            (λ honest.
+            let stands = (more honest).1 (record { world = applied w cs; calls = calls_with c.args.entry.now (calls_of old.now.trees); batches = batches_with c.args.entry.now (batches_of old.now.trees) })
+            (λ may sound. record { world_is = refl; calls_are = λ host. refl; batches_are = λ kind batch. refl }) in
+            ((more honest).0, stands.sound, may_be_kept (applied w cs) c.args.entry.now _ _ stands))
+            reopens;
       };
       unchanged = λ honest kept bad.
           let left = on_err c.commit.result _ (c.commit.ensures.left honest kept) bad in

@@ -8,7 +8,8 @@ use Rattle.sched_tables.specs.Views.{world_of, AreKept}
 use Rattle.sched_tables.specs.Held.{IsHonest}
 use Rattle.sched_tables.specs.ReadLaws.{was_honest}
 use Rattle.sched_tables.proofs.Leads.{puts_all, leaves_made, was_ok, was_err}
-use Rattle.sched_tables.proofs.Reopened.{reads_reopen, commit_reopens}
+use Rattle.sched_tables.specs.ReopenLaws.{reads_reopen}
+use Rattle.sched_tables.proofs.Reopened.{commit_reopens}
 use Rattle.sched_tables.proofs.tables.Tables.commit.Goals as goal
 
 pub returns-clause-made : goal.returns-clause-made
@@ -42,30 +43,30 @@ returns-then-is_err-clause-crash g c =
     (λ honest kept. subst (ArePutWith (world_of g.S.Store before) cs (calls_in (state g.S.Store before.conn).now.trees) c.args.entry.now) (sym c.as_slice.ensures) (c.in_ok-rows.ensures.rows honest kept)) (λ kept. kept.0.rests)
 
 pub returns-in_err-rows-clause-reopens : goal.returns-in_err-rows-clause-reopens
-returns-in_err-rows-clause-reopens g c = λ kept sound may reopens. reads_reopen (state g.S.Store c.args.self.now.conn) (state g.S.Store c.rows_with-rows.new.self.conn) c.rows_with-rows.ensures.reads kept.0.rests reopens
+returns-in_err-rows-clause-reopens g c = λ may reopens. reads_reopen (state g.S.Store c.args.self.now.conn) (state g.S.Store c.rows_with-rows.new.self.conn) c.rows_with-rows.ensures.reads (λ honest. (may honest).0.0.rests) reopens
 
 pub returns-in_err-apps-clause-reopens : goal.returns-in_err-apps-clause-reopens
-returns-in_err-apps-clause-reopens g c = λ kept sound may reopens. reads_reopen (state g.S.Store c.args.self.now.conn) (state g.S.Store c.rows_with-rows.new.self.conn) c.rows_with-rows.ensures.reads kept.0.rests reopens
+returns-in_err-apps-clause-reopens g c = λ may reopens. reads_reopen (state g.S.Store c.args.self.now.conn) (state g.S.Store c.rows_with-rows.new.self.conn) c.rows_with-rows.ensures.reads (λ honest. (may honest).0.0.rests) reopens
 
 pub returns-then-is_err-clause-reopens : goal.returns-then-is_err-clause-reopens
-returns-then-is_err-clause-reopens g c = λ kept sound may reopens.
+returns-then-is_err-clause-reopens g c = λ may reopens.
     let before = c.args.self.now in
     let old = state g.S.Store before.conn in
     let mid = state g.S.Store c.rows_with-rows.new.self.conn in
     let new = state g.S.Store c.put_rows.new.conn in
     let reads = c.rows_with-rows.ensures.reads in
     let early = λ (honest : IsHonest new). let clean : HasCleanDisk mid = omega (arith, c.put_rows.ensures.crash.clean, honest.0) in let h : IsHonest mid = (clean, c.put_rows.ensures.was_open honest.0 honest.1) in h in
-    commit_reopens old new c.args.delta.now c.args.entry.now kept.0 sound may reopens (AreKept g.S.Store before) kept (returns-then-is_err-clause-crash g c)
+    commit_reopens old new c.args.delta.now c.args.entry.now (AreKept g.S.Store before) (λ kept. kept.0) may reopens (returns-then-is_err-clause-crash g c)
     (λ honest. was_honest old mid reads (early honest))
-    (λ honest. inr ((was_err c.put_rows.result _ (search rules) (c.put_rows.ensures.neither honest.0 honest.1)).0 ∙ (reads.same (early honest).0 (early honest).1 kept.0.rests).0))
+    (λ honest kept. inr ((was_err c.put_rows.result _ (search rules) (c.put_rows.ensures.neither honest.0 honest.1)).0 ∙ (reads.same (early honest).0 (early honest).1 kept.0.rests).0))
 
 pub returns-clause-reopens : goal.returns-clause-reopens
-returns-clause-reopens g c = λ kept sound may reopens.
+returns-clause-reopens g c = λ may reopens.
     let before = c.args.self.now in
     let old = state g.S.Store before.conn in
     let mid = state g.S.Store c.rows_with-rows.new.self.conn in
     let new = state g.S.Store c.put_rows.new.conn in
     let early = λ (honest : IsHonest new). let clean : HasCleanDisk mid = omega (arith, c.put_rows.ensures.crash.clean, honest.0) in let h : IsHonest mid = (clean, c.put_rows.ensures.was_open honest.0 honest.1) in h in
-    commit_reopens old new c.args.delta.now c.args.entry.now kept.0 sound may reopens (AreKept g.S.Store before) kept (returns-clause-crash g c)
+    commit_reopens old new c.args.delta.now c.args.entry.now (AreKept g.S.Store before) (λ kept. kept.0) may reopens (returns-clause-crash g c)
     (λ honest. was_honest old mid c.rows_with-rows.ensures.reads (early honest))
-    (λ honest. inl (returns-clause-made g c honest kept))
+    (λ honest kept. inl (returns-clause-made g c honest kept))
