@@ -9,9 +9,10 @@ workunit are those of plain.py. A message with a field `x-moment` is acted on as
 tables of the first schema over to the newest.
 
 It keeps settings and applications beside the tables and looks all else up by the statements of the proved program, as
-often as the program does: rows of workunits, instances and hosts, and the account and the version read last, are kept
-until rows are put. With --once no statement at all is run twice for one message. Each message that changes anything is one
-transaction, on the disk when it is answered (journal_mode WAL, synchronous FULL).
+often as the program does: rows of accounts, workunits, instances and hosts, and versions, are kept until they are put, and
+the slot for the next call of a host until anything is. With --once nothing is kept from one message to the next, and no
+statement at all is run twice for one message. Each message that changes anything is one transaction, on the disk when it
+is answered (journal_mode WAL, synchronous FULL).
 """
 import socket
 import sqlite3
@@ -112,8 +113,9 @@ LOOK_UPS = {
     },
 }
 SLOTS = 4  # so many calls of a host are kept
-# whose rows are kept until rows are put
-KEPT = {"account by authenticator", "host by number", "workunit", "mark of a workunit", "instances of a workunit"}
+# the look-ups whose rows are kept until they are put, and how many of each, and how many versions
+KEPT = ("account by authenticator", "host by number", "workunit", "mark of a workunit", "instances of a workunit")
+MOST_KEPT, MOST_VERSIONS = 1000, 100
 
 
 def put_text(table):
@@ -215,6 +217,11 @@ class Host:
         return self.number, self.account, self.cpid, ",".join(self.platforms), *facts, self.quota, held, credit
 
 
+def least(numbers):
+    """The slot for a call, by the number that stands in each slot: the first that is free, or the first of the least number."""
+    return min(range(SLOTS), key=lambda slot: -1 if numbers[slot] is None else numbers[slot])
+
+
 def split_name(name):
     """The workunit's name and the number that the name of a result tells, where it tells both."""
     unit, underscore, number = name.rpartition("_")
@@ -269,6 +276,20 @@ def upgrade(path, schema=3):
     connection.close()
 
 
+class Kept(dict):
+    """What was looked up, by what it was asked for: at one more than so many, those before it are forgotten."""
+
+    def __init__(self, most):
+        super().__init__()
+        self.most = most
+
+    def keep(self, key, value):
+        """Keeps one more."""
+        if len(self) >= self.most:
+            self.clear()
+        self[key] = value
+
+
 class Tables:
     """A file of tables, what is looked up in it, and what is put."""
 
@@ -277,7 +298,9 @@ class Tables:
         pragmas = ("locking_mode = EXCLUSIVE", "journal_mode = WAL", f"synchronous = {synchronous}", "foreign_keys = ON")
         for pragma in pragmas:
             self.connection.execute(f"PRAGMA {pragma}").fetchall()
-        self.once, self.seen, self.last_version = once, {}, None
+        self.once, self.slot = once, None
+        self.seen = {kind: Kept(MOST_KEPT) for kind in (LOOK_UPS if once else KEPT)}
+        self.versions = Kept(MOST_VERSIONS)
         self.settings = dict(self.connection.execute("SELECT name, value FROM setting ORDER BY rowid"))
         self.read_apps()
 
@@ -293,16 +316,35 @@ class Tables:
 
     def forget(self):
         """What was looked up is looked up anew."""
-        self.seen.clear()
-        self.last_version = None
+        for seen in (*self.seen.values(), self.versions):
+            seen.clear()
+
+    def forget_row(self, table, row):
+        """What was looked up of a row is looked up anew."""
+        key = row[:1]
+        if table in ("unit", "unit_mark"):
+            self.seen["workunit"].pop(key, None)
+            self.seen["mark of a workunit"].pop(key, None)
+        elif table == "instance":
+            self.seen["instances of a workunit"].pop(key, None)
+        elif table == "host":
+            self.seen["host by number"].pop(key, None)
+        elif table == "account":
+            self.seen["account by authenticator"].clear()
+        elif table in ("app", "version", "version_class"):
+            self.versions.clear()
+        if table == "app":
+            self.seen["workunit"].clear()
+            self.seen["mark of a workunit"].clear()
 
     def shown(self, kind, *values):
         """The rows of a look-up."""
-        if (kind, values) in self.seen:
-            return self.seen[kind, values]
+        seen = self.seen.get(kind, {})
+        if values in seen:
+            return seen[values]
         rows = self.connection.execute(LOOK_UPS[kind], values).fetchall()
         if self.once or kind in KEPT and rows:
-            self.seen[kind, values] = rows
+            seen.keep(values, rows)
         return rows
 
     def first(self, kind, *values):
@@ -312,7 +354,11 @@ class Tables:
 
     def put(self, rows):
         """Puts rows, each a table and its values, in one transaction."""
-        self.forget()
+        self.slot = None
+        if self.once:
+            self.forget()
+        for table, row in rows:
+            self.forget_row(table, row)
         if rows:
             self.connection.execute("BEGIN IMMEDIATE")
             for table, row in rows:
@@ -325,14 +371,16 @@ class Tables:
         return None if row is None else row[0]
 
     def kept_calls(self, host):
-        """The number, the text and the reply of each kept call of a host."""
+        """The number, the text and the reply of each kept call of a host. The slot for its next one is kept."""
         rows = [self.first("kept call", host, slot) for slot in range(SLOTS)]
+        self.slot = host, least([None if row is None else row[2] for row in rows])
         return [row[2:] for row in rows if row is not None]
 
     def slot_for(self, host):
-        """The slot into which the next call of a host is put: the first that is free, or the first of the least number."""
-        numbers = [self.number_of("number of a kept call", host, slot) for slot in range(SLOTS)]
-        return min(range(SLOTS), key=lambda slot: -1 if numbers[slot] is None else numbers[slot])
+        """The slot into which the next call of a host is put."""
+        if self.slot is not None and self.slot[0] == host:
+            return self.slot[1]
+        return least([self.number_of("number of a kept call", host, slot) for slot in range(SLOTS)])
 
     def counts(self):
         """How many rows each table has."""
@@ -369,19 +417,20 @@ class Tables:
 
     def version(self, host, app):
         """The newest version at the first of the host's platforms that has any: its number, that platform and its class."""
-        if self.last_version is not None and self.last_version[0] == (host.platforms, app):
-            return self.last_version[1]
+        asked = tuple(host.platforms), app
+        if asked in self.versions:
+            return self.versions[asked]
         for platform in host.platforms:
             if numbers := self.shown("version for a platform", app, platform):
                 (newest,) = max(numbers)
                 _, version_class = self.first("class of a version", self.number_of("version of a number", app, platform, newest))
-                self.last_version = (host.platforms, app), (newest, platform, version_class)
-                return self.last_version[1]
+                self.versions.keep(asked, (newest, platform, version_class))
+                return self.versions[asked]
         return None
 
     def offered(self, unit):
         """The row of a workunit that is offered: it may be one that is kept, but it is not kept itself."""
-        if self.once or ("workunit", (unit,)) in self.seen:
+        if self.once or (unit,) in self.seen["workunit"]:
             return self.unit_row(unit)
         row, mark = (self.connection.execute(LOOK_UPS[kind], (unit,)).fetchone() for kind in ("workunit", "mark of a workunit"))
         return UnitRow(*row, *mark[1:])

@@ -280,9 +280,10 @@ module _ (old new : State) (w : World) (cs : List Change) (e : Entry) (kept : Ar
   }
 
   -- what is kept beside the tables is the world's, with the applications that the changes bring
-  pub beside_then : (settings : Settings) (apps apps' : List App) (read read' : Remembered) → AreBeside w settings apps read → apps' ≡ apps_with apps cs → ((v : World) → AreRemembered v read') → AreBeside (world_in new.now.trees) settings apps' read'
-  beside_then settings apps apps' read read' beside brought nothing = record {
+  pub beside_then : (calls : SlotCalls) (settings : Settings) (apps apps' : List App) (read read' : Remembered) → AreBeside w calls settings apps read → apps' ≡ apps_with apps cs → AreRemembered (world_in new.now.trees) (calls_in new.now.trees) read'
+      → AreBeside (world_in new.now.trees) (calls_in new.now.trees) settings apps' read'
+  beside_then calls settings apps apps' read read' beside brought rows = record {
     settings_are = beside.settings_are ∙ sym (settings_stay w cs) ∙ sym (ap (λ u. u.settings) world_then);
     apps_are = brought ∙ ap (λ l. apps_with l cs) beside.apps_are ∙ sym (apps_brought w cs) ∙ sym (ap (λ u. u.apps) world_then);
-    rows_are = nothing _;
+    rows_are = rows;
   }

@@ -1,11 +1,14 @@
 pub mod FourKept
 pub mod EntriesKept
+pub mod Forgotten
 pub mod Leads
 pub mod NewTables
 pub mod Opened
 pub mod Refusals
 pub mod Reopened
+pub mod RowsKept
 pub mod Stops
 pub mod Told
+pub mod ToldByRows
 pub mod Upgraded
 mod Memory

@@ -16,7 +16,7 @@ use Rattle.table_worlds.specs.Readable.{IsReadable}
 use Rattle.table_worlds.specs.StoredWorld.{world_in}
 use Rattle.table_worlds.proofs.WorldReadBack.{held_is_read_back}
 use Rattle.table_meaning.specs.Steps.{HoldJust}
-use Rattle.table_meaning.specs.Worlds.{HoldWorld}
+use Rattle.table_meaning.specs.Worlds.{SlotCalls, HoldWorld}
 use Rattle.table_worlds.specs.RowsOf.{setting_rows}
 use Rattle.table_worlds.proofs.NewWorld.{new_world}
 use Rattle.sched_book.specs.declared.world.World.{World}
@@ -56,8 +56,8 @@ module _ (s : Settings) (st : State) (rests : st.now ≡ st.committed) (just : H
   pub new_can_be_opened : Sound (empty_world s) → CanBeOpened st.now
   new_can_be_opened sound = held_can_be_opened st.now (empty_world s) (λ _ _. None) (λ _ _. None) sound (record { calls_fit = λ host slot. tt; imports_fit = λ kind text. tt }) held
 
-  pub new_beside : (settings : Settings) (apps : List App) (read : Remembered) → settings ≡ s → apps ≡ [] → ((w : World) → AreRemembered w read) → AreBeside (world_in st.now.trees) settings apps read
-  new_beside settings apps read same none nothing = record { settings_are = same ∙ sym (ap (λ w. w.settings) new_world_is); apps_are = none ∙ sym (ap (λ w. w.apps) new_world_is); rows_are = nothing _ }
+  pub new_beside : (settings : Settings) (apps : List App) (read : Remembered) → settings ≡ s → apps ≡ [] → ((w : World) (calls : SlotCalls) → AreRemembered w calls read) → AreBeside (world_in st.now.trees) (calls_in st.now.trees) settings apps read
+  new_beside settings apps read same none nothing = record { settings_are = same ∙ sym (ap (λ w. w.settings) new_world_is); apps_are = none ∙ sym (ap (λ w. w.apps) new_world_is); rows_are = nothing _ _ }
 
   pub new_held : IsNew s (held_in st.now.trees)
   new_held = record {

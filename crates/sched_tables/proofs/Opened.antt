@@ -9,7 +9,7 @@ use Rattle.sched_book.specs.declared.world.World.{World}
 use Rattle.table_meaning.specs.Holding.{AreKnown}
 use Rattle.table_meaning.specs.Kept.{calls_in, batches_in}
 use Rattle.table_meaning.specs.Reads.{Reads}
-use Rattle.table_meaning.specs.Worlds.{HoldWorld}
+use Rattle.table_meaning.specs.Worlds.{SlotCalls, HoldWorld}
 use Rattle.table_reading.specs.Reading.{WereKnown, ReadFrom}
 use Rattle.table_worlds.specs.StoredWorld.{world_in}
 use Rattle.table_worlds.proofs.StaysReadable.{sound_is_readable}
@@ -47,12 +47,12 @@ module _ (taken read : State) (opens : HasCleanDisk taken → Opens taken) (know
       readable = sound_is_readable (world_in read.now.trees) opened_sound;
     }
 
-    pub opened_beside : (settings : Settings) (apps : List App) (rows : Remembered) → settings ≡ (world_in taken.now.trees).settings → apps ≡ (world_in taken.now.trees).apps → ((v : World) → AreRemembered v rows)
-        → AreBeside (world_in read.now.trees) settings apps rows
+    pub opened_beside : (settings : Settings) (apps : List App) (rows : Remembered) → settings ≡ (world_in taken.now.trees).settings → apps ≡ (world_in taken.now.trees).apps → ((v : World) (calls : SlotCalls) → AreRemembered v calls rows)
+        → AreBeside (world_in read.now.trees) (calls_in read.now.trees) settings apps rows
     opened_beside settings apps rows of_world also nothing = record {
       settings_are = of_world ∙ sym (ap (λ (v : World). v.settings) opened_world);
       apps_are = also ∙ sym (ap (λ (v : World). v.apps) opened_world);
-      rows_are = nothing _;
+      rows_are = nothing _ _;
     }
 
     pub opened_rows : ReadFrom read.now.trees (world_in read.now.trees)

@@ -3,12 +3,11 @@ use Rattle.std.proofs.Common.{◌≡◌, ℕ, cond, eqb, Option, Some, None, opt
 use Rattle.sqlite.specs.Effect.{Database}
 use Rattle.sqlite.specs.State.{State, Survives}
 use Rattle.reply_register.specs.declared.kept.Kept.{Kept}
-use Rattle.sched_book.specs.Former.{IsUnclassed}
 use Rattle.sched_book.specs.Sound.{Sound}
 use Rattle.sched_book.specs.declared.world.World.{World}
 use Rattle.stores.specs.Held.{IsLeft}
 use Rattle.stores.specs.Kinds.{kind_name}
-use Rattle.table_meaning.specs.Upgrades.{HostCalls, HoldFirstWorld, HoldSecondWorld, in_first_slot, IsLeftBehind, IsLeftBehindWorld, UpgradesWorld}
+use Rattle.table_meaning.specs.Upgrades.{HostCalls, in_first_slot, IsLeftBehind, IsLeftBehindWorld, UpgradesWorld}
 use Rattle.table_meaning.specs.Worlds.{SlotCalls, HoldWorld}
 use Rattle.table_meaning.proofs.UpgradedWorlds.{left_world}
 use Rattle.table_worlds.proofs.StaysReadable.{sound_is_readable}
@@ -17,7 +16,7 @@ use Rattle.sched_tables.specs.Commits.{Imports}
 use Rattle.sched_tables.specs.Entries.{kept_batch}
 use Rattle.sched_tables.specs.Laws.{UpgradedHold}
 use Rattle.sched_tables.specs.Slots.{calls_in_slots}
-use Rattle.sched_tables.specs.Upgrading.{first_held, second_held}
+use Rattle.sched_tables.specs.Upgrading.{second_held}
 use Rattle.sched_tables.specs.Views.{held_in}
 use Rattle.sched_tables.proofs.EntriesKept.{calls_back, batches_back}
 

@@ -6,7 +6,7 @@ use Rattle.sqlite_trees.specs.declared.store.Store as store
 use Rattle.sched_book.specs.declared.rows.App.{App}
 use Rattle.sched_book.specs.declared.settings.Settings.{Settings}
 use Rattle.sched_book.specs.declared.world.World.{World}
-use Rattle.table_meaning.specs.Worlds.{HoldWorld}
+use Rattle.table_meaning.specs.Worlds.{SlotCalls, HoldWorld}
 use Rattle.table_meaning.specs.Kept.{calls_in, batches_in}
 use Rattle.table_worlds.specs.Readable.{IsReadable}
 use Rattle.sched_tables.specs.Remembering.{AreRemembered}
@@ -23,11 +23,11 @@ pub record AreWellKept (s : State) (w : World) : Type 0 where
   pub holds : HoldWorld s.now w (calls_in s.now.trees) (batches_in s.now.trees)
   pub readable : IsReadable w
 
--- the settings and the applications that are kept beside the tables are the world's, and so is what was read
-pub record AreBeside (w : World) (settings : Settings) (apps : List App) (read : Remembered) : Type 0 where
+-- the settings and the applications that are kept beside the tables are the world's, and what is remembered is what the tables hold
+pub record AreBeside (w : World) (calls : SlotCalls) (settings : Settings) (apps : List App) (read : Remembered) : Type 0 where
   pub settings_are : settings ≡ w.settings
   pub apps_are : apps ≡ w.apps
-  pub rows_are : AreRemembered w read
+  pub rows_are : AreRemembered w calls read
 
 -- The store below tables never fails: no fault of it is counted, and it is clean.
 abbrev pub NeverFails : {S : Type 0} → store.Ghosts S → Type 0

@@ -2,9 +2,11 @@ pub mod Slots
 pub mod Commits
 pub mod Entries
 pub mod Held
+pub mod Forgetting
 pub mod Refusals
 pub mod ReadLaws
 pub mod Remembering
+pub mod RowsRead
 pub mod Reopening
 pub mod Stops
 pub mod StopLaws

@@ -35,12 +35,12 @@ module _ (old new : State) (shown : new.now ≡ old.now) (committed : new.commit
   }
 
   -- and what is kept beside them stays the world's
-  pub left_beside : (settings settings' : Settings) (apps apps' : List App) (read read' : Remembered) → settings' ≡ settings → apps' ≡ apps → AreRemembered (world_in old.now.trees) read'
-      → AreBeside (world_in old.now.trees) settings apps read → AreBeside (world_in new.now.trees) settings' apps' read'
+  pub left_beside : (settings settings' : Settings) (apps apps' : List App) (read read' : Remembered) → settings' ≡ settings → apps' ≡ apps → AreRemembered (world_in old.now.trees) (calls_in old.now.trees) read'
+      → AreBeside (world_in old.now.trees) (calls_in old.now.trees) settings apps read → AreBeside (world_in new.now.trees) (calls_in new.now.trees) settings' apps' read'
   left_beside settings settings' apps apps' read read' same also rows beside = record {
     settings_are = same ∙ beside.settings_are ∙ sym (ap (λ w. w.settings) left_world);
     apps_are = also ∙ beside.apps_are ∙ sym (ap (λ w. w.apps) left_world);
-    rows_are = subst (λ w. AreRemembered w read') (sym left_world) rows;
+    rows_are = subst (λ (db : Database). AreRemembered (world_in db.trees) (calls_in db.trees) read') (sym shown) rows;
   }
 
 -- ---- a read
@@ -59,8 +59,8 @@ module _ (old new : State) (reads : Reads old new) (honest : IsHonest new) (kept
   pub stays_kept : AreWellKept new (world_in new.now.trees)
   stays_kept = left_kept old new stays_shown stays_committed kept (reads.idle kept.idle)
 
-  pub stays_beside : (settings settings' : Settings) (apps apps' : List App) (read read' : Remembered) → settings' ≡ settings → apps' ≡ apps → AreRemembered (world_in old.now.trees) read'
-      → AreBeside (world_in old.now.trees) settings apps read → AreBeside (world_in new.now.trees) settings' apps' read'
+  pub stays_beside : (settings settings' : Settings) (apps apps' : List App) (read read' : Remembered) → settings' ≡ settings → apps' ≡ apps → AreRemembered (world_in old.now.trees) (calls_in old.now.trees) read'
+      → AreBeside (world_in old.now.trees) (calls_in old.now.trees) settings apps read → AreBeside (world_in new.now.trees) (calls_in new.now.trees) settings' apps' read'
   stays_beside = left_beside old new stays_shown stays_committed kept
 
 -- ---- tables after a read
@@ -83,14 +83,15 @@ reads_hold old new reads honest kept =
     }
 
 -- well kept tables stay so, where what was read is the world's
-pub stays_both : (old new : State) → Reads old new → IsHonest new → (settings settings' : Settings) (apps apps' : List App) (read read' : Remembered) → settings' ≡ settings → apps' ≡ apps → AreRemembered (world_in old.now.trees) read'
-    → AreWellKept old (world_in old.now.trees) × AreBeside (world_in old.now.trees) settings apps read → AreWellKept new (world_in new.now.trees) × AreBeside (world_in new.now.trees) settings' apps' read'
+pub stays_both : (old new : State) → Reads old new → IsHonest new → (settings settings' : Settings) (apps apps' : List App) (read read' : Remembered) → settings' ≡ settings → apps' ≡ apps → AreRemembered (world_in old.now.trees) (calls_in old.now.trees) read'
+    → AreWellKept old (world_in old.now.trees) × AreBeside (world_in old.now.trees) (calls_in old.now.trees) settings apps read → AreWellKept new (world_in new.now.trees) × AreBeside (world_in new.now.trees) (calls_in new.now.trees) settings' apps' read'
 stays_both old new reads honest settings settings' apps apps' read read' same also rows kept =
     (stays_kept old new reads honest kept.0, stays_beside old new reads honest kept.0 settings settings' apps apps' read read' same also rows kept.1)
 
--- what was read later is the world's before
-pub rows_before : (old new : State) → Reads old new → IsHonest new → AreWellKept old (world_in old.now.trees) → (read : Remembered) → AreRemembered (world_in new.now.trees) read → AreRemembered (world_in old.now.trees) read
-rows_before old new reads honest kept read rows = subst (λ w. AreRemembered w read) (stays_same old new reads honest kept) rows
+-- what was read later is what they held before
+pub rows_before : (old new : State) → Reads old new → IsHonest new → AreWellKept old (world_in old.now.trees) → (read : Remembered) → AreRemembered (world_in new.now.trees) (calls_in new.now.trees) read
+    → AreRemembered (world_in old.now.trees) (calls_in old.now.trees) read
+rows_before old new reads honest kept read rows = subst (λ (db : Database). AreRemembered (world_in db.trees) (calls_in db.trees) read) (stays_shown old new reads honest kept) rows
 
 -- a store below them that never fails is never shut
 pub never_shut : (old new : State) (Commits : Trees → Type 0) → old.faults ≡ 0 → new.faults ≡ 0 → HasCleanDisk new → Survives old new Commits → IsHonest old → IsHonest new

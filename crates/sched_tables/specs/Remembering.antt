@@ -1,27 +1,43 @@
--- Rule. What was read of a world since the last commit.
-use Rattle.std.specs.Prelude.{◌≡◌, ◌⊎◌, ℕ, Some, IfSome}
-use Rattle.std.specs.BTreeMap.{get}
+-- Rule. What is remembered of what tables hold.
+use Rattle.std.specs.Prelude.{◌≡◌, ℕ, List, All, Some, IfSome}
+use Rattle.std.specs.Cmp.Lexicographic.{slice_cmp}
 use Rattle.std.specs.Ordering.{nat_cmp}
 use Rattle.sched_book.specs.Desk.{account_by_key, workunit_at, instances_at}
 use Rattle.sched_book.specs.Fits.{version_at}
 use Rattle.sched_book.specs.declared.rows.HostRow.{HostRow}
+use Rattle.sched_book.specs.declared.rows.Workunit.{Workunit}
 use Rattle.sched_book.specs.declared.world.World.{World}
 use Rattle.table_desk.specs.Columns.{counted_host_at}
+use Rattle.table_meaning.specs.Worlds.{SlotCalls}
+use Rattle.sched_tables.specs.RowsRead.{HoldOfEach}
+use Rattle.sched_tables.specs.Slots.{IsSlotFor}
+use Rattle.sched_tables.specs.declared.remembered.AccountRead.{AccountRead}
 use Rattle.sched_tables.specs.declared.remembered.Remembered.{Remembered}
-use Rattle.sched_tables.specs.declared.remembered.RowsRead.{RowsRead}
+use Rattle.sched_tables.specs.declared.remembered.SlotRead.{SlotRead}
+use Rattle.sched_tables.specs.declared.remembered.VersionRead.{VersionRead}
+use Rattle.sched_tables.specs.declared.rows_read.RowsRead.{RowsRead}
 
--- this holds of each row that was read, by its number
-abbrev pub HoldOfEach : {T : Type 0} → (ℕ → T → Type 0) → RowsRead T → Type 0
-HoldOfEach {T} Holds read = (number : ℕ) (row : T) → get nat_cmp read.rows number ≡ Some row → Holds number row
+-- workunits that were read are the world's
+abbrev pub AreUnitsOf : World → RowsRead ℕ Workunit → Type 0
+AreUnitsOf w read = HoldOfEach nat_cmp (λ n u. workunit_at w n ≡ Some u) read
 
--- nothing else is there than was, and maybe this row at its number
-abbrev pub HasKept : {T : Type 0} → RowsRead T → RowsRead T → ℕ → T → Type 0
-HasKept {T} old new number row = (n : ℕ) (kept : T) → get nat_cmp new.rows n ≡ Some kept → ((n ≡ number) × (kept ≡ row)) ⊎ (get nat_cmp old.rows n ≡ Some kept)
+-- an account that was read is the one of its authenticator
+abbrev pub IsAccountOf : World → List ℕ → AccountRead → Type 0
+IsAccountOf w authenticator a = account_by_key w authenticator ≡ Some (record { place = a.place; row = a.row })
 
--- What was read is what the world has.
-pub record AreRemembered (w : World) (r : Remembered) : Type 0 where
-  pub units : HoldOfEach (λ n u. workunit_at w n ≡ Some u) r.units
-  pub instances : HoldOfEach (λ n xs. xs ≡ instances_at w n) r.instances
-  pub hosts : HoldOfEach (λ n h. counted_host_at w n ≡ Some h) r.hosts
-  pub account : IfSome r.account (λ a. account_by_key w a.authenticator ≡ Some (record { place = a.place; row = a.row }))
-  pub version : IfSome r.version (λ v. (h : HostRow) → h.platforms ≡ v.platforms → version_at w h v.app ≡ Some v.row)
+-- a version that was read is the one that each host of these platforms runs
+abbrev pub IsVersionOf : World → VersionRead → Type 0
+IsVersionOf w v = (h : HostRow) → h.platforms ≡ v.platforms → version_at w h v.app ≡ Some v.row
+
+-- a slot that was found is the one for the next call of its host
+abbrev pub IsSlotOf : SlotCalls → SlotRead → Type 0
+IsSlotOf calls s = IsSlotFor (calls s.host) s.slot
+
+-- What is remembered is what the world has, and of the calls in the slots of a host which slot is for the next.
+pub record AreRemembered (w : World) (calls : SlotCalls) (r : Remembered) : Type 0 where
+  pub units : AreUnitsOf w r.units
+  pub instances : HoldOfEach nat_cmp (λ n xs. xs ≡ instances_at w n) r.instances
+  pub hosts : HoldOfEach nat_cmp (λ n h. counted_host_at w n ≡ Some h) r.hosts
+  pub accounts : HoldOfEach (slice_cmp nat_cmp) (IsAccountOf w) r.accounts
+  pub versions : All (IsVersionOf w) r.versions.items
+  pub slot : IfSome r.slot (IsSlotOf calls)

@@ -8,6 +8,8 @@ use Rattle.sched_book.specs.declared.world.World.{World}
 use Rattle.table_worlds.specs.StoredWorld.{world_in}
 use Rattle.table_meaning.specs.Reads.{Reads}
 use Rattle.stores.specs.Held.{Held}
+use Rattle.table_meaning.specs.Kept.{calls_in}
+use Rattle.table_meaning.specs.Worlds.{SlotCalls}
 use Rattle.sched_tables.specs.Entries.{calls_of, batches_of}
 use Rattle.sched_tables.specs.Held.{IsHonest, AreWellKept, AreBeside}
 use Rattle.sched_tables.specs.Remembering.{AreRemembered}
@@ -19,6 +21,10 @@ state_of store t = state store t.conn
 abbrev pub world_of : {S : Type 0} → Ghosts S → Tables S → World
 world_of store t = world_in (state_of store t).now.trees
 
+-- the calls in the slots of each host
+abbrev pub slots_of : {S : Type 0} → Ghosts S → Tables S → SlotCalls
+slots_of store t = calls_in (state_of store t).now.trees
+
 -- all that they hold
 abbrev pub held_in : Trees → Held
 held_in trees = record { world = world_in trees; calls = calls_of trees; batches = batches_of trees }
@@ -28,9 +34,9 @@ held_of store t = held_in (state_of store t).now.trees
 
 -- they are well kept, and what is kept beside them is their world's
 abbrev pub AreKept : {S : Type 0} → Ghosts S → Tables S → Type 0
-AreKept store t = AreWellKept (state_of store t) (world_of store t) × AreBeside (world_of store t) t.settings t.apps t.remembered
+AreKept store t = AreWellKept (state_of store t) (world_of store t) × AreBeside (world_of store t) (slots_of store t) t.settings t.apps t.remembered
 
 -- Tables after a read: the connection shows what it showed, and what is kept beside the tables is what it was, or was read
 -- just now.
 abbrev pub AreReadOn : {S : Type 0} → Ghosts S → Tables S → Tables S → Type 0
-AreReadOn store old new = Reads (state_of store old) (state_of store new) × (new.settings ≡ old.settings) × (new.apps ≡ old.apps) × (IsHonest (state_of store new) → AreKept store old → AreRemembered (world_of store old) new.remembered)
+AreReadOn store old new = Reads (state_of store old) (state_of store new) × (new.settings ≡ old.settings) × (new.apps ≡ old.apps) × (IsHonest (state_of store new) → AreKept store old → AreRemembered (world_of store old) (slots_of store old) new.remembered)

@@ -4,57 +4,23 @@ ghost use Rattle.std.specs.Prelude.{◌≡◌, false, IsTrue, IfOk, OnOk, OnErr}
 ghost use Rattle.sqlite.specs.State.{HasCleanDisk, Survives};
 ghost use Rattle.sched_tables.specs.Commits.{apps_with as apps_then};
 ghost use Rattle.sched_tables.specs.Entries.{ArePutWith, IsRowOf, MakesWith};
-ghost use Rattle.table_meaning.specs.Holding.{AreKnown};
-ghost use Rattle.table_meaning.specs.Kept.{calls_in};
-ghost use Rattle.sqlite.specs.Held.{state};
 ghost use Rattle.sched_book.specs.Delta.{applied};
 ghost use Rattle.sched_book.specs.Sound.{Sound};
-ghost use Rattle.sched_book.specs.declared.world.World.{World};
 ghost use Rattle.sched_tables.specs.Held.{IsHonest};
 ghost use Rattle.sched_tables.specs.Remembering.{AreRemembered};
 ghost use Rattle.sched_tables.specs.Reopening.{Reopens};
 ghost use Rattle.stores.specs.Standing.{MayBeKept};
-ghost use Rattle.sched_tables.specs.Views.{state_of, world_of, AreKept};
-ghost use Rattle.table_meaning.specs.Reads.{Reads};
+ghost use Rattle.sched_tables.specs.Views.{state_of, world_of, slots_of, AreKept, AreReadOn};
 
-use crate::keeping::slot_for;
 use crate::tables::Tables;
 use sched_book::{App, Change, Delta, Unavailable, copy_of};
-use sqlite::{Alter, Connection};
+use sqlite::Alter;
 use std::alloc::Global;
 use stores::Entry;
 use table_changes::rows_of_changes;
 use table_meaning::rows::{StoredBatch, StoredCall, StoredRow};
 use table_rows::put_rows;
 use texts::{Listed, Memory, Text};
-
-/// The row that an entry puts, where it puts one.
-fn row_of<S: Alter>(
-    alloc: Global,
-    conn: &mut Connection<S>,
-    entry: &Entry,
-) -> Result<Option<StoredRow>, Unavailable>
-    ensures reads { Reads (state S.Store conn.old) (state S.Store conn.new) }
-    ensures row { IsHonest (state S.Store conn.new) → (state S.Store conn.old).now ≡ (state S.Store conn.old).committed → AreKnown (state S.Store conn.old).now
-        → IfOk result (IsRowOf (calls_in (state S.Store conn.old).now.trees) entry.now) }
-{
-    match entry {
-        Entry::Kept(host, kept) => Ok(Some(StoredRow::Kept(StoredCall {
-            host_id: *host,
-            slot: slot_for(alloc, conn, *host)?,
-            seqno: kept.seqno,
-            text: kept.text.clone()?,
-            reply: kept.reply.clone()?,
-        }))),
-        Entry::Batch(kind, name, kept) => Ok(Some(StoredRow::Batch(StoredBatch {
-            kind: Text::copied(alloc, kind.name())?,
-            name: name.clone()?,
-            text: Listed::of(kept.text.as_slice().to_vec(alloc)?),
-            answer: kept.answer.clone()?,
-        }))),
-        Entry::Nothing => Ok(None),
-    }
-}
 
 /// The applications with those that changes bring.
 fn apps_with(apps: &Listed<App>, delta: &Delta) -> Result<Listed<App>, Memory>
@@ -70,31 +36,52 @@ fn apps_with(apps: &Listed<App>, delta: &Delta) -> Result<Listed<App>, Memory>
 }
 
 impl<S: Alter> Tables<S> {
+    /// The row that an entry puts, where it puts one.
+    fn row_of(&mut self, entry: &Entry) -> Result<Option<StoredRow>, Unavailable>
+        ensures reads { AreReadOn S.Store self.old self.new }
+        ensures row { IsHonest (state_of S.Store self.new) → AreKept S.Store self.old → IfOk result (IsRowOf (slots_of S.Store self.old) entry.now) }
+    {
+        match entry {
+            Entry::Kept(host, kept) => Ok(Some(StoredRow::Kept(StoredCall {
+                host_id: *host,
+                slot: self.next_slot(*host)?,
+                seqno: kept.seqno,
+                text: kept.text.clone()?,
+                reply: kept.reply.clone()?,
+            }))),
+            Entry::Batch(kind, name, kept) => Ok(Some(StoredRow::Batch(StoredBatch {
+                kind: Text::copied(self.alloc, kind.name())?,
+                name: name.clone()?,
+                text: Listed::of(kept.text.as_slice().to_vec(self.alloc)?),
+                answer: kept.answer.clone()?,
+            }))),
+            Entry::Nothing => Ok(None),
+        }
+    }
+
     /// The rows that these changes put, and the row of an entry behind them.
     fn rows_with(&mut self, delta: &Delta, entry: &Entry) -> Result<Listed<StoredRow>, Unavailable>
-        ensures reads { Reads (state_of S.Store self.old) (state_of S.Store self.new) }
-        ensures beside { (self.new.settings ≡ self.old.settings) × (self.new.apps ≡ self.old.apps) }
+        ensures reads { AreReadOn S.Store self.old self.new }
         ensures rows { IsHonest (state_of S.Store self.new) → AreKept S.Store self.old
-            → IfOk result (ArePutWith (world_of S.Store self.old) delta.now (calls_in (state_of S.Store self.old).now.trees) entry.now) }
+            → IfOk result (ArePutWith (world_of S.Store self.old) delta.now (slots_of S.Store self.old) entry.now) }
     {
         let mut rows = rows_of_changes(self.alloc, self, delta)?;
-        let row = row_of(self.alloc, &mut self.conn, entry)?;
-        rows.push_some(row)?;
+        rows.push_some(self.row_of(entry)?)?;
         Ok(rows)
     }
 
     /// Makes these changes and keeps what the entry tells, in one transaction: where it is unavailable, neither is done, unless
     /// a fault has shut the connection. Where it is good, the connection is open. It puts the rows that the changes touch, and
-    /// looks at no others. What was read before is forgotten, so that each later look-up sees the rows that were put. A stop
-    /// at any moment leaves what a stop could leave before, or the whole, and this only where the connection was open. Where
-    /// the changes leave a sound world, and what the entry keeps may stand beside it, tables that could be opened again still
-    /// can, and so can whatever a stop leaves.
+    /// looks at no others. What was read of a row that is put is forgotten, so that what is remembered is what the tables then
+    /// hold. A stop at any moment leaves what a stop could leave before, or the whole, and this only where the connection was
+    /// open. Where the changes leave a sound world, and what the entry keeps may stand beside it, tables that could be opened
+    /// again still can, and so can whatever a stop leaves.
     pub fn commit(&mut self, delta: &Delta, entry: &Entry) -> Result<(), Unavailable>
         ensures honest { IsHonest (state_of S.Store self.new) → IsHonest (state_of S.Store self.old) }
         ensures open { HasCleanDisk (state_of S.Store self.new) → OnOk result (IsTrue (state_of S.Store self.new).is_open) }
         ensures idle { (state_of S.Store self.old).in_transaction ≡ false → (state_of S.Store self.new).in_transaction ≡ false }
         ensures settings { self.new.settings ≡ self.old.settings }
-        ensures forgets { (w : World) → AreRemembered w self.new.remembered }
+        ensures remembers { IsHonest (state_of S.Store self.new) → AreKept S.Store self.old → AreRemembered (world_of S.Store self.new) (slots_of S.Store self.new) self.new.remembered }
         ensures apps { OnOk result (self.new.apps ≡ apps_then self.old.apps delta.now) }
         ensures rests { IsHonest (state_of S.Store self.new) → OnOk result ((state_of S.Store self.new).now ≡ (state_of S.Store self.new).committed) }
         ensures made { IsHonest (state_of S.Store self.new) → AreKept S.Store self.old
@@ -108,11 +95,11 @@ impl<S: Alter> Tables<S> {
         ensures reopens { (IsHonest (state_of S.Store self.old) → AreKept S.Store self.old × Sound (applied (world_of S.Store self.old) delta.now) × MayBeKept (applied (world_of S.Store self.old) delta.now) entry.now)
             → Reopens (state_of S.Store self.old) → Reopens (state_of S.Store self.new) }
     {
-        let rows = self.rows_with(delta, entry);
-        self.remembered.forget();
-        let rows = rows?;
+        let rows = self.rows_with(delta, entry)?;
         let apps = apps_with(&self.apps, delta)?;
-        if put_rows(self.alloc, &mut self.conn, rows.as_slice()).is_err() {
+        let put = rows.as_slice();
+        self.remembered.forget_put(put);
+        if put_rows(self.alloc, &mut self.conn, put).is_err() {
             return Err(Unavailable);
         }
         self.apps = apps;

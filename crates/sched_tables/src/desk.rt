@@ -93,7 +93,7 @@ impl<S: Alter> Desk for Tables<S> {
         alloc: Global,
         authenticator: &str,
     ) -> Result<Option<Placed<Account>>, Unavailable> {
-        match self.remembered.account(authenticator)? {
+        match self.remembered.account(alloc, authenticator)? {
             Some(found) => Ok(Some(found)),
             None => self.read_account(alloc, authenticator),
         }

@@ -8,6 +8,7 @@ pub mod laws;
 mod opening;
 mod reading;
 mod remembered;
+mod rows_read;
 mod store;
 mod tables;
 mod upgrading;

@@ -1,71 +1,37 @@
-//! What was read since the last commit, so that no row is asked for twice.
+//! What was read and was not put since, so that no row is asked for twice.
 
-ghost use Rattle.std.specs.Prelude.{ℕ, ◌≡◌, Some, None, IfOk, IfSome};
-ghost use Rattle.std.specs.BTreeMap.{get};
-ghost use Rattle.std.specs.Ordering.{nat_cmp};
+ghost use Rattle.std.specs.Prelude.{◌≡◌, All, None, Some, IfOk, IfSome};
 ghost use Rattle.sched_book.specs.Desk.{account_by_key, workunit_at, instances_at};
 ghost use Rattle.sched_book.specs.Fits.{version_at};
 ghost use Rattle.sched_book.specs.declared.rows.HostRow.{HostRow as BookHost};
 ghost use Rattle.sched_book.specs.declared.world.World.{World};
 ghost use Rattle.table_desk.specs.Columns.{counted_host_at};
-ghost use Rattle.sched_tables.specs.Remembering.{HasKept, AreRemembered};
+ghost use Rattle.table_meaning.specs.Worlds.{SlotCalls};
+ghost use Rattle.sched_tables.specs.Forgetting.{AreLeft, IsOtherKey, IsUnput};
+ghost use Rattle.sched_tables.specs.Remembering.{AreRemembered, IsVersionOf};
+ghost use Rattle.sched_tables.specs.Slots.{IsSlotFor};
 
+use crate::rows_read::RowsRead;
 use sched_book::{Account, Instance, Placed, Version, Workunit, copy_of};
 use std::alloc::Global;
-use std::collections::BTreeMap;
 use table_desk::{CountedHost, KnownUnits};
+use table_meaning::rows::StoredRow;
 use texts::{Listed, Memory, Same, Text};
 
-/// The most rows of a kind that are remembered. At one more, those before it are forgotten.
-const MOST_REMEMBERED: usize = 1_000;
+/// The most versions that are remembered. At one more, those before it are forgotten.
+const MOST_VERSIONS: usize = 100;
 
-/// Rows by their numbers, as they were read.
-#[derive(Drop)]
-pub(crate) struct RowsRead<T> {
-    rows: BTreeMap<u32, T>,
-}
-
-impl<T> RowsRead<T> {
-    /// No rows.
-    fn new(alloc: Global) -> RowsRead<T>
-        ensures { (n : ℕ) → get nat_cmp result.rows n ≡ None }
-    {
-        RowsRead {
-            rows: BTreeMap::new(alloc),
-        }
-    }
-}
-
-impl<T: Same + Drop> RowsRead<T> {
-    /// A copy of the row of this number, where it was read.
-    fn row(&self, number: u32) -> Result<Option<T>, Memory>
-        ensures { IfOk result (λ row. row ≡ get nat_cmp self.now.rows number) }
-    {
-        match self.rows.get(&number) {
-            None => Ok(None),
-            Some(row) => Ok(Some(copy_of(row)?)),
-        }
-    }
-
-    /// Remembers the row of this number, where there is memory for it.
-    fn remember(&mut self, number: u32, row: &T)
-        ensures { HasKept self.old self.new number row.now }
-    {
-        if MOST_REMEMBERED <= self.rows.len() {
-            self.rows.clear();
-        }
-        if let Ok(copy) = copy_of(row) {
-            let _ = self.rows.insert(number, copy);
-        }
-    }
-}
-
-/// An account, and by which authenticator it was asked for.
-#[derive(Drop)]
+/// An account with its place, as it was found by its authenticator.
+#[derive(Clone, Drop)]
 pub(crate) struct AccountRead {
-    authenticator: Text,
     place: u32,
     row: Account,
+}
+
+impl Same for AccountRead {
+    ghost use Rattle.std.proofs.Common.{rules};
+
+    ghost exact = { λ account copy is_copy. Prim.search rules };
 }
 
 /// A version, for which platforms of a host and for the application at which place it was asked for.
@@ -76,22 +42,21 @@ pub(crate) struct VersionRead {
     row: Version,
 }
 
-/// The account that was found by an authenticator.
-fn account_read(
-    alloc: Global,
-    authenticator: &str,
-    found: &Option<Placed<Account>>,
-) -> Result<Option<AccountRead>, Memory>
-    ensures { IfOk result (λ r. IfSome r (λ a. (a.authenticator ≡ authenticator.now) × (found.now ≡ Some (record { place = a.place; row = a.row })))) }
+/// The slot for the next call of a host.
+#[derive(Clone, Copy, Drop)]
+pub(crate) struct SlotRead {
+    host: u32,
+    slot: u32,
+}
+
+/// A copy of the account that was found.
+fn account_read(found: &Placed<Account>) -> Result<AccountRead, Memory>
+    ensures { IfOk result (λ a. found.now ≡ record { place = a.place; row = a.row }) }
 {
-    match found {
-        None => Ok(None),
-        Some(found) => Ok(Some(AccountRead {
-            authenticator: Text::copied(alloc, authenticator)?,
-            place: found.place,
-            row: copy_of(&found.row)?,
-        })),
-    }
+    Ok(AccountRead {
+        place: found.place,
+        row: copy_of(&found.row)?,
+    })
 }
 
 /// The version that was found for platforms and an application.
@@ -99,27 +64,36 @@ fn version_read(
     alloc: Global,
     platforms: &[Text],
     app: u32,
-    found: &Option<Version>,
-) -> Result<Option<VersionRead>, Memory>
-    ensures { IfOk result (λ r. IfSome r (λ v. (v.platforms ≡ platforms.now) × (v.app ≡ app) × (found.now ≡ Some v.row))) }
+    found: &Version,
+) -> Result<VersionRead, Memory>
+    ensures { IfOk result (λ v. (v.platforms ≡ platforms.now) × (v.app ≡ app) × (v.row ≡ found.now)) }
 {
-    match found {
-        None => Ok(None),
-        Some(found) => Ok(Some(VersionRead {
-            platforms: Listed::of(platforms.to_vec(alloc)?),
-            app,
-            row: copy_of(found)?,
-        })),
-    }
+    Ok(VersionRead {
+        platforms: Listed::of(platforms.to_vec(alloc)?),
+        app,
+        row: copy_of(found)?,
+    })
 }
 
-/// What was read since the last commit: rows by their numbers, and the account and the version that were read last.
+/// Puts a version behind the others, or alone where they are too many.
+fn push_version(versions: &mut Vec<VersionRead>, read: VersionRead)
+    ensures { (w : World) → All (IsVersionOf w) versions.old.items → IsVersionOf w read → All (IsVersionOf w) versions.new.items }
+{
+    if MOST_VERSIONS <= versions.len() {
+        versions.clear();
+    }
+    let _ = versions.push(read);
+}
+
+/// What was read and was not put since: rows by their keys, versions, and the slot for the next call of the host whose calls
+/// were read last.
 pub(crate) struct Remembered {
-    units: RowsRead<Workunit>,
-    instances: RowsRead<Listed<Instance>>,
-    hosts: RowsRead<CountedHost>,
-    account: Option<AccountRead>,
-    version: Option<VersionRead>,
+    units: RowsRead<u32, Workunit>,
+    instances: RowsRead<u32, Listed<Instance>>,
+    hosts: RowsRead<u32, CountedHost>,
+    accounts: RowsRead<Text, AccountRead>,
+    versions: Vec<VersionRead>,
+    slot: Option<SlotRead>,
 }
 
 // It is written out, so that a caller does not prove again how each part is dropped.
@@ -129,8 +103,9 @@ impl Drop for Remembered {
             units: _units,
             instances: _instances,
             hosts: _hosts,
-            account: _account,
-            version: _version,
+            accounts: _accounts,
+            versions: _versions,
+            slot: _slot,
         } = self;
     }
 }
@@ -138,31 +113,21 @@ impl Drop for Remembered {
 impl Remembered {
     /// Nothing.
     pub(crate) fn new(alloc: Global) -> Remembered
-        ensures { (w : World) → AreRemembered w result }
+        ensures { (w : World) (calls : SlotCalls) → AreRemembered w calls result }
     {
         Remembered {
             units: RowsRead::new(alloc),
             instances: RowsRead::new(alloc),
             hosts: RowsRead::new(alloc),
-            account: None,
-            version: None,
+            accounts: RowsRead::new(alloc),
+            versions: Vec::new(alloc),
+            slot: None,
         }
-    }
-
-    /// Forgets it all.
-    pub(crate) fn forget(&mut self)
-        ensures { (w : World) → AreRemembered w self.new }
-    {
-        self.units.rows.clear();
-        self.instances.rows.clear();
-        self.hosts.rows.clear();
-        self.account = None;
-        self.version = None;
     }
 
     /// Remembers what stands at the place of a workunit.
     pub(crate) fn remember_unit(&mut self, unit: u32, found: &Option<Workunit>)
-        ensures { (w : World) → AreRemembered w self.old → found.now ≡ workunit_at w unit → AreRemembered w self.new }
+        ensures { (w : World) (calls : SlotCalls) → AreRemembered w calls self.old → found.now ≡ workunit_at w unit → AreRemembered w calls self.new }
     {
         if let Some(row) = found {
             self.units.remember(unit, row);
@@ -171,28 +136,28 @@ impl Remembered {
 
     /// The instances of the workunit at this place.
     pub(crate) fn instances(&self, unit: u32) -> Result<Option<Listed<Instance>>, Memory>
-        ensures { (w : World) → AreRemembered w self.now → IfOk result (λ r. IfSome r (λ xs. xs ≡ instances_at w unit)) }
+        ensures { (w : World) (calls : SlotCalls) → AreRemembered w calls self.now → IfOk result (λ r. IfSome r (λ xs. xs ≡ instances_at w unit)) }
     {
-        self.instances.row(unit)
+        self.instances.row(&unit)
     }
 
     /// Remembers the instances of a workunit.
     pub(crate) fn remember_instances(&mut self, unit: u32, found: &Listed<Instance>)
-        ensures { (w : World) → AreRemembered w self.old → found.now ≡ instances_at w unit → AreRemembered w self.new }
+        ensures { (w : World) (calls : SlotCalls) → AreRemembered w calls self.old → found.now ≡ instances_at w unit → AreRemembered w calls self.new }
     {
         self.instances.remember(unit, found);
     }
 
     /// The host of this number, with what is counted of it.
     pub(crate) fn host(&self, number: u32) -> Result<Option<CountedHost>, Memory>
-        ensures { (w : World) → AreRemembered w self.now → IfOk result (λ r. IfSome r (λ h. counted_host_at w number ≡ Some h)) }
+        ensures { (w : World) (calls : SlotCalls) → AreRemembered w calls self.now → IfOk result (λ r. IfSome r (λ h. counted_host_at w number ≡ Some h)) }
     {
-        self.hosts.row(number)
+        self.hosts.row(&number)
     }
 
     /// Remembers the host of a number.
     pub(crate) fn remember_host(&mut self, number: u32, found: &Option<CountedHost>)
-        ensures { (w : World) → AreRemembered w self.old → found.now ≡ counted_host_at w number → AreRemembered w self.new }
+        ensures { (w : World) (calls : SlotCalls) → AreRemembered w calls self.old → found.now ≡ counted_host_at w number → AreRemembered w calls self.new }
     {
         if let Some(row) = found {
             self.hosts.remember(number, row);
@@ -200,43 +165,51 @@ impl Remembered {
     }
 
     /// The account with this authenticator.
-    pub(crate) fn account(&self, authenticator: &str) -> Result<Option<Placed<Account>>, Memory>
-        ensures { (w : World) → AreRemembered w self.now → IfOk result (λ r. IfSome r (λ a. account_by_key w authenticator.now ≡ Some a)) }
+    pub(crate) fn account(
+        &self,
+        alloc: Global,
+        authenticator: &str,
+    ) -> Result<Option<Placed<Account>>, Memory>
+        ensures { (w : World) (calls : SlotCalls) → AreRemembered w calls self.now → IfOk result (λ r. IfSome r (λ a. account_by_key w authenticator.now ≡ Some a)) }
     {
-        match &self.account {
-            Some(read) if read.authenticator.is(authenticator) => Ok(Some(Placed {
-                place: read.place,
-                row: copy_of(&read.row)?,
-            })),
-            _ => Ok(None),
+        let key = Text::copied(alloc, authenticator)?;
+        match self.accounts.row(&key)? {
+            None => Ok(None),
+            Some(AccountRead { place, row }) => Ok(Some(Placed { place, row })),
         }
     }
 
-    /// Remembers the account with an authenticator.
+    /// Remembers the account with an authenticator, where there is memory for it.
     pub(crate) fn remember_account(
         &mut self,
         alloc: Global,
         authenticator: &str,
         found: &Option<Placed<Account>>,
     )
-        ensures { (w : World) → AreRemembered w self.old → found.now ≡ account_by_key w authenticator.now → AreRemembered w self.new }
+        ensures { (w : World) (calls : SlotCalls) → AreRemembered w calls self.old → found.now ≡ account_by_key w authenticator.now → AreRemembered w calls self.new }
     {
-        self.account = account_read(alloc, authenticator, found).unwrap_or(None);
+        let Some(found) = found else { return };
+        let Ok(key) = Text::copied(alloc, authenticator) else {
+            return
+        };
+        if let Ok(read) = account_read(found) {
+            self.accounts.put(key, read);
+        }
     }
 
     /// The version that a host with these platforms runs of the application at this place.
     pub(crate) fn version(&self, platforms: &[Text], app: u32) -> Result<Option<Version>, Memory>
-        ensures { (w : World) (h : BookHost) → AreRemembered w self.now → platforms.now ≡ h.platforms → IfOk result (λ r. IfSome r (λ v. version_at w h app ≡ Some v)) }
+        ensures { (w : World) (calls : SlotCalls) (h : BookHost) → AreRemembered w calls self.now → platforms.now ≡ h.platforms → IfOk result (λ r. IfSome r (λ v. version_at w h app ≡ Some v)) }
     {
-        match &self.version {
-            Some(read) if read.app == app && read.platforms.as_slice() == platforms => {
-                Ok(Some(copy_of(&read.row)?))
+        for read in self.versions.as_slice() {
+            if read.app == app && read.platforms.as_slice() == platforms {
+                return Ok(Some(copy_of(&read.row)?));
             }
-            _ => Ok(None),
         }
+        Ok(None)
     }
 
-    /// Remembers the version that a host with these platforms runs of an application.
+    /// Remembers the version that a host with these platforms runs of an application, where there is memory for it.
     pub(crate) fn remember_version(
         &mut self,
         alloc: Global,
@@ -244,18 +217,69 @@ impl Remembered {
         app: u32,
         found: &Option<Version>,
     )
-        ensures { (w : World) (h : BookHost) → AreRemembered w self.old → platforms.now ≡ h.platforms → found.now ≡ version_at w h app → AreRemembered w self.new }
+        ensures { (w : World) (calls : SlotCalls) (h : BookHost) → AreRemembered w calls self.old → platforms.now ≡ h.platforms → found.now ≡ version_at w h app → AreRemembered w calls self.new }
     {
-        self.version = version_read(alloc, platforms, app, found).unwrap_or(None);
+        let Some(found) = found else { return };
+        let Ok(read) = version_read(alloc, platforms, app, found) else {
+            return
+        };
+        push_version(&mut self.versions, read);
+    }
+
+    /// The slot for the next call of this host, where its calls were read last.
+    pub(crate) fn slot(&self, host: u32) -> Option<u32>
+        ensures { (w : World) (calls : SlotCalls) → AreRemembered w calls self.now → IfSome result (IsSlotFor (calls host)) }
+    {
+        match self.slot {
+            Some(read) if read.host == host => Some(read.slot),
+            _ => None,
+        }
+    }
+
+    /// Remembers the slot for the next call of a host.
+    pub(crate) fn remember_slot(&mut self, host: u32, slot: u32)
+        ensures { (w : World) (calls : SlotCalls) → AreRemembered w calls self.old → IsSlotFor (calls host) slot → AreRemembered w calls self.new }
+    {
+        self.slot = Some(SlotRead { host, slot });
+    }
+
+    /// Forgets what was read of a row.
+    fn forget_row(&mut self, row: &StoredRow)
+        ensures { AreLeft (IsOtherKey row.now) self.old self.new }
+    {
+        match row {
+            StoredRow::Unit(row) => self.units.forget(&row.id),
+            StoredRow::UnitMark(row) => self.units.forget(&row.unit_id),
+            StoredRow::Instance(row) => self.instances.forget(&row.unit_id),
+            StoredRow::Host(row) => self.hosts.forget(&row.id),
+            StoredRow::Account(_) => self.accounts.forget_all(),
+            StoredRow::Version(_) | StoredRow::VersionClass(_) => self.versions.clear(),
+            StoredRow::App(_) => {
+                self.units.forget_all();
+                self.versions.clear();
+            }
+            StoredRow::Setting(_) | StoredRow::Kept(_) | StoredRow::Batch(_) => {}
+        }
+    }
+
+    /// Forgets what was read of these rows, which are put, and the slot for a call. All else is left.
+    pub(crate) fn forget_put(&mut self, rows: &[StoredRow])
+        ensures left { AreLeft (IsUnput rows.now) self.old self.new }
+        ensures slot { self.new.slot ≡ None }
+    {
+        for row in rows {
+            self.forget_row(row);
+        }
+        self.slot = None;
     }
 }
 
 impl KnownUnits for Remembered {
-    ghost use Rattle.sched_tables.specs.Remembering.{AreRemembered};
+    ghost use Rattle.sched_tables.specs.Remembering.{AreUnitsOf};
 
-    ghost are_of = { AreRemembered };
+    ghost are_of = { λ w r. AreUnitsOf w r.units };
 
     fn known_unit(&self, unit: u32) -> Result<Option<Workunit>, Memory> {
-        self.units.row(unit)
+        self.units.row(&unit)
     }
 }
