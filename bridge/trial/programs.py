@@ -134,6 +134,10 @@ class Client(Program):
         told = self.command("--get_tasks")
         return dict(re.findall(r"^   name: (\S+)$.*?^   state: ([^\n]*)$", told, re.MULTILINE | re.DOTALL))
 
+    def downloads(self) -> bool:
+        """Whether files of a task are on their way. What breaks off is tried again minutes later, and no job is asked for till then."""
+        return any(state in ("new", "downloading") for state in self.tasks().values())
+
     def rename(self, host_cpid: str) -> None:
         """Stops the client, and starts it again with another host_cpid."""
         self.kill()
