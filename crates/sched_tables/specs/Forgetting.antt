@@ -1,4 +1,4 @@
--- Rule. What is forgotten where rows are put.
+-- Words. What is forgotten where rows are put.
 use Rattle.std.specs.Prelude.{◌≡◌, ◌≢◌, ◌⊎◌, ℕ, List, []}
 use Rattle.std.specs.Cmp.Lexicographic.{slice_cmp}
 use Rattle.std.specs.List.{AllByRecursion}
