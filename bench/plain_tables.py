@@ -116,6 +116,7 @@ SLOTS = 4  # so many calls of a host are kept
 # the look-ups whose rows are kept until they are put, and how many of each, and how many versions
 KEPT = ("account by authenticator", "host by number", "workunit", "mark of a workunit", "instances of a workunit")
 MOST_KEPT, MOST_VERSIONS = 1000, 100
+MOST_NOTED = 16  # of so many workunits that are offered on one way through what waits the rows are kept
 
 
 def put_text(table):
@@ -298,7 +299,7 @@ class Tables:
         pragmas = ("locking_mode = EXCLUSIVE", "journal_mode = WAL", f"synchronous = {synchronous}", "foreign_keys = ON")
         for pragma in pragmas:
             self.connection.execute(f"PRAGMA {pragma}").fetchall()
-        self.once, self.slot = once, None
+        self.once, self.slot, self.noted = once, None, []
         self.seen = {kind: Kept(MOST_KEPT) for kind in (LOOK_UPS if once else KEPT)}
         self.versions = Kept(MOST_VERSIONS)
         self.settings = dict(self.connection.execute("SELECT name, value FROM setting ORDER BY rowid"))
@@ -429,11 +430,23 @@ class Tables:
         return None
 
     def offered(self, unit):
-        """The row of a workunit that is offered: it may be one that is kept, but it is not kept itself."""
-        if self.once or (unit,) in self.seen["workunit"]:
+        """The row of a workunit that is offered: it may be one that is kept, and the first ones are kept when the offers end."""
+        if self.once:
             return self.unit_row(unit)
-        row, mark = (self.connection.execute(LOOK_UPS[kind], (unit,)).fetchone() for kind in ("workunit", "mark of a workunit"))
-        return UnitRow(*row, *mark[1:])
+        row, mark = (
+            self.seen[kind].get((unit,)) or self.connection.execute(LOOK_UPS[kind], (unit,)).fetchall()
+            for kind in ("workunit", "mark of a workunit")
+        )
+        if len(self.noted) < MOST_NOTED:
+            self.noted.append((unit, row, mark))
+        return UnitRow(*row[0], *mark[0][1:])
+
+    def offers_end(self):
+        """Keeps what was noted of the offers so far."""
+        for unit, row, mark in self.noted:
+            self.seen["workunit"].keep((unit,), row)
+            self.seen["mark of a workunit"].keep((unit,), mark)
+        self.noted.clear()
 
     def waiting(self, unit, number):
         """What waits to be given out, from a place on: each place with its workunit's row."""
@@ -610,16 +623,19 @@ class Machine:
         while word is None:
             unit, number, row = next(offers, (None, None, None))
             if unit is None:
+                tables.offers_end()
                 return jobs, "no_eligible_work"
             if unit in had or unit in jobs:
                 continue
             if row.app_id not in known:  # the offers go on from here once the application's version is known
+                tables.offers_end()
                 known[row.app_id] = tables.version(host, row.app_id)
                 offers = tables.waiting(unit, number)
             elif self.fits(host, row, known[row.app_id]):
                 jobs[unit] = number, known[row.app_id]
                 seconds += plain.estimate(row, host)
                 word = end_word()
+        tables.offers_end()
         return jobs, word
 
     def job(self, host, instance, version, resent):

@@ -67,6 +67,10 @@ pub all_ok : {T E : Type 0} (r : Result T E) (A B C D : Type 0) → OnOk r A →
 all_ok (Ok x) A B C D a b c f = f a b c
 all_ok (Err e) A B C D a b c f = tt
 
+pub each_ok : {T E : Type 0} (r : Result T E) (A B : Type 0) → OnOk r A → (A → B) → OnOk r B
+each_ok (Ok x) A B a f = f a
+each_ok (Err e) A B a f = tt
+
 pub all_err : {T E : Type 0} (r : Result T E) (A B : Type 0) → OnErr r A → (A → B) → OnErr r B
 all_err (Ok x) A B a f = tt
 all_err (Err e) A B a f = f a

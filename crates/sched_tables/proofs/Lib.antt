@@ -3,6 +3,7 @@ pub mod EntriesKept
 pub mod Forgotten
 pub mod Leads
 pub mod NewTables
+pub mod Offered
 pub mod Opened
 pub mod Refusals
 pub mod Reopened

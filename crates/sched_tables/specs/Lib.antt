@@ -3,6 +3,7 @@ pub mod Commits
 pub mod Entries
 pub mod Held
 pub mod Forgetting
+pub mod Offering
 pub mod Refusals
 pub mod ReadLaws
 pub mod Remembering

@@ -14,12 +14,17 @@ use Rattle.sched_tables.specs.Slots.{IsSlotFor}
 use Rattle.sched_tables.specs.declared.remembered.AccountRead.{AccountRead}
 use Rattle.sched_tables.specs.declared.remembered.Remembered.{Remembered}
 use Rattle.sched_tables.specs.declared.remembered.SlotRead.{SlotRead}
+use Rattle.sched_tables.specs.declared.remembered.UnitRead.{UnitRead}
 use Rattle.sched_tables.specs.declared.remembered.VersionRead.{VersionRead}
 use Rattle.sched_tables.specs.declared.rows_read.RowsRead.{RowsRead}
 
 -- workunits that were read are the world's
 abbrev pub AreUnitsOf : World → RowsRead ℕ Workunit → Type 0
 AreUnitsOf w read = HoldOfEach nat_cmp (λ n u. workunit_at w n ≡ Some u) read
+
+-- a workunit that was read is the one at its place
+abbrev pub IsUnitOf : World → UnitRead → Type 0
+IsUnitOf w u = workunit_at w u.place ≡ Some u.row
 
 -- an account that was read is the one of its authenticator
 abbrev pub IsAccountOf : World → List ℕ → AccountRead → Type 0

@@ -184,13 +184,9 @@ impl<S: Alter> Desk for Tables<S> {
     }
 
     fn unsent_from<T: Taker>(&mut self, from: Place, taker: &mut T) -> Result<(), Unavailable> {
-        table_desk::unsent_from(
-            self.alloc,
-            &mut self.conn,
-            self.apps.as_slice(),
-            &self.remembered,
-            from,
-            taker,
-        )
+        let mut noted = Vec::new(self.alloc);
+        let offered = self.offer_from(from, taker, &mut noted);
+        self.remembered.remember_units(noted.as_slice());
+        offered
     }
 }

@@ -8,7 +8,7 @@ ghost use Rattle.sched_book.specs.declared.world.World.{World};
 ghost use Rattle.table_desk.specs.Columns.{counted_host_at};
 ghost use Rattle.table_meaning.specs.Worlds.{SlotCalls};
 ghost use Rattle.sched_tables.specs.Forgetting.{AreLeft, IsOtherKey, IsUnput};
-ghost use Rattle.sched_tables.specs.Remembering.{AreRemembered, IsVersionOf};
+ghost use Rattle.sched_tables.specs.Remembering.{AreRemembered, IsUnitOf, IsVersionOf};
 ghost use Rattle.sched_tables.specs.Slots.{IsSlotFor};
 
 use crate::rows_read::RowsRead;
@@ -32,6 +32,13 @@ impl Same for AccountRead {
     ghost use Rattle.std.proofs.Common.{rules};
 
     ghost exact = { λ account copy is_copy. Prim.search rules };
+}
+
+/// A workunit that was read, with its place.
+#[derive(Drop)]
+pub(crate) struct UnitRead {
+    pub(crate) place: u32,
+    pub(crate) row: Workunit,
 }
 
 /// A version, for which platforms of a host and for the application at which place it was asked for.
@@ -131,6 +138,15 @@ impl Remembered {
     {
         if let Some(row) = found {
             self.units.remember(unit, row);
+        }
+    }
+
+    /// Remembers workunits that were read.
+    pub(crate) fn remember_units(&mut self, read: &[UnitRead])
+        ensures { (w : World) (calls : SlotCalls) → AreRemembered w calls self.old → All (IsUnitOf w) read.now → AreRemembered w calls self.new }
+    {
+        for unit in read {
+            self.units.remember(unit.place, &unit.row);
         }
     }
 

@@ -1,0 +1,43 @@
+use Rattle.std.proofs.Common.{List, rules, subst, ◌∙◌}
+use Rattle.std.specs.Prelude.{All}
+use Rattle.sched_book.specs.Offers.{OffersAll, OffersSome, unsent}
+use Rattle.sched_tables.specs.Remembering.{IsUnitOf}
+use Rattle.sched_tables.specs.Views.{world_of}
+use Rattle.sched_tables.specs.declared.remembered.UnitRead.{UnitRead}
+use Rattle.sched_tables.proofs.Leads.{each_ok, all_err, either_way}
+use Rattle.sched_tables.proofs.Offered.{handed_all, handed_some}
+use Rattle.sched_tables.proofs.Told.{told}
+use Rattle.sched_tables.proofs.tables.Tables.offer_from.Goals as goal
+
+pub returns-clause-all : goal.returns-clause-all
+returns-clause-all g c = λ honest kept.
+    let w = world_of g.S.Store c.args.self.now in
+    each_ok c.unsent_from.result _ _ (told g.S.Store c.args.self.now c.unsent_from.new.conn _ c.unsent_from.ensures.all honest kept (c.as_slice.ensures ∙ kept.1.apps_are) kept.1.rows_are.units)
+    (λ offered.
+    let on = handed_all g.T.Taker.takes w c.args.from _ _ offered in
+    let names = on.1.1 in
+    subst (λ t. OffersAll g.T.Taker.takes c.args.taker.now (unsent w c.args.from) t) (search (rules, names)) on.0)
+
+pub returns-clause-some : goal.returns-clause-some
+returns-clause-some g c = λ honest kept.
+    let w = world_of g.S.Store c.args.self.now in
+    all_err c.unsent_from.result _ _ (told g.S.Store c.args.self.now c.unsent_from.new.conn _ c.unsent_from.ensures.some honest kept (c.as_slice.ensures ∙ kept.1.apps_are) kept.1.rows_are.units)
+    (λ offered.
+    let on = handed_some g.T.Taker.takes w c.args.from _ _ offered in
+    let names = on.1.1 in
+    subst (λ t. OffersSome g.T.Taker.takes c.args.taker.now (unsent w c.args.from) t) (search (rules, names)) on.0)
+
+pub returns-clause-noted : goal.returns-clause-noted
+returns-clause-noted g c = λ honest kept before.
+    let w = world_of g.S.Store c.args.self.now in
+    either_way c.unsent_from.result _ _ _
+    (told g.S.Store c.args.self.now c.unsent_from.new.conn _ c.unsent_from.ensures.all honest kept (c.as_slice.ensures ∙ kept.1.apps_are) kept.1.rows_are.units)
+    (told g.S.Store c.args.self.now c.unsent_from.new.conn _ c.unsent_from.ensures.some honest kept (c.as_slice.ensures ∙ kept.1.apps_are) kept.1.rows_are.units)
+    (λ offered.
+    let on = handed_all g.T.Taker.takes w c.args.from _ _ offered in
+    let names = on.1.2 in
+    subst (λ (us : List UnitRead). All (IsUnitOf w) us) (search (rules, names)) (on.1.0 before))
+    (λ offered.
+    let on = handed_some g.T.Taker.takes w c.args.from _ _ offered in
+    let names = on.1.2 in
+    subst (λ (us : List UnitRead). All (IsUnitOf w) us) (search (rules, names)) (on.1.0 before))

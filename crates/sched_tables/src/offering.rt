@@ -1,0 +1,90 @@
+//! What waits is offered, and the workunits that are offered first are remembered.
+
+ghost use Rattle.std.specs.Prelude.{◌≡◌, All, OnErr, OnOk};
+ghost use Rattle.sched_book.specs.Offers.{OffersAll, OffersSome, unsent};
+ghost use Rattle.sched_book.specs.declared.world.World.{World};
+ghost use Rattle.sched_tables.specs.Held.{IsHonest};
+ghost use Rattle.sched_tables.specs.Offering.{IsCandidateOf};
+ghost use Rattle.sched_tables.specs.Remembering.{IsUnitOf};
+ghost use Rattle.sched_tables.specs.Views.{state_of, world_of, AreKept};
+ghost use Rattle.table_meaning.specs.Reads.{Reads};
+
+use crate::remembered::UnitRead;
+use crate::tables::Tables;
+use sched_book::{Candidate, Flow, Place, Taker, Unavailable, copy_of};
+use sqlite::Alter;
+
+/// Of so many offers of one look-up the workunit is remembered.
+const MOST_NOTED: usize = 16;
+
+/// A taker that hands each offer on to another, and takes note of the workunits of the first ones.
+pub(crate) struct Noting<'a, T> {
+    pub(crate) taker: &'a mut T,
+    pub(crate) noted: &'a mut Vec<UnitRead>,
+}
+
+impl<'a, T> Drop for Noting<'a, T> {
+    fn drop(self)
+        ensures taker { self.exit.0.now ≡ self.entry.taker.now }
+        ensures noted { self.exit.1.0.now ≡ self.entry.noted.now }
+    {
+        let Noting { taker: _, noted: _ } = self;
+    }
+}
+
+/// Takes note of the workunit of a candidate, where there is memory for it and few were noted.
+fn note(noted: &mut Vec<UnitRead>, candidate: &Candidate)
+    ensures { (w : World) → IsCandidateOf w candidate.now → All (IsUnitOf w) noted.old.items → All (IsUnitOf w) noted.new.items }
+{
+    if noted.len() < MOST_NOTED {
+        if let Ok(row) = copy_of(&candidate.unit) {
+            let _ = noted.push(UnitRead {
+                place: candidate.place.unit,
+                row,
+            });
+        }
+    }
+}
+
+impl<'a, T: Taker> Taker for Noting<'a, T> {
+    ghost use Rattle.std.specs.Prelude.{◌≡◌, All};
+    ghost use Rattle.sched_book.specs.declared.world.World.{World};
+    ghost use Rattle.sched_tables.specs.Offering.{IsCandidateOf};
+    ghost use Rattle.sched_tables.specs.Remembering.{IsUnitOf};
+
+    ghost takes = { λ old c flow new. T.takes old.taker.now c flow new.taker.now
+        × ((w : World) → IsCandidateOf w c → All (IsUnitOf w) old.noted.now.items → All (IsUnitOf w) new.noted.now.items)
+        × (new.taker.ghost_name ≡ old.taker.ghost_name) × (new.noted.ghost_name ≡ old.noted.ghost_name) };
+
+    fn offer(&mut self, candidate: &Candidate) -> Flow {
+        note(self.noted, candidate);
+        self.taker.offer(candidate)
+    }
+}
+
+impl<S: Alter> Tables<S> {
+    /// Offers what waits from this place on, and takes note of the workunits that are offered first.
+    pub(crate) fn offer_from<T: Taker>(
+        &mut self,
+        from: Place,
+        taker: &mut T,
+        noted: &mut Vec<UnitRead>,
+    ) -> Result<(), Unavailable>
+        ensures reads { Reads (state_of S.Store self.old) (state_of S.Store self.new) }
+        ensures beside { (self.new.settings ≡ self.old.settings) × (self.new.apps ≡ self.old.apps) × (self.new.remembered ≡ self.old.remembered) }
+        ensures all { IsHonest (state_of S.Store self.new) → AreKept S.Store self.old → OnOk result (OffersAll T.takes taker.old (unsent (world_of S.Store self.old) from) taker.new) }
+        ensures some { IsHonest (state_of S.Store self.new) → AreKept S.Store self.old → OnErr result (OffersSome T.takes taker.old (unsent (world_of S.Store self.old) from) taker.new) }
+        ensures noted { IsHonest (state_of S.Store self.new) → AreKept S.Store self.old
+            → All (IsUnitOf (world_of S.Store self.old)) noted.old.items → All (IsUnitOf (world_of S.Store self.old)) noted.new.items }
+    {
+        let mut noting = Noting { taker, noted };
+        table_desk::unsent_from(
+            self.alloc,
+            &mut self.conn,
+            self.apps.as_slice(),
+            &self.remembered,
+            from,
+            &mut noting,
+        )
+    }
+}
