@@ -87,7 +87,8 @@ LOOK_UPS = {
     "kept call": f"SELECT {COLUMNS['kept4'][0]} FROM kept4 WHERE host_id = ?1 AND slot = ?2 ORDER BY rowid",
     "number of a kept call": "SELECT seqno FROM kept4 WHERE host_id = ?1 AND slot = ?2 ORDER BY rowid",
     "host by number": f"SELECT {COLUMNS['host'][0]} FROM host WHERE id = ?1 ORDER BY id",
-    "what a host holds": f"{PLACES}host_id = ?1 AND lapse = 0 AND outcome IS NULL ORDER BY unit_id, num",
+    "what a host holds": f"{PLACES}host_id = ?1 AND sent >= 0 AND lapse = 0 AND outcome IS NULL "
+    "ORDER BY sent DESC LIMIT ?2",
     "what a host was given": f"{PLACES}host_id = ?1 ORDER BY unit_id, num",
     "sent on a day": f"{PLACES}host_id = ?1 AND sent >= ?2 AND sent < ?3 ORDER BY sent",
     "hosts of a user": "SELECT id FROM host WHERE id > 0 AND account_id = ?1 ORDER BY id",
@@ -105,7 +106,7 @@ LOOK_UPS = {
         f"ORDER BY unit_id, num LIMIT {size}"
         for size in (FIRST_PAGE, FURTHER_PAGE)
     },
-    "what is late": f"{PLACES}deadline >= 0 AND deadline < ?1 AND lapse = 0 AND outcome IS NULL ORDER BY deadline",
+    "what is late": f"{PLACES}deadline >= ?1 AND deadline < ?2 AND lapse = 0 AND outcome IS NULL ORDER BY deadline",
     "kept import": f"SELECT {COLUMNS['batch'][0]} FROM batch WHERE kind = ?1 AND name = ?2 ORDER BY rowid",
     **{
         f"count of {table}s": f"SELECT id FROM {table} WHERE id > 0 ORDER BY id DESC LIMIT 1"
@@ -302,6 +303,8 @@ class Tables:
         self.once, self.slot, self.noted = once, None, []
         self.seen = {kind: Kept(MOST_KEPT) for kind in (LOOK_UPS if once else KEPT)}
         self.versions = Kept(MOST_VERSIONS)
+        # no instance that is held has its deadline before the mark; and what moment was asked about last
+        self.mark, self.asked = 0, 0
         self.settings = dict(self.connection.execute("SELECT name, value FROM setting ORDER BY rowid"))
         self.read_apps()
 
@@ -360,6 +363,8 @@ class Tables:
             self.forget()
         for table, row in rows:
             self.forget_row(table, row)
+            if table == "instance" and row[2] is not None and row[5] == 0 and row[6] is None:
+                self.mark = min(self.mark, row[4])
         if rows:
             self.connection.execute("BEGIN IMMEDIATE")
             for table, row in rows:
@@ -404,9 +409,31 @@ class Tables:
         return None if row is None else Host(*row)
 
     def held_count(self, host):
-        """How many jobs a host holds."""
+        """How many jobs a host holds. Of one that has no row it is looked up that nothing was given to it."""
         row = self.first("host by number", host)
-        return len(self.shown("what a host holds", host)) if row is None else row[8]
+        if row is None:
+            assert not self.shown("what a host was given", host)
+            return 0
+        return row[8]
+
+    def held_by(self, host):
+        """The places of the jobs that a host holds, looked for from the newest on."""
+        held = self.held_count(host)
+        return sorted(self.shown("what a host holds", host, held)) if held else []
+
+    def due_from_mark(self, now):
+        """The places of the jobs that are held past their deadline, looked for from the mark on, which rises where there is none."""
+        due = sorted(self.shown("what is late", self.mark, now))
+        if not due:
+            self.mark = max(self.mark, now)
+        return due
+
+    def due_before(self, now):
+        """The same, behind a look whether what was due at the moment before is held still."""
+        if self.mark < self.asked:
+            self.due_from_mark(self.asked)
+        self.asked = now
+        return self.due_from_mark(now)
 
     def credit_of_host(self, host):
         """The credit of a host. Of one that has no row it is looked up that nothing was given to it."""
@@ -665,7 +692,7 @@ class Machine:
         host = self.new_host(account, record) if number is None else page.host(number)
         host.hears(record)
         page.put_host(host)
-        held, listed = tables.shown("what a host holds", host.number), record.get("other_results")
+        held, listed = tables.held_by(host.number), record.get("other_results")
         touched = self.take_reports(page, host, record["results"], charges)
         if listed is not None and self.settings["resend_lost_results"]:
             resent, dropped = self.take_lost(page, host, held, set(listed), now)
@@ -705,7 +732,7 @@ class Machine:
         """Every held instance that is past its deadline lapses; how many."""
         self.tables.begin()
         page, charges, touched = Page(self.tables), Counter(), []
-        for unit, number in sorted(self.tables.shown("what is late", now)):
+        for unit, number in self.tables.due_before(now):
             instance = page.unit(unit).at(number)
             instance.lapse = "late"
             charges[instance.host] += 1

@@ -2,6 +2,7 @@ pub mod FourKept
 pub mod EntriesKept
 pub mod Forgotten
 pub mod Leads
+pub mod MarksStay
 pub mod NewTables
 pub mod Offered
 pub mod Opened

@@ -27,6 +27,7 @@ use Rattle.sched_tables.specs.declared.remembered.Remembered.{Remembered}
 use Rattle.table_meaning.specs.Kept.{calls_in, batches_in}
 use Rattle.sched_tables.proofs.EntriesKept.{calls_back, batches_back, held_with_kept}
 use Rattle.sched_tables.proofs.Leads.{held_same}
+use Rattle.sched_tables.proofs.MarksStay.{none_before}
 use Rattle.sched_tables.proofs.Reopened.{held_can_be_opened}
 
 nothing_held : (s : Settings) (db : Database) → HoldJust db (setting_rows s) → HoldWorld db (empty_world s) (λ _ _. None) (λ _ _. None)
@@ -56,8 +57,8 @@ module _ (s : Settings) (st : State) (rests : st.now ≡ st.committed) (just : H
   pub new_can_be_opened : Sound (empty_world s) → CanBeOpened st.now
   new_can_be_opened sound = held_can_be_opened st.now (empty_world s) (λ _ _. None) (λ _ _. None) sound (record { calls_fit = λ host slot. tt; imports_fit = λ kind text. tt }) held
 
-  pub new_beside : (settings : Settings) (apps : List App) (read : Remembered) → settings ≡ s → apps ≡ [] → ((w : World) (calls : SlotCalls) → AreRemembered w calls read) → AreBeside (world_in st.now.trees) (calls_in st.now.trees) settings apps read
-  new_beside settings apps read same none nothing = record { settings_are = same ∙ sym (ap (λ w. w.settings) new_world_is); apps_are = none ∙ sym (ap (λ w. w.apps) new_world_is); rows_are = nothing _ _ }
+  pub new_beside : (settings : Settings) (apps : List App) (read : Remembered) → settings ≡ s → apps ≡ [] → ((w : World) (calls : SlotCalls) → AreRemembered w calls read) → AreBeside (world_in st.now.trees) (calls_in st.now.trees) settings apps read 0
+  new_beside settings apps read same none nothing = record { settings_are = same ∙ sym (ap (λ w. w.settings) new_world_is); apps_are = none ∙ sym (ap (λ w. w.apps) new_world_is); rows_are = nothing _ _; mark_is = none_before (world_in st.now.trees) }
 
   pub new_held : IsNew s (held_in st.now.trees)
   new_held = record {

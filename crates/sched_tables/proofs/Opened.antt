@@ -14,6 +14,7 @@ use Rattle.table_reading.specs.Reading.{WereKnown, ReadFrom}
 use Rattle.table_worlds.specs.StoredWorld.{world_in}
 use Rattle.table_worlds.proofs.StaysReadable.{sound_is_readable}
 use Rattle.sched_tables.specs.Held.{IsHonest, AreWellKept, AreBeside}
+use Rattle.sched_tables.proofs.MarksStay.{none_before}
 use Rattle.sched_tables.specs.Remembering.{AreRemembered}
 use Rattle.sched_tables.specs.declared.remembered.Remembered.{Remembered}
 
@@ -48,11 +49,12 @@ module _ (taken read : State) (opens : HasCleanDisk taken → Opens taken) (know
     }
 
     pub opened_beside : (settings : Settings) (apps : List App) (rows : Remembered) → settings ≡ (world_in taken.now.trees).settings → apps ≡ (world_in taken.now.trees).apps → ((v : World) (calls : SlotCalls) → AreRemembered v calls rows)
-        → AreBeside (world_in read.now.trees) (calls_in read.now.trees) settings apps rows
+        → AreBeside (world_in read.now.trees) (calls_in read.now.trees) settings apps rows 0
     opened_beside settings apps rows of_world also nothing = record {
       settings_are = of_world ∙ sym (ap (λ (v : World). v.settings) opened_world);
       apps_are = also ∙ sym (ap (λ (v : World). v.apps) opened_world);
       rows_are = nothing _ _;
+      mark_is = none_before (world_in read.now.trees);
     }
 
     pub opened_rows : ReadFrom read.now.trees (world_in read.now.trees)

@@ -1,5 +1,5 @@
 -- Rule. When tables stand for a world.
-use Rattle.std.specs.Prelude.{◌≡◌, false, List, IsTrue}
+use Rattle.std.specs.Prelude.{◌≡◌, ℕ, false, List, IsTrue}
 use Rattle.sqlite.specs.State.{State, HasCleanDisk}
 use Rattle.sqlite_trees.specs.View.{doubt}
 use Rattle.sqlite_trees.specs.declared.store.Store as store
@@ -9,6 +9,7 @@ use Rattle.sched_book.specs.declared.world.World.{World}
 use Rattle.table_meaning.specs.Worlds.{SlotCalls, HoldWorld}
 use Rattle.table_meaning.specs.Kept.{calls_in, batches_in}
 use Rattle.table_worlds.specs.Readable.{IsReadable}
+use Rattle.sched_tables.specs.Marks.{IsMarkOf}
 use Rattle.sched_tables.specs.Remembering.{AreRemembered}
 use Rattle.sched_tables.specs.declared.remembered.Remembered.{Remembered}
 
@@ -23,11 +24,13 @@ pub record AreWellKept (s : State) (w : World) : Type 0 where
   pub holds : HoldWorld s.now w (calls_in s.now.trees) (batches_in s.now.trees)
   pub readable : IsReadable w
 
--- the settings and the applications that are kept beside the tables are the world's, and what is remembered is what the tables hold
-pub record AreBeside (w : World) (calls : SlotCalls) (settings : Settings) (apps : List App) (read : Remembered) : Type 0 where
+-- The settings and the applications that are kept beside the tables are the world's, what is remembered is what the tables hold, and
+-- the mark is one of the world.
+pub record AreBeside (w : World) (calls : SlotCalls) (settings : Settings) (apps : List App) (read : Remembered) (mark : ℕ) : Type 0 where
   pub settings_are : settings ≡ w.settings
   pub apps_are : apps ≡ w.apps
   pub rows_are : AreRemembered w calls read
+  pub mark_is : IsMarkOf w mark
 
 -- The store below tables never fails: no fault of it is counted, and it is clean.
 abbrev pub NeverFails : {S : Type 0} → store.Ghosts S → Type 0

@@ -4,6 +4,7 @@ pub mod Entries
 pub mod Held
 pub mod Forgetting
 pub mod Offering
+pub mod Marks
 pub mod Refusals
 pub mod ReadLaws
 pub mod Remembering

@@ -17,7 +17,7 @@ impl<S: Alter> Units for Tables<S> {
     ghost use Rattle.std.proofs.Common.{rules};
     ghost use Rattle.std.specs.Prelude.{◌≡◌};
     ghost use Rattle.sched_tables.specs.Held.{IsHonest};
-    ghost use Rattle.sched_tables.specs.ReadLaws.{stays_same, was_honest, stays_both, rows_before};
+    ghost use Rattle.sched_tables.specs.ReadLaws.{stays_same, was_honest, stays_both, rows_before, mark_before};
     ghost use Rattle.sched_tables.specs.Views.{state_of, world_of, AreKept, AreReadOn};
 
     ghost world = { world_of S.Store };
@@ -62,19 +62,23 @@ impl<S: Alter> Units for Tables<S> {
         }
     }
 
-    ghost reads_none = { λ d. (Prim.search rules, Prim.search rules, Prim.search rules, λ honest kept. kept.1.rows_are) };
+    ghost reads_none = { λ d. (Prim.search rules, Prim.search rules, Prim.search rules, λ honest kept. kept.1.rows_are, λ honest kept. kept.1.mark_is) };
 
     ghost reads_on = { λ a b c h k. (
       Prim.search rules,
       Prim.search rules,
       Prim.search rules,
       λ honest kept.
-          rows_before _ _ h.0 (was_honest _ _ k.0 honest) kept.0 _ (k.3 honest (stays_both _ _ h.0 (was_honest _ _ k.0 honest) _ _ _ _ _ _ h.1 h.2 (h.3 (was_honest _ _ k.0 honest) kept) kept)),
+          let then = was_honest _ _ k.0 honest in
+          rows_before _ _ h.0 then kept.0 _ (k.3 honest (stays_both _ _ h.0 then _ _ _ _ _ _ _ _ h.1 h.2 (h.3 then kept) (h.4 then kept) kept)),
+      λ honest kept.
+          let then = was_honest _ _ k.0 honest in
+          mark_before _ _ h.0 then kept.0 _ (k.4 honest (stays_both _ _ h.0 then _ _ _ _ _ _ _ _ h.1 h.2 (h.3 then kept) (h.4 then kept) kept)),
     ) };
 
     ghost stays_honest = { λ a b h k. Prim.search rules };
 
-    ghost stays_kept = { λ a b h k l. stays_both _ _ h.0 k _ _ _ _ _ _ h.1 h.2 (h.3 k l) l };
+    ghost stays_kept = { λ a b h k l. stays_both _ _ h.0 k _ _ _ _ _ _ _ _ h.1 h.2 (h.3 k l) (h.4 k l) l };
 
     ghost stays_same = { λ a b h k l. stays_same _ _ h.0 k l.0 };
 }
@@ -123,12 +127,16 @@ impl<S: Alter> Desk for Tables<S> {
     }
 
     fn held_by(&mut self, alloc: Global, host: u32) -> Result<Listed<Place>, Unavailable> {
-        table_desk::held_by(alloc, &mut self.conn, host)
+        let held = self.held_count(host)?;
+        if held == 0 {
+            return Ok(Listed::new(alloc));
+        }
+        table_desk::held_by(alloc, &mut self.conn, host, held)
     }
 
     fn held_count(&mut self, host: u32) -> Result<u32, Unavailable> {
         match self.counted_host(self.alloc, host)? {
-            None => table_desk::held_listed(self.alloc, &mut self.conn, host),
+            None => table_desk::held_of_none_given(self.alloc, &mut self.conn, host),
             Some(found) => Ok(found.held),
         }
     }
@@ -180,7 +188,9 @@ impl<S: Alter> Desk for Tables<S> {
     }
 
     fn due_before(&mut self, alloc: Global, now: Moment) -> Result<Listed<Place>, Unavailable> {
-        table_desk::due_before(alloc, &mut self.conn, now)
+        self.raise_mark(alloc)?;
+        self.asked = now.seconds();
+        self.read_due(alloc, now.seconds())
     }
 
     fn unsent_from<T: Taker>(&mut self, from: Place, taker: &mut T) -> Result<(), Unavailable> {

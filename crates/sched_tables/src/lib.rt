@@ -5,6 +5,7 @@ mod committing;
 mod desk;
 mod keeping;
 pub mod laws;
+mod marks;
 mod offering;
 mod opening;
 mod reading;

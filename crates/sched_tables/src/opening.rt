@@ -51,6 +51,8 @@ impl<S: Alter + Drop> Tables<S> {
             settings: kept,
             apps: Listed::new(alloc),
             remembered: Remembered::new(alloc),
+            mark: 0,
+            asked: 0,
         })
     }
 
@@ -84,6 +86,8 @@ impl<S: Alter + Drop> Tables<S> {
                 settings: kept.settings,
                 apps: kept.apps,
                 remembered: Remembered::new(alloc),
+                mark: 0,
+                asked: 0,
             }),
             Err(fault) => Err(Refused::of(fault, conn)),
         }

@@ -13,13 +13,17 @@ use texts::Listed;
 
 /// The stored tables as a desk. What seldom changes is kept beside them: the settings, which never do, and the
 /// applications, of which there are at most a hundred. All else is read by its key or by an index, where it was not
-/// read since the last commit.
+/// read since the last commit. What is due is looked for from the mark on, which is not stored.
 pub struct Tables<S: Alter> {
     pub(crate) alloc: Global,
     pub(crate) conn: Connection<S>,
     pub(crate) settings: Settings,
     pub(crate) apps: Listed<App>,
     pub(crate) remembered: Remembered,
+    /// No instance that is held has its deadline before this moment, in seconds since 1970-01-01T00:00:00Z.
+    pub(crate) mark: u64,
+    /// The moment about which was asked last what is due.
+    pub(crate) asked: u64,
 }
 
 impl<S: Alter> Tables<S> {
@@ -34,6 +38,8 @@ impl<S: Alter> Tables<S> {
             settings: _settings,
             apps: _apps,
             remembered: _remembered,
+            mark: _,
+            asked: _,
         } = self;
         conn
     }
@@ -48,6 +54,8 @@ impl<S: Alter + Drop> Drop for Tables<S> {
             settings: _settings,
             apps: _apps,
             remembered: _remembered,
+            mark: _,
+            asked: _,
         } = self;
     }
 }

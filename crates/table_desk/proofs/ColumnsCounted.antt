@@ -21,6 +21,7 @@ use Rattle.table_meaning.specs.Rows.{whole, unit_key, columns_of, look_up}
 use Rattle.table_meaning.specs.Worlds.{status_code, unit_row}
 use Rattle.table_desk.specs.Asked.{Tell}
 use Rattle.table_desk.specs.Columns.{status_told}
+use Rattle.table_desk.proofs.PlacesNone.{append_none}
 
 cons-nil : {X : Type 0} {x : X} {xs : List X} → x ∷ xs ≡ [] → ⊥
 cons-nil is = cc
@@ -28,10 +29,6 @@ cons-nil is = cc
 pub no_items : {X : Type 0} (xs : List X) → ¬ (0 < length xs) → xs ≡ []
 no_items [] none = refl
 no_items (x ∷ xs) none = absurd (none (omega arith))
-
-append_none : {X : Type 0} (xs ys : List X) → xs ++ ys ≡ [] → (xs ≡ []) × (ys ≡ [])
-append_none [] ys is = (refl, is)
-append_none (x ∷ xs) ys is = absurd (cons-nil is)
 
 -- a status is told by its number
 told_back : (s : Status) → status_told (status_code s) ≡ Some s

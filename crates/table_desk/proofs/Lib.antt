@@ -6,6 +6,7 @@ pub mod InstancesListed
 pub mod LastNumbers
 pub mod PagesOffered
 pub mod PlacesAsked
+pub mod PlacesNone
 pub mod PlacesStand
 pub mod ReadLater
 pub mod Standing

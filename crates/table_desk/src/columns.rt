@@ -1,10 +1,10 @@
 //! What is counted of a workunit, read in its row, of a user, read in the rows of the user's hosts, and of a host that
 //! has no row.
 
-ghost use Rattle.std.specs.Prelude.{◌≡◌, length, sum_by, unsigned_abs, IfOk};
+ghost use Rattle.std.specs.Prelude.{◌≡◌, [], length, sum_by, unsigned_abs, IfOk, OnOk};
 ghost use Rattle.sqlite.specs.Held.{state};
 ghost use Rattle.sched_book.specs.Desk.{unit_status};
-ghost use Rattle.sched_book.specs.Places.{held_by as held_in, host_credit, user_credit};
+ghost use Rattle.sched_book.specs.Places.{held_by as held_in, owned_by as owned_in, host_credit, user_credit};
 ghost use Rattle.table_meaning.specs.Reads.{Reads};
 ghost use Rattle.table_desk.specs.Asked.{Asked};
 ghost use Rattle.table_desk.specs.Columns.{status_told};
@@ -12,7 +12,7 @@ ghost use Rattle.table_desk.specs.Columns.{status_told};
 use sched_book::{Status, Unavailable};
 use sqlite::{Alter, Connection};
 use std::alloc::Global;
-use table_rows::{credits_of_user, places_held, places_owned, status_of as status_column};
+use table_rows::{credits_of_user, places_owned, status_of as status_column};
 
 /// The status that a number stands for.
 fn status_told(number: u32) -> Option<Status>
@@ -46,9 +46,26 @@ pub fn status_of<S: Alter>(
     }
 }
 
-/// How many instances the host holds, by a list of them. A host that has no row, as one that a call only makes, has no
-/// other count. The connection shows what it showed.
-pub fn held_listed<S: Alter>(
+/// Tests that the host was given nothing, as one that has no row. Unavailable where it was given an instance. The
+/// connection shows what it showed.
+fn test_none_given<S: Alter>(
+    alloc: Global,
+    conn: &mut Connection<S>,
+    host: u32,
+) -> Result<(), Unavailable>
+    ensures reads { Reads (state S.Store conn.old) (state S.Store conn.new) }
+    ensures answer { Asked S.Store conn.old conn.new (λ w. OnOk result (owned_in w host ≡ [])) }
+{
+    let owned = places_owned(alloc, conn, host)?;
+    if owned.len() > 0 {
+        return Err(Unavailable);
+    }
+    Ok(())
+}
+
+/// How many instances a host holds that was given nothing, as one that has no row: none. Unavailable where it was given an
+/// instance. The connection shows what it showed.
+pub fn held_of_none_given<S: Alter>(
     alloc: Global,
     conn: &mut Connection<S>,
     host: u32,
@@ -56,11 +73,8 @@ pub fn held_listed<S: Alter>(
     ensures reads { Reads (state S.Store conn.old) (state S.Store conn.new) }
     ensures answer { Asked S.Store conn.old conn.new (λ w. IfOk result (λ r. r ≡ length (held_in w host))) }
 {
-    let held = places_held(alloc, conn, host)?;
-    match u32::try_from(held.len()) {
-        Err(_) => Err(Unavailable),
-        Ok(count) => Ok(count),
-    }
+    test_none_given(alloc, conn, host)?;
+    Ok(0)
 }
 
 /// The millicredits of a host that was given nothing, as one that has no row: none. Unavailable where it was given an
@@ -73,10 +87,7 @@ pub fn credit_of_none_given<S: Alter>(
     ensures reads { Reads (state S.Store conn.old) (state S.Store conn.new) }
     ensures answer { Asked S.Store conn.old conn.new (λ w. IfOk result (λ r. r ≡ host_credit w host)) }
 {
-    let owned = places_owned(alloc, conn, host)?;
-    if owned.len() > 0 {
-        return Err(Unavailable);
-    }
+    test_none_given(alloc, conn, host)?;
     Ok(0)
 }
 

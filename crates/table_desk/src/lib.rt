@@ -16,7 +16,7 @@ mod workunits;
 
 pub use accounts::{account_by_key, host_by_key};
 pub use apps::{app_by_name, version_by_key, version_for};
-pub use columns::{credit_of_none_given, credit_of_user, held_listed, status_of};
+pub use columns::{credit_of_none_given, credit_of_user, held_of_none_given, status_of};
 pub use hosts::{CountedHost, counted_host};
 pub use lengths::counts;
 pub use offers::{KnownUnits, unsent_from};

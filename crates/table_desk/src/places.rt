@@ -1,12 +1,12 @@
 //! Places of instances, by what became of them.
 
-ghost use Rattle.std.specs.Prelude.{◌≡◌, ◌+◌, ◌*◌, pos, IfOk, IfSome};
+ghost use Rattle.std.specs.Prelude.{◌≡◌, ◌≤◌, ◌+◌, ◌*◌, pos, [], length, IfOk, IfSome};
 ghost use Rattle.sqlite.specs.Held.{state};
 ghost use Rattle.sched_book.specs.Places.{held_by as held_in, owned_by as owned_in, overdue as overdue_in, sent_on_day as sent_in};
 ghost use Rattle.table_meaning.specs.Reads.{Reads};
 ghost use Rattle.table_desk.specs.Asked.{Asked};
 
-use sched_book::{Moment, Place, Unavailable};
+use sched_book::{Place, Unavailable};
 use sqlite::{Alter, Connection};
 use std::alloc::Global;
 use table_rows::{places_due, places_held, places_owned, sent_between};
@@ -23,16 +23,18 @@ fn bounds_of(day: u64) -> Option<(i64, i64)>
     Some((from, from.checked_add(DAY)?))
 }
 
-/// The places of the instances that the host holds, in order. The connection shows what it showed.
+/// The places of the instances that the host holds, in order, if it holds so many at most: the more instances were sent to
+/// it behind the oldest of them, the longer it takes. The connection shows what it showed.
 pub fn held_by<S: Alter>(
     alloc: Global,
     conn: &mut Connection<S>,
     host: u32,
+    most: u32,
 ) -> Result<Listed<Place>, Unavailable>
     ensures reads { Reads (state S.Store conn.old) (state S.Store conn.new) }
-    ensures answer { Asked S.Store conn.old conn.new (λ w. IfOk result (λ r. r ≡ held_in w host)) }
+    ensures answer { Asked S.Store conn.old conn.new (λ w. length (held_in w host) ≤ most → IfOk result (λ r. r ≡ held_in w host)) }
 {
-    Ok(places_held(alloc, conn, host)?)
+    Ok(places_held(alloc, conn, host, most)?)
 }
 
 /// The places of the instances that were given to the host, in order. The connection shows what it showed.
@@ -63,18 +65,23 @@ pub fn sent_on_day<S: Alter>(
     Ok(sent_between(alloc, conn, host, from, until)?)
 }
 
-/// The places of the held instances whose deadline is before this moment, in order. The connection shows what it
-/// showed.
+/// The places of the held instances whose deadline is before the moment `now`, in order, if none has its deadline before the
+/// moment `from`, both in seconds since 1970-01-01T00:00:00Z: the more deadlines lie between the two, the longer it takes.
+/// The connection shows what it showed.
 pub fn due_before<S: Alter>(
     alloc: Global,
     conn: &mut Connection<S>,
-    now: Moment,
+    from: u64,
+    now: u64,
 ) -> Result<Listed<Place>, Unavailable>
     ensures reads { Reads (state S.Store conn.old) (state S.Store conn.new) }
-    ensures answer { Asked S.Store conn.old conn.new (λ w. IfOk result (λ r. r ≡ overdue_in w now)) }
+    ensures answer { Asked S.Store conn.old conn.new (λ w. overdue_in w from ≡ [] → IfOk result (λ r. r ≡ overdue_in w now)) }
 {
-    match i64::try_from(now.seconds()) {
-        Err(_) => Err(Unavailable),
-        Ok(before) => Ok(places_due(alloc, conn, before)?),
-    }
+    let Ok(from) = i64::try_from(from) else {
+        return Err(Unavailable);
+    };
+    let Ok(until) = i64::try_from(now) else {
+        return Err(Unavailable);
+    };
+    Ok(places_due(alloc, conn, from, until)?)
 }

@@ -1,11 +1,11 @@
 -- What a statement that lists instances shows: by place just what stands at the places in turn and passes, in another order the same rows.
-use Rattle.std.proofs.Common.{◌≡◌, ℕ, Bool, true, false, ◌&&◌, cond, List, [], ◌∷◌, ◌++◌, map, filter, flat_map, Option, Some, None, refl, sym, ap, subst, ◌∙◌, Less, IsPermutation}
+use Rattle.std.proofs.Common.{◌≡◌, ◌≤◌, ℕ, Bool, true, false, ◌&&◌, cond, List, [], ◌∷◌, ◌++◌, map, filter, flat_map, length, Option, Some, None, refl, sym, ap, subst, ◌∙◌, Less, IsPermutation}
 use Rattle.std.specs.List.{AllByRecursion, list_all}
 use Rattle.std.proofs.lemmas.List.MinMax.{ranks_by}
-use Rattle.std.proofs.lemmas.List.{take-map}
+use Rattle.std.proofs.lemmas.List.{take-map, take_all}
 use Rattle.std.proofs.lemmas.List.Folds.{list_all-append}
 use Rattle.std.proofs.lemmas.List.Kept.{IsSortedBy-filter}
-use Rattle.std.proofs.lemmas.List.Sorted.{IsPermutation-map, IsPermutation-trans}
+use Rattle.std.proofs.lemmas.List.Sorted.{IsPermutation-map, IsPermutation-trans, length_permutation}
 use Rattle.sched_book.specs.declared.instance.Place.{Place}
 use Rattle.sqlite_value.specs.declared.keys.Key.{Key}
 use Rattle.sqlite_value.specs.Order.{Row, column}
@@ -90,13 +90,29 @@ module _ (db : Database) (contents : Contents) (held : Hold db contents) (places
     shown_all : map (λ (o : Output). o.1) (map out (standing db contents held places are test)) ≡ picked
     shown_all = map-map (λ (o : Output). o.1) out (standing db contents held places are test) ∙ (λ i. map (λ r. map-map (λ t. eval t (params ∷ r ∷ [])) (col 1) columns i) (standing db contents held places are test))
 
+    -- what is in order and shows a place
+    abbrev in_turn : List Row
+    in_turn = filter shows_place (map (λ (o : Output). o.1) answer.ordered)
+
+    same_in_turn : IsPermutation picked in_turn
+    same_in_turn =
+        subst (λ l. IsPermutation picked l) (sym (filter-map shows_place (λ (o : Output). o.1) answer.ordered))
+        (subst (λ l. IsPermutation l (map (λ (o : Output). o.1) (filter shows answer.ordered))) shown_all (IsPermutation-map (λ (o : Output). o.1) _ _ with_place))
+
     -- in any order and without a limit
     pub listed_somehow : limit ≡ all → AllByRecursion (λ r. shows_place r ≡ true) rows → IsPermutation picked rows
     listed_somehow unlimited whole =
         let shown : rows ≡ map (λ (o : Output). o.1) answer.ordered = answer.shown ∙ ap (λ t. limited (as_count (eval t (params ∷ []))) (map (λ (o : Output). o.1) answer.ordered)) unlimited in
-        let kept : map (λ (o : Output). o.1) (filter shows answer.ordered) ≡ rows =
-        sym (filter-map shows_place (λ (o : Output). o.1) answer.ordered) ∙ ap (filter shows_place) (sym shown) ∙ filter_all shows_place rows whole in
-        subst (λ l. IsPermutation picked l) kept (subst (λ l. IsPermutation l (map (λ (o : Output). o.1) (filter shows answer.ordered))) shown_all (IsPermutation-map (λ (o : Output). o.1) _ _ with_place))
+        subst (IsPermutation picked) (ap (filter shows_place) (sym shown) ∙ filter_all shows_place rows whole) same_in_turn
+
+    -- in any order and with a limit, where no more stand there
+    pub listed_most : (most : ℕ) → as_count (eval limit (params ∷ [])) ≡ Some most → length picked ≤ most → AllByRecursion (λ r. shows_place r ≡ true) rows → IsPermutation picked rows
+    listed_most most is few whole =
+        let second = map (λ (o : Output). o.1) answer.ordered in
+        let shown : rows ≡ limited (Some most) second = answer.shown ∙ ap (λ n. limited n second) is in
+        let all_of_them : limited (Some most) in_turn ≡ in_turn = take_all most in_turn (subst (λ n. n ≤ most) (sym (length_permutation _ _ same_in_turn)) few) in
+        let listed : rows ≡ in_turn = shown ∙ limited_passing shows_place (Some most) second (subst (AllByRecursion (λ r. shows_place r ≡ true)) shown whole) ∙ all_of_them in
+        subst (IsPermutation picked) (sym listed) same_in_turn
 
     -- by place, so many at most
     pub listed_in_order : order ≡ by_place → AllByRecursion (λ r. shows_place r ≡ true) rows → rows ≡ limited (as_count (eval limit (params ∷ []))) picked

@@ -1,6 +1,7 @@
 -- What each of the statements that list instances by place shows.
-use Rattle.std.proofs.Common.{◌≡◌, ℕ, ℤ, Bool, true, false, ◌&&◌, List, [], ◌∷◌, map, length, take, Option, Some, None, refl, sym, ap, subst, ◌∙◌, IsPermutation}
+use Rattle.std.proofs.Common.{◌≡◌, ◌≤◌, ℕ, ℤ, Bool, true, false, ◌&&◌, List, [], ◌∷◌, map, length, take, Option, Some, None, refl, sym, ap, subst, ◌∙◌, IsPermutation}
 use Rattle.std.specs.List.{AllByRecursion, list_all}
+use Rattle.std.proofs.lemmas.List.{length-map}
 use Rattle.std.proofs.lemmas.List.Sorted.{IsPermutation-map, length_permutation}
 use Rattle.sched_book.specs.declared.instance.Place.{Place}
 use Rattle.sqlite_value.specs.declared.value.Value.{Value}
@@ -25,9 +26,9 @@ use Rattle.table_meaning.specs.Rows.{shown, whole}
 use Rattle.table_meaning.specs.Formats.{columns_in}
 use Rattle.table_meaning.specs.Holding.{Contents, Hold}
 use Rattle.table_meaning.specs.Kept.{number_of}
-use Rattle.table_meaning.specs.Places.{place_row, AreAllPlaces, places_where, compares, is_of_host, is_running, is_held_by, waits_from, is_sent_between, is_due, by_place, held_text, owned_text, page_size, queued_text, sent_text, due_text, running_terms, held_terms, owned_terms, queued_terms, sent_terms, due_terms}
+use Rattle.table_meaning.specs.Places.{place_row, AreAllPlaces, places_where, compares, is_of_host, is_running, is_held_by, waits_from, is_sent_between, is_due, by_place, newest_first, held_text, owned_text, page_size, queued_text, sent_text, due_text, running_terms, held_terms, owned_terms, queued_terms, sent_terms, due_terms}
 use Rattle.table_meaning.proofs.PlacesFound.{standing, standing_places}
-use Rattle.table_meaning.proofs.PlacesListed.{limited-map, shows_place, picked, listed_somehow, listed_in_order}
+use Rattle.table_meaning.proofs.PlacesListed.{limited-map, shows_place, picked, listed_somehow, listed_most, listed_in_order}
 use Rattle.table_meaning.proofs.PlacesTexts.{all, first_of, place_columns, held_is_listed, owned_is_listed, queued_is_listed, sent_is_listed, due_is_listed}
 
 -- ---- places that are read of the rows that are shown
@@ -53,6 +54,9 @@ module _ (db : Database) (contents : Contents) (held : Hold db contents) (places
 
   places_shown : map (λ r. columns_in r 2) shown_places ≡ map place_row (places_where contents test places)
   places_shown = map-map (λ r. columns_in r 2) (λ r. map (column r) place_columns) (standing db contents held places are test) ∙ standing_places db contents held places are test
+
+  as_many : length shown_places ≡ length (places_where contents test places)
+  as_many = sym (length-map shown_places (λ r. columns_in r 2)) ∙ ap length places_shown ∙ length-map (places_where contents test places) place_row
 
   in_order : (ps : List Place) (rows : List Row) (most : Option ℕ) → ArePlaces ps rows → rows ≡ limited most shown_places → ps ≡ limited most (places_where contents test places)
   in_order ps rows most read listed =
@@ -89,21 +93,24 @@ and_before : (x y z : Bool) → (x && (y && z)) ≡ ((x && y) && z)
 and_before true y z = refl
 and_before false y z = refl
 
-due : (before : ℤ) (r : Row) → list_all (holds ((Int before ∷ []) ∷ r ∷ [])) due_terms ≡ is_due before (shown Instance r)
-due before r =
-    ap (λ (b : Bool). compares Ge (column r 5) (whole 0) && (compares Lt (column r 5) (Int before) && b)) (running (Int before ∷ []) r)
-    ∙ and_before (compares Ge (column r 5) (whole 0)) (compares Lt (column r 5) (Int before)) (is_running (shown Instance r))
+due : (from until : ℤ) (r : Row) → list_all (holds ((Int from ∷ Int until ∷ []) ∷ r ∷ [])) due_terms ≡ is_due from until (shown Instance r)
+due from until r =
+    ap (λ (b : Bool). compares Ge (column r 5) (Int from) && (compares Lt (column r 5) (Int until) && b)) (running (Int from ∷ Int until ∷ []) r)
+    ∙ and_before (compares Ge (column r 5) (Int from)) (compares Lt (column r 5) (Int until)) (is_running (shown Instance r))
 
 -- ---- what each of them shows
 
 module _ (old new : State) (contents : Contents) (held : Hold old.now contents) (places : List Place) (are : AreAllPlaces contents places) where
-  pub held_shown : (host : ℕ) (rows : List Row) → Shown held_text (whole host ∷ []) old new rows → (ps : List Place) → ArePlaces ps rows → ps ≡ places_where contents (is_held_by host) places
-  held_shown host rows h ps read =
-      let params = whole host ∷ [] in
+  pub held_shown : (host most : ℕ) (rows : List Row) → Shown held_text (whole host ∷ whole most ∷ []) old new rows → (ps : List Place) → ArePlaces ps rows
+      → length (places_where contents (is_held_by host) places) ≤ most → IsPermutation (places_where contents (is_held_by host) places) ps
+  held_shown host most rows h ps read few =
+      let params = whole host ∷ whole most ∷ [] in
       let answer = (reads_as held_text params old new stored_schema held.known.schema _ held_is_listed.0 held_is_listed.1 held_is_listed.2 rows h).answer Null in
-      let tests : (r : Row) → list_all (holds (params ∷ r ∷ [])) held_terms ≡ is_held_by host (shown Instance r) = λ r. then_term refl (running params r) in
-      in_order old.now contents held places are held_terms params (is_held_by host) tests ps rows None read
-      (listed_in_order old.now contents held places are held_terms params (is_held_by host) tests [] by_place all rows answer refl (all_places ps rows read))
+      let test = is_held_by host in
+      let tests : (r : Row) → list_all (holds (params ∷ r ∷ [])) held_terms ≡ test (shown Instance r) = λ r. then_term refl (then_term refl (running params r)) in
+      somehow old.now contents held places are held_terms params test tests ps rows read
+      (listed_most old.now contents held places are held_terms params test tests [] newest_first (col 0 1) rows answer most refl
+      (subst (λ n. n ≤ most) (sym (as_many old.now contents held places are held_terms params test tests)) few) (all_places ps rows read))
 
   pub owned_shown : (host : ℕ) (rows : List Row) → Shown owned_text (whole host ∷ []) old new rows → (ps : List Place) → ArePlaces ps rows → ps ≡ places_where contents (is_of_host host) places
   owned_shown host rows h ps read =
@@ -131,10 +138,10 @@ module _ (old new : State) (contents : Contents) (held : Hold old.now contents) 
       length_permutation _ _ (somehow old.now contents held places are sent_terms params test tests ps rows read
       (listed_somehow old.now contents held places are sent_terms params test tests [] ((col 1 4, ascending Binary) ∷ []) all rows answer refl (all_places ps rows read)))
 
-  pub due_shown : (moment : ℤ) (rows : List Row) → Shown due_text (Int moment ∷ []) old new rows → (ps : List Place) → ArePlaces ps rows → IsPermutation (places_where contents (is_due moment) places) ps
-  due_shown moment rows h ps read =
-      let params = Int moment ∷ [] in
+  pub due_shown : (from until : ℤ) (rows : List Row) → Shown due_text (Int from ∷ Int until ∷ []) old new rows → (ps : List Place) → ArePlaces ps rows → IsPermutation (places_where contents (is_due from until) places) ps
+  due_shown from until rows h ps read =
+      let params = Int from ∷ Int until ∷ [] in
       let answer = (reads_as due_text params old new stored_schema held.known.schema _ due_is_listed.0 due_is_listed.1 due_is_listed.2 rows h).answer Null in
-      let tests : (r : Row) → list_all (holds (params ∷ r ∷ [])) due_terms ≡ is_due moment (shown Instance r) = due moment in
-      somehow old.now contents held places are due_terms params (is_due moment) tests ps rows read
-      (listed_somehow old.now contents held places are due_terms params (is_due moment) tests [] ((col 1 5, ascending Binary) ∷ []) all rows answer refl (all_places ps rows read))
+      let tests : (r : Row) → list_all (holds (params ∷ r ∷ [])) due_terms ≡ is_due from until (shown Instance r) = due from until in
+      somehow old.now contents held places are due_terms params (is_due from until) tests ps rows read
+      (listed_somehow old.now contents held places are due_terms params (is_due from until) tests [] ((col 1 5, ascending Binary) ∷ []) all rows answer refl (all_places ps rows read))

@@ -14,7 +14,7 @@ use Rattle.table_meaning.specs.declared.tables.Page.TheVariants.{First, Further}
 use Rattle.table_meaning.specs.declared.tables.TableName.TheVariants.{Instance}
 use Rattle.table_meaning.specs.Schema.{stored_schema}
 use Rattle.table_meaning.specs.Rows.{places_of}
-use Rattle.table_meaning.specs.Places.{by_place, instance_query, within_text, held_text, owned_text, page_size, queued_text, sent_text, due_text, within_terms, held_terms, owned_terms, queued_terms, sent_terms, due_terms}
+use Rattle.table_meaning.specs.Places.{by_place, newest_first, instance_query, within_text, held_text, owned_text, page_size, queued_text, sent_text, due_text, within_terms, held_terms, owned_terms, queued_terms, sent_terms, due_terms}
 use Rattle.table_meaning.proofs.ByComputing.{names_of}
 
 -- no limit, and one of so many rows
@@ -40,7 +40,7 @@ pub within_is_listed : ListsInstances within_terms (places_of Instance) by_place
 unfolding understood everything
 within_is_listed = (refl, (refl, refl), refl)
 
-pub held_is_listed : ListsInstances held_terms place_columns by_place all place_names held_text
+pub held_is_listed : ListsInstances held_terms place_columns newest_first (col 0 1) place_names held_text
 unfolding understood everything
 held_is_listed = (refl, (refl, refl), refl)
 

@@ -1,5 +1,5 @@
 -- Words. The instances by place: the list of all places at which one stands, what a test of their rows leaves of it, and the statements that list them.
-use Rattle.std.specs.Prelude.{◌≡◌, ◌⊎◌, ◌≤◌, ◌<◌, ℕ, ℤ, pos, Bool, false, ◌&&◌, ◌||◌, ◌==◌, List, [], ◌∷◌, ◌++◌, map, filter, filter_map, codes, Option, Some, None}
+use Rattle.std.specs.Prelude.{◌≡◌, ◌⊎◌, ◌≤◌, ◌<◌, ℕ, ℤ, Bool, true, false, ◌&&◌, ◌||◌, ◌==◌, List, [], ◌∷◌, ◌++◌, map, filter, filter_map, codes, Option, Some, None}
 use Rattle.std.specs.List.{AllByRecursion}
 use Rattle.sched_book.specs.declared.instance.Place.{Place}
 use Rattle.sqlite_value.specs.declared.value.Value.{Value}
@@ -77,9 +77,9 @@ is_of_host host row = compares Eq (column row 2) (whole host)
 abbrev pub is_running : Row → Bool
 is_running row = compares Eq (column row 5) (whole 0) && is_null (column row 6)
 
--- this host holds it
+-- this host holds it, and was sent it from 1970 on
 abbrev pub is_held_by : ℕ → Row → Bool
-is_held_by host row = is_of_host host row && is_running row
+is_held_by host row = is_of_host host row && (compares Ge (column row 3) (whole 0) && is_running row)
 
 -- its place is this one or a later one
 abbrev pub is_not_before : Place → Row → Bool
@@ -97,9 +97,9 @@ lies_between from until moment = compares Ge moment (Int from) && compares Lt mo
 abbrev pub is_sent_between : ℕ → ℤ → ℤ → Row → Bool
 is_sent_between host from until row = is_of_host host row && lies_between from until (column row 3)
 
--- its deadline lies before this moment, from 1970 on, and it is held
-abbrev pub is_due : ℤ → Row → Bool
-is_due before row = lies_between (pos 0) before (column row 4) && is_running row
+-- its deadline lies there, and it is held
+abbrev pub is_due : ℤ → ℤ → Row → Bool
+is_due from until row = lies_between from until (column row 4) && is_running row
 
 -- ---- statements
 
@@ -114,9 +114,12 @@ with_number op place number = op2 (Compare op Binary) (col 1 place) (lit (whole 
 abbrev pub of_a_place : List Term
 of_a_place = with_number Gt 1 0 ∷ with_number Ge 2 0 ∷ []
 
--- the order of places
+-- the order of places, and that of the moment of sending, the newest first
 abbrev pub by_place : List (Term × Key)
 by_place = (col 1 1, ascending Binary) ∷ (col 1 2, ascending Binary) ∷ []
+
+abbrev pub newest_first : List (Term × Key)
+newest_first = (col 1 4, record { collation = Binary; descending = true }) ∷ []
 
 -- the instances that pass the terms, at these columns, in an order and so many at most
 abbrev pub instance_query : List Term → List ℕ → List (Term × Key) → Term → Query
@@ -126,7 +129,7 @@ abbrev pub within_text : List ℕ
 within_text = codes "SELECT unit_id, num, host_id, sent, deadline, lapse, outcome, output, place, queued FROM instance WHERE unit_id > 0 AND num >= 0 AND unit_id = ?1 ORDER BY unit_id, num"
 
 abbrev pub held_text : List ℕ
-held_text = codes "SELECT unit_id, num FROM instance WHERE unit_id > 0 AND num >= 0 AND host_id = ?1 AND lapse = 0 AND outcome IS NULL ORDER BY unit_id, num"
+held_text = codes "SELECT unit_id, num FROM instance WHERE unit_id > 0 AND num >= 0 AND host_id = ?1 AND sent >= 0 AND lapse = 0 AND outcome IS NULL ORDER BY sent DESC LIMIT ?2"
 
 abbrev pub owned_text : List ℕ
 owned_text = codes "SELECT unit_id, num FROM instance WHERE unit_id > 0 AND num >= 0 AND host_id = ?1 ORDER BY unit_id, num"
@@ -144,7 +147,7 @@ abbrev pub sent_text : List ℕ
 sent_text = codes "SELECT unit_id, num FROM instance WHERE unit_id > 0 AND num >= 0 AND host_id = ?1 AND sent >= ?2 AND sent < ?3 ORDER BY sent"
 
 abbrev pub due_text : List ℕ
-due_text = codes "SELECT unit_id, num FROM instance WHERE unit_id > 0 AND num >= 0 AND deadline >= 0 AND deadline < ?1 AND lapse = 0 AND outcome IS NULL ORDER BY deadline"
+due_text = codes "SELECT unit_id, num FROM instance WHERE unit_id > 0 AND num >= 0 AND deadline >= ?1 AND deadline < ?2 AND lapse = 0 AND outcome IS NULL ORDER BY deadline"
 
 -- what WHERE asks in each of them, beside that it is of a place
 abbrev pub within_terms : List Term
@@ -154,7 +157,7 @@ abbrev pub running_terms : List Term
 running_terms = with_number Eq 6 0 ∷ op2 (Is Binary) (col 1 7) (lit Null) ∷ []
 
 abbrev pub held_terms : List Term
-held_terms = with_param Eq 3 0 ∷ running_terms
+held_terms = with_param Eq 3 0 ∷ with_number Ge 4 0 ∷ running_terms
 
 abbrev pub owned_terms : List Term
 owned_terms = with_param Eq 3 0 ∷ []
@@ -166,4 +169,4 @@ abbrev pub sent_terms : List Term
 sent_terms = with_param Eq 3 0 ∷ with_param Ge 4 1 ∷ with_param Lt 4 2 ∷ []
 
 abbrev pub due_terms : List Term
-due_terms = with_number Ge 5 0 ∷ with_param Lt 5 0 ∷ running_terms
+due_terms = with_param Ge 5 0 ∷ with_param Lt 5 1 ∷ running_terms

@@ -1,11 +1,12 @@
 //! Instances by their places, of which a test takes some. Each look-up answers Unavailable where memory or the disk
 //! fails, and BadRow where a row that it shows has not the form of its table.
 
-ghost use Rattle.std.specs.Prelude.{◌≡◌, List, length, map, take, IfOk};
+ghost use Rattle.std.specs.Prelude.{◌≡◌, ◌≤◌, Bool, List, length, map, take, IfOk, IsPermutation};
 ghost use Rattle.sched_book.specs.declared.instance.Place.{Place as BookPlace};
 ghost use Rattle.sqlite.specs.Held.{state};
 ghost use Rattle.sqlite.specs.State.{HasCleanDisk};
 ghost use Rattle.sqlite.specs.Values.{bound};
+ghost use Rattle.sqlite_value.specs.Order.{Row as SqlRow};
 ghost use Rattle.sqlite_value.specs.Value.{owned};
 ghost use Rattle.sqlite_value.specs.declared.value.Value.TheVariants.{Int as SqlInt};
 ghost use Rattle.table_meaning.specs.declared.rows.StoredRow.TheVariants as stored;
@@ -70,6 +71,16 @@ fn places_shown<S: Alter>(
     places(alloc, rows.as_slice())
 }
 
+/// The places by the workunit and then by the number, where they are those of a test in any order.
+fn in_order(places: Listed<Place>) -> Listed<Place>
+    ensures { (contents : Contents) (all : List BookPlace) (test : SqlRow → Bool) → AreAllPlaces contents all → IsPermutation (places_where contents test all) places
+        → result ≡ places_where contents test all }
+{
+    let mut places = places.into_vec();
+    places.sort_unstable_by_key(|place| (place.unit, place.number));
+    Listed::of(places)
+}
+
 /// The row as an instance. BadRow where it has not the form of one.
 fn instance(alloc: Global, row: &Row) -> Result<StoredInstance, OpenFault>
     ensures { IfOk result (λ instance. columns_of (stored.Instance instance) ≡ row.now) }
@@ -109,22 +120,25 @@ pub fn instances_in<S: Alter>(
     instances(alloc, rows.as_slice())
 }
 
-/// The places of the instances that the host of this number holds. The connection shows what it showed.
+/// The places of the instances that the host of this number holds, if it holds so many at most. They are looked for from
+/// the newest on, as far as so many are found. The connection shows what it showed.
 pub fn places_held<S: Alter>(
     alloc: Global,
     conn: &mut Connection<S>,
     host: u32,
+    most: u32,
 ) -> Result<Listed<Place>, OpenFault>
     ensures reads { Reads (state S.Store conn.old) (state S.Store conn.new) }
     ensures held { HasCleanDisk (state S.Store conn.new) → (contents : Contents) (places : List BookPlace) → Hold (state S.Store conn.old).now contents → AreAllPlaces contents places
-        → IfOk result (λ held. held ≡ places_where contents (is_held_by host) places) }
+        → length (places_where contents (is_held_by host) places) ≤ most → IfOk result (λ held. held ≡ places_where contents (is_held_by host) places) }
 {
-    places_shown(
+    let held = places_shown(
         alloc,
         conn,
-        "SELECT unit_id, num FROM instance WHERE unit_id > 0 AND num >= 0 AND host_id = ?1 AND lapse = 0 AND outcome IS NULL ORDER BY unit_id, num",
-        &[whole(host)],
-    )
+        "SELECT unit_id, num FROM instance WHERE unit_id > 0 AND num >= 0 AND host_id = ?1 AND sent >= 0 AND lapse = 0 AND outcome IS NULL ORDER BY sent DESC LIMIT ?2",
+        &[whole(host), whole(most)],
+    )?;
+    Ok(in_order(held))
 }
 
 /// The places of the instances that were given to the host of this number. The connection shows what it showed.
@@ -202,24 +216,23 @@ pub fn sent_between<S: Alter>(
     }
 }
 
-/// The places of the instances that are held and whose deadline, from 1970 on, is before this moment, in seconds
+/// The places of the instances that are held and whose deadline lies from one moment on and before another, in seconds
 /// since 1970-01-01T00:00:00Z. The connection shows what it showed.
 pub fn places_due<S: Alter>(
     alloc: Global,
     conn: &mut Connection<S>,
-    before: i64,
+    from: i64,
+    until: i64,
 ) -> Result<Listed<Place>, OpenFault>
     ensures reads { Reads (state S.Store conn.old) (state S.Store conn.new) }
     ensures due { HasCleanDisk (state S.Store conn.new) → (contents : Contents) (places : List BookPlace) → Hold (state S.Store conn.old).now contents → AreAllPlaces contents places
-        → IfOk result (λ due. due ≡ places_where contents (is_due before) places) }
+        → IfOk result (λ due. due ≡ places_where contents (is_due from until) places) }
 {
     let due = places_shown(
         alloc,
         conn,
-        "SELECT unit_id, num FROM instance WHERE unit_id > 0 AND num >= 0 AND deadline >= 0 AND deadline < ?1 AND lapse = 0 AND outcome IS NULL ORDER BY deadline",
-        &[moment(before)],
+        "SELECT unit_id, num FROM instance WHERE unit_id > 0 AND num >= 0 AND deadline >= ?1 AND deadline < ?2 AND lapse = 0 AND outcome IS NULL ORDER BY deadline",
+        &[moment(from), moment(until)],
     )?;
-    let mut due = due.into_vec();
-    due.sort_unstable_by_key(|place| (place.unit, place.number));
-    Ok(Listed::of(due))
+    Ok(in_order(due))
 }
