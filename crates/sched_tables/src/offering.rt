@@ -71,7 +71,7 @@ impl<S: Alter> Tables<S> {
         noted: &mut Vec<UnitRead>,
     ) -> Result<(), Unavailable>
         ensures reads { Reads (state_of S.Store self.old) (state_of S.Store self.new) }
-        ensures beside { (self.new.settings ≡ self.old.settings) × (self.new.apps ≡ self.old.apps) × (self.new.remembered ≡ self.old.remembered) }
+        ensures beside { (self.new.settings ≡ self.old.settings) × (self.new.apps ≡ self.old.apps) × (self.new.remembered ≡ self.old.remembered) × (self.new.mark ≡ self.old.mark) }
         ensures all { IsHonest (state_of S.Store self.new) → AreKept S.Store self.old → OnOk result (OffersAll T.takes taker.old (unsent (world_of S.Store self.old) from) taker.new) }
         ensures some { IsHonest (state_of S.Store self.new) → AreKept S.Store self.old → OnErr result (OffersSome T.takes taker.old (unsent (world_of S.Store self.old) from) taker.new) }
         ensures noted { IsHonest (state_of S.Store self.new) → AreKept S.Store self.old

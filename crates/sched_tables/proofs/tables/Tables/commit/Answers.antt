@@ -22,14 +22,14 @@ use Rattle.sched_tables.proofs.tables.Tables.commit.Goals as goal
 pub returns-clause-made : goal.returns-clause-made
 returns-clause-made g c = λ honest kept.
     let before = c.args.self.now in
-    let mid = state g.S.Store c.rows_with.new.self.conn in
+    let mid = state g.S.Store c.rows_with-rows.new.self.conn in
     let new = state g.S.Store c.put_rows.new.conn in
     let clean : HasCleanDisk mid = omega (arith, c.put_rows.ensures.crash.clean, honest.0) in
     let was_open = c.put_rows.ensures.was_open honest.0 honest.1 in
     let puts = was_ok c.put_rows.result (PutsRows mid.now new.committed c.as_slice-put.result.now) (search rules) (c.put_rows.ensures.both honest.0 honest.1) in
     let rest = was_ok c.put_rows.result (new.now ≡ new.committed) (search rules) (c.put_rows.ensures.rest honest.0 honest.1) in
     puts_all (state g.S.Store before.conn) mid new (world_of g.S.Store before) c.args.delta.now c.args.entry.now c.as_slice-put.result.now
-    (c.rows_with.ensures.reads.0.same clean was_open kept.0.rests).0 rest
+    (c.rows_with-rows.ensures.reads.0.same clean was_open kept.0.rests).0 rest
     (subst (ArePutWith (world_of g.S.Store before) c.args.delta.now (calls_in (state g.S.Store before.conn).now.trees) c.args.entry.now) (sym c.as_slice-put.ensures) (c.in_ok-rows.ensures.rows (clean, was_open) kept))
     puts
 
@@ -37,7 +37,7 @@ pub returns-clause-remembers : goal.returns-clause-remembers
 returns-clause-remembers g c = λ honest kept.
     let before = c.args.self.now in
     let old = state g.S.Store before.conn in
-    let mid = state g.S.Store c.rows_with.new.self.conn in
+    let mid = state g.S.Store c.rows_with-rows.new.self.conn in
     let new = state g.S.Store c.put_rows.new.conn in
     let w = world_of g.S.Store before in
     let cs = c.args.delta.now in
@@ -46,51 +46,51 @@ returns-clause-remembers g c = λ honest kept.
     let put : ArePutWith w cs (calls_in old.now.trees) c.args.entry.now c.as_slice-put.result.now = subst (ArePutWith w cs (calls_in old.now.trees) c.args.entry.now) (sym c.as_slice-put.ensures) (c.in_ok-rows.ensures.rows early kept) in
     subst (λ u. AreRemembered u (calls_in new.now.trees) c.forget_put.new.self) (sym (world_then old new w cs c.args.entry.now kept.0 (returns-clause-made g c honest kept)))
     (remembered_then w (applied w cs) kept.0.readable put.2.readable (IsUnput c.as_slice-put.result.now) (row_stays w cs put.0 c.as_slice-put.result.now put.2) (calls_in old.now.trees) (calls_in new.now.trees)
-    c.rows_with.new.self.remembered c.forget_put.new.self c.forget_put.ensures.left c.forget_put.ensures.slot (c.rows_with.ensures.reads.3 early kept))
+    c.rows_with-rows.new.self.remembered c.forget_put.new.self c.forget_put.ensures.left c.forget_put.ensures.slot (c.rows_with-rows.ensures.reads.3 early kept))
 
 pub returns-then-is_err-clause-remembers : goal.returns-then-is_err-clause-remembers
 returns-then-is_err-clause-remembers g c = λ honest kept.
     let before = c.args.self.now in
     let old = state g.S.Store before.conn in
-    let mid = state g.S.Store c.rows_with.new.self.conn in
+    let mid = state g.S.Store c.rows_with-rows.new.self.conn in
     let new = state g.S.Store c.put_rows.new.conn in
     let w = world_of g.S.Store before in
     let clean : HasCleanDisk mid = omega (arith, c.put_rows.ensures.crash.clean, honest.0) in
     let early : IsHonest mid = (clean, c.put_rows.ensures.was_open honest.0 honest.1) in
-    let same = (was_err c.put_rows.result _ (search rules) (c.put_rows.ensures.neither honest.0 honest.1)).0 ∙ (c.rows_with.ensures.reads.0.same early.0 early.1 kept.0.rests).0 in
+    let same = (was_err c.put_rows.result _ (search rules) (c.put_rows.ensures.neither honest.0 honest.1)).0 ∙ (c.rows_with-rows.ensures.reads.0.same early.0 early.1 kept.0.rests).0 in
     subst (λ (db : Database). AreRemembered (world_in db.trees) (calls_in db.trees) c.forget_put.new.self) (sym same)
     (remembered_then w w kept.0.readable kept.0.readable (IsUnput c.as_slice-put.result.now) (λ k unput. refl) (calls_in old.now.trees) (calls_in old.now.trees)
-    c.rows_with.new.self.remembered c.forget_put.new.self c.forget_put.ensures.left c.forget_put.ensures.slot (c.rows_with.ensures.reads.3 early kept))
+    c.rows_with-rows.new.self.remembered c.forget_put.new.self c.forget_put.ensures.left c.forget_put.ensures.slot (c.rows_with-rows.ensures.reads.3 early kept))
 
 pub returns-clause-crash : goal.returns-clause-crash
 returns-clause-crash g c =
     let before = c.args.self.now in
     let cs = c.args.delta.now in
-    leaves_made (state g.S.Store before.conn) (state g.S.Store c.rows_with.new.self.conn) (state g.S.Store c.put_rows.new.conn) (world_of g.S.Store before) cs c.args.entry.now c.as_slice-put.result.now
-    (AreKept g.S.Store before) c.rows_with.ensures.reads.0 c.put_rows.ensures.crash
+    leaves_made (state g.S.Store before.conn) (state g.S.Store c.rows_with-rows.new.self.conn) (state g.S.Store c.put_rows.new.conn) (world_of g.S.Store before) cs c.args.entry.now c.as_slice-put.result.now
+    (AreKept g.S.Store before) c.rows_with-rows.ensures.reads.0 c.put_rows.ensures.crash
     (λ honest kept. subst (ArePutWith (world_of g.S.Store before) cs (calls_in (state g.S.Store before.conn).now.trees) c.args.entry.now) (sym c.as_slice-put.ensures) (c.in_ok-rows.ensures.rows honest kept)) (λ kept. kept.0.rests)
 
 pub returns-then-is_err-clause-crash : goal.returns-then-is_err-clause-crash
 returns-then-is_err-clause-crash g c =
     let before = c.args.self.now in
     let cs = c.args.delta.now in
-    leaves_made (state g.S.Store before.conn) (state g.S.Store c.rows_with.new.self.conn) (state g.S.Store c.put_rows.new.conn) (world_of g.S.Store before) cs c.args.entry.now c.as_slice-put.result.now
-    (AreKept g.S.Store before) c.rows_with.ensures.reads.0 c.put_rows.ensures.crash
+    leaves_made (state g.S.Store before.conn) (state g.S.Store c.rows_with-rows.new.self.conn) (state g.S.Store c.put_rows.new.conn) (world_of g.S.Store before) cs c.args.entry.now c.as_slice-put.result.now
+    (AreKept g.S.Store before) c.rows_with-rows.ensures.reads.0 c.put_rows.ensures.crash
     (λ honest kept. subst (ArePutWith (world_of g.S.Store before) cs (calls_in (state g.S.Store before.conn).now.trees) c.args.entry.now) (sym c.as_slice-put.ensures) (c.in_ok-rows.ensures.rows honest kept)) (λ kept. kept.0.rests)
 
 pub returns-in_err-rows-clause-reopens : goal.returns-in_err-rows-clause-reopens
-returns-in_err-rows-clause-reopens g c = λ may reopens. reads_reopen (state g.S.Store c.args.self.now.conn) (state g.S.Store c.rows_with.new.self.conn) c.rows_with.ensures.reads.0 (λ honest. (may honest).0.0.rests) reopens
+returns-in_err-rows-clause-reopens g c = λ may reopens. reads_reopen (state g.S.Store c.args.self.now.conn) (state g.S.Store c.rows_with-rows.new.self.conn) c.rows_with-rows.ensures.reads.0 (λ honest. (may honest).0.0.rests) reopens
 
 pub returns-in_err-apps-clause-reopens : goal.returns-in_err-apps-clause-reopens
-returns-in_err-apps-clause-reopens g c = λ may reopens. reads_reopen (state g.S.Store c.args.self.now.conn) (state g.S.Store c.rows_with.new.self.conn) c.rows_with.ensures.reads.0 (λ honest. (may honest).0.0.rests) reopens
+returns-in_err-apps-clause-reopens g c = λ may reopens. reads_reopen (state g.S.Store c.args.self.now.conn) (state g.S.Store c.rows_with-rows.new.self.conn) c.rows_with-rows.ensures.reads.0 (λ honest. (may honest).0.0.rests) reopens
 
 pub returns-then-is_err-clause-reopens : goal.returns-then-is_err-clause-reopens
 returns-then-is_err-clause-reopens g c = λ may reopens.
     let before = c.args.self.now in
     let old = state g.S.Store before.conn in
-    let mid = state g.S.Store c.rows_with.new.self.conn in
+    let mid = state g.S.Store c.rows_with-rows.new.self.conn in
     let new = state g.S.Store c.put_rows.new.conn in
-    let reads = c.rows_with.ensures.reads.0 in
+    let reads = c.rows_with-rows.ensures.reads.0 in
     let early = λ (honest : IsHonest new). let clean : HasCleanDisk mid = omega (arith, c.put_rows.ensures.crash.clean, honest.0) in let h : IsHonest mid = (clean, c.put_rows.ensures.was_open honest.0 honest.1) in h in
     commit_reopens old new c.args.delta.now c.args.entry.now (AreKept g.S.Store before) (λ kept. kept.0) may reopens (returns-then-is_err-clause-crash g c)
     (λ honest. was_honest old mid reads (early honest))
@@ -100,9 +100,9 @@ pub returns-clause-reopens : goal.returns-clause-reopens
 returns-clause-reopens g c = λ may reopens.
     let before = c.args.self.now in
     let old = state g.S.Store before.conn in
-    let mid = state g.S.Store c.rows_with.new.self.conn in
+    let mid = state g.S.Store c.rows_with-rows.new.self.conn in
     let new = state g.S.Store c.put_rows.new.conn in
     let early = λ (honest : IsHonest new). let clean : HasCleanDisk mid = omega (arith, c.put_rows.ensures.crash.clean, honest.0) in let h : IsHonest mid = (clean, c.put_rows.ensures.was_open honest.0 honest.1) in h in
     commit_reopens old new c.args.delta.now c.args.entry.now (AreKept g.S.Store before) (λ kept. kept.0) may reopens (returns-clause-crash g c)
-    (λ honest. was_honest old mid c.rows_with.ensures.reads.0 (early honest))
+    (λ honest. was_honest old mid c.rows_with-rows.ensures.reads.0 (early honest))
     (λ honest kept. inl (returns-clause-made g c honest kept))
