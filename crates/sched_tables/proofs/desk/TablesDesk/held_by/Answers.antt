@@ -1,8 +1,6 @@
-use Rattle.std.proofs.Common.{◌≡◌, ◌≤◌, length, arith}
-use Rattle.std.specs.Prelude.{IfOk}
-use Rattle.sched_book.specs.Places.{held_by}
+use Rattle.std.proofs.Common.{arith}
 use Rattle.sched_tables.specs.ReadLaws.{was_honest}
-use Rattle.sched_tables.specs.Views.{state_of, world_of}
+use Rattle.sched_tables.specs.Views.{state_of}
 use Rattle.sched_tables.proofs.Told.{told_later}
 use Rattle.sched_tables.proofs.desk.TablesDesk.held_by.Goals as goal
 

@@ -1,5 +1,4 @@
-use Rattle.std.proofs.Common.{◌≡◌, [], sym, subst, ◌∙◌, rules}
-use Rattle.sched_book.specs.Places.{overdue}
+use Rattle.std.proofs.Common.{sym, subst, ◌∙◌, rules}
 use Rattle.sched_tables.specs.Marks.{IsMarkOf}
 use Rattle.sched_tables.specs.Views.{world_of}
 use Rattle.sched_tables.proofs.MarksStay.{raised_is}
