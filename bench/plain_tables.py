@@ -9,8 +9,8 @@ workunit are those of plain.py. A message with a field `x-moment` is acted on as
 tables of the first schema over to the newest.
 
 It keeps settings and applications beside the tables and looks all else up by the statements of the proved program, as
-often as the program does: rows of accounts, workunits, instances and hosts, and versions, are kept until they are put, and
-the slot for the next call of a host until anything is. With --once nothing is kept from one message to the next, and no
+often as the program does: rows of accounts and workunits, and versions, are kept until they are put, those of instances and
+hosts as they are put, and the slot for the next call of a host until anything is put. With --once nothing is kept from one message to the next, and no
 statement at all is run twice for one message. Each message that changes anything is one transaction, on the disk when it
 is answered (journal_mode WAL, synchronous FULL).
 """
@@ -114,7 +114,7 @@ LOOK_UPS = {
     },
 }
 SLOTS = 4  # so many calls of a host are kept
-# the look-ups whose rows are kept until they are put, and how many of each, and how many versions
+# the look-ups whose rows are kept, and how many of each, and how many versions
 KEPT = ("account by authenticator", "host by number", "workunit", "mark of a workunit", "instances of a workunit")
 MOST_KEPT, MOST_VERSIONS = 1000, 100
 MOST_NOTED = 16  # of so many workunits that are offered on one way through what waits the rows are kept
@@ -323,16 +323,19 @@ class Tables:
         for seen in (*self.seen.values(), self.versions):
             seen.clear()
 
-    def forget_row(self, table, row):
-        """What was looked up of a row is looked up anew."""
+    def note(self, table, row):
+        """What was looked up of a row that is put is kept as it is put, or looked up anew."""
         key = row[:1]
         if table in ("unit", "unit_mark"):
             self.seen["workunit"].pop(key, None)
             self.seen["mark of a workunit"].pop(key, None)
         elif table == "instance":
-            self.seen["instances of a workunit"].pop(key, None)
+            number, known = row[1], self.seen["instances of a workunit"].pop(key, [])
+            if number < len(known):
+                self.seen["instances of a workunit"].keep(key, [*known[:number], row, *known[number + 1 :]])
         elif table == "host":
             self.seen["host by number"].pop(key, None)
+            self.seen["host by number"].keep(key, [row])
         elif table == "account":
             self.seen["account by authenticator"].clear()
         elif table in ("app", "version", "version_class"):
@@ -359,10 +362,7 @@ class Tables:
     def put(self, rows):
         """Puts rows, each a table and its values, in one transaction."""
         self.slot = None
-        if self.once:
-            self.forget()
         for table, row in rows:
-            self.forget_row(table, row)
             if table == "instance" and row[2] is not None and row[5] == 0 and row[6] is None:
                 self.mark = min(self.mark, row[4])
         if rows:
@@ -370,6 +370,10 @@ class Tables:
             for table, row in rows:
                 self.connection.execute(PUTS[table], row)
             self.connection.execute("COMMIT")
+        for table, row in rows:
+            self.note(table, row)
+        if self.once:
+            self.forget()
 
     def number_of(self, kind, *values):
         """The number that the first row of a look-up begins with, where there is one."""

@@ -1,6 +1,6 @@
 pub mod FourKept
 pub mod EntriesKept
-pub mod Forgotten
+pub mod Carried
 pub mod Leads
 pub mod MarksStay
 pub mod NewTables

@@ -25,6 +25,7 @@ use Rattle.table_worlds.proofs.ReadBack.{app_back, version_back, unit_back, host
 use Rattle.table_worlds.specs.Keys.{row_in}
 use Rattle.table_worlds.specs.ReadBack.{number_at, account_in, app_in, version_in, unit_in, host_in, job_in}
 use Rattle.table_worlds.specs.Readable.{IsReadable}
+use Rattle.sched_tables.specs.Carrying.{job_of, counted_of}
 use Rattle.table_worlds.specs.declared.keys.WorldKey.TheVariants.{Account as account_at, App as app_at, Version as version_at, Class as class_at, Unit as unit_key_at, Mark as mark_at, Host as host_key_at, Instance as job_at}
 
 -- ---- what rows tell
@@ -41,15 +42,9 @@ version_of apps row class = option_and_then (λ r. option_map (λ c. version_in 
 abbrev workunit_of : List App → Option StoredRow → Option StoredRow → Option Workunit
 workunit_of apps row mark = option_and_then (λ r. option_map (λ m. unit_in apps (columns_of r) (columns_of m)) mark) row
 
-abbrev job_of : StoredRow → Job
-job_of row = job_in (columns_of row)
-
-abbrev counted_of : StoredRow → CountedHost
-counted_of row = record { row = host_in (columns_of row); held = number_at (columns_of row) 8; credit = number_at (columns_of row) 9 }
-
 -- ---- lists by what stands at each place
 
-same_by_index : {X : Type 0} (xs ys : List X) → ((i : ℕ) → slice_get xs i ≡ slice_get ys i) → xs ≡ ys
+pub same_by_index : {X : Type 0} (xs ys : List X) → ((i : ℕ) → slice_get xs i ≡ slice_get ys i) → xs ≡ ys
 same_by_index [] [] same = refl
 same_by_index [] (y ∷ ys) same = let other : None ≡ Some y = same 0 in absurd cc
 same_by_index (x ∷ xs) [] same = let other : Some x ≡ None = same 0 in absurd cc
@@ -95,7 +90,7 @@ module _ (w : World) (readable : IsReadable w) where
       go None stands = refl
       go (Some b) stands = ap Some (sym (unit_back w.apps w refl n b (all_nth (λ (b : UnitBook). has_app w.apps b.unit.app ≡ true) w.units n b stands readable.units)))
 
-  host_told : (n : ℕ) → counted_host_at w n ≡ option_map counted_of (row_in w (host_key_at n))
+  pub host_told : (n : ℕ) → counted_host_at w n ≡ option_map counted_of (row_in w (host_key_at n))
   host_told n = go (host_at w n) refl
     where
       go : (o : Option HostRow) → host_at w n ≡ o
@@ -106,7 +101,7 @@ module _ (w : World) (readable : IsReadable w) where
           let row = host_back (length (held_by w n)) (host_credit w n) n h (all_nth (λ (h : HostRow). (1 ≤ length h.platforms) × All IsWord h.platforms) w.hosts n h stands readable.hosts) in
           ap (λ (r : HostRow). Some (record { row = r; held = length (held_by w n); credit = host_credit w n })) (sym row)
 
-  job_told : (unit num : ℕ) → slice_get (instances_at w unit) num ≡ option_map job_of (row_in w (job_at (record { unit = unit; number = num })))
+  pub job_told : (unit num : ℕ) → slice_get (instances_at w unit) num ≡ option_map job_of (row_in w (job_at (record { unit = unit; number = num })))
   job_told unit num = go (unit_at w unit)
     where
       of_book : (b : UnitBook) (o : Option Job) → o ≡ option_map job_of (option_map (λ (x : Job). stored.Instance (instance_row w b unit num x)) o)
@@ -137,6 +132,3 @@ module _ (w w' : World) (readable : IsReadable w) (readable' : IsReadable w') wh
 
   pub same_host : (n : ℕ) → row_in w (host_key_at n) ≡ row_in w' (host_key_at n) → counted_host_at w n ≡ counted_host_at w' n
   same_host n row = host_told w readable n ∙ ap (option_map counted_of) row ∙ sym (host_told w' readable' n)
-
-  pub same_instances : (unit : ℕ) → ((num : ℕ) → row_in w (job_at (record { unit = unit; number = num })) ≡ row_in w' (job_at (record { unit = unit; number = num }))) → instances_at w unit ≡ instances_at w' unit
-  same_instances unit same = same_by_index (instances_at w unit) (instances_at w' unit) (λ num. job_told w readable unit num ∙ ap (option_map job_of) (same num) ∙ sym (job_told w' readable' unit num))

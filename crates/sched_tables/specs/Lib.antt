@@ -2,7 +2,7 @@ pub mod Slots
 pub mod Commits
 pub mod Entries
 pub mod Held
-pub mod Forgetting
+pub mod Carrying
 pub mod Offering
 pub mod Marks
 pub mod Refusals

@@ -1,4 +1,4 @@
-//! What was read and was not put since, so that no row is asked for twice.
+//! What was read, and is as it was read or as it was put since, so that no row is asked for twice.
 
 ghost use Rattle.std.specs.Prelude.{◌≡◌, All, None, Some, IfOk, IfSome};
 ghost use Rattle.sched_book.specs.Desk.{account_by_key, workunit_at, instances_at};
@@ -7,15 +7,17 @@ ghost use Rattle.sched_book.specs.declared.rows.HostRow.{HostRow as BookHost};
 ghost use Rattle.sched_book.specs.declared.world.World.{World};
 ghost use Rattle.table_desk.specs.Columns.{counted_host_at};
 ghost use Rattle.table_meaning.specs.Worlds.{SlotCalls};
-ghost use Rattle.sched_tables.specs.Forgetting.{AreLeft, IsOtherKey, IsUnput};
+ghost use Rattle.table_meaning.specs.declared.rows.StoredRow.TheVariants as stored;
+ghost use Rattle.sched_tables.specs.Carrying.{counted_of, AreCarried, AreHostsCarried, AreInstancesCarried, IsOtherKey, IsPut, IsRenewed, IsUnput};
 ghost use Rattle.sched_tables.specs.Remembering.{AreRemembered, IsUnitOf, IsVersionOf};
 ghost use Rattle.sched_tables.specs.Slots.{IsSlotFor};
 
 use crate::rows_read::RowsRead;
 use sched_book::{Account, Instance, Placed, Version, Workunit, copy_of};
 use std::alloc::Global;
+use table_decoding::{host, instance};
 use table_desk::{CountedHost, KnownUnits};
-use table_meaning::rows::StoredRow;
+use table_meaning::rows::{StoredHost, StoredInstance, StoredRow};
 use texts::{Listed, Memory, Same, Text};
 
 /// The most versions that are remembered. At one more, those before it are forgotten.
@@ -92,7 +94,62 @@ fn push_version(versions: &mut Vec<VersionRead>, read: VersionRead)
     let _ = versions.push(read);
 }
 
-/// What was read and was not put since: rows by their keys, versions, and the slot for the next call of the host whose calls
+/// The instances of a workunit with the one of a row at its number, where it is one of them.
+fn with_instance(known: Listed<Instance>, row: &StoredInstance) -> Option<Listed<Instance>>
+    ensures { IfSome result (IsRenewed row.now known) }
+{
+    let Ok(renewed) = instance(row) else {
+        return None;
+    };
+    let mut instances = known;
+    let number = row.num as usize;
+    if instances.len() <= number {
+        return None;
+    }
+    instances.replace(number, renewed);
+    Some(instances)
+}
+
+/// Renews what is known of the instances of a workunit by the row of one that was put, or forgets it.
+fn renew_instance(known: &mut RowsRead<u32, Listed<Instance>>, row: &StoredInstance)
+    ensures { AreInstancesCarried (IsOtherKey (stored.Instance row.now)) (λ s. s ≡ stored.Instance row.now) known.old known.new }
+{
+    let Some(instances) = known.take(&row.unit_id) else {
+        return;
+    };
+    if let Some(renewed) = with_instance(instances, row) {
+        known.put(row.unit_id, renewed);
+    }
+}
+
+/// The host of a row, with what the row counts of it, where its values are in their ranges.
+fn counted(alloc: Global, row: &StoredHost) -> Option<CountedHost>
+    ensures { IfSome result (λ h. h ≡ counted_of (stored.Host row.now)) }
+{
+    let Ok(credit) = u64::try_from(row.credit) else {
+        return None;
+    };
+    match host(alloc, row) {
+        Err(_) => None,
+        Ok(host) => Some(CountedHost {
+            row: host,
+            held: row.held,
+            credit,
+        }),
+    }
+}
+
+/// Renews what is known of a host by the row of it that was put.
+fn renew_host(alloc: Global, known: &mut RowsRead<u32, CountedHost>, row: &StoredHost)
+    ensures { AreHostsCarried (IsOtherKey (stored.Host row.now)) (λ s. s ≡ stored.Host row.now) known.old known.new }
+{
+    known.forget(&row.id);
+    if let Some(host) = counted(alloc, row) {
+        known.put(row.id, host);
+    }
+}
+
+/// What was read, and is as it was read or as it was put since: rows by their keys, versions, and the slot for the next call of the host whose calls
 /// were read last.
 pub(crate) struct Remembered {
     units: RowsRead<u32, Workunit>,
@@ -259,15 +316,15 @@ impl Remembered {
         self.slot = Some(SlotRead { host, slot });
     }
 
-    /// Forgets what was read of a row.
-    fn forget_row(&mut self, row: &StoredRow)
-        ensures { AreLeft (IsOtherKey row.now) self.old self.new }
+    /// Takes note of a row that was put.
+    fn note_row(&mut self, alloc: Global, row: &StoredRow)
+        ensures { AreCarried (IsOtherKey row.now) (λ s. s ≡ row.now) self.old self.new }
     {
         match row {
             StoredRow::Unit(row) => self.units.forget(&row.id),
             StoredRow::UnitMark(row) => self.units.forget(&row.unit_id),
-            StoredRow::Instance(row) => self.instances.forget(&row.unit_id),
-            StoredRow::Host(row) => self.hosts.forget(&row.id),
+            StoredRow::Instance(row) => renew_instance(&mut self.instances, row),
+            StoredRow::Host(row) => renew_host(alloc, &mut self.hosts, row),
             StoredRow::Account(_) => self.accounts.forget_all(),
             StoredRow::Version(_) | StoredRow::VersionClass(_) => self.versions.clear(),
             StoredRow::App(_) => {
@@ -278,14 +335,27 @@ impl Remembered {
         }
     }
 
-    /// Forgets what was read of these rows, which are put, and the slot for a call. All else is left.
-    pub(crate) fn forget_put(&mut self, rows: &[StoredRow])
-        ensures left { AreLeft (IsUnput rows.now) self.old self.new }
+    /// Takes note of rows that were put: what they tell of hosts and of instances is renewed, and what else was read of them is
+    /// forgotten, with the slot for a call.
+    pub(crate) fn note_put(&mut self, alloc: Global, rows: &[StoredRow])
+        ensures carried { AreCarried (IsUnput rows.now) (IsPut rows.now) self.old self.new }
         ensures slot { self.new.slot ≡ None }
     {
         for row in rows {
-            self.forget_row(row);
+            self.note_row(alloc, row);
         }
+        self.slot = None;
+    }
+
+    /// Forgets it all.
+    pub(crate) fn forget_all(&mut self)
+        ensures { (w : World) (calls : SlotCalls) → AreRemembered w calls self.new }
+    {
+        self.units.forget_all();
+        self.instances.forget_all();
+        self.hosts.forget_all();
+        self.accounts.forget_all();
+        self.versions.clear();
         self.slot = None;
     }
 }

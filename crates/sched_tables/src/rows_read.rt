@@ -40,11 +40,19 @@ impl<K: Ord + Drop, T: Drop> RowsRead<K, T> {
         let _ = self.rows.insert(key, row);
     }
 
+    /// Takes the row of this key away, where it was read.
+    pub(crate) fn take(&mut self, key: &K) -> Option<T>
+        ensures row { result ≡ get K.cmp self.old.rows key.now }
+        ensures others { IsWithout K.cmp self.old self.new key.now }
+    {
+        self.rows.remove(key)
+    }
+
     /// Forgets the row of this key.
     pub(crate) fn forget(&mut self, key: &K)
         ensures { IsWithout K.cmp self.old self.new key.now }
     {
-        let _ = self.rows.remove(key);
+        let _ = self.take(key);
     }
 
     /// Forgets them all.

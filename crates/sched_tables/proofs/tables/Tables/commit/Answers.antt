@@ -10,10 +10,10 @@ use Rattle.sched_tables.specs.ReadLaws.{was_honest}
 use Rattle.sqlite.specs.Effect.{Database}
 use Rattle.sched_book.specs.Delta.{applied}
 use Rattle.table_worlds.specs.StoredWorld.{world_in}
-use Rattle.sched_tables.specs.Forgetting.{IsUnput}
+use Rattle.sched_tables.specs.Carrying.{IsPut, IsUnput}
 use Rattle.sched_tables.specs.Remembering.{AreRemembered}
 use Rattle.sched_tables.proofs.EntriesKept.{world_then}
-use Rattle.sched_tables.proofs.Forgotten.{row_stays, remembered_then}
+use Rattle.sched_tables.proofs.Carried.{row_stays, row_put, remembered_then}
 use Rattle.sched_tables.proofs.Leads.{puts_all, leaves_made, was_ok, was_err}
 use Rattle.sched_tables.specs.ReopenLaws.{reads_reopen}
 use Rattle.sched_tables.proofs.Reopened.{commit_reopens}
@@ -41,26 +41,17 @@ returns-clause-remembers g c = λ honest kept.
     let new = state g.S.Store c.put_rows.new.conn in
     let w = world_of g.S.Store before in
     let cs = c.args.delta.now in
+    let e = c.args.entry.now in
+    let rows = c.as_slice-put.result.now in
     let clean : HasCleanDisk mid = omega (arith, c.put_rows.ensures.crash.clean, honest.0) in
     let early : IsHonest mid = (clean, c.put_rows.ensures.was_open honest.0 honest.1) in
-    let put : ArePutWith w cs (calls_in old.now.trees) c.args.entry.now c.as_slice-put.result.now = subst (ArePutWith w cs (calls_in old.now.trees) c.args.entry.now) (sym c.as_slice-put.ensures) (c.in_ok-rows.ensures.rows early kept) in
-    subst (λ u. AreRemembered u (calls_in new.now.trees) c.forget_put.new.self) (sym (world_then old new w cs c.args.entry.now kept.0 (returns-clause-made g c honest kept)))
-    (remembered_then w (applied w cs) kept.0.readable put.2.readable (IsUnput c.as_slice-put.result.now) (row_stays w cs put.0 c.as_slice-put.result.now put.2) (calls_in old.now.trees) (calls_in new.now.trees)
-    c.rows_with-rows.new.self.remembered c.forget_put.new.self c.forget_put.ensures.left c.forget_put.ensures.slot (c.rows_with-rows.ensures.reads.3 early kept))
+    let put : ArePutWith w cs (calls_in old.now.trees) e rows = subst (ArePutWith w cs (calls_in old.now.trees) e) (sym c.as_slice-put.ensures) (c.in_ok-rows.ensures.rows early kept) in
+    subst (λ u. AreRemembered u (calls_in new.now.trees) c.note_put.new.self) (sym (world_then old new w cs e kept.0 (returns-clause-made g c honest kept)))
+    (remembered_then w (applied w cs) kept.0.readable put.2.readable (IsUnput rows) (row_stays w cs put.0 rows put.2) (IsPut rows) (row_put w cs (calls_in old.now.trees) e rows put)
+    (calls_in old.now.trees) (calls_in new.now.trees) c.rows_with-rows.new.self.remembered c.note_put.new.self c.note_put.ensures.carried c.note_put.ensures.slot (c.rows_with-rows.ensures.reads.3 early kept))
 
 pub returns-then-is_err-clause-remembers : goal.returns-then-is_err-clause-remembers
-returns-then-is_err-clause-remembers g c = λ honest kept.
-    let before = c.args.self.now in
-    let old = state g.S.Store before.conn in
-    let mid = state g.S.Store c.rows_with-rows.new.self.conn in
-    let new = state g.S.Store c.put_rows.new.conn in
-    let w = world_of g.S.Store before in
-    let clean : HasCleanDisk mid = omega (arith, c.put_rows.ensures.crash.clean, honest.0) in
-    let early : IsHonest mid = (clean, c.put_rows.ensures.was_open honest.0 honest.1) in
-    let same = (was_err c.put_rows.result _ (search rules) (c.put_rows.ensures.neither honest.0 honest.1)).0 ∙ (c.rows_with-rows.ensures.reads.0.same early.0 early.1 kept.0.rests).0 in
-    subst (λ (db : Database). AreRemembered (world_in db.trees) (calls_in db.trees) c.forget_put.new.self) (sym same)
-    (remembered_then w w kept.0.readable kept.0.readable (IsUnput c.as_slice-put.result.now) (λ k unput. refl) (calls_in old.now.trees) (calls_in old.now.trees)
-    c.rows_with-rows.new.self.remembered c.forget_put.new.self c.forget_put.ensures.left c.forget_put.ensures.slot (c.rows_with-rows.ensures.reads.3 early kept))
+returns-then-is_err-clause-remembers g c = λ honest kept. c.forget_all.ensures _ _
 
 pub returns-clause-crash : goal.returns-clause-crash
 returns-clause-crash g c =

@@ -1,5 +1,5 @@
 use Rattle.std.proofs.Common.{◌≡◌, None, Some, sym, ◌∙◌, rules}
-use Rattle.sched_tables.proofs.remembered.Remembered.forget_row.Goals as goal
+use Rattle.sched_tables.proofs.remembered.Remembered.note_row.Goals as goal
 
 pub returns-in-Account : goal.returns-in-Account
 returns-in-Account c = record {

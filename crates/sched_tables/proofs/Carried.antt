@@ -1,0 +1,278 @@
+-- What is still remembered behind rows that were put is what the world after has.
+use Rattle.std.proofs.Common.{◌≡◌, ◌<◌, ℕ, zero, suc, Bool, true, false, cond, eqb, true≢false, arith, ap₂, option_map, length, ◌||◌, List, [], ◌∷◌, ◌++◌, Option, Some, None, refl, sym, subst, ◌∙◌, inl, inr, ap}
+use Rattle.std.specs.Prelude.{◌⊎◌, All, IfSome, get_or, option_and_then, slice_get, slice_set}
+use Rattle.std.proofs.Math.Dec.{eqb-suc-zero, eqb-zero-suc, eqb-suc-suc}
+use Rattle.std.proofs.lemmas.Bool.{eqb-true, eq-eqb}
+use Rattle.std.specs.Cmp.Lexicographic.{slice_cmp}
+use Rattle.std.specs.List.{list_any, cons_option, AllByRecursion}
+use Rattle.std.specs.Ordering.{nat_cmp}
+use Rattle.std.specs.declared.cmp.Ordering.{Ordering}
+use Rattle.std.proofs.lemmas.List.Elements.{All-nil}
+use Rattle.std.specs.BTreeMap.{get, is_at}
+use Rattle.sched_book.specs.Delta.{applied}
+use Rattle.sched_book.specs.Desk.{placed_where, workunit_at, instances_at}
+use Rattle.sched_book.specs.Fits.{version_among, version_at}
+use Rattle.sched_book.specs.Places.{nth}
+use Rattle.std.specs.Str.{bytes_eq}
+use Rattle.sched_book.specs.declared.delta.Change.{Change}
+use Rattle.sched_book.specs.declared.instance.Instance.{Instance as Job}
+use Rattle.sched_book.specs.declared.rows.Account.{Account}
+use Rattle.sched_book.specs.declared.rows.App.{App}
+use Rattle.sched_book.specs.declared.rows.HostRow.{HostRow}
+use Rattle.sched_book.specs.declared.world.World.{World}
+use Rattle.table_desk.specs.Columns.{counted_host_at}
+use Rattle.table_meaning.specs.declared.rows.StoredRow.{StoredRow}
+use Rattle.table_meaning.specs.declared.rows.StoredInstance.{StoredInstance}
+use Rattle.table_meaning.specs.declared.rows.StoredRow.TheVariants as stored
+use Rattle.table_meaning.specs.Rows.{RowKey, host_key, instance_key, kept_key, batch_key, key_of, same_key}
+use Rattle.table_meaning.specs.Worlds.{SlotCalls, contents_of}
+use Rattle.table_meaning.proofs.Keys.{one_key}
+use Rattle.table_worlds.proofs.KeysStand.{row_has_key}
+use Rattle.table_worlds.proofs.NothingGoes.{none_goes}
+use Rattle.table_worlds.specs.Keys.{row_key, row_in}
+use Rattle.table_worlds.specs.Readable.{IsReadable}
+use Rattle.table_worlds.specs.declared.keys.WorldKey.{WorldKey}
+use Rattle.table_worlds.specs.declared.keys.WorldKey.TheVariants as key
+use Rattle.stores.specs.Kinds.{kind_name}
+use Rattle.stores.specs.declared.entry.Entry.{Entry}
+use Rattle.stores.specs.declared.entry.Entry.TheVariants as entry
+use Rattle.sched_tables.specs.Commits.{ArePut}
+use Rattle.sched_tables.specs.Entries.{IsRowOf, ArePutWith}
+use Rattle.sched_tables.specs.Carrying.{IsOtherKey, IsUnput, IsPut, IsRenewed, IsStillKnown, job_of, counted_of, AreInstancesCarried, AreHostsCarried, AreCarried}
+use Rattle.sched_tables.specs.Remembering.{IsAccountOf, IsVersionOf, IsSlotOf, AreRemembered}
+use Rattle.sched_tables.specs.RowsRead.{HoldOfEach, HasKept, IsWithout, AreSome}
+use Rattle.sched_tables.specs.declared.remembered.Remembered.{Remembered}
+use Rattle.sched_tables.specs.declared.remembered.VersionRead.{VersionRead}
+use Rattle.sched_tables.specs.declared.rows_read.RowsRead.{RowsRead}
+use Rattle.sched_tables.proofs.RowsKept.{one_number}
+use Rattle.sched_tables.proofs.ToldByRows.{same_accounts, same_apps, same_versions, same_workunit, same_host, same_by_index, host_told, job_told}
+
+-- ---- keys at which no row is put
+
+no_row_has : (rows : List StoredRow) (k : RowKey) → IsUnput rows k → list_any (λ r. same_key k (key_of r)) rows ≡ false
+no_row_has [] k unput = refl
+no_row_has (r ∷ rows) k unput = go (same_key k (key_of r)) refl (no_row_has rows k unput.1)
+  where
+    go : (b : Bool) → same_key k (key_of r) ≡ b → list_any (λ r. same_key k (key_of r)) rows ≡ false → (b || list_any (λ r. same_key k (key_of r)) rows) ≡ false
+    go true is others = absurd (unput.0 (sym (one_key k (key_of r) is)))
+    go false is others = others
+
+unput_of_first : (rows more : List StoredRow) (k : RowKey) → IsUnput (rows ++ more) k → IsUnput rows k
+unput_of_first [] more k unput = tt
+unput_of_first (r ∷ rows) more k unput = (unput.0, unput_of_first rows more k unput.1)
+
+-- there the world after changes has the row that was there before
+pub row_stays : (w : World) (cs : List Change) (more : Option StoredRow) (rows : List StoredRow) → ArePut w cs more rows → (k : WorldKey) → IsUnput rows (row_key k) → row_in w k ≡ row_in (applied w cs) k
+row_stays w cs more rows put k unput =
+    let first = unput_of_first put.changed (cons_option more []) (row_key k) (subst (λ rs. IsUnput rs (row_key k)) put.all unput) in
+    elim (put.are.others k (no_row_has put.changed (row_key k) first)) [
+      | inl gone ↦ none_goes w cs k gone ∙ sym gone
+      | inr same ↦ same
+    ]
+
+-- a row that is put is the one that the world after has at its key
+not_kept : (k : WorldKey) (host slot : ℕ) → kept_key host slot ≡ row_key k → ⊥
+not_kept (key.Account id) host slot same = absurd cc
+not_kept (key.App id) host slot same = absurd cc
+not_kept (key.Version id) host slot same = absurd cc
+not_kept (key.Class id) host slot same = absurd cc
+not_kept (key.Unit id) host slot same = absurd cc
+not_kept (key.Mark id) host slot same = absurd cc
+not_kept (key.Host id) host slot same = absurd cc
+not_kept (key.Instance p) host slot same = absurd cc
+
+not_import : (k : WorldKey) (kind name : List ℕ) → batch_key kind name ≡ row_key k → ⊥
+not_import (key.Account id) kind name same = absurd cc
+not_import (key.App id) kind name same = absurd cc
+not_import (key.Version id) kind name same = absurd cc
+not_import (key.Class id) kind name same = absurd cc
+not_import (key.Unit id) kind name same = absurd cc
+not_import (key.Mark id) kind name same = absurd cc
+not_import (key.Host id) kind name same = absurd cc
+not_import (key.Instance p) kind name same = absurd cc
+
+of_entry : (calls : SlotCalls) (e : Entry) (more : Option StoredRow) → IsRowOf calls e more → (r : StoredRow) (k : WorldKey) → IsPut (cons_option more []) r → key_of r ≡ row_key k → ⊥
+of_entry calls (entry.Kept host kept) more (slot, for, is) r k put same =
+    let there = subst (λ o. IsPut (cons_option o []) r) is put in
+    elim there [
+      | inl one ↦ not_kept k host slot (sym (ap key_of one) ∙ same)
+      | inr none ↦ absurd none
+    ]
+of_entry calls (entry.Batch kind name b) more is r k put same =
+    let there = subst (λ o. IsPut (cons_option o []) r) is put in
+    elim there [
+      | inl one ↦ not_import k (kind_name kind) name (sym (ap key_of one) ∙ same)
+      | inr none ↦ absurd none
+    ]
+of_entry calls entry.Nothing more is r k put same = absurd (subst (λ o. IsPut (cons_option o []) r) is put)
+
+put_where : (rows more : List StoredRow) (r : StoredRow) → IsPut (rows ++ more) r → IsPut rows r ⊎ IsPut more r
+put_where [] more r put = inr put
+put_where (x ∷ rows) more r (inl one) = inl (inl one)
+put_where (x ∷ rows) more r (inr later) = elim (put_where rows more r later) [
+  | inl there ↦ inl (inr there)
+  | inr behind ↦ inr behind
+]
+
+has_put : (w : World) (rows : List StoredRow) → AllByRecursion (λ r. (k : WorldKey) × (row_in w k ≡ Some r)) rows → (r : StoredRow) → IsPut rows r → (k : WorldKey) × (row_in w k ≡ Some r)
+has_put w [] each r put = absurd put
+has_put w (x ∷ rows) each r (inl one) = subst (λ s. (k : WorldKey) × (row_in w k ≡ Some s)) (sym one) each.0
+has_put w (x ∷ rows) each r (inr later) = has_put w rows each.1 r later
+
+pub row_put : (w : World) (cs : List Change) (calls : SlotCalls) (e : Entry) (rows : List StoredRow) (put : ArePutWith w cs calls e rows) → (r : StoredRow) (k : WorldKey) → IsPut rows r → key_of r ≡ row_key k → row_in (applied w cs) k ≡ Some r
+row_put w cs calls e rows put r k is at = elim (put_where put.2.changed (cons_option put.0 []) r (subst (λ rs. IsPut rs r) put.2.all is)) [
+  | inl there ↦
+      let has = has_put (applied w cs) put.2.changed put.2.are.each r there in
+      let same : row_key k ≡ row_key has.0 = sym at ∙ row_has_key (applied w cs) has.0 r has.1 in
+      ap (contents_of (applied w cs) (λ _ _. None) (λ _ _. None)) same ∙ has.1
+  | inr behind ↦ absurd (of_entry calls e put.0 put.1 r k behind at)
+]
+
+-- ---- one row more
+
+unput_more : (rows : List StoredRow) (r : StoredRow) (k : RowKey) → IsUnput rows k → IsOtherKey r k → IsUnput (rows ++ r ∷ []) k
+unput_more [] r k unput other = (other, tt)
+unput_more (x ∷ rows) r k unput other = (unput.0, unput_more rows r k unput.1 other)
+
+put_before : (rows : List StoredRow) (r s : StoredRow) → IsPut rows s → IsPut (rows ++ r ∷ []) s
+put_before [] r s put = absurd put
+put_before (x ∷ rows) r s (inl one) = inl one
+put_before (x ∷ rows) r s (inr later) = inr (put_before rows r s later)
+
+put_last : (rows : List StoredRow) (r s : StoredRow) → s ≡ r → IsPut (rows ++ r ∷ []) s
+put_last [] r s same = inl same
+put_last (x ∷ rows) r s same = inr (put_last rows r s same)
+
+some_of_some : {K T : Type 0} (cmp : K → K → Ordering) (One Two Both : K → Type 0) (old mid new : RowsRead K T)
+    → ((k : K) → One k → Two k → Both k) → AreSome cmp One old mid → AreSome cmp Two mid new → AreSome cmp Both old new
+some_of_some cmp One Two Both old mid new both one two = λ k row is.
+    let later = two k row is in
+    let earlier = one k row later.1 in (both k earlier.0 later.0, earlier.1)
+
+module _ (rows : List StoredRow) (r : StoredRow) where
+  known_on : {X : Type 0} (told : StoredRow → X) (k : RowKey) (old mid new : Option X) → IsStillKnown (IsUnput rows) (IsPut rows) told k old mid → IsStillKnown (IsOtherKey r) (λ s. s ≡ r) told k mid new
+      → IsStillKnown (IsUnput (rows ++ r ∷ [])) (IsPut (rows ++ r ∷ [])) told k old new
+  known_on told k old mid new one (inr (s, put, at, is)) = inr (s, put_last rows r s put, at, is)
+  known_on told k old mid new (inl (unput, same)) (inl (other, is)) = inl (unput_more rows r k unput other, is ∙ same)
+  known_on told k old mid new (inr (s, put, at, same)) (inl (other, is)) = inr (s, put_before rows r s put, at, is ∙ same)
+
+  pub carried_more : (old mid new : Remembered) → AreCarried (IsUnput rows) (IsPut rows) old mid → AreCarried (IsOtherKey r) (λ s. s ≡ r) mid new → AreCarried (IsUnput (rows ++ r ∷ [])) (IsPut (rows ++ r ∷ [])) old new
+  carried_more old mid new one two = record {
+    units = some_of_some nat_cmp _ _ _ old.units mid.units new.units
+        (λ n a b. (unput_more rows r _ a.0 b.0, unput_more rows r _ a.1 b.1, λ id. unput_more rows r _ (a.2 id) (b.2 id))) one.units two.units;
+    instances = λ n zs is.
+        let later = two.instances n zs is in
+        let earlier = one.instances n later.0 later.1 in
+        (earlier.0, earlier.1, λ num. known_on job_of (instance_key n num) (slice_get earlier.0 num) (slice_get later.0 num) (slice_get zs num) (earlier.2 num) (later.2 num));
+    hosts = λ n h is. elim (two.hosts n h is) [
+      | inl later ↦ known_on counted_of (host_key n) (get nat_cmp old.hosts.rows n) (Some h) (Some h) (one.hosts n h (sym later.1)) (inl (later.0, refl))
+      | inr put ↦ inr (put.0, put_last rows r put.0 put.1, put.2, put.3)
+    ];
+    accounts = some_of_some (slice_cmp nat_cmp) _ _ _ old.accounts mid.accounts new.accounts (λ _ a b id. unput_more rows r _ (a id) (b id)) one.accounts two.accounts;
+    versions = elim two.versions [
+      | inl gone ↦ inl gone
+      | inr later ↦ elim one.versions [
+        | inl gone ↦ inl (later.0 ∙ gone)
+        | inr earlier ↦ inr (
+          later.0 ∙ earlier.0,
+          λ id. (unput_more rows r _ (earlier.1 id).0 (later.1 id).0, unput_more rows r _ (earlier.1 id).1 (later.1 id).1, unput_more rows r _ (earlier.1 id).2 (later.1 id).2),
+        )
+      ]
+    ];
+  }
+
+-- ---- instances of a row that is put
+
+-- what stands at an index after one element was written
+got_of_set : {X : Type 0} (xs : List X) (i j : ℕ) (x : X) → i < length xs → slice_get (slice_set xs i x) j ≡ cond (eqb i j) (Some x) (slice_get xs j)
+got_of_set [] i j x within = absurd (omega arith)
+got_of_set (y ∷ ys) zero zero x within = refl
+got_of_set (y ∷ ys) zero (suc j) x within = sym (ap (λ (b : Bool). cond b (Some x) (slice_get ys j)) (eqb-zero-suc j))
+got_of_set (y ∷ ys) (suc i) zero x within = sym (ap (λ (b : Bool). cond b (Some x) (Some y)) (eqb-suc-zero i))
+got_of_set (y ∷ ys) (suc i) (suc j) x within = got_of_set ys i j x (omega arith) ∙ sym (ap (λ (b : Bool). cond b (Some x) (slice_get ys j)) (eqb-suc-suc i j))
+
+pub is_renewed : (row : StoredInstance) (old : List Job) (x : Job) → row.num < length old → x ≡ job_of (stored.Instance row) → IsRenewed row old (slice_set old row.num x)
+is_renewed row old x within is = λ num. got_of_set old row.num num x within ∙ ap (λ y. cond (eqb row.num num) (Some y) (slice_get old num)) is
+
+-- those of another workunit stay
+others_carried : (row : StoredInstance) (old : RowsRead ℕ (List Job)) (n : ℕ) (xs : List Job) → is_at (nat_cmp row.unit_id) n ≡ false → get nat_cmp old.rows n ≡ Some xs
+    → (ys : List Job) × (get nat_cmp old.rows n ≡ Some ys) × ((num : ℕ) → IsStillKnown (IsOtherKey (stored.Instance row)) (λ s. s ≡ stored.Instance row) job_of (instance_key n num) (slice_get ys num) (slice_get xs num))
+others_carried row old n xs other was = (xs, was, λ num. inl (λ same. let one : row.unit_id ≡ n = cc in absurd (true≢false (sym (itself row.unit_id) ∙ ap (λ m. is_at (nat_cmp row.unit_id) m) one ∙ other)), refl))
+  where
+    itself : (n : ℕ) → is_at (nat_cmp n) n ≡ true
+    itself n = grind arith
+
+pub jobs_dropped : (row : StoredInstance) (old new : RowsRead ℕ (List Job)) → IsWithout nat_cmp old new row.unit_id → AreInstancesCarried (IsOtherKey (stored.Instance row)) (λ s. s ≡ stored.Instance row) old new
+jobs_dropped row old new without = λ n xs is. let was = without n xs is in others_carried row old n xs was.0 was.1
+
+pub jobs_renewed : (row : StoredInstance) (old mid new : RowsRead ℕ (List Job)) (known renewed : List Job) → get nat_cmp old.rows row.unit_id ≡ Some known → IsRenewed row known renewed
+    → IsWithout nat_cmp old mid row.unit_id → HasKept nat_cmp mid new row.unit_id renewed → AreInstancesCarried (IsOtherKey (stored.Instance row)) (λ s. s ≡ stored.Instance row) old new
+jobs_renewed row old mid new known renewed was is without kept = λ n xs there. elim (kept n xs there) [
+  | inl it ↦
+      let here : row.unit_id ≡ n = one_number row.unit_id n it.0 in
+      (known, subst (λ m. get nat_cmp old.rows m ≡ Some known) here was, λ num. at_number n num xs here it.1 (eqb row.num num) refl)
+  | inr other ↦ let before = without n xs other in others_carried row old n xs before.0 before.1
+]
+  where
+    at_number : (n num : ℕ) (xs : List Job) → row.unit_id ≡ n → xs ≡ renewed → (b : Bool) → eqb row.num num ≡ b
+        → IsStillKnown (IsOtherKey (stored.Instance row)) (λ s. s ≡ stored.Instance row) job_of (instance_key n num) (slice_get known num) (slice_get xs num)
+    at_number n num xs here same true at =
+        inr (
+          stored.Instance row,
+          refl,
+          ap₂ instance_key here (eqb-true row.num num at),
+          ap (λ l. slice_get l num) same ∙ is num ∙ ap (λ (b : Bool). cond b (Some (job_of (stored.Instance row))) (slice_get known num)) at,
+        )
+    at_number n num xs here same false at =
+        inl (
+          (λ one. let number : row.num ≡ num = cc in absurd (true≢false (sym (eq-eqb row.num num number) ∙ at))),
+          ap (λ l. slice_get l num) same ∙ is num ∙ ap (λ (b : Bool). cond b (Some (job_of (stored.Instance row))) (slice_get known num)) at,
+        )
+
+-- ---- what is carried is the world's after
+
+holds_of_some : {K T : Type 0} (cmp : K → K → Ordering) (Of : K → Type 0) (Before After : K → T → Type 0) (old new : RowsRead K T)
+    → AreSome cmp Of old new → HoldOfEach cmp Before old → ((k : K) (row : T) → Of k → Before k row → After k row) → HoldOfEach cmp After new
+holds_of_some cmp Of Before After old new some before carry = λ k row is.
+    let was = some k row is in carry k row was.0 (before k row was.1)
+
+module _ (w w' : World) (readable : IsReadable w) (readable' : IsReadable w') (Stays : RowKey → Type 0) (stay : (k : WorldKey) → Stays (row_key k) → row_in w k ≡ row_in w' k)
+    (Puts : StoredRow → Type 0) (put : (r : StoredRow) (k : WorldKey) → Puts r → key_of r ≡ row_key k → row_in w' k ≡ Some r)
+    (calls calls' : SlotCalls) (old new : Remembered) (left : AreCarried Stays Puts old new) (none : new.slot ≡ None) (before : AreRemembered w calls old) where
+  apps_stay : ((id : ℕ) → Stays (row_key (key.App id))) → w.apps ≡ w'.apps
+  apps_stay unput = same_apps w w' readable readable' (λ n. stay (key.App n) (unput n))
+
+  versions_stay : ((id : ℕ) → Stays (row_key (key.App id)) × Stays (row_key (key.Version id)) × Stays (row_key (key.Class id))) → (h : HostRow) (app : ℕ) → version_at w h app ≡ version_at w' h app
+  versions_stay unput h app =
+      let apps = apps_stay (λ n. (unput n).0) in
+      let versions = same_versions w w' readable readable' apps (λ n. stay (key.Version n) (unput n).1) (λ n. stay (key.Class n) (unput n).2) in
+      λ i. option_and_then (λ (a : App). version_among (versions i) a.name h.platforms) (nth (apps i) app)
+
+  versions_left : (olds news : List VersionRead)
+      → (news ≡ []) ⊎ ((news ≡ olds) × ((id : ℕ) → Stays (row_key (key.App id)) × Stays (row_key (key.Version id)) × Stays (row_key (key.Class id))))
+      → All (IsVersionOf w) olds → All (IsVersionOf w') news
+  versions_left olds news (inl gone) all = subst (All (IsVersionOf w')) (sym gone) (All-nil _)
+  versions_left olds news (inr (same, unput)) all =
+      subst (All (IsVersionOf w')) (sym same) (λ at v within h platforms. sym (versions_stay unput h (get_or olds at v).app) ∙ all at v within h platforms)
+
+  jobs_then : (n num : ℕ) (ys xs : List Job) → ys ≡ instances_at w n → IsStillKnown Stays Puts job_of (instance_key n num) (slice_get ys num) (slice_get xs num) → slice_get xs num ≡ slice_get (instances_at w' n) num
+  jobs_then n num ys xs was (inl (still, same)) =
+      same ∙ ap (λ js. slice_get js num) was ∙ job_told w readable n num ∙ ap (option_map job_of) (stay (key.Instance (record { unit = n; number = num })) still) ∙ sym (job_told w' readable' n num)
+  jobs_then n num ys xs was (inr (r, is, at, told)) = told ∙ sym (ap (option_map job_of) (put r (key.Instance (record { unit = n; number = num })) is at)) ∙ sym (job_told w' readable' n num)
+
+  pub remembered_then : AreRemembered w' calls' new
+  remembered_then = record {
+    units = holds_of_some nat_cmp _ (λ n u. workunit_at w n ≡ Some u) (λ n u. workunit_at w' n ≡ Some u) old.units new.units left.units before.units
+        (λ n u unput is. sym (same_workunit w w' readable readable' n (apps_stay unput.2) (stay (key.Unit n) unput.0) (stay (key.Mark n) unput.1)) ∙ is);
+    instances = λ n xs is.
+        let was = left.instances n xs is in
+        same_by_index xs (instances_at w' n) (λ num. jobs_then n num was.0 xs (before.instances n was.0 was.1) (was.2 num));
+    hosts = λ n h is. elim (left.hosts n h is) [
+      | inl still ↦ sym (same_host w w' readable readable' n (stay (key.Host n) still.0)) ∙ before.hosts n h (sym still.1)
+      | inr told ↦ host_told w' readable' n ∙ ap (option_map counted_of) (put told.0 (key.Host n) told.1 told.2) ∙ sym told.3
+    ];
+    accounts = holds_of_some (slice_cmp nat_cmp) _ (IsAccountOf w) (IsAccountOf w') old.accounts new.accounts left.accounts before.accounts
+        (λ name a unput is. subst (λ (accounts : List Account). placed_where (λ (a : Account). bytes_eq a.authenticator name) accounts ≡ Some (record { place = a.place; row = a.row })) (same_accounts w w' readable readable' (λ n. stay (key.Account n) (unput n))) is);
+    versions = versions_left old.versions.items new.versions.items left.versions before.versions;
+    slot = subst (λ o. IfSome o (IsSlotOf calls')) (sym none) tt;
+  }
