@@ -149,8 +149,8 @@ fn renew_host(alloc: Global, known: &mut RowsRead<u32, CountedHost>, row: &Store
     }
 }
 
-/// What was read, and is as it was read or as it was put since: rows by their keys, versions, and the slot for the next call of the host whose calls
-/// were read last.
+/// What was read, and is as it was read or as it was put since: rows by their keys, versions, and the slot for the next
+/// call of the host whose calls were read last.
 pub(crate) struct Remembered {
     units: RowsRead<u32, Workunit>,
     instances: RowsRead<u32, Listed<Instance>>,

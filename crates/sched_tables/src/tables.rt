@@ -12,8 +12,8 @@ use std::alloc::Global;
 use texts::Listed;
 
 /// The stored tables as a desk. What seldom changes is kept beside them: the settings, which never do, and the
-/// applications, of which there are at most a hundred. All else is read by its key or by an index, where it was not read
-/// before, or was put since. What is due is looked for from the mark on, which is not stored.
+/// applications, of which there are at most a hundred. All else is read by its key or by an index, where it is not
+/// remembered. What is due is looked for from the mark on, which is not stored.
 pub struct Tables<S: Alter> {
     pub(crate) alloc: Global,
     pub(crate) conn: Connection<S>,
