@@ -20,7 +20,6 @@ use Rattle.sched_book.specs.declared.rows.Account.{Account}
 use Rattle.sched_book.specs.declared.rows.App.{App}
 use Rattle.sched_book.specs.declared.rows.HostRow.{HostRow}
 use Rattle.sched_book.specs.declared.world.World.{World}
-use Rattle.table_desk.specs.Columns.{counted_host_at}
 use Rattle.table_meaning.specs.declared.rows.StoredRow.{StoredRow}
 use Rattle.table_meaning.specs.declared.rows.StoredInstance.{StoredInstance}
 use Rattle.table_meaning.specs.declared.rows.StoredRow.TheVariants as stored
@@ -38,7 +37,7 @@ use Rattle.stores.specs.declared.entry.Entry.{Entry}
 use Rattle.stores.specs.declared.entry.Entry.TheVariants as entry
 use Rattle.sched_tables.specs.Commits.{ArePut}
 use Rattle.sched_tables.specs.Entries.{IsRowOf, ArePutWith}
-use Rattle.sched_tables.specs.Carrying.{IsOtherKey, IsUnput, IsPut, IsRenewed, IsStillKnown, job_of, counted_of, AreInstancesCarried, AreHostsCarried, AreCarried}
+use Rattle.sched_tables.specs.Carrying.{IsOtherKey, IsUnput, IsPut, IsRenewed, IsStillKnown, job_of, counted_of, AreInstancesCarried, AreCarried}
 use Rattle.sched_tables.specs.Remembering.{IsAccountOf, IsVersionOf, IsSlotOf, AreRemembered}
 use Rattle.sched_tables.specs.RowsRead.{HoldOfEach, HasKept, IsWithout, AreSome}
 use Rattle.sched_tables.specs.declared.remembered.Remembered.{Remembered}

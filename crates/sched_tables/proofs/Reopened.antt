@@ -17,7 +17,6 @@ use Rattle.sched_book.specs.declared.world.World.{World}
 use Rattle.stores.specs.declared.entry.Entry.{Entry}
 use Rattle.table_meaning.specs.declared.rows.StoredRow.TheVariants as stored
 use Rattle.table_meaning.specs.Kept.{calls_in, batches_in}
-use Rattle.table_meaning.specs.Reads.{Reads}
 use Rattle.table_meaning.specs.Rows.{setting_key}
 use Rattle.table_meaning.specs.Worlds.{SlotCalls, call_row, contents_of, HoldWorld}
 use Rattle.stores.specs.Standing.{MayBeKept, last_seqno}
@@ -37,7 +36,6 @@ use Rattle.sched_tables.specs.Commits.{Imports}
 use Rattle.sched_tables.specs.Entries.{MakesWith}
 use Rattle.sched_tables.specs.Held.{IsHonest, AreWellKept}
 use Rattle.sched_tables.specs.Laws.{HeldCanBeOpened, OpenedAreTaken}
-use Rattle.sched_tables.specs.ReadLaws.{was_honest, was_clean}
 use Rattle.sched_tables.specs.Refusals.{AreNewest, AreRefusedFor}
 use Rattle.sched_tables.specs.Reopening.{CanBeOpened, Reopens}
 use Rattle.sched_tables.proofs.EntriesKept.{beside_entry, now_held}

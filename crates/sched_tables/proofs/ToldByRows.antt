@@ -15,7 +15,6 @@ use Rattle.sched_book.specs.declared.rows.Version.{Version}
 use Rattle.sched_book.specs.declared.rows.Workunit.{Workunit}
 use Rattle.sched_book.specs.declared.world.World.{World}
 use Rattle.table_desk.specs.Columns.{counted_host_at}
-use Rattle.table_desk.specs.declared.hosts.CountedHost.{CountedHost}
 use Rattle.table_meaning.specs.declared.rows.StoredRow.{StoredRow}
 use Rattle.table_meaning.specs.declared.rows.StoredRow.TheVariants as stored
 use Rattle.table_meaning.specs.Rows.{columns_of}
@@ -23,7 +22,7 @@ use Rattle.table_meaning.specs.Worlds.{account_row, app_row, version_row, class_
 use Rattle.table_worlds.proofs.ByPlace.{all_nth}
 use Rattle.table_worlds.proofs.ReadBack.{app_back, version_back, unit_back, host_back, job_back}
 use Rattle.table_worlds.specs.Keys.{row_in}
-use Rattle.table_worlds.specs.ReadBack.{number_at, account_in, app_in, version_in, unit_in, host_in, job_in}
+use Rattle.table_worlds.specs.ReadBack.{account_in, app_in, version_in, unit_in}
 use Rattle.table_worlds.specs.Readable.{IsReadable}
 use Rattle.sched_tables.specs.Carrying.{job_of, counted_of}
 use Rattle.table_worlds.specs.declared.keys.WorldKey.TheVariants.{Account as account_at, App as app_at, Version as version_at, Class as class_at, Unit as unit_key_at, Mark as mark_at, Host as host_key_at, Instance as job_at}

@@ -9,7 +9,7 @@ use Rattle.table_reading.specs.Reading.{HasBadTable, StandForNone}
 use Rattle.table_rows.specs.declared.opening.OpenFault.{OpenFault}
 use Rattle.table_rows.specs.declared.opening.OpenFault.TheVariants.{NotTables, OldSchema, BadRow, Unavailable}
 
--- The tables are those of the newest schema, and say so.
+-- The tables are those of the newest schema, and say so (invariant 1 of docs/STORED.md).
 pub record AreNewest (db : Database) : Type 0 where
   pub known : AreKnown db
   pub said : schema_said db.trees ≡ Some (whole newest)
@@ -19,8 +19,8 @@ pub record AreOthers (db : Database) : Type 0 where
   pub not_newest : ¬ AreNewest db
   pub not_earlier : (n : ℕ) → ¬ AreEarlier n db
 
--- They are those of the newest schema, but a row has not the format of its table, or the rows are those of no sound world with
--- what may be kept beside it.
+-- They are those of the newest schema, but a row has not the format of its table (invariant 2 of docs/STORED.md), or the rows are
+-- those of no sound world with what may be kept beside it (2 to 12).
 pub record AreSpoiled (db : Database) : Type 0 where
   pub known : AreKnown db
   pub rows : HasBadTable db.trees ⊎ StandForNone db.trees

@@ -1,6 +1,6 @@
 -- Rule. What can be opened again stays so behind a read, and holds what may stand in a store: what the tables owe as a store, proved from
 -- their definitions alone.
-use Rattle.std.proofs.Common.{◌≡◌, ℕ, ◌≤◌, Bool, true, false, ◌&&◌, cond, nat_le, nat_lt, List, [], ◌∷◌, fold, length, Option, Some, None, option_map, sym, subst, inl, inr, arith, IsTrue}
+use Rattle.std.proofs.Common.{◌≡◌, ℕ, Bool, true, false, ◌&&◌, cond, nat_le, nat_lt, List, [], ◌∷◌, fold, length, Option, Some, None, option_map, sym, subst, inl, inr, arith, IsTrue}
 use Rattle.std.specs.Prelude.{All, IfSome, filter_map, is_some}
 use Rattle.std.specs.List.{cons_option}
 use Rattle.std.proofs.lemmas.Bool.{and_parts}
@@ -28,7 +28,7 @@ use Rattle.sched_tables.specs.Entries.{kept_batch}
 use Rattle.sched_tables.specs.Held.{IsHonest}
 use Rattle.sched_tables.specs.ReadLaws.{was_clean, was_honest}
 use Rattle.sched_tables.specs.Reopening.{CanBeOpened, Reopens}
-use Rattle.sched_tables.specs.Slots.{calls_in_slots, newest_first, put_in_order, slots}
+use Rattle.sched_tables.specs.Slots.{put_in_order, slots}
 use Rattle.sched_tables.specs.Views.{held_in}
 
 -- A read leaves what can be opened again so.

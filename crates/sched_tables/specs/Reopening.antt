@@ -13,7 +13,8 @@ use Rattle.sched_tables.specs.Refusals.{AreNewest, AreRefusedFor}
 abbrev pub AreTaken : Database → Type 0
 AreTaken db = (e : OpenFault) → AreRefusedFor e db → e ≡ Unavailable
 
--- They are those of the newest schema, and say so; and their rows are those of a sound world, with what may be kept beside it.
+-- They are those of the newest schema, and say so; and their rows are those of a sound world, with what may be kept beside it
+-- (invariants 1 to 12 of docs/STORED.md).
 pub record CanBeOpened (db : Database) : Type 0 where
   pub newest : AreNewest db
   pub rows : ReadFrom db.trees (world_in db.trees)

@@ -1,4 +1,4 @@
-use Rattle.std.proofs.Common.{◌≡◌, refl, sym, subst, ◌∙◌, inl, inr, rules, arith}
+use Rattle.std.proofs.Common.{◌≡◌, sym, subst, ◌∙◌, inl, inr, rules, arith}
 use Rattle.sqlite.specs.Held.{state}
 use Rattle.sqlite.specs.State.{HasCleanDisk}
 use Rattle.table_meaning.specs.Steps.{PutsRows}
@@ -7,9 +7,7 @@ use Rattle.sched_tables.specs.Entries.{ArePutWith}
 use Rattle.sched_tables.specs.Views.{world_of, AreKept}
 use Rattle.sched_tables.specs.Held.{IsHonest}
 use Rattle.sched_tables.specs.ReadLaws.{was_honest}
-use Rattle.sqlite.specs.Effect.{Database}
 use Rattle.sched_book.specs.Delta.{applied}
-use Rattle.table_worlds.specs.StoredWorld.{world_in}
 use Rattle.sched_tables.specs.Carrying.{IsPut, IsUnput}
 use Rattle.sched_tables.specs.Remembering.{AreRemembered}
 use Rattle.sched_tables.proofs.EntriesKept.{world_then}
