@@ -1,24 +1,27 @@
--- What the desk says of an application by its name, what is known of it, and which workunits the user had.
-use Rattle.std.proofs.Common.{◌≡◌, ℕ, zero, suc, ◌+◌, ◌<◌, Bool, true, false, cond, eqb, List, [], ◌∷◌, Option, Some, None, All, sym, refl, ap, ◌∙◌, arith}
-use Rattle.std.specs.Prelude.{◌||◌, find, slice_get, option_map, option_and_then}
+-- What the desk says of an application by its name, and what is known of it.
+use Rattle.std.proofs.Common.{◌≡◌, ℕ, Bool, true, false, cond, not, List, [], ◌∷◌, ◌++◌, Option, Some, None, All, sym, refl, ap, ◌∙◌}
+use Rattle.std.specs.Prelude.{◌&&◌, ◌||◌, find, is_none, option_map, option_and_then}
 use Rattle.std.specs.List.{list_any}
+use Rattle.std.specs.Option.{option_or}
 use Rattle.std.specs.Str.{bytes_eq}
-use Rattle.std.proofs.lemmas.Bool.{eq-eqb, ne_eqb}
 use Rattle.std.proofs.lemmas.List.Elements.{All-head, All-tail}
+use Rattle.std.proofs.lemmas.List.Folds.{find-append}
 use Rattle.std.proofs.lemmas.Slice.Eq.{bytes_eq-Decides}
-use Rattle.sched_book.specs.Desk.{units_from, placed_at, app_by_name}
+use Rattle.sched_book.specs.Desk.{placed_at, app_by_name}
 use Rattle.sched_book.specs.Fits.{version_among, version_at, version_for}
-use Rattle.sched_book.specs.Places.{nth, place_where}
+use Rattle.sched_book.specs.Places.{option_any, nth, place_where}
 use Rattle.sched_book.specs.declared.desk.Placed.{Placed}
-use Rattle.sched_book.specs.declared.instance.UnitBook.{UnitBook}
 use Rattle.sched_book.specs.declared.rows.App.{App}
 use Rattle.sched_book.specs.declared.rows.HostRow.{HostRow}
 use Rattle.sched_book.specs.declared.rows.Version.{Version}
 use Rattle.sched_book.specs.declared.world.World.{World}
 use Rattle.sched_book.proofs.PlacesOf.{find-is}
-use Rattle.job_choice.specs.Choosing.{known_of}
+use Rattle.job_choice.specs.Choosing.{known_of, wants_app}
+use Rattle.job_choice.specs.Past.{known_had}
 use Rattle.job_choice.specs.Offered.{IsKnown}
 use Rattle.job_choice.specs.declared.choosing.Known.{Known}
+use Rattle.job_choice.specs.declared.choosing.KnownApp.{KnownApp}
+use Rattle.job_choice.specs.declared.choosing.Unjudged.{Unjudged}
 
 -- Versions.
 module _ (versions : List Version) (platforms : List (List ℕ)) (name : List ℕ) where
@@ -67,7 +70,7 @@ pub version_some : (w : World) (h : HostRow) (name : List ℕ) (a : Placed App) 
 version_some w h name a some = version_is w h name ∙ ap (option_and_then (λ (a : Placed App). version_at w h a.place)) some
 
 -- what is known of an application is what the world says
-pub known_is : (w : World) (h : HostRow) (name : List ℕ) (known : List Known) (k : Known) → All (IsKnown w h) known → known_of known name ≡ Some k
+pub known_is : (w : World) (h : HostRow) (name : List ℕ) (known : List KnownApp) (k : KnownApp) → All (IsKnown w h) known → known_of known name ≡ Some k
     → k.version ≡ version_for w h name
 known_is w h name [] k right found = absurd (let never : None ≡ Some k = found in cc)
 known_is w h name (y ∷ ys) k right found = by (bytes_eq y.app name) refl (known_is w h name ys k (All-tail (IsKnown w h) y ys right)) found
@@ -76,34 +79,23 @@ known_is w h name (y ∷ ys) k right found = by (bytes_eq y.app name) refl (know
         → cond b (Some y) (known_of ys name) ≡ Some k → k.version ≡ version_for w h name
     by true is further found =
         let same : y ≡ k = (let s : Some y ≡ Some k = found in cc) in
-        ap (λ (k : Known). k.version) (sym same) ∙ All-head (IsKnown w h) y ys right ∙ ap (version_for w h) ((bytes_eq-Decides y.app name).0 is)
+        ap (λ (k : KnownApp). k.version) (sym same) ∙ All-head (IsKnown w h) y ys right ∙ ap (version_for w h) ((bytes_eq-Decides y.app name).0 is)
     by false is further found = further found
 
--- Workunits that the user had.
-none_below : (first : ℕ) (p : UnitBook → Bool) (bs : List UnitBook) (unit : ℕ) → unit < first → list_any (λ u. eqb unit u) (units_from first p bs) ≡ false
-none_below first p [] unit below = refl
-none_below first p (b ∷ bs) unit below = by (p b) (none_below (first + 1) p bs unit (omega arith))
+-- of an application that was asked for there is something known
+pub known_more : (known : List KnownApp) (k : KnownApp) → is_none (known_of (known ++ k ∷ []) k.app) ≡ false
+known_more known k =
+    ap is_none (find-append (λ (e : KnownApp). bytes_eq e.app k.app) known (k ∷ []))
+    ∙ by (known_of known k.app) (bytes_eq k.app k.app) ((bytes_eq-Decides k.app k.app).1 refl)
   where
-    by : (t : Bool) → list_any (λ u. eqb unit u) (units_from (first + 1) p bs) ≡ false
-        → list_any (λ u. eqb unit u) (cond t (first ∷ units_from (first + 1) p bs) (units_from (first + 1) p bs)) ≡ false
-    by true more = ap (λ s. s || list_any (λ u. eqb unit u) (units_from (first + 1) p bs)) (ne_eqb unit first (λ same. omega arith)) ∙ more
-    by false more = more
+    by : (o : Option KnownApp) (b : Bool) → b ≡ true → is_none (option_or o (cond b (Some k) None)) ≡ false
+    by (Some e) b same = refl
+    by None true same = refl
+    by None false same = absurd cc
 
--- a workunit is among those that pass where it passes
-pub had_at : (first : ℕ) (p : UnitBook → Bool) (bs : List UnitBook) (i : ℕ) (b : UnitBook) (unit : ℕ) → slice_get bs i ≡ Some b → unit ≡ first + i
-    → list_any (λ u. eqb unit u) (units_from first p bs) ≡ p b
-had_at first p [] i b unit found place = absurd (let never : None ≡ Some b = found in cc)
-had_at first p (y ∷ ys) zero b unit found place =
-    let is : y ≡ b = (let s : Some y ≡ Some b = found in cc) in
-    by (p y) (none_below (first + 1) p ys unit (omega arith)) ∙ ap p is
+pub wants_none : (known : Known) (u : Unjudged) → is_none (known_of known.apps u.app) ≡ false → wants_app known u ≡ false
+wants_none known u none = by (option_any not (known_had known.past u.place.unit)) (is_none (known_of known.apps u.app)) none
   where
-    by : (t : Bool) → list_any (λ u. eqb unit u) (units_from (first + 1) p ys) ≡ false
-        → list_any (λ u. eqb unit u) (cond t (first ∷ units_from (first + 1) p ys) (units_from (first + 1) p ys)) ≡ t
-    by true none = ap (λ s. s || list_any (λ u. eqb unit u) (units_from (first + 1) p ys)) (eq-eqb unit first (omega arith))
-    by false none = none
-had_at first p (y ∷ ys) (suc i) b unit found place = by (p y) (had_at (first + 1) p ys i b unit found (omega arith))
-  where
-    by : (t : Bool) → list_any (λ u. eqb unit u) (units_from (first + 1) p ys) ≡ p b
-        → list_any (λ u. eqb unit u) (cond t (first ∷ units_from (first + 1) p ys) (units_from (first + 1) p ys)) ≡ p b
-    by true more = ap (λ s. s || list_any (λ u. eqb unit u) (units_from (first + 1) p ys)) (ne_eqb unit first (λ same. omega arith)) ∙ more
-    by false more = more
+    by : (b c : Bool) → c ≡ false → (b && c) ≡ false
+    by true c none = none
+    by false c none = refl

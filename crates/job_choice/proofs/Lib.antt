@@ -2,6 +2,7 @@ pub mod Candidates
 pub mod Carried
 pub mod Greedy
 pub mod Known
+pub mod Looked
 pub mod Only
 pub mod Passing
 pub mod Resuming

@@ -1,6 +1,6 @@
 -- One who takes the candidates in turn, as long as it may, ends with a grant.
 use Rattle.std.proofs.Common.{◌≡◌, inl, inr, ℕ, ◌+◌, ◌-◌, ◌/◌, Bool, true, false, cond, not, eqb, List, [], ◌∷◌, ◌++◌, length, Option, Some, None, All, sym, refl, ap, ◌∙◌, subst, arith}
-use Rattle.std.specs.Prelude.{◌&&◌, ◌||◌, nat_eq, nat_le, is_none, filter, option_map, option_and_then, unwrap_or, sum_by, Contains}
+use Rattle.std.specs.Prelude.{◌&&◌, ◌||◌, nat_le, is_none, filter, option_map, option_and_then, unwrap_or, sum_by, Contains}
 use Rattle.std.specs.List.{list_all}
 use Rattle.std.proofs.lemmas.Bool.{and_parts, and_from, and_cases, or_parts, or_left, both_ways, not-true, not-false, leb-false}
 use Rattle.std.proofs.lemmas.List.{length-map, map-append}
@@ -8,11 +8,10 @@ use Rattle.std.proofs.lemmas.List.Elements.{All-nil, All-push}
 use Rattle.std.proofs.lemmas.List.Sums.{sum_by_push}
 use Rattle.rpc_records.specs.declared.reply.EndWord.{EndWord}
 use Rattle.rpc_records.specs.declared.reply.EndWord.TheVariants.{Enough, ReplyLimit, InProgressLimit, DailyQuota, NoEligibleWork}
-use Rattle.sched_book.specs.Desk.{units_of_user}
 use Rattle.sched_book.specs.Fits.{estimate, fits, version_for, unit_fits, is_for, is_eligible, estimate_at}
 use Rattle.sched_book.specs.Grant.{Asking, IsGrant, is_maximal, is_enough, fills_reply, fills_progress, fills_day, seconds_of, sent_today, has_unit, end_word}
 use Rattle.sched_book.specs.Offers.{unsent, OffersAll}
-use Rattle.sched_book.specs.Places.{places, unit_at, user_had}
+use Rattle.sched_book.specs.Places.{option_any, places, unit_at, user_had}
 use Rattle.sched_book.specs.declared.desk.Candidate.{Candidate}
 use Rattle.sched_book.specs.declared.desk.Flow.TheVariants.{GoOn, Stop}
 use Rattle.sched_book.specs.declared.instance.Place.{Place}
@@ -21,8 +20,9 @@ use Rattle.sched_book.specs.declared.rows.Version.{Version}
 use Rattle.sched_book.specs.declared.world.World.{World}
 use Rattle.sched_book.proofs.Newest.{behind, front_of}
 use Rattle.job_choice.specs.Chosen.{places_of, IsJob, IsChoice}
-use Rattle.job_choice.specs.Choosing.{is_full, end_word_at, has_job_of, is_new_unit, with_job, after_version}
-use Rattle.job_choice.specs.Offered.{HasJust, limits_on, IsBegun, IsKnown, IsReady, HasChosen, judged, Chooses, first_place}
+use Rattle.job_choice.specs.Choosing.{is_full, end_word_at, has_job_of, with_job, after_version}
+use Rattle.job_choice.specs.Offered.{limits_on, IsBegun, IsKnown, IsRight, IsReady, HasChosen, is_new_unit, judged, Chooses, first_place}
+use Rattle.job_choice.specs.Past.{user_had_at}
 use Rattle.job_choice.specs.declared.choosing.Choosing.{Choosing}
 use Rattle.job_choice.specs.declared.choosing.Known.{Known}
 use Rattle.job_choice.specs.declared.choosing.Limits.{Limits}
@@ -30,9 +30,8 @@ use Rattle.job_choice.specs.declared.granted.Grant.{Grant}
 use Rattle.job_choice.specs.declared.granted.Granted.{Granted}
 use Rattle.job_choice.proofs.Candidates.{InWorld, in_world, found_nth, passes_at}
 use Rattle.job_choice.proofs.Greedy.{AreTaken, none_taken, passed_over, taken_on, all_seen, is_grant}
-use Rattle.job_choice.proofs.Known.{had_at}
+use Rattle.job_choice.proofs.Looked.{nothing_is}
 use Rattle.job_choice.proofs.Passing.{nothing_left, left_reached}
-use Rattle.texts.specs.SeenSet.{has_seen}
 
 -- tests that agree one by one
 same_or : (a b c d e f g h : Bool) → a ≡ e → b ≡ f → c ≡ g → d ≡ h → (a || b || c || d) ≡ (e || f || g || h)
@@ -62,7 +61,6 @@ module _ (w : World) (q : Asking) where
   -- what was read is that of the world, and what is granted was taken by place
   record IsOn (t : Choosing) (left : List Candidate) : Type 0 where
     host : t.host.now ≡ q.host
-    had : HasJust t.had (units_of_user w q.host.account)
     limits_are : t.limits ≡ limits_on w q.number q.host q.held (q.now / 86400)
     wanted_is : t.wanted ≡ q.asked - seconds_of w q (places_of t.jobs)
     jobs : All (IsJob w q.host) t.jobs
@@ -126,8 +124,8 @@ module _ (w : World) (q : Asking) where
       version_here : version_for w t.host.now c.unit.app ≡ version_for w q.host here.book.unit.app
       version_here = ap (λ h. version_for w h c.unit.app) on.host ∙ ap (λ u. version_for w q.host u.app) here.row
 
-      had_here : has_seen nat_eq t.had c.place.unit ≡ user_had w q.host.account here.book
-      had_here = on.had c.place.unit ∙ had_at 1 (user_had w q.host.account) w.units here.index here.book c.place.unit here.found here.place
+      had_here : user_had_at w t.host.now.account c.place.unit ≡ user_had w q.host.account here.book
+      had_here = ap (λ h. user_had_at w h.account c.place.unit) on.host ∙ ap (option_any (user_had w q.host.account)) at
 
       fits_here : (o : Option Version) → version_for w t.host.now c.unit.app ≡ o → fits t.host.now c.unit o ≡ unit_fits w q.host here.book
       fits_here o is =
@@ -141,7 +139,6 @@ module _ (w : World) (q : Asking) where
       left_out : (is_eligible w q.host c.place ≡ true → has_unit c.place.unit (places_of t.jobs) ≡ true) → IsOn t left
       left_out over = record {
         host = on.host;
-        had = on.had;
         limits_are = on.limits_are;
         wanted_is = on.wanted_is;
         jobs = on.jobs;
@@ -153,28 +150,27 @@ module _ (w : World) (q : Asking) where
           absurd (both_ways (unit_fits w q.host here.book) (sym (fits_here o is) ∙ misfit)
           (and_parts (unit_fits w q.host here.book) (not (user_had w q.host.account here.book)) (sym eligible_is ∙ eligible)).0))
 
-      not_new : is_new_unit t.had t.jobs c.place.unit ≡ false → IsOn t left
+      not_new : is_new_unit w t c.place.unit ≡ false → IsOn t left
       not_new old = left_out (λ eligible.
           let new = (and_parts (unit_fits w q.host here.book) (not (user_had w q.host.account here.book)) (sym eligible_is ∙ eligible)).1 in
-          elim (and_cases (not (has_seen nat_eq t.had c.place.unit)) (not (has_job_of t.jobs c.place.unit)) old) [
-            | inl had ↦ absurd (both_ways (not (user_had w q.host.account here.book)) (ap not (sym had_here) ∙ had) new)
-            | inr has ↦ sym (has_job-is t.jobs c.place.unit) ∙ not-false (has_job_of t.jobs c.place.unit) has
+          elim (and_cases (not (has_job_of t.jobs c.place.unit)) (not (user_had_at w t.host.now.account c.place.unit)) old) [
+            | inl has ↦ sym (has_job-is t.jobs c.place.unit) ∙ not-false (has_job_of t.jobs c.place.unit) has
+            | inr had ↦ absurd (both_ways (not (user_had w q.host.account here.book)) (ap not (sym had_here) ∙ had) new)
           ])
 
       -- it is taken
-      taken_in : (v : Version) → version_for w t.host.now c.unit.app ≡ Some v → is_full t ≡ false → is_new_unit t.had t.jobs c.place.unit ≡ true
+      taken_in : (v : Version) → version_for w t.host.now c.unit.app ≡ Some v → is_full t ≡ false → is_new_unit w t c.place.unit ≡ true
           → fits t.host.now c.unit (Some v) ≡ true → IsOn (with_job t c v) left
       taken_in v is room new fit =
           let jobs = places_of t.jobs in
           let job : Granted = record { place = c.place; estimate = estimate c.unit.rsc_fpops_est t.host.now.p_fpops; version = v } in
           let pushed : places_of (t.jobs ++ job ∷ []) ≡ jobs ++ c.place ∷ [] = map-append (λ (j : Granted). j.place) t.jobs (job ∷ []) in
-          let news = and_parts (not (has_seen nat_eq t.had c.place.unit)) (not (has_job_of t.jobs c.place.unit)) new in
+          let news = and_parts (not (has_job_of t.jobs c.place.unit)) (not (user_had_at w t.host.now.account c.place.unit)) new in
           let parts = or_parts (is_enough w q jobs || fills_reply w (length jobs) || fills_progress w q (length jobs)) (fills_day w q (length jobs)) (sym (full_is t (c ∷ left) on) ∙ room) in
           let more = or_parts (is_enough w q jobs || fills_reply w (length jobs)) (fills_progress w q (length jobs)) parts.0 in
           let most = or_parts (is_enough w q jobs) (fills_reply w (length jobs)) more.0 in
           record {
             host = on.host;
-            had = on.had;
             limits_are = on.limits_are;
             wanted_is =
                 (let before = on.wanted_is in
@@ -190,8 +186,8 @@ module _ (w : World) (q : Asking) where
             });
             taken = subst (λ ps. AreTaken w q ps left) (sym pushed)
                 (taken_on w q jobs c left on.taken
-                (eligible_is ∙ and_from (unit_fits w q.host here.book) (not (user_had w q.host.account here.book)) (sym (fits_here (Some v) is) ∙ fit) (ap not (sym had_here) ∙ news.0))
-                (sym (has_job-is t.jobs c.place.unit) ∙ not-true (has_job_of t.jobs c.place.unit) news.1)
+                (eligible_is ∙ and_from (unit_fits w q.host here.book) (not (user_had w q.host.account here.book)) (sym (fits_here (Some v) is) ∙ fit) (ap not (sym had_here) ∙ news.1))
+                (sym (has_job-is t.jobs c.place.unit) ∙ not-true (has_job_of t.jobs c.place.unit) news.0)
                 (leb-false q.asked (seconds_of w q jobs) most.0)
                 (leb-false w.settings.max_wus_to_send (length jobs) most.1)
                 (leb-false w.settings.max_wus_in_progress (q.held + length jobs) more.1)
@@ -202,15 +198,15 @@ module _ (w : World) (q : Asking) where
           remainder now asked before sum one e more h k l = omega arith
 
       step : is_full t ≡ false → IsOn (judged w t c) left
-      step room = by (is_new_unit t.had t.jobs c.place.unit) (version_for w t.host.now c.unit.app) refl refl
+      step room = by (is_new_unit w t c.place.unit) (version_for w t.host.now c.unit.app) refl refl
         where
           with_version : (v : Version) → version_for w t.host.now c.unit.app ≡ Some v → (fit : Bool)
-              → is_new_unit t.had t.jobs c.place.unit ≡ true → fits t.host.now c.unit (Some v) ≡ fit
+              → is_new_unit w t c.place.unit ≡ true → fits t.host.now c.unit (Some v) ≡ fit
               → IsOn (cond fit (with_job t c v) t) left
           with_version v is true new fit = taken_in v is room new fit
           with_version v is false new fit = unfit (Some v) is fit
 
-          by : (new : Bool) (o : Option Version) → is_new_unit t.had t.jobs c.place.unit ≡ new → version_for w t.host.now c.unit.app ≡ o
+          by : (new : Bool) (o : Option Version) → is_new_unit w t c.place.unit ≡ new → version_for w t.host.now c.unit.app ≡ o
               → IsOn (cond new (after_version t c o) t) left
           by false o old is = not_new old
           by true None new is = unfit None is (and_false (nat_le c.unit.rsc_memory_bound t.host.now.m_nbytes && nat_le c.unit.rsc_disk_bound t.host.now.d_free
@@ -222,10 +218,9 @@ module _ (w : World) (q : Asking) where
           by true (Some v) new is = with_version v is (fits t.host.now c.unit (Some v)) new refl
 
   -- whatever is known
-  knowing : (t : Choosing) (known : List Known) (left : List Candidate) → IsOn t left → IsOn (record t { known = known }) left
+  knowing : (t : Choosing) (known : Known) (left : List Candidate) → IsOn t left → IsOn (record t { known = known }) left
   knowing t known left on = record {
     host = on.host;
-    had = on.had;
     limits_are = on.limits_are;
     wanted_is = on.wanted_is;
     jobs = on.jobs;
@@ -252,20 +247,22 @@ module _ (w : World) (q : Asking) where
         | inr more ↦ ends cs more.0 new (now more.0 more.1.1) (goes (is_full more.0) more.1.0) later more.2
       ]
 
-  begun : (t : Choosing) → IsBegun w q.host (limits_on w q.number q.host q.held (q.now / 86400)) (q.asked - q.before) t → IsOn t (unsent w first_place)
+  begun : (t : Choosing) → IsBegun q.host (limits_on w q.number q.host q.held (q.now / 86400)) (q.asked - q.before) t → IsOn t (unsent w first_place)
   begun t h =
       let none : [] ≡ t.jobs = sym h.jobs in
       record {
         host = h.host;
-        had = h.had;
         limits_are = h.limits_are;
         wanted_is = h.wanted_is ∙ subst (λ (js : List Granted). q.asked - q.before ≡ q.asked - seconds_of w q (places_of js)) none (let zero_more : q.asked - q.before ≡ q.asked - (q.before + 0) = omega arith in zero_more);
         jobs = subst (All (IsJob w q.host)) none (All-nil (IsJob w q.host));
         taken = subst (λ (js : List Granted). AreTaken w q (places_of js) (unsent w first_place)) none (none_taken w q);
       }
 
-  ready : (t : Choosing) → IsBegun w q.host (limits_on w q.number q.host q.held (q.now / 86400)) (q.asked - q.before) t → IsReady w t
-  ready t h = record { known = subst (All (IsKnown w t.host.now)) (sym h.known) (All-nil (IsKnown w t.host.now)); unjudged = h.unjudged }
+  ready : (t : Choosing) → IsBegun q.host (limits_on w q.number q.host q.held (q.now / 86400)) (q.asked - q.before) t → IsReady w t
+  ready t h = record {
+    known = subst (IsRight w t.host.now) (sym h.known) (record { past = nothing_is w t.host.now.account; apps = All-nil (IsKnown w t.host.now) });
+    unjudged = h.unjudged;
+  }
 
   choice : (t : Choosing) (g : Grant) → IsOver t → g.jobs ≡ t.jobs → g.end_word ≡ end_word_at t → IsChoice w q g
   choice t g over jobs word = record {
@@ -275,7 +272,7 @@ module _ (w : World) (q : Asking) where
   }
 
   chosen : (old new : Choosing) (g : Grant)
-      → IsBegun w q.host (limits_on w q.number q.host q.held (q.now / 86400)) (q.asked - q.before) old
+      → IsBegun q.host (limits_on w q.number q.host q.held (q.now / 86400)) (q.asked - q.before) old
       → (IsReady w old → HasChosen w old new) → g.jobs ≡ new.jobs → g.end_word ≡ end_word_at new → IsChoice w q g
   chosen old new g fresh offered jobs word =
       let on = begun old fresh in
@@ -286,13 +283,12 @@ module _ (w : World) (q : Asking) where
       ]
 
   -- the same where the world, the limits and the seconds come by other names
-  pub chosen_at : (begun_in offered_in : World) (limits : Limits) (wanted day : ℕ) (old new : Choosing) (g : Grant)
-      → begun_in ≡ w → offered_in ≡ w → day ≡ q.now / 86400 → limits ≡ limits_on w q.number q.host q.held day → wanted ≡ q.asked - q.before
-      → IsBegun begun_in q.host limits wanted old → (IsReady offered_in old → HasChosen offered_in old new) → g.jobs ≡ new.jobs → g.end_word ≡ end_word_at new → IsChoice w q g
-  chosen_at begun_in offered_in limits wanted day old new g same same_later today limits_are wanted_is fresh offered jobs word =
+  pub chosen_at : (offered_in : World) (limits : Limits) (wanted day : ℕ) (old new : Choosing) (g : Grant)
+      → offered_in ≡ w → day ≡ q.now / 86400 → limits ≡ limits_on w q.number q.host q.held day → wanted ≡ q.asked - q.before
+      → IsBegun q.host limits wanted old → (IsReady offered_in old → HasChosen offered_in old new) → g.jobs ≡ new.jobs → g.end_word ≡ end_word_at new → IsChoice w q g
+  chosen_at offered_in limits wanted day old new g same today limits_are wanted_is fresh offered jobs word =
       let known : limits ≡ limits_on w q.number q.host q.held (q.now / 86400) = limits_are ∙ ap (limits_on w q.number q.host q.held) today in
       chosen old new g
-      (subst (λ n. IsBegun w q.host (limits_on w q.number q.host q.held (q.now / 86400)) n old) wanted_is
-      (subst (λ l. IsBegun w q.host l wanted old) known
-      (subst (λ v. IsBegun v q.host limits wanted old) same fresh)))
-      (subst (λ v. IsReady v old → HasChosen v old new) same_later offered) jobs word
+      (subst (λ n. IsBegun q.host (limits_on w q.number q.host q.held (q.now / 86400)) n old) wanted_is
+      (subst (λ l. IsBegun q.host l wanted old) known fresh))
+      (subst (λ v. IsReady v old → HasChosen v old new) same offered) jobs word

@@ -1,8 +1,7 @@
 -- Offers in turns, each up to a candidate that could not be judged, are one choice among all candidates.
-use Rattle.std.proofs.Common.{◌≡◌, ◌⊎◌, inl, inr, Bool, true, false, cond, List, [], ◌∷◌, ◌++◌, Option, Some, None, sym, refl, ap, ◌∙◌, subst}
-use Rattle.std.specs.Prelude.{◌||◌, is_some}
+use Rattle.std.proofs.Common.{◌≡◌, ◌⊎◌, inl, inr, Bool, true, false, cond, not, List, [], ◌∷◌, ◌++◌, Option, Some, None, sym, refl, ap, ◌∙◌, subst}
+use Rattle.std.specs.Prelude.{◌&&◌, ◌||◌, is_some, option_map}
 use Rattle.std.proofs.lemmas.Bool.{both_ways}
-use Rattle.std.proofs.lemmas.List.Elements.{All-push}
 use Rattle.sched_book.specs.Fits.{fits, version_for}
 use Rattle.sched_book.specs.Offers.{unsent, OffersAll}
 use Rattle.sched_book.specs.declared.desk.Candidate.{Candidate}
@@ -11,12 +10,15 @@ use Rattle.sched_book.specs.declared.desk.Flow.TheVariants.{GoOn, Stop}
 use Rattle.sched_book.specs.declared.instance.Place.{Place}
 use Rattle.sched_book.specs.declared.rows.Version.{Version}
 use Rattle.sched_book.specs.declared.world.World.{World}
-use Rattle.job_choice.specs.Choosing.{is_full, is_new_unit, known_of, unjudged_at, with_job, after_version, after_known, after, Takes}
-use Rattle.job_choice.specs.Offered.{first_place, IsKnown, IsReady, with_known, judged, Chooses, HasChosen}
+use Rattle.job_choice.specs.Choosing.{is_full, has_job_of, known_of, unjudged_of, unjudged_at, with_job, after_version, after_known, after_new, after, Takes}
+use Rattle.job_choice.specs.Offered.{first_place, IsRight, IsReady, is_new_unit, judged, Chooses, HasChosen}
+use Rattle.job_choice.specs.Past.{known_had, user_had_at}
 use Rattle.job_choice.specs.declared.choosing.Choosing.{Choosing}
 use Rattle.job_choice.specs.declared.choosing.Known.{Known}
+use Rattle.job_choice.specs.declared.choosing.KnownApp.{KnownApp}
 use Rattle.job_choice.specs.declared.choosing.Unjudged.{Unjudged}
 use Rattle.job_choice.proofs.Known.{known_is}
+use Rattle.job_choice.proofs.Looked.{had_is}
 use Rattle.job_choice.proofs.Resuming.{resumed}
 use Rattle.job_choice.proofs.Taking.{goes}
 
@@ -24,7 +26,7 @@ module _ (w : World) where
   -- A candidate, as it is left by one who is ready.
   module _ (t : Choosing) (c : Candidate) where
     stays_ready : IsReady w t → IsReady w (judged w t c)
-    stays_ready ready = by (is_new_unit t.had t.jobs c.place.unit) (version_for w t.host.now c.unit.app)
+    stays_ready ready = by (is_new_unit w t c.place.unit) (version_for w t.host.now c.unit.app)
       where
         fit : (b : Bool) (v : Version) → IsReady w (cond b (with_job t c v) t)
         fit true v = record { known = ready.known; unjudged = ready.unjudged }
@@ -35,19 +37,37 @@ module _ (w : World) where
         by true None = ready
         by true (Some v) = fit (fits t.host.now c.unit (Some v)) v
 
+    -- a workunit is new where it has no job and the user had none of it
+    new_is : (has had : Bool) → had ≡ user_had_at w t.host.now.account c.place.unit → has_job_of t.jobs c.place.unit ≡ has
+        → is_new_unit w t c.place.unit ≡ (not has && not had)
+    new_is has had so is = ap (λ h. not h && not (user_had_at w t.host.now.account c.place.unit)) is ∙ ap (λ h. not has && not h) (sym so)
+
     -- it is judged as the world says, or not at all
     judged_or_not : (new : Choosing) → IsReady w t → new ≡ after t c → (new ≡ judged w t c) ⊎ (new ≡ unjudged_at t c)
-    judged_or_not new ready is = by (is_new_unit t.had t.jobs c.place.unit) (known_of t.known c.unit.app) refl is
+    judged_or_not new ready is =
+        by (has_job_of t.jobs c.place.unit) (known_had t.known.past c.place.unit) (known_of t.known.apps c.unit.app) refl refl refl is
       where
-        by : (b : Bool) (o : Option Known) → known_of t.known c.unit.app ≡ o → new ≡ cond b (after_known t c o) t
-            → (new ≡ cond b (after_version t c (version_for w t.host.now c.unit.app)) t) ⊎ (new ≡ unjudged_at t c)
-        by false o found is = inl is
-        by true None found is = inr is
-        by true (Some k) found is = inl (is ∙ ap (after_version t c) (known_is w t.host.now c.unit.app t.known k ready.known found))
+        as_judged : Bool → Choosing
+        as_judged b = cond b (after_version t c (version_for w t.host.now c.unit.app)) t
+
+        by : (has : Bool) (o : Option Bool) (k : Option KnownApp)
+            → has_job_of t.jobs c.place.unit ≡ has → known_had t.known.past c.place.unit ≡ o → known_of t.known.apps c.unit.app ≡ k
+            → new ≡ after_new t c (cond has (Some false) (option_map not o))
+            → (new ≡ as_judged (is_new_unit w t c.place.unit)) ⊎ (new ≡ unjudged_at t c)
+        by true o k has known found is =
+            inl (is ∙ sym (ap (λ h. as_judged (not h && not (user_had_at w t.host.now.account c.place.unit))) has))
+        by false None k has known found is = inr is
+        by false (Some true) k has known found is =
+            inl (is ∙ sym (ap as_judged (new_is false true (had_is w t.host.now.account t.known.past c.place.unit true ready.known.past known) has)))
+        by false (Some false) None has known found is = inr (is ∙ ap (after_known t c) found)
+        by false (Some false) (Some k) has known found is = inl (is
+            ∙ ap (after_known t c) found
+            ∙ ap (after_version t c) (known_is w t.host.now c.unit.app t.known.apps k ready.known.apps found)
+            ∙ sym (ap as_judged (new_is false false (had_is w t.host.now.account t.known.past c.place.unit false ready.known.past known) has)))
 
     -- what is known makes no difference to what the world says
-    knows_else : (known later : List Known) → record (judged w (record t { known = known }) c) { known = later } ≡ record (judged w t c) { known = later }
-    knows_else known later = by (is_new_unit t.had t.jobs c.place.unit) (version_for w t.host.now c.unit.app)
+    knows_else : (known later : Known) → record (judged w (record t { known = known }) c) { known = later } ≡ record (judged w t c) { known = later }
+    knows_else known later = by (is_new_unit w t c.place.unit) (version_for w t.host.now c.unit.app)
       where
         fit : (b : Bool) (v : Version)
             → record (cond b (with_job (record t { known = known }) c v) (record t { known = known })) { known = later } ≡ record (cond b (with_job t c v) t) { known = later }
@@ -69,7 +89,7 @@ module _ (w : World) where
         )
 
   -- with more known it chooses as it would have
-  knows_more : (t : Choosing) (known : List Known) (c : Candidate) (left : List Candidate) (last : Choosing)
+  knows_more : (t : Choosing) (known : Known) (c : Candidate) (left : List Candidate) (last : Choosing)
       → OffersAll (Chooses w) (record t { known = known }) (c ∷ left) last → OffersAll (Chooses w) t (c ∷ left) last
   knows_more t known c left last h = elim h [
     | inl stopped ↦ inl (stopped.0, stopped.1 ∙ knows_else t c known last.known)
@@ -153,34 +173,30 @@ module _ (w : World) where
         ],
       )
 
-  -- a turn that stopped at a candidate whose application is then known
-  pub turns_go_on : (v u : World) (old now new : Choosing) (from : Place) (left : Option Unjudged) (at : Unjudged) (later : Choosing) → v ≡ w → u ≡ w
+  -- a turn that stopped at a candidate that could not be judged, with more known then
+  pub turns_go_on : (v : World) (old now new : Choosing) (from : Place) (left : Option Unjudged) (at : Unjudged) (more : Known) → v ≡ w
       → Resumes old now from → new.refused ≡ false → OffersAll Takes now (unsent v from) new → new.unjudged ≡ Some at → left ≡ None
-      → later ≡ with_known (record new { unjudged = left }) (record { app = at.app; version = version_for u new.host.now at.app }) → Resumes old later at.place
-  turns_go_on v u old now new from left at later same same_later on kept h some none_left is =
+      → (IsRight w new.host.now new.known → IsRight w new.host.now more) → Resumes old (record new { unjudged = left; known = more }) at.place
+  turns_go_on v old now new from left at more same on kept h some none_left right =
       let turn = one_turn (unsent w from) now new on.ready on.room kept (subst (λ v. OffersAll Takes now (unsent v from) new) same h) in
       elim turn [
         | inl all ↦ absurd (let never : None ≡ Some at = sym all.1 ∙ some in cc)
         | inr stopped ↦ resumes_at stopped
       ]
     where
-      resumes_at : StoppedAt now (unsent w from) new → Resumes old later at.place
+      resumes_at : StoppedAt now (unsent w from) new → Resumes old (record new { unjudged = left; known = more }) at.place
       resumes_at s =
           let before = s.before in
-          let app = s.c.unit.app in
-          let at_is : at ≡ record { place = s.c.place; app = app } = (let same : Some (record { place = s.c.place; app = app }) ≡ Some at = sym (ap (λ (n : Choosing). n.unjudged) s.is) ∙ some in cc) in
-          let more : Known = record { app = app; version = version_for w before.host.now app } in
-          let now_is : later ≡ with_known before more =
-          is
-          ∙ ap (λ u. with_known (record new { unjudged = left }) (record { app = at.app; version = version_for u new.host.now at.app })) same_later
-          ∙ ap (λ (n : Choosing). with_known (record n { unjudged = left }) (record { app = at.app; version = version_for w n.host.now at.app })) s.is
-          ∙ ap (λ (a : Unjudged). with_known (record before { unjudged = left }) (record { app = a.app; version = version_for w before.host.now a.app })) at_is
-          ∙ ap (λ (o : Option Unjudged). with_known (record before { unjudged = o }) more) (none_left ∙ sym s.ready.unjudged) in
+          let at_is : at ≡ unjudged_of s.c = (let same : Some (unjudged_of s.c) ≡ Some at = sym (ap (λ (n : Choosing). n.unjudged) s.is) ∙ some in cc) in
+          let right_then = subst (λ (n : Choosing). IsRight w n.host.now n.known → IsRight w n.host.now more) s.is right in
+          let now_is : record new { unjudged = left; known = more } ≡ record before { known = more } =
+          ap (λ (n : Choosing). record n { unjudged = left; known = more }) s.is
+          ∙ ap (λ (o : Option Unjudged). record before { unjudged = o; known = more }) (none_left ∙ sym s.ready.unjudged) in
           subst (λ (t : Choosing). Resumes old t at.place) (sym now_is)
-          (subst (λ (p : Place). Resumes old (with_known before more) p) (sym (ap (λ (a : Unjudged). a.place) at_is))
+          (subst (λ (p : Place). Resumes old (record before { known = more }) p) (sym (ap (λ (a : Unjudged). a.place) at_is))
           (record {
-            ready = record { known = All-push (IsKnown w before.host.now) before.known more s.ready.known refl; unjudged = s.ready.unjudged };
+            ready = record { known = right_then s.ready.known; unjudged = s.ready.unjudged };
             room = s.room;
-            leads = λ last h. on.leads last (s.leads last (knows_more before (before.known ++ more ∷ []) s.c s.left last
-                (subst (λ cs. OffersAll (Chooses w) (with_known before more) cs last) (resumed w from s.front s.c s.left s.parts) h)));
+            leads = λ last h. on.leads last (s.leads last (knows_more before more s.c s.left last
+                (subst (λ cs. OffersAll (Chooses w) (record before { known = more }) cs last) (resumed w from s.front s.c s.left s.parts) h)));
           }))

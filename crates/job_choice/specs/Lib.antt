@@ -2,3 +2,4 @@ pub mod Alike
 pub mod Chosen
 pub mod Choosing
 pub mod Offered
+pub mod Past

@@ -1,7 +1,5 @@
--- Rule. What is read of a desk before the choice, and what is chosen then.
-use Rattle.std.specs.Prelude.{◌≡◌, ◌⊎◌, ℕ, ◌-◌, ◌==◌, nat_eq, true, false, if◌then◌else◌, List, [], ◌∷◌, ◌++◌, All, None}
-use Rattle.std.specs.List.{list_any}
-use Rattle.sched_book.specs.Desk.{units_of_user}
+-- Rule. What is known before the first offer and behind each stop, and what is chosen then.
+use Rattle.std.specs.Prelude.{◌≡◌, ◌⊎◌, ℕ, ◌-◌, Bool, true, false, not, ◌&&◌, if◌then◌else◌, [], All, None}
 use Rattle.sched_book.specs.Fits.{version_for}
 use Rattle.sched_book.specs.Offers.{unsent, OffersAll}
 use Rattle.sched_book.specs.Places.{sent_on_day}
@@ -11,16 +9,13 @@ use Rattle.sched_book.specs.declared.desk.Flow.TheVariants.{GoOn, Stop}
 use Rattle.sched_book.specs.declared.instance.Place.{Place}
 use Rattle.sched_book.specs.declared.rows.HostRow.{HostRow}
 use Rattle.sched_book.specs.declared.world.World.{World}
-use Rattle.job_choice.specs.Choosing.{is_full, is_new_unit, after_version}
+use Rattle.job_choice.specs.Choosing.{is_full, has_job_of, after_version}
+use Rattle.job_choice.specs.Past.{user_had_at, IsPast}
 use Rattle.job_choice.specs.declared.choosing.Choosing.{Choosing}
 use Rattle.job_choice.specs.declared.choosing.Known.{Known}
+use Rattle.job_choice.specs.declared.choosing.KnownApp.{KnownApp}
 use Rattle.job_choice.specs.declared.choosing.Limits.{Limits}
-use Rattle.texts.specs.SeenSet.{has_seen}
-use Rattle.texts.specs.declared.seen_set.SeenSet.{SeenSet}
-
--- the units that the user had are just these
-abbrev pub HasJust : SeenSet ℕ → List ℕ → Type 0
-HasJust had units = (unit : ℕ) → has_seen nat_eq had unit ≡ list_any (λ u. unit == u) units
+use Rattle.job_choice.specs.declared.past.UserPast.TheVariants.{InPart}
 
 -- the most jobs by each limit, on a day
 abbrev pub limits_on : World → ℕ → HostRow → ℕ → ℕ → Limits
@@ -30,11 +25,13 @@ limits_on w number h held day = record {
   day = h.quota - sent_on_day w number day;
 }
 
+abbrev pub nothing_known : Known
+nothing_known = record { past = InPart []; apps = [] }
+
 -- before the first offer, to a host with these limits that still wants so many seconds
-pub record IsBegun (w : World) (h : HostRow) (limits : Limits) (wanted : ℕ) (t : Choosing) : Type 0 where
+pub record IsBegun (h : HostRow) (limits : Limits) (wanted : ℕ) (t : Choosing) : Type 0 where
   pub host : t.host.now ≡ h
-  pub had : HasJust t.had (units_of_user w h.account)
-  pub known : t.known ≡ []
+  pub known : t.known ≡ nothing_known
   pub limits_are : t.limits ≡ limits
   pub wanted_is : t.wanted ≡ wanted
   pub jobs : t.jobs ≡ []
@@ -44,20 +41,26 @@ abbrev pub first_place : Place
 first_place = record { unit = 1; number = 0 }
 
 -- It is the version that the host runs of the application.
-abbrev pub IsKnown : World → HostRow → Known → Type 0
+abbrev pub IsKnown : World → HostRow → KnownApp → Type 0
 IsKnown w h k = k.version ≡ version_for w h k.app
 
--- what is known is right, and no candidate is left unjudged
+-- what is known for the host is so
+pub record IsRight (w : World) (h : HostRow) (known : Known) : Type 0 where
+  pub past : IsPast w h.account known.past
+  pub apps : All (IsKnown w h) known.apps
+
+-- and no candidate is left unjudged
 pub record IsReady (w : World) (t : Choosing) : Type 0 where
-  pub known : All (IsKnown w t.host.now) t.known
+  pub known : IsRight w t.host.now t.known
   pub unjudged : t.unjudged ≡ None
 
-abbrev pub with_known : Choosing → Known → Choosing
-with_known t k = record t { known = t.known ++ k ∷ [] }
+-- the user had no instance of a workunit, and gets none yet
+abbrev pub is_new_unit : World → Choosing → ℕ → Bool
+is_new_unit w t unit = not (has_job_of t.jobs unit) && not (user_had_at w t.host.now.account unit)
 
--- what a candidate leaves, by the version that the host runs in the world
+-- what a candidate leaves, by the user's past and by the version that the host runs in the world
 abbrev pub judged : World → Choosing → Candidate → Choosing
-judged w t c = if is_new_unit t.had t.jobs c.place.unit then after_version t c (version_for w t.host.now c.unit.app) else t
+judged w t c = if is_new_unit w t c.place.unit then after_version t c (version_for w t.host.now c.unit.app) else t
 
 -- The candidate is judged by the world, whatever is known then, and it stops once it is full.
 abbrev pub Chooses : World → Choosing → Candidate → Flow → Choosing → Type 0

@@ -1,28 +1,21 @@
 //! The choice of jobs over a desk.
 
-ghost use Rattle.std.specs.Prelude.{◌≡◌, ◌-◌, ◌++◌, IfOk, OnOk};
-ghost use Rattle.sched_book.specs.Desk.{units_of_user};
+ghost use Rattle.std.specs.Prelude.{◌≡◌, ◌-◌, false, IsTrue, IfOk, OnOk};
 ghost use Rattle.sched_book.specs.Fits.{version_for};
 ghost use Rattle.sched_book.specs.Trusted.{Trusted};
 ghost use Rattle.job_choice.specs.Chosen.{IsChoice};
-ghost use Rattle.job_choice.specs.Offered.{HasJust, limits_on, IsBegun, IsReady, with_known, HasChosen};
+ghost use Rattle.job_choice.specs.Choosing.{wants_app, can_judge};
+ghost use Rattle.job_choice.specs.Offered.{limits_on, IsRight, IsReady, HasChosen};
 
-use crate::choosing::{Choosing, Known, Limits, finish, is_done};
+use crate::choosing::{Choosing, Known, KnownApp, Limits, Unjudged, begin, finish, is_done};
 use crate::granted::Grant;
+use crate::past::{MOST_LOOKED_AT, look_at};
 use sched_book::limits::MOST_APPS;
 use sched_book::{Desk, HostRow, Moment, Place, Unavailable, Version};
 use std::alloc::Global;
-use texts::{Listed, SeenSet, Text};
 
-/// Asks which workunits the user had.
-fn read_had<D: Desk>(alloc: Global, desk: &mut D, account: u32) -> Result<SeenSet<u32>, Unavailable>
-    ensures reads { D.reads desk.old desk.new }
-    ensures answer { Trusted D.Units desk.old desk.new (
-        IfOk result (λ had. HasJust had (units_of_user (D.world desk.old) account))) }
-{
-    let units = desk.units_of_user(alloc, account)?;
-    Ok(SeenSet::of(alloc, units.as_slice())?)
-}
+/// The most stops of the offers: each finds out about an application, about a workunit, or about all that the user had.
+const MOST_STOPS: usize = MOST_APPS + MOST_LOOKED_AT + 1;
 
 /// Asks what limits the jobs of a host on this day.
 fn read_limits<D: Desk>(
@@ -53,30 +46,6 @@ fn still_wanted(asked: u64, before: u64) -> u64
     asked.saturating_sub(before)
 }
 
-/// Asks for all that the choice needs but the candidates.
-pub(crate) fn begin<'a, D: Desk>(
-    alloc: Global,
-    desk: &mut D,
-    host: &'a HostRow,
-    limits: Limits,
-    wanted: u64,
-) -> Result<Choosing<'a>, Unavailable>
-    ensures reads { D.reads desk.old desk.new }
-    ensures answer { Trusted D.Units desk.old desk.new (IfOk result (IsBegun (D.world desk.old) host.now limits wanted)) }
-{
-    let had = read_had(alloc, desk, host.account)?;
-    Ok(Choosing {
-        host,
-        had,
-        known: Listed::new(alloc),
-        limits,
-        wanted,
-        jobs: Listed::new(alloc),
-        unjudged: None,
-        refused: false,
-    })
-}
-
 /// The version that the host runs of the application of this name; none where there is no such application.
 ///
 /// # Errors
@@ -99,27 +68,57 @@ pub fn version_for<D: Desk>(
     }
 }
 
-/// Asks about the application of this name, which is known from now on.
-fn learn<D: Desk>(
+/// Asks which version the host runs of the application of a candidate, where that is wanted.
+fn learn_app<D: Desk>(
     alloc: Global,
     desk: &mut D,
-    choosing: &mut Choosing,
-    app: Text,
+    host: &HostRow,
+    known: &mut Known,
+    unjudged: Unjudged,
 ) -> Result<(), Unavailable>
     ensures reads { D.reads desk.old desk.new }
-    ensures answer { Trusted D.Units desk.old desk.new (OnOk result (
-        choosing.new ≡ with_known choosing.old (record {
-          app = app;
-          version = version_for (D.world desk.old) choosing.old.host.now app;
-        }))) }
+    ensures answer { Trusted D.Units desk.old desk.new (
+        OnOk result (IsRight (D.world desk.old) host.now known.old → IsRight (D.world desk.old) host.now known.new)) }
+    ensures past { OnOk result (known.new.past ≡ known.old.past) }
+    ensures judged { OnOk result (wants_app known.new unjudged ≡ false) }
 {
-    let version = version_for(alloc, desk, choosing.host, app.as_str())?;
-    choosing.known.push(Known { app, version })?;
+    if !known.wants_app(&unjudged) {
+        return Ok(());
+    }
+    let version = version_for(alloc, desk, host, unjudged.app.as_str())?;
+    known.apps.push(KnownApp {
+        app: unjudged.app,
+        version,
+    })?;
     Ok(())
 }
 
-/// Offers the candidates, unless none could be taken. Where the offers stop at one whose application is unknown,
-/// it asks about that application, and has them go on from there.
+/// Asks what is wanting for a candidate to be judged: whether the user had its workunit, and where not, which version the
+/// host runs of its application.
+fn learn<D: Desk>(
+    alloc: Global,
+    desk: &mut D,
+    host: &HostRow,
+    known: &mut Known,
+    unjudged: Unjudged,
+) -> Result<(), Unavailable>
+    ensures reads { D.reads desk.old desk.new }
+    ensures answer { Trusted D.Units desk.old desk.new (
+        OnOk result (IsRight (D.world desk.old) host.now known.old → IsRight (D.world desk.old) host.now known.new)) }
+    ensures judged { OnOk result (IsTrue (can_judge known.new unjudged)) }
+{
+    look_at(
+        alloc,
+        desk,
+        host.account,
+        &mut known.past,
+        unjudged.place.unit,
+    )?;
+    learn_app(alloc, desk, host, known, unjudged)
+}
+
+/// Offers the candidates, unless none could be taken. Where the offers stop at one that could not be judged, it asks
+/// what is wanting, and has them go on from there.
 ///
 /// It is unavailable where more applications come up than a world may have.
 fn offer_all<D: Desk>(
@@ -135,7 +134,7 @@ fn offer_all<D: Desk>(
         return Ok(());
     }
     let mut from = Place { unit: 1, number: 0 };
-    for _ in 0..=MOST_APPS {
+    for _ in 0..=MOST_STOPS {
         desk.unsent_from(from, choosing)?;
         if choosing.refused {
             return Err(Unavailable);
@@ -144,7 +143,7 @@ fn offer_all<D: Desk>(
             return Ok(());
         };
         from = unjudged.place;
-        learn(alloc, desk, choosing, unjudged.app)?;
+        learn(alloc, desk, choosing.host, &mut choosing.known, unjudged)?;
     }
     Err(Unavailable)
 }
@@ -177,7 +176,7 @@ pub fn choose<D: Desk>(
         }))) }
 {
     let limits = read_limits(alloc, desk, number, host, held, now.day())?;
-    let mut choosing = begin(alloc, desk, host, limits, still_wanted(asked, before))?;
+    let mut choosing = begin(alloc, host, limits, still_wanted(asked, before));
     offer_all(alloc, desk, &mut choosing)?;
     Ok(finish(choosing))
 }

@@ -1,14 +1,17 @@
 //! The taker: what is granted so far, and what it still takes.
 
-ghost use Rattle.std.specs.Prelude.{◌≡◌, nat_le, OnOk};
+ghost use Rattle.std.specs.Prelude.{◌≡◌, nat_le, IfOk, OnOk};
 ghost use Rattle.std.specs.Option.{option_copied};
-ghost use Rattle.job_choice.specs.Choosing.{is_full, has_job_of, is_new_unit, end_word_at, known_of, after};
+ghost use Rattle.job_choice.specs.Choosing.{is_full, has_job_of, known_new, end_word_at, known_of, wants_app, unjudged_of, after};
+ghost use Rattle.job_choice.specs.Offered.{IsBegun};
 
 use crate::fitting::{fits, seconds_at};
 use crate::granted::{Grant, Granted};
+use crate::past::UserPast;
 use rpc_records::EndWord;
 use sched_book::{Candidate, Flow, HostRow, Place, Taker, Version};
-use texts::{Listed, Memory, SeenSet, Text};
+use std::alloc::Global;
+use texts::{Listed, Memory, Text};
 
 /// The most jobs that one reply can grant.
 #[derive(Clone, Copy)]
@@ -23,14 +26,24 @@ pub(crate) struct Limits {
 
 /// What is known of an application for the host.
 #[derive(Drop)]
-pub(crate) struct Known {
+pub(crate) struct KnownApp {
     /// Its name.
     pub(crate) app: Text,
     /// The version that the host runs, where it runs any.
     pub(crate) version: Option<Version>,
 }
 
-/// The candidate at which the offers stopped, since nothing is known of its application yet.
+/// What was found out for the host while candidates were offered.
+#[derive(Drop)]
+pub(crate) struct Known {
+    /// Of which workunits the user had an instance.
+    pub(crate) past: UserPast,
+    /// The applications that were asked for.
+    pub(crate) apps: Listed<KnownApp>,
+}
+
+/// The candidate at which the offers stopped, since it is not known yet whether the user had its workunit, or which version
+/// the host runs of its application.
 #[derive(Drop)]
 pub(crate) struct Unjudged {
     pub(crate) place: Place,
@@ -42,10 +55,7 @@ pub(crate) struct Unjudged {
 #[derive(Drop)]
 pub(crate) struct Choosing<'a> {
     pub(crate) host: &'a HostRow,
-    /// The workunits of which the user had an instance.
-    pub(crate) had: SeenSet<u32>,
-    /// The applications that were asked for so far.
-    pub(crate) known: Listed<Known>,
+    pub(crate) known: Known,
     pub(crate) limits: Limits,
     /// The seconds that are still asked for.
     pub(crate) wanted: u64,
@@ -53,6 +63,24 @@ pub(crate) struct Choosing<'a> {
     pub(crate) unjudged: Option<Unjudged>,
     /// Memory was refused, and an offer is lost.
     pub(crate) refused: bool,
+}
+
+/// One who was offered nothing yet, and knows nothing of the user's past.
+pub(crate) fn begin(alloc: Global, host: &HostRow, limits: Limits, wanted: u64) -> Choosing
+    ensures { IsBegun host.now limits wanted result }
+{
+    Choosing {
+        host,
+        known: Known {
+            past: UserPast::InPart(Listed::new(alloc)),
+            apps: Listed::new(alloc),
+        },
+        limits,
+        wanted,
+        jobs: Listed::new(alloc),
+        unjudged: None,
+        refused: false,
+    }
 }
 
 /// Whether so many jobs are as many as a limit allows.
@@ -112,37 +140,64 @@ fn has_job(jobs: &[Granted], unit: u32) -> bool
     jobs.iter().any(|job| job.place.unit == unit)
 }
 
-/// Whether the user had no instance of the workunit at this place, and gets none yet.
-fn is_new(had: &SeenSet<u32>, jobs: &[Granted], unit: u32) -> bool
-    ensures { result ≡ is_new_unit had.now jobs.now unit }
+/// Whether the user had no instance of the workunit at this place, and gets none yet; `None` where that is not known.
+fn is_new(past: &UserPast, jobs: &[Granted], unit: u32) -> Option<bool>
+    ensures { result ≡ known_new past.now jobs.now unit }
 {
-    !had.has(&unit) && !has_job(jobs, unit)
+    if has_job(jobs, unit) {
+        return Some(false);
+    }
+    past.user_had(unit).map(|had| !had)
 }
 
 /// What is known of the application of this name.
-fn find_known<'a>(known: &'a [Known], app: &str) -> Option<&'a Known>
-    ensures { option_copied result ≡ known_of known.now app.now }
+fn find_known<'a>(apps: &'a [KnownApp], app: &str) -> Option<&'a KnownApp>
+    ensures { option_copied result ≡ known_of apps.now app.now }
 {
-    known.iter().find(|entry| entry.app.is(app))
+    apps.iter().find(|entry| entry.app.is(app))
 }
 
-/// Takes the candidate if the host may have it, or marks it as unjudged where its application is unknown.
+impl Known {
+    /// Whether it is still to be asked which version the host runs of the candidate's application: the user had none of its
+    /// workunit, and nothing is known of that application.
+    pub(crate) fn wants_app(&self, unjudged: &Unjudged) -> bool
+        ensures { result ≡ wants_app self.now unjudged.now }
+    {
+        self.past
+            .user_had(unjudged.place.unit)
+            .is_some_and(|had| !had)
+            && find_known(self.apps.as_slice(), unjudged.app.as_str()).is_none()
+    }
+}
+
+/// The candidate as one that is left unjudged.
+fn unjudged_of(candidate: &Candidate) -> Result<Unjudged, Memory>
+    ensures { IfOk result (λ unjudged. unjudged ≡ unjudged_of candidate.now) }
+{
+    Ok(Unjudged {
+        place: candidate.place,
+        app: candidate.unit.app.clone()?,
+    })
+}
+
+/// Takes the candidate if the host may have it, or marks it as unjudged where too little is known of it.
 fn consider(choosing: &mut Choosing, candidate: &Candidate) -> Result<(), Memory>
     ensures { OnOk result (choosing.new ≡ after choosing.old candidate.now) }
 {
     let unit = &candidate.unit;
-    if !is_new(
-        &choosing.had,
+    let Some(new) = is_new(
+        &choosing.known.past,
         choosing.jobs.as_slice(),
         candidate.place.unit,
-    ) {
+    ) else {
+        choosing.unjudged = Some(unjudged_of(candidate)?);
+        return Ok(());
+    };
+    if !new {
         return Ok(());
     }
-    let Some(known) = find_known(choosing.known.as_slice(), unit.app.as_str()) else {
-        choosing.unjudged = Some(Unjudged {
-            place: candidate.place,
-            app: unit.app.clone()?,
-        });
+    let Some(known) = find_known(choosing.known.apps.as_slice(), unit.app.as_str()) else {
+        choosing.unjudged = Some(unjudged_of(candidate)?);
         return Ok(());
     };
     let Some(version) = known.version.as_ref() else {

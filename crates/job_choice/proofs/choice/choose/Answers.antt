@@ -1,5 +1,5 @@
 -- All that was read and offered is of the world that the desk stood for at the beginning.
-use Rattle.std.proofs.Common.{◌≡◌, ◌∙◌}
+use Rattle.std.proofs.Common.{◌≡◌}
 use Rattle.sched_book.specs.Grant.{Asking}
 use Rattle.job_choice.proofs.Taking.{chosen_at}
 use Rattle.job_choice.proofs.choice.choose.Goals as goal
@@ -8,16 +8,12 @@ pub returns-clause-answer : goal.returns-clause-answer
 returns-clause-answer g c = λ honest kept.
     let laws = g.met.D.Units in
     let asking : Asking = record { number = c.args.number; host = c.args.host.now; before = c.args.before; held = c.args.held; asked = c.args.asked; now = c.args.now } in
-    let honest_begun = laws.stays_honest _ _ c.offer_all.ensures.reads honest in
-    let honest_read = laws.stays_honest _ _ c.begin.ensures.reads honest_begun in
+    let honest_read = laws.stays_honest _ _ c.offer_all.ensures.reads honest in
     let kept_read = laws.stays_kept _ _ c.read_limits.ensures.reads honest_read kept in
-    let kept_begun = laws.stays_kept _ _ c.begin.ensures.reads honest_begun kept_read in
     let same : g.D.Units.world c.read_limits.new.desk ≡ g.D.Units.world c.args.desk.now =
     laws.stays_same _ _ c.read_limits.ensures.reads honest_read kept in
-    let same_later : g.D.Units.world c.begin.new.desk ≡ g.D.Units.world c.args.desk.now =
-    laws.stays_same _ _ c.begin.ensures.reads honest_begun kept_read ∙ same in
     chosen_at (g.D.Units.world c.args.desk.now) asking
-    (g.D.Units.world c.read_limits.new.desk) (g.D.Units.world c.begin.new.desk) c.in_ok-limits.limits c.still_wanted.result c.day.result
-    c.in_ok-choosing.choosing c.offer_all.new.choosing c.finish.result same same_later c.day.ensures
-    (c.in_ok-limits.ensures.answer honest_read kept) c.still_wanted.ensures (c.in_ok-choosing.ensures.answer honest_begun kept_read)
-    (c.in_ok-offer_all.ensures.answer honest kept_begun) c.finish.ensures.jobs c.finish.ensures.end_word
+    (g.D.Units.world c.read_limits.new.desk) c.in_ok-limits.limits c.still_wanted.result c.day.result
+    c.begin-choosing.result c.offer_all.new.choosing c.finish.result same c.day.ensures
+    (c.in_ok-limits.ensures.answer honest_read kept) c.still_wanted.ensures c.begin-choosing.ensures
+    (c.in_ok-offer_all.ensures.answer honest kept_read) c.finish.ensures.jobs c.finish.ensures.end_word

@@ -1,6 +1,7 @@
 -- All that was offered in one turn is of the world that the desk stood for at the beginning.
-use Rattle.std.proofs.Common.{◌≡◌, false, sym, ◌∙◌}
+use Rattle.std.proofs.Common.{◌≡◌, false, sym, ◌∙◌, subst}
 use Rattle.job_choice.specs.Choosing.{is_full}
+use Rattle.job_choice.specs.Offered.{IsRight}
 use Rattle.job_choice.proofs.Turns.{turns_end, turns_go_on}
 use Rattle.job_choice.proofs.choice.offer_all.Goals as goal
 
@@ -27,9 +28,10 @@ loop-preserved g c =
           let kept_offered = laws.stays_kept _ _ c.unsent_from.ensures.reads honest_offered kept_begun in
           let same = laws.stays_same _ _ c.loop.invariant.reads honest_begun kept in
           let same_later = laws.stays_same _ _ c.unsent_from.ensures.reads honest_offered kept_begun ∙ same in
-          turns_go_on (g.D.Units.world c.args.desk.now) (g.D.Units.world c.loop.desk) (g.D.Units.world c.unsent_from.new.self)
-          c.args.choosing.now c.loop.choosing c.unsent_from.new.taker c.loop.from c.take.new.self c.in-Some.unjudged c.learn.new.choosing
-          same same_later (c.loop.invariant.resumes honest_begun kept ready) c.if-choosing.false
+          turns_go_on (g.D.Units.world c.args.desk.now) (g.D.Units.world c.loop.desk)
+          c.args.choosing.now c.loop.choosing c.unsent_from.new.taker c.loop.from c.take.new.self c.in-Some.unjudged c.learn.new.known
+          same (c.loop.invariant.resumes honest_begun kept ready) c.if-choosing.false
           (c.in_ok-unsent_from.ensures.all honest_offered kept_begun) (sym c.take.ensures.value ∙ c.in-Some.is) c.take.ensures.after
-          (c.in_ok-learn.ensures.answer honest kept_offered);
+          (subst (λ w. IsRight w c.unsent_from.new.taker.host.now c.unsent_from.new.taker.known → IsRight w c.unsent_from.new.taker.host.now c.learn.new.known) same_later
+          (c.in_ok-learn.ensures.answer honest kept_offered));
     }

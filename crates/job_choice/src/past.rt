@@ -1,0 +1,167 @@
+//! What is known of a user's past: the workunits of which the user had an instance.
+
+ghost use Rattle.std.specs.Prelude.{◌≡◌, is_some, IsTrue, IfOk, OnOk};
+ghost use Rattle.std.specs.List.{list_any};
+ghost use Rattle.std.specs.Option.{option_copied};
+ghost use Rattle.sched_book.specs.Places.{is_of_user};
+ghost use Rattle.sched_book.specs.Trusted.{Trusted};
+ghost use Rattle.job_choice.specs.Past.{look_of, known_had, may_look, with_look, user_had_at, IsPast};
+ghost use Rattle.job_choice.specs.declared.past.UserPast.TheVariants.{Whole};
+
+use sched_book::{Desk, Instance, Unavailable};
+use std::alloc::Global;
+use texts::{Listed, Memory, SeenSet};
+
+/// The most workunits that are looked at one by one. Behind them the desk is asked for all that the user had.
+pub(crate) const MOST_LOOKED_AT: usize = 8;
+
+/// What was found of a workunit that was looked at by itself.
+#[derive(Drop)]
+pub(crate) struct LookedAt {
+    /// The place of the workunit.
+    pub(crate) unit: u32,
+    /// The user had an instance of it.
+    pub(crate) had: bool,
+}
+
+/// What is known of the workunits of which the user had an instance.
+#[derive(Drop)]
+pub(crate) enum UserPast {
+    /// It is known of the workunits that were looked at.
+    InPart(Listed<LookedAt>),
+    /// It is known of every workunit: these are all that the user had.
+    Whole(SeenSet<u32>),
+}
+
+/// The look at the workunit at this place, where there is one.
+fn find_look(looks: &[LookedAt], unit: u32) -> Option<&LookedAt>
+    ensures { option_copied result ≡ look_of looks.now unit }
+{
+    looks.iter().find(|look| look.unit == unit)
+}
+
+impl UserPast {
+    /// Whether the user had an instance of the workunit at this place; `None` where that is not known.
+    pub(crate) fn user_had(&self, unit: u32) -> Option<bool>
+        ensures { result ≡ known_had self.now unit }
+    {
+        match self {
+            UserPast::InPart(looks) => find_look(looks.as_slice(), unit).map(|look| look.had),
+            UserPast::Whole(had) => Some(had.has(&unit)),
+        }
+    }
+
+    /// Whether one more workunit may be looked at by itself.
+    fn may_look(&self) -> bool
+        ensures { result ≡ may_look self.now }
+    {
+        match self {
+            UserPast::InPart(looks) => looks.len() < MOST_LOOKED_AT,
+            UserPast::Whole(_) => false,
+        }
+    }
+
+    /// Takes note of one more look, where not all is known.
+    fn note(&mut self, look: LookedAt) -> Result<(), Memory>
+        ensures { OnOk result (self.new ≡ with_look self.old look) }
+    {
+        match self {
+            UserPast::InPart(looks) => looks.push(look),
+            UserPast::Whole(_) => Ok(()),
+        }
+    }
+}
+
+/// Whether the instance was given to a host of the user.
+fn is_of_user<D: Desk>(
+    alloc: Global,
+    desk: &mut D,
+    account: u32,
+    instance: &Instance,
+) -> Result<bool, Unavailable>
+    ensures reads { D.reads desk.old desk.new }
+    ensures answer { Trusted D.Units desk.old desk.new (
+        IfOk result (λ is. is ≡ is_of_user (D.world desk.old).hosts account instance.now)) }
+{
+    let Some(owner) = instance.owner.as_ref() else {
+        return Ok(false);
+    };
+    match desk.host_by_id(alloc, owner.host)? {
+        None => Ok(false),
+        Some(host) => Ok(host.account == account),
+    }
+}
+
+/// Whether one of the instances was given to a host of the user.
+fn is_any_of_user<D: Desk>(
+    alloc: Global,
+    desk: &mut D,
+    account: u32,
+    instances: &[Instance],
+) -> Result<bool, Unavailable>
+    ensures reads { D.reads desk.old desk.new }
+    ensures answer { Trusted D.Units desk.old desk.new (
+        IfOk result (λ any. any ≡ list_any (is_of_user (D.world desk.old).hosts account) instances.now)) }
+{
+    for instance in instances {
+        if is_of_user(alloc, desk, account, instance)? {
+            return Ok(true);
+        }
+    }
+    Ok(false)
+}
+
+/// Whether the user had an instance of the workunit at this place.
+fn user_had<D: Desk>(
+    alloc: Global,
+    desk: &mut D,
+    account: u32,
+    unit: u32,
+) -> Result<bool, Unavailable>
+    ensures reads { D.reads desk.old desk.new }
+    ensures answer { Trusted D.Units desk.old desk.new (
+        IfOk result (λ had. had ≡ user_had_at (D.world desk.old) account unit)) }
+{
+    let instances = desk.instances_of(alloc, unit)?;
+    is_any_of_user(alloc, desk, account, instances.as_slice())
+}
+
+/// All workunits of which the user had an instance.
+fn units_had<D: Desk>(
+    alloc: Global,
+    desk: &mut D,
+    account: u32,
+) -> Result<SeenSet<u32>, Unavailable>
+    ensures reads { D.reads desk.old desk.new }
+    ensures answer { Trusted D.Units desk.old desk.new (
+        IfOk result (λ had. IsPast (D.world desk.old) account (Whole had))) }
+{
+    let units = desk.units_of_user(alloc, account)?;
+    Ok(SeenSet::of(alloc, units.as_slice())?)
+}
+
+/// Finds out whether the user had the workunit at this place, where that is not known: by the hosts of its instances, or,
+/// once [`MOST_LOOKED_AT`] workunits were looked at, by the list of all that the user had.
+pub(crate) fn look_at<D: Desk>(
+    alloc: Global,
+    desk: &mut D,
+    account: u32,
+    past: &mut UserPast,
+    unit: u32,
+) -> Result<(), Unavailable>
+    ensures reads { D.reads desk.old desk.new }
+    ensures answer { Trusted D.Units desk.old desk.new (
+        OnOk result (IsPast (D.world desk.old) account past.old → IsPast (D.world desk.old) account past.new)) }
+    ensures known { OnOk result (IsTrue (is_some (known_had past.new unit))) }
+{
+    if past.user_had(unit).is_some() {
+        return Ok(());
+    }
+    if !past.may_look() {
+        *past = UserPast::Whole(units_had(alloc, desk, account)?);
+        return Ok(());
+    }
+    let had = user_had(alloc, desk, account, unit)?;
+    past.note(LookedAt { unit, had })?;
+    Ok(())
+}
