@@ -1,6 +1,6 @@
 -- What the desk says of an application by its name, and what is known of it.
-use Rattle.std.proofs.Common.{◌≡◌, ℕ, Bool, true, false, cond, not, List, [], ◌∷◌, ◌++◌, Option, Some, None, All, sym, refl, ap, ◌∙◌}
-use Rattle.std.specs.Prelude.{◌&&◌, ◌||◌, find, is_none, option_map, option_and_then}
+use Rattle.std.proofs.Common.{◌≡◌, ℕ, Bool, true, false, cond, List, [], ◌∷◌, ◌++◌, Option, Some, None, All, sym, refl, ap, ◌∙◌}
+use Rattle.std.specs.Prelude.{◌||◌, find, is_some, option_map, option_and_then}
 use Rattle.std.specs.List.{list_any}
 use Rattle.std.specs.Option.{option_or}
 use Rattle.std.specs.Str.{bytes_eq}
@@ -9,19 +9,16 @@ use Rattle.std.proofs.lemmas.List.Folds.{find-append}
 use Rattle.std.proofs.lemmas.Slice.Eq.{bytes_eq-Decides}
 use Rattle.sched_book.specs.Desk.{placed_at, app_by_name}
 use Rattle.sched_book.specs.Fits.{version_among, version_at, version_for}
-use Rattle.sched_book.specs.Places.{option_any, nth, place_where}
+use Rattle.sched_book.specs.Places.{nth, place_where}
 use Rattle.sched_book.specs.declared.desk.Placed.{Placed}
 use Rattle.sched_book.specs.declared.rows.App.{App}
 use Rattle.sched_book.specs.declared.rows.HostRow.{HostRow}
 use Rattle.sched_book.specs.declared.rows.Version.{Version}
 use Rattle.sched_book.specs.declared.world.World.{World}
 use Rattle.sched_book.proofs.PlacesOf.{find-is}
-use Rattle.job_choice.specs.Choosing.{known_of, wants_app}
-use Rattle.job_choice.specs.Past.{known_had}
+use Rattle.job_choice.specs.Choosing.{known_of, known_runs}
 use Rattle.job_choice.specs.Offered.{IsKnown}
-use Rattle.job_choice.specs.declared.choosing.Known.{Known}
 use Rattle.job_choice.specs.declared.choosing.KnownApp.{KnownApp}
-use Rattle.job_choice.specs.declared.choosing.Unjudged.{Unjudged}
 
 -- Versions.
 module _ (versions : List Version) (platforms : List (List ℕ)) (name : List ℕ) where
@@ -82,20 +79,19 @@ known_is w h name (y ∷ ys) k right found = by (bytes_eq y.app name) refl (know
         ap (λ (k : KnownApp). k.version) (sym same) ∙ All-head (IsKnown w h) y ys right ∙ ap (version_for w h) ((bytes_eq-Decides y.app name).0 is)
     by false is further found = further found
 
--- of an application that was asked for there is something known
-pub known_more : (known : List KnownApp) (k : KnownApp) → is_none (known_of (known ++ k ∷ []) k.app) ≡ false
-known_more known k =
-    ap is_none (find-append (λ (e : KnownApp). bytes_eq e.app k.app) known (k ∷ []))
-    ∙ by (known_of known k.app) (bytes_eq k.app k.app) ((bytes_eq-Decides k.app k.app).1 refl)
+-- of an application that was asked for it is known whether the host runs it
+pub runs_more : (known more : List KnownApp) (app : List ℕ) (version : Option Version) → more ≡ known ++ (record { app = app; version = version }) ∷ []
+    → known_runs known app ≡ None → known_runs more app ≡ Some (is_some version)
+runs_more known more app version added unknown =
+    let k : KnownApp = record { app = app; version = version } in
+    ap (λ ks. known_runs ks app) added
+    ∙ ap runs (find-append (λ (e : KnownApp). bytes_eq e.app app) known (k ∷ []))
+    ∙ by (known_of known app) (bytes_eq app app) unknown ((bytes_eq-Decides app app).1 refl)
   where
-    by : (o : Option KnownApp) (b : Bool) → b ≡ true → is_none (option_or o (cond b (Some k) None)) ≡ false
-    by (Some e) b same = refl
-    by None true same = refl
-    by None false same = absurd cc
+    runs : Option KnownApp → Option Bool
+    runs o = option_map (λ (e : KnownApp). is_some e.version) o
 
-pub wants_none : (known : Known) (u : Unjudged) → is_none (known_of known.apps u.app) ≡ false → wants_app known u ≡ false
-wants_none known u none = by (option_any not (known_had known.past u.place.unit)) (is_none (known_of known.apps u.app)) none
-  where
-    by : (b c : Bool) → c ≡ false → (b && c) ≡ false
-    by true c none = none
-    by false c none = refl
+    by : (o : Option KnownApp) (b : Bool) → runs o ≡ None → b ≡ true → runs (option_or o (cond b (Some (record { app = app; version = version })) None)) ≡ Some (is_some version)
+    by (Some e) b unknown same = absurd (let never : Some (is_some e.version) ≡ None = unknown in cc)
+    by None true unknown same = refl
+    by None false unknown same = absurd cc

@@ -2,7 +2,7 @@
 use Rattle.std.proofs.Common.{◌≡◌, inl, inr, ℕ, ◌+◌, ◌-◌, ◌/◌, Bool, true, false, cond, not, eqb, List, [], ◌∷◌, ◌++◌, length, Option, Some, None, All, sym, refl, ap, ◌∙◌, subst, arith}
 use Rattle.std.specs.Prelude.{◌&&◌, ◌||◌, nat_le, is_none, filter, option_map, option_and_then, unwrap_or, sum_by, Contains}
 use Rattle.std.specs.List.{list_all}
-use Rattle.std.proofs.lemmas.Bool.{and_parts, and_from, and_cases, or_parts, or_left, both_ways, not-true, not-false, leb-false}
+use Rattle.std.proofs.lemmas.Bool.{and_parts, and_from, or_parts, or_left, both_ways, leb-false}
 use Rattle.std.proofs.lemmas.List.{length-map, map-append}
 use Rattle.std.proofs.lemmas.List.Elements.{All-nil, All-push}
 use Rattle.std.proofs.lemmas.List.Sums.{sum_by_push}
@@ -21,7 +21,7 @@ use Rattle.sched_book.specs.declared.world.World.{World}
 use Rattle.sched_book.proofs.Newest.{behind, front_of}
 use Rattle.job_choice.specs.Chosen.{places_of, IsJob, IsChoice}
 use Rattle.job_choice.specs.Choosing.{is_full, end_word_at, has_job_of, with_job, after_version}
-use Rattle.job_choice.specs.Offered.{limits_on, IsBegun, IsKnown, IsRight, IsReady, HasChosen, is_new_unit, judged, Chooses, first_place}
+use Rattle.job_choice.specs.Offered.{limits_on, IsBegun, IsKnown, IsRight, IsReady, HasChosen, judged, Chooses, first_place}
 use Rattle.job_choice.specs.Past.{user_had_at}
 use Rattle.job_choice.specs.declared.choosing.Choosing.{Choosing}
 use Rattle.job_choice.specs.declared.choosing.Known.{Known}
@@ -150,22 +150,18 @@ module _ (w : World) (q : Asking) where
           absurd (both_ways (unit_fits w q.host here.book) (sym (fits_here o is) ∙ misfit)
           (and_parts (unit_fits w q.host here.book) (not (user_had w q.host.account here.book)) (sym eligible_is ∙ eligible)).0))
 
-      not_new : is_new_unit w t c.place.unit ≡ false → IsOn t left
-      not_new old = left_out (λ eligible.
-          let new = (and_parts (unit_fits w q.host here.book) (not (user_had w q.host.account here.book)) (sym eligible_is ∙ eligible)).1 in
-          elim (and_cases (not (has_job_of t.jobs c.place.unit)) (not (user_had_at w t.host.now.account c.place.unit)) old) [
-            | inl has ↦ sym (has_job-is t.jobs c.place.unit) ∙ not-false (has_job_of t.jobs c.place.unit) has
-            | inr had ↦ absurd (both_ways (not (user_had w q.host.account here.book)) (ap not (sym had_here) ∙ had) new)
-          ])
+      had_one : user_had_at w t.host.now.account c.place.unit ≡ true → IsOn t left
+      had_one had = left_out (λ eligible.
+          absurd (both_ways (not (user_had w q.host.account here.book)) (ap not (sym had_here ∙ had))
+          (and_parts (unit_fits w q.host here.book) (not (user_had w q.host.account here.book)) (sym eligible_is ∙ eligible)).1))
 
       -- it is taken
-      taken_in : (v : Version) → version_for w t.host.now c.unit.app ≡ Some v → is_full t ≡ false → is_new_unit w t c.place.unit ≡ true
-          → fits t.host.now c.unit (Some v) ≡ true → IsOn (with_job t c v) left
-      taken_in v is room new fit =
+      taken_in : (v : Version) → version_for w t.host.now c.unit.app ≡ Some v → is_full t ≡ false → has_job_of t.jobs c.place.unit ≡ false
+          → fits t.host.now c.unit (Some v) ≡ true → user_had_at w t.host.now.account c.place.unit ≡ false → IsOn (with_job t c v) left
+      taken_in v is room has fit had =
           let jobs = places_of t.jobs in
           let job : Granted = record { place = c.place; estimate = estimate c.unit.rsc_fpops_est t.host.now.p_fpops; version = v } in
           let pushed : places_of (t.jobs ++ job ∷ []) ≡ jobs ++ c.place ∷ [] = map-append (λ (j : Granted). j.place) t.jobs (job ∷ []) in
-          let news = and_parts (not (has_job_of t.jobs c.place.unit)) (not (user_had_at w t.host.now.account c.place.unit)) new in
           let parts = or_parts (is_enough w q jobs || fills_reply w (length jobs) || fills_progress w q (length jobs)) (fills_day w q (length jobs)) (sym (full_is t (c ∷ left) on) ∙ room) in
           let more = or_parts (is_enough w q jobs || fills_reply w (length jobs)) (fills_progress w q (length jobs)) parts.0 in
           let most = or_parts (is_enough w q jobs) (fills_reply w (length jobs)) more.0 in
@@ -186,8 +182,8 @@ module _ (w : World) (q : Asking) where
             });
             taken = subst (λ ps. AreTaken w q ps left) (sym pushed)
                 (taken_on w q jobs c left on.taken
-                (eligible_is ∙ and_from (unit_fits w q.host here.book) (not (user_had w q.host.account here.book)) (sym (fits_here (Some v) is) ∙ fit) (ap not (sym had_here) ∙ news.1))
-                (sym (has_job-is t.jobs c.place.unit) ∙ not-true (has_job_of t.jobs c.place.unit) news.0)
+                (eligible_is ∙ and_from (unit_fits w q.host here.book) (not (user_had w q.host.account here.book)) (sym (fits_here (Some v) is) ∙ fit) (ap not (sym had_here ∙ had)))
+                (sym (has_job-is t.jobs c.place.unit) ∙ has)
                 (leb-false q.asked (seconds_of w q jobs) most.0)
                 (leb-false w.settings.max_wus_to_send (length jobs) most.1)
                 (leb-false w.settings.max_wus_in_progress (q.held + length jobs) more.1)
@@ -198,24 +194,26 @@ module _ (w : World) (q : Asking) where
           remainder now asked before sum one e more h k l = omega arith
 
       step : is_full t ≡ false → IsOn (judged w t c) left
-      step room = by (is_new_unit w t c.place.unit) (version_for w t.host.now c.unit.app) refl refl
+      step room = by (has_job_of t.jobs c.place.unit) (version_for w t.host.now c.unit.app) refl refl
         where
-          with_version : (v : Version) → version_for w t.host.now c.unit.app ≡ Some v → (fit : Bool)
-              → is_new_unit w t c.place.unit ≡ true → fits t.host.now c.unit (Some v) ≡ fit
-              → IsOn (cond fit (with_job t c v) t) left
-          with_version v is true new fit = taken_in v is room new fit
-          with_version v is false new fit = unfit (Some v) is fit
+          by_past : (v : Version) → version_for w t.host.now c.unit.app ≡ Some v → has_job_of t.jobs c.place.unit ≡ false → (fit had : Bool)
+              → fits t.host.now c.unit (Some v) ≡ fit → user_had_at w t.host.now.account c.place.unit ≡ had
+              → IsOn (cond fit (cond had t (with_job t c v)) t) left
+          by_past v is has false had fit past = unfit (Some v) is fit
+          by_past v is has true true fit past = had_one past
+          by_past v is has true false fit past = taken_in v is room has fit past
 
-          by : (new : Bool) (o : Option Version) → is_new_unit w t c.place.unit ≡ new → version_for w t.host.now c.unit.app ≡ o
-              → IsOn (cond new (after_version t c o) t) left
-          by false o old is = not_new old
-          by true None new is = unfit None is (and_false (nat_le c.unit.rsc_memory_bound t.host.now.m_nbytes && nat_le c.unit.rsc_disk_bound t.host.now.d_free
+          by : (has : Bool) (o : Option Version) → has_job_of t.jobs c.place.unit ≡ has → version_for w t.host.now c.unit.app ≡ o
+              → IsOn (cond has t (after_version t c (Some (user_had_at w t.host.now.account c.place.unit)) o)) left
+          by true o has is = left_out (λ eligible. sym (has_job-is t.jobs c.place.unit) ∙ has)
+          by false None has is = unfit None is (and_false (nat_le c.unit.rsc_memory_bound t.host.now.m_nbytes && nat_le c.unit.rsc_disk_bound t.host.now.d_free
               && nat_le (estimate c.unit.rsc_fpops_est t.host.now.p_fpops) c.unit.delay_bound))
             where
               and_false : (b : Bool) → (b && false) ≡ false
               and_false true = refl
               and_false false = refl
-          by true (Some v) new is = with_version v is (fits t.host.now c.unit (Some v)) new refl
+          by false (Some v) has is =
+              by_past v is has (fits t.host.now c.unit (Some v)) (user_had_at w t.host.now.account c.place.unit) refl refl
 
   -- whatever is known
   knowing : (t : Choosing) (known : Known) (left : List Candidate) → IsOn t left → IsOn (record t { known = known }) left

@@ -1,6 +1,6 @@
 -- Offers in turns, each up to a candidate that could not be judged, are one choice among all candidates.
-use Rattle.std.proofs.Common.{◌≡◌, ◌⊎◌, inl, inr, Bool, true, false, cond, not, List, [], ◌∷◌, ◌++◌, Option, Some, None, sym, refl, ap, ◌∙◌, subst}
-use Rattle.std.specs.Prelude.{◌&&◌, ◌||◌, is_some, option_map}
+use Rattle.std.proofs.Common.{◌≡◌, ◌⊎◌, inl, inr, Bool, true, false, cond, List, [], ◌∷◌, ◌++◌, Option, Some, None, sym, refl, ap, ◌∙◌, subst}
+use Rattle.std.specs.Prelude.{◌||◌, is_some}
 use Rattle.std.proofs.lemmas.Bool.{both_ways}
 use Rattle.sched_book.specs.Fits.{fits, version_for}
 use Rattle.sched_book.specs.Offers.{unsent, OffersAll}
@@ -10,8 +10,8 @@ use Rattle.sched_book.specs.declared.desk.Flow.TheVariants.{GoOn, Stop}
 use Rattle.sched_book.specs.declared.instance.Place.{Place}
 use Rattle.sched_book.specs.declared.rows.Version.{Version}
 use Rattle.sched_book.specs.declared.world.World.{World}
-use Rattle.job_choice.specs.Choosing.{is_full, has_job_of, known_of, unjudged_of, unjudged_at, with_job, after_version, after_known, after_new, after, Takes}
-use Rattle.job_choice.specs.Offered.{first_place, IsRight, IsReady, is_new_unit, judged, Chooses, HasChosen}
+use Rattle.job_choice.specs.Choosing.{is_full, has_job_of, known_of, unjudged_of, unjudged_at, with_job, after_past, after_version, after_app, after, Takes}
+use Rattle.job_choice.specs.Offered.{first_place, IsRight, IsReady, judged, Chooses, HasChosen}
 use Rattle.job_choice.specs.Past.{known_had, user_had_at}
 use Rattle.job_choice.specs.declared.choosing.Choosing.{Choosing}
 use Rattle.job_choice.specs.declared.choosing.Known.{Known}
@@ -25,60 +25,65 @@ use Rattle.job_choice.proofs.Taking.{goes}
 module _ (w : World) where
   -- A candidate, as it is left by one who is ready.
   module _ (t : Choosing) (c : Candidate) where
+    abbrev had : Bool
+    had = user_had_at w t.host.now.account c.place.unit
+
     stays_ready : IsReady w t → IsReady w (judged w t c)
-    stays_ready ready = by (is_new_unit w t c.place.unit) (version_for w t.host.now c.unit.app)
+    stays_ready ready = by (has_job_of t.jobs c.place.unit) (version_for w t.host.now c.unit.app)
       where
-        fit : (b : Bool) (v : Version) → IsReady w (cond b (with_job t c v) t)
-        fit true v = record { known = ready.known; unjudged = ready.unjudged }
-        fit false v = ready
+        fit : (fits has_had : Bool) (v : Version) → IsReady w (cond fits (cond has_had t (with_job t c v)) t)
+        fit true true v = ready
+        fit true false v = record { known = ready.known; unjudged = ready.unjudged }
+        fit false has_had v = ready
 
-        by : (b : Bool) (o : Option Version) → IsReady w (cond b (after_version t c o) t)
-        by false o = ready
-        by true None = ready
-        by true (Some v) = fit (fits t.host.now c.unit (Some v)) v
-
-    -- a workunit is new where it has no job and the user had none of it
-    new_is : (has had : Bool) → had ≡ user_had_at w t.host.now.account c.place.unit → has_job_of t.jobs c.place.unit ≡ has
-        → is_new_unit w t c.place.unit ≡ (not has && not had)
-    new_is has had so is = ap (λ h. not h && not (user_had_at w t.host.now.account c.place.unit)) is ∙ ap (λ h. not has && not h) (sym so)
+        by : (has : Bool) (o : Option Version) → IsReady w (cond has t (after_version t c (Some had) o))
+        by true o = ready
+        by false None = ready
+        by false (Some v) = fit (fits t.host.now c.unit (Some v)) had v
 
     -- it is judged as the world says, or not at all
     judged_or_not : (new : Choosing) → IsReady w t → new ≡ after t c → (new ≡ judged w t c) ⊎ (new ≡ unjudged_at t c)
-    judged_or_not new ready is =
-        by (has_job_of t.jobs c.place.unit) (known_had t.known.past c.place.unit) (known_of t.known.apps c.unit.app) refl refl refl is
+    judged_or_not new ready is = by (has_job_of t.jobs c.place.unit) (known_of t.known.apps c.unit.app) refl is
       where
-        as_judged : Bool → Choosing
-        as_judged b = cond b (after_version t c (version_for w t.host.now c.unit.app)) t
+        known_past : Option Bool
+        known_past = known_had t.known.past c.place.unit
 
-        by : (has : Bool) (o : Option Bool) (k : Option KnownApp)
-            → has_job_of t.jobs c.place.unit ≡ has → known_had t.known.past c.place.unit ≡ o → known_of t.known.apps c.unit.app ≡ k
-            → new ≡ after_new t c (cond has (Some false) (option_map not o))
-            → (new ≡ as_judged (is_new_unit w t c.place.unit)) ⊎ (new ≡ unjudged_at t c)
-        by true o k has known found is =
-            inl (is ∙ sym (ap (λ h. as_judged (not h && not (user_had_at w t.host.now.account c.place.unit))) has))
-        by false None k has known found is = inr is
-        by false (Some true) k has known found is =
-            inl (is ∙ sym (ap as_judged (new_is false true (had_is w t.host.now.account t.known.past c.place.unit true ready.known.past known) has)))
-        by false (Some false) None has known found is = inr (is ∙ ap (after_known t c) found)
-        by false (Some false) (Some k) has known found is = inl (is
-            ∙ ap (after_known t c) found
-            ∙ ap (after_version t c) (known_is w t.host.now c.unit.app t.known.apps k ready.known.apps found)
-            ∙ sym (ap as_judged (new_is false false (had_is w t.host.now.account t.known.past c.place.unit false ready.known.past known) has)))
+        by_past : (v : Version) (fit : Bool) (o : Option Bool) → known_past ≡ o → new ≡ cond fit (after_past t c v o) t
+            → (new ≡ cond fit (cond had t (with_job t c v)) t) ⊎ (new ≡ unjudged_at t c)
+        by_past v false o known is = inl is
+        by_past v true None known is = inr is
+        by_past v true (Some some) known is =
+            inl (is ∙ ap (λ h. cond h t (with_job t c v)) (had_is w t.host.now.account t.known.past c.place.unit some ready.known.past known))
+
+        by_version : (o : Option Version) → new ≡ after_version t c known_past o → (new ≡ after_version t c (Some had) o) ⊎ (new ≡ unjudged_at t c)
+        by_version None is = inl is
+        by_version (Some v) is = by_past v (fits t.host.now c.unit (Some v)) known_past refl is
+
+        by : (has : Bool) (k : Option KnownApp) → known_of t.known.apps c.unit.app ≡ k → new ≡ cond has t (after_app t c known_past k)
+            → (new ≡ cond has t (after_version t c (Some had) (version_for w t.host.now c.unit.app))) ⊎ (new ≡ unjudged_at t c)
+        by true k found is = inl is
+        by false None found is = inr is
+        by false (Some k) found is = by_version (version_for w t.host.now c.unit.app)
+            (is ∙ ap (after_version t c known_past) (known_is w t.host.now c.unit.app t.known.apps k ready.known.apps found))
 
     -- what is known makes no difference to what the world says
     knows_else : (known later : Known) → record (judged w (record t { known = known }) c) { known = later } ≡ record (judged w t c) { known = later }
-    knows_else known later = by (is_new_unit w t c.place.unit) (version_for w t.host.now c.unit.app)
+    knows_else known later = by (has_job_of t.jobs c.place.unit) (version_for w t.host.now c.unit.app)
       where
-        fit : (b : Bool) (v : Version)
-            → record (cond b (with_job (record t { known = known }) c v) (record t { known = known })) { known = later } ≡ record (cond b (with_job t c v) t) { known = later }
-        fit true v = refl
-        fit false v = refl
+        other : Choosing
+        other = record t { known = known }
 
-        by : (b : Bool) (o : Option Version)
-            → record (cond b (after_version (record t { known = known }) c o) (record t { known = known })) { known = later } ≡ record (cond b (after_version t c o) t) { known = later }
-        by false o = refl
-        by true None = refl
-        by true (Some v) = fit (fits t.host.now c.unit (Some v)) v
+        fit : (fits has_had : Bool) (v : Version)
+            → record (cond fits (cond has_had other (with_job other c v)) other) { known = later } ≡ record (cond fits (cond has_had t (with_job t c v)) t) { known = later }
+        fit true true v = refl
+        fit true false v = refl
+        fit false has_had v = refl
+
+        by : (has : Bool) (o : Option Version)
+            → record (cond has other (after_version other c (Some had) o)) { known = later } ≡ record (cond has t (after_version t c (Some had) o)) { known = later }
+        by true o = refl
+        by false None = refl
+        by false (Some v) = fit (fits t.host.now c.unit (Some v)) had v
 
     chooses : (flow : Flow) (new : Choosing) → IsReady w t → flow ≡ cond (is_some new.unjudged || is_full new) Stop GoOn → new ≡ judged w t c
         → Chooses w t c flow new

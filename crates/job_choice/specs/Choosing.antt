@@ -1,5 +1,5 @@
 -- Rule. What one who chooses jobs does with each candidate, and when it stops.
-use Rattle.std.specs.Prelude.{◌≡◌, ◌⊎◌, ℕ, ◌-◌, Bool, false, not, ◌&&◌, ◌||◌, ◌==◌, nat_le, if◌then◌else◌, IsTrue, List, [], ◌∷◌, ◌++◌, length, find, Option, Some, None, is_some, is_none, option_map}
+use Rattle.std.specs.Prelude.{◌≡◌, ◌⊎◌, ℕ, ◌-◌, Bool, not, ◌||◌, ◌==◌, nat_le, if◌then◌else◌, IsTrue, List, [], ◌∷◌, ◌++◌, length, find, Option, Some, None, is_some, option_map}
 use Rattle.std.specs.List.{list_any}
 use Rattle.std.specs.Str.{bytes_eq}
 use Rattle.rpc_records.specs.declared.reply.EndWord.{EndWord}
@@ -16,7 +16,6 @@ use Rattle.job_choice.specs.declared.choosing.Known.{Known}
 use Rattle.job_choice.specs.declared.choosing.KnownApp.{KnownApp}
 use Rattle.job_choice.specs.declared.choosing.Unjudged.{Unjudged}
 use Rattle.job_choice.specs.declared.granted.Granted.{Granted}
-use Rattle.job_choice.specs.declared.past.UserPast.{UserPast}
 
 -- the seconds are granted, or a limit is reached
 abbrev pub is_full : Choosing → Bool
@@ -33,21 +32,18 @@ end_word_at t =
 abbrev pub has_job_of : List Granted → ℕ → Bool
 has_job_of jobs unit = list_any (λ j. j.place.unit == unit) jobs
 
--- the user had no instance of a workunit and gets none yet, where that is known
-abbrev pub known_new : UserPast → List Granted → ℕ → Option Bool
-known_new past jobs unit = if has_job_of jobs unit then Some false else option_map not (known_had past unit)
-
 -- what is known of the application of this name
 abbrev pub known_of : List KnownApp → List ℕ → Option KnownApp
 known_of apps app = find (λ k. bytes_eq k.app app) apps
 
--- the user had none of a candidate's workunit, and nothing is known of its application
-abbrev pub wants_app : Known → Unjudged → Bool
-wants_app known u = option_any not (known_had known.past u.place.unit) && is_none (known_of known.apps u.app)
+-- whether the host runs a version of the application of this name, where it is known
+abbrev pub known_runs : List KnownApp → List ℕ → Option Bool
+known_runs apps app = option_map (λ k. is_some k.version) (known_of apps app)
 
--- enough is known for a candidate to be judged
+-- A candidate can be judged: it is known whether the host runs its application, and where it does, whether the user had
+-- its workunit.
 abbrev pub can_judge : Known → Unjudged → Bool
-can_judge known u = is_some (known_had known.past u.place.unit) && not (wants_app known u)
+can_judge known u = option_any (λ runs. not runs || is_some (known_had known.past u.place.unit)) (known_runs known.apps u.app)
 
 abbrev pub with_job : Choosing → Candidate → Version → Choosing
 with_job t c v = record t {
@@ -61,23 +57,26 @@ unjudged_of c = record { place = c.place; app = c.unit.app }
 abbrev pub unjudged_at : Choosing → Candidate → Choosing
 unjudged_at t c = record t { unjudged = Some (unjudged_of c) }
 
--- a candidate of a new workunit is taken where it fits
-abbrev pub after_version : Choosing → Candidate → Option Version → Choosing
-after_version t c None = t
-after_version t c (Some v) = if fits t.host.now c.unit (Some v) then with_job t c v else t
+-- a candidate that fits is taken where the user had none of its workunit
+abbrev pub after_past : Choosing → Candidate → Version → Option Bool → Choosing
+after_past t c v None = unjudged_at t c
+after_past t c v (Some had) = if had then t else with_job t c v
 
--- a candidate of a new workunit is judged by what is known of its application
-abbrev pub after_known : Choosing → Candidate → Option KnownApp → Choosing
-after_known t c None = unjudged_at t c
-after_known t c (Some k) = after_version t c k.version
+-- by whether the user had its workunit, and by the version that the host runs
+abbrev pub after_version : Choosing → Candidate → Option Bool → Option Version → Choosing
+after_version t c had None = t
+after_version t c had (Some v) = if fits t.host.now c.unit (Some v) then after_past t c v had else t
 
--- by whether the workunit is new
-abbrev pub after_new : Choosing → Candidate → Option Bool → Choosing
-after_new t c None = unjudged_at t c
-after_new t c (Some new) = if new then after_known t c (known_of t.known.apps c.unit.app) else t
+-- the same, by what is known of its application
+abbrev pub after_app : Choosing → Candidate → Option Bool → Option KnownApp → Choosing
+after_app t c had None = unjudged_at t c
+after_app t c had (Some k) = after_version t c had k.version
 
+-- a candidate of whose workunit there is no job yet is judged by what is known
 abbrev pub after : Choosing → Candidate → Choosing
-after t c = after_new t c (known_new t.known.past t.jobs c.place.unit)
+after t c =
+    if has_job_of t.jobs c.place.unit then t
+    else after_app t c (known_had t.known.past c.place.unit) (known_of t.known.apps c.unit.app)
 
 -- It stops for want of memory; or else at a candidate that it could not judge, and once it is full.
 abbrev pub Takes : Choosing → Candidate → Flow → Choosing → Type 0

@@ -1,5 +1,5 @@
 -- Rule. What is known before the first offer and behind each stop, and what is chosen then.
-use Rattle.std.specs.Prelude.{◌≡◌, ◌⊎◌, ℕ, ◌-◌, Bool, true, false, not, ◌&&◌, if◌then◌else◌, [], All, None}
+use Rattle.std.specs.Prelude.{◌≡◌, ◌⊎◌, ℕ, ◌-◌, true, false, if◌then◌else◌, [], All, Some, None}
 use Rattle.sched_book.specs.Fits.{version_for}
 use Rattle.sched_book.specs.Offers.{unsent, OffersAll}
 use Rattle.sched_book.specs.Places.{sent_on_day}
@@ -54,13 +54,11 @@ pub record IsReady (w : World) (t : Choosing) : Type 0 where
   pub known : IsRight w t.host.now t.known
   pub unjudged : t.unjudged ≡ None
 
--- the user had no instance of a workunit, and gets none yet
-abbrev pub is_new_unit : World → Choosing → ℕ → Bool
-is_new_unit w t unit = not (has_job_of t.jobs unit) && not (user_had_at w t.host.now.account unit)
-
 -- what a candidate leaves, by the user's past and by the version that the host runs in the world
 abbrev pub judged : World → Choosing → Candidate → Choosing
-judged w t c = if is_new_unit w t c.place.unit then after_version t c (version_for w t.host.now c.unit.app) else t
+judged w t c =
+    if has_job_of t.jobs c.place.unit then t
+    else after_version t c (Some (user_had_at w t.host.now.account c.place.unit)) (version_for w t.host.now c.unit.app)
 
 -- The candidate is judged by the world, whatever is known then, and it stops once it is full.
 abbrev pub Chooses : World → Choosing → Candidate → Flow → Choosing → Type 0

@@ -1,10 +1,10 @@
 //! The choice of jobs over a desk.
 
-ghost use Rattle.std.specs.Prelude.{◌≡◌, ◌-◌, false, IsTrue, IfOk, OnOk};
+ghost use Rattle.std.specs.Prelude.{◌≡◌, ◌-◌, Some, IsTrue, IfOk, OnOk};
 ghost use Rattle.sched_book.specs.Fits.{version_for};
 ghost use Rattle.sched_book.specs.Trusted.{Trusted};
 ghost use Rattle.job_choice.specs.Chosen.{IsChoice};
-ghost use Rattle.job_choice.specs.Choosing.{wants_app, can_judge};
+ghost use Rattle.job_choice.specs.Choosing.{known_runs, can_judge};
 ghost use Rattle.job_choice.specs.Offered.{limits_on, IsRight, IsReady, HasChosen};
 
 use crate::choosing::{Choosing, Known, KnownApp, Limits, Unjudged, begin, finish, is_done};
@@ -13,6 +13,7 @@ use crate::past::{MOST_LOOKED_AT, look_at};
 use sched_book::limits::MOST_APPS;
 use sched_book::{Desk, HostRow, Moment, Place, Unavailable, Version};
 use std::alloc::Global;
+use texts::Text;
 
 /// The most stops of the offers: each finds out about an application, about a workunit, or about all that the user had.
 const MOST_STOPS: usize = MOST_APPS + MOST_LOOKED_AT + 1;
@@ -68,33 +69,31 @@ pub fn version_for<D: Desk>(
     }
 }
 
-/// Asks which version the host runs of the application of a candidate, where that is wanted.
+/// Whether the host runs a version of the application of this name. Asks which, where that is not known.
+#[tactic(auto, using(crate::proofs::Known::runs_more))]
 fn learn_app<D: Desk>(
     alloc: Global,
     desk: &mut D,
     host: &HostRow,
     known: &mut Known,
-    unjudged: Unjudged,
-) -> Result<(), Unavailable>
+    app: Text,
+) -> Result<bool, Unavailable>
     ensures reads { D.reads desk.old desk.new }
     ensures answer { Trusted D.Units desk.old desk.new (
         OnOk result (IsRight (D.world desk.old) host.now known.old → IsRight (D.world desk.old) host.now known.new)) }
-    ensures past { OnOk result (known.new.past ≡ known.old.past) }
-    ensures judged { OnOk result (wants_app known.new unjudged ≡ false) }
+    ensures runs { IfOk result (λ runs. known_runs known.new.apps app ≡ Some runs) }
 {
-    if !known.wants_app(&unjudged) {
-        return Ok(());
+    if let Some(runs) = known.runs(app.as_str()) {
+        return Ok(runs);
     }
-    let version = version_for(alloc, desk, host, unjudged.app.as_str())?;
-    known.apps.push(KnownApp {
-        app: unjudged.app,
-        version,
-    })?;
-    Ok(())
+    let version = version_for(alloc, desk, host, app.as_str())?;
+    let runs = version.is_some();
+    known.apps.push(KnownApp { app, version })?;
+    Ok(runs)
 }
 
-/// Asks what is wanting for a candidate to be judged: whether the user had its workunit, and where not, which version the
-/// host runs of its application.
+/// Asks what is wanting for a candidate to be judged: which version the host runs of its application, and where it runs one,
+/// whether the user had its workunit.
 fn learn<D: Desk>(
     alloc: Global,
     desk: &mut D,
@@ -107,14 +106,11 @@ fn learn<D: Desk>(
         OnOk result (IsRight (D.world desk.old) host.now known.old → IsRight (D.world desk.old) host.now known.new)) }
     ensures judged { OnOk result (IsTrue (can_judge known.new unjudged)) }
 {
-    look_at(
-        alloc,
-        desk,
-        host.account,
-        &mut known.past,
-        unjudged.place.unit,
-    )?;
-    learn_app(alloc, desk, host, known, unjudged)
+    let unit = unjudged.place.unit;
+    if !learn_app(alloc, desk, host, known, unjudged.app)? {
+        return Ok(());
+    }
+    look_at(alloc, desk, host.account, &mut known.past, unit)
 }
 
 /// Offers the candidates, unless none could be taken. Where the offers stop at one that could not be judged, it asks

@@ -1,8 +1,8 @@
 //! The taker: what is granted so far, and what it still takes.
 
-ghost use Rattle.std.specs.Prelude.{◌≡◌, nat_le, IfOk, OnOk};
+ghost use Rattle.std.specs.Prelude.{◌≡◌, nat_le, OnOk};
 ghost use Rattle.std.specs.Option.{option_copied};
-ghost use Rattle.job_choice.specs.Choosing.{is_full, has_job_of, known_new, end_word_at, known_of, wants_app, unjudged_of, after};
+ghost use Rattle.job_choice.specs.Choosing.{is_full, has_job_of, end_word_at, known_of, known_runs, unjudged_at, with_job, after};
 ghost use Rattle.job_choice.specs.Offered.{IsBegun};
 
 use crate::fitting::{fits, seconds_at};
@@ -42,8 +42,8 @@ pub(crate) struct Known {
     pub(crate) apps: Listed<KnownApp>,
 }
 
-/// The candidate at which the offers stopped, since it is not known yet whether the user had its workunit, or which version
-/// the host runs of its application.
+/// The candidate at which the offers stopped, since it is not known yet which version the host runs of its application, or
+/// whether the user had its workunit.
 #[derive(Drop)]
 pub(crate) struct Unjudged {
     pub(crate) place: Place,
@@ -140,16 +140,6 @@ fn has_job(jobs: &[Granted], unit: u32) -> bool
     jobs.iter().any(|job| job.place.unit == unit)
 }
 
-/// Whether the user had no instance of the workunit at this place, and gets none yet; `None` where that is not known.
-fn is_new(past: &UserPast, jobs: &[Granted], unit: u32) -> Option<bool>
-    ensures { result ≡ known_new past.now jobs.now unit }
-{
-    if has_job(jobs, unit) {
-        return Some(false);
-    }
-    past.user_had(unit).map(|had| !had)
-}
-
 /// What is known of the application of this name.
 fn find_known<'a>(apps: &'a [KnownApp], app: &str) -> Option<&'a KnownApp>
     ensures { option_copied result ≡ known_of apps.now app.now }
@@ -158,56 +148,31 @@ fn find_known<'a>(apps: &'a [KnownApp], app: &str) -> Option<&'a KnownApp>
 }
 
 impl Known {
-    /// Whether it is still to be asked which version the host runs of the candidate's application: the user had none of its
-    /// workunit, and nothing is known of that application.
-    pub(crate) fn wants_app(&self, unjudged: &Unjudged) -> bool
-        ensures { result ≡ wants_app self.now unjudged.now }
+    /// Whether the host runs a version of the application of this name; `None` where that is not known.
+    pub(crate) fn runs(&self, app: &str) -> Option<bool>
+        ensures { result ≡ known_runs self.now.apps app.now }
     {
-        self.past
-            .user_had(unjudged.place.unit)
-            .is_some_and(|had| !had)
-            && find_known(self.apps.as_slice(), unjudged.app.as_str()).is_none()
+        find_known(self.apps.as_slice(), app).map(|known| known.version.is_some())
     }
 }
 
-/// The candidate as one that is left unjudged.
-fn unjudged_of(candidate: &Candidate) -> Result<Unjudged, Memory>
-    ensures { IfOk result (λ unjudged. unjudged ≡ unjudged_of candidate.now) }
+/// Marks the candidate as one of which too little is known.
+fn leave_unjudged(choosing: &mut Choosing, candidate: &Candidate) -> Result<(), Memory>
+    ensures { OnOk result (choosing.new ≡ unjudged_at choosing.old candidate.now) }
 {
-    Ok(Unjudged {
+    let app = candidate.unit.app.clone()?;
+    choosing.unjudged = Some(Unjudged {
         place: candidate.place,
-        app: candidate.unit.app.clone()?,
-    })
+        app,
+    });
+    Ok(())
 }
 
-/// Takes the candidate if the host may have it, or marks it as unjudged where too little is known of it.
-fn consider(choosing: &mut Choosing, candidate: &Candidate) -> Result<(), Memory>
-    ensures { OnOk result (choosing.new ≡ after choosing.old candidate.now) }
+/// Takes the candidate as a job by this version.
+fn take(choosing: &mut Choosing, candidate: &Candidate, version: Version) -> Result<(), Memory>
+    ensures { OnOk result (choosing.new ≡ with_job choosing.old candidate.now version) }
 {
-    let unit = &candidate.unit;
-    let Some(new) = is_new(
-        &choosing.known.past,
-        choosing.jobs.as_slice(),
-        candidate.place.unit,
-    ) else {
-        choosing.unjudged = Some(unjudged_of(candidate)?);
-        return Ok(());
-    };
-    if !new {
-        return Ok(());
-    }
-    let Some(known) = find_known(choosing.known.apps.as_slice(), unit.app.as_str()) else {
-        choosing.unjudged = Some(unjudged_of(candidate)?);
-        return Ok(());
-    };
-    let Some(version) = known.version.as_ref() else {
-        return Ok(());
-    };
-    if !fits(choosing.host, unit, Some(version)) {
-        return Ok(());
-    }
-    let version = version.clone()?;
-    let estimate = seconds_at(unit.rsc_fpops_est, choosing.host.p_fpops);
+    let estimate = seconds_at(candidate.unit.rsc_fpops_est, choosing.host.p_fpops);
     choosing.jobs.push(Granted {
         place: candidate.place,
         estimate,
@@ -215,6 +180,36 @@ fn consider(choosing: &mut Choosing, candidate: &Candidate) -> Result<(), Memory
     })?;
     choosing.wanted = choosing.wanted.saturating_sub(estimate);
     Ok(())
+}
+
+/// Takes the candidate if the host may have it, or marks it as unjudged where too little is known of it.
+///
+/// The user's past is asked about last, since to find it out costs most.
+fn consider(choosing: &mut Choosing, candidate: &Candidate) -> Result<(), Memory>
+    ensures { OnOk result (choosing.new ≡ after choosing.old candidate.now) }
+{
+    let place = candidate.place;
+    let unit = &candidate.unit;
+    if has_job(choosing.jobs.as_slice(), place.unit) {
+        return Ok(());
+    }
+    let Some(known) = find_known(choosing.known.apps.as_slice(), unit.app.as_str()) else {
+        return leave_unjudged(choosing, candidate);
+    };
+    let Some(version) = known.version.as_ref() else {
+        return Ok(());
+    };
+    if !fits(choosing.host, unit, Some(version)) {
+        return Ok(());
+    }
+    let Some(had) = choosing.known.past.user_had(place.unit) else {
+        return leave_unjudged(choosing, candidate);
+    };
+    if had {
+        return Ok(());
+    }
+    let version = version.clone()?;
+    take(choosing, candidate, version)
 }
 
 impl Taker for Choosing<'_> {

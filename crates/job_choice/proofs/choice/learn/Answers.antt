@@ -2,16 +2,16 @@
 use Rattle.std.proofs.Common.{subst}
 use Rattle.std.specs.Prelude.{OnOk}
 use Rattle.std.proofs.lemmas.Result.{on_ok_weaker}
-use Rattle.job_choice.specs.Offered.{IsRight}
+use Rattle.job_choice.specs.Past.{IsPast}
 use Rattle.job_choice.proofs.choice.learn.Goals as goal
 
 pub returns-clause-answer : goal.returns-clause-answer
 returns-clause-answer g c = λ honest kept.
     let laws = g.met.D.Units in
-    let honest_looked = laws.stays_honest _ _ c.learn_app.ensures.reads honest in
-    let kept_looked = laws.stays_kept _ _ c.look_at.ensures.reads honest_looked kept in
-    let same = laws.stays_same _ _ c.look_at.ensures.reads honest_looked kept in
-    on_ok_weaker c.learn_app.result
-    (λ later right. later (record { past = c.in_ok-look_at.ensures.answer honest_looked kept right.past; apps = right.apps }))
-    (subst (λ w. OnOk c.learn_app.result (IsRight w c.args.host.now (record c.args.known.now { past = c.look_at.new.past }) → IsRight w c.args.host.now c.learn_app.new.known)) same
-    (c.learn_app.ensures.answer honest kept_looked))
+    let honest_asked = laws.stays_honest _ _ c.look_at.ensures.reads honest in
+    let kept_asked = laws.stays_kept _ _ c.learn_app.ensures.reads honest_asked kept in
+    let same = laws.stays_same _ _ c.learn_app.ensures.reads honest_asked kept in
+    on_ok_weaker c.look_at.result
+    (λ looked right. let asked = c.in_ok-learn_app.ensures.answer honest_asked kept right in record { past = looked asked.past; apps = asked.apps })
+    (subst (λ w. OnOk c.look_at.result (IsPast w c.args.host.now.account c.learn_app.new.known.past → IsPast w c.args.host.now.account c.look_at.new.past)) same
+    (c.look_at.ensures.answer honest kept_asked))
