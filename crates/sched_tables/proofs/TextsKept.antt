@@ -4,7 +4,7 @@ use Rattle.std.specs.Prelude.{IfSome}
 use Rattle.sqlite.specs.Effect.{Database}
 use Rattle.sqlite_value.specs.Order.{Row}
 use Rattle.table_meaning.specs.Holding.{Contents, Hold, with_row, with_rows}
-use Rattle.table_meaning.specs.Rows.{RowKey, columns_of, key_of, same_key, look_up}
+use Rattle.table_meaning.specs.Rows.{RowKey, columns_of, key_of, same_key}
 use Rattle.table_meaning.specs.Steps.{HoldJust, PutsRows}
 use Rattle.table_meaning.specs.declared.rows.StoredRow.{StoredRow}
 use Rattle.table_reading.proofs.HeldRows.{HaveTexts}
