@@ -117,6 +117,7 @@ SLOTS = 4  # so many calls of a host are kept
 # the look-ups whose rows are kept, and how many of each, and how many versions
 KEPT = ("account by authenticator", "host by number", "workunit", "mark of a workunit", "instances of a workunit")
 MOST_KEPT, MOST_VERSIONS = 1000, 100
+MOST_LOOKS = 8  # so many workunits are looked at by key whether the user had one, before all that the user had are listed
 MOST_NOTED = 16  # of so many workunits that are offered on one way through what waits the rows are kept
 
 
@@ -633,13 +634,27 @@ class Machine:
                 told.append(name)
         return told
 
+    def user_had(self, account, unit):
+        """Whether an instance of a workunit was given to a host of the user, looked up by keys."""
+        tables = self.tables
+        owners = (row[2] for row in tables.shown("instances of a workunit", unit))
+        return any(tables.host(owner).account == account for owner in owners if owner is not None)
+
+    def units_of_user(self, account):
+        """The workunits of which an instance was given to a host of the user."""
+        tables, had = self.tables, set()
+        for (number,) in tables.shown("hosts of a user", account):
+            had.update(unit for unit, _ in tables.shown("what a host was given", number))
+        return had
+
     def choose(self, host, held, seconds, asked, now):
         """The places of jobs for the host, each with its version, and the word that tells why there are no more."""
         tables, settings, day, jobs, known = self.tables, self.settings, now // 86400 * 86400, {}, {}
         sent = len(tables.shown("sent on a day", host.number, day, day + 86400))
-        had = set()
-        for (number,) in tables.shown("hosts of a user", host.account):
-            had.update(unit for unit, _ in tables.shown("what a host was given", number))
+        looks, past = {}, None  # of which workunits the user had one: of those that were looked at, and of all
+
+        def had(unit):
+            return looks.get(unit) if past is None else unit in past
 
         def end_word():
             if seconds >= asked:
@@ -656,16 +671,25 @@ class Machine:
             if unit is None:
                 tables.offers_end()
                 return jobs, "no_eligible_work"
-            if unit in had or unit in jobs:
+            if unit in jobs:
                 continue
-            if row.app_id not in known:  # the offers go on from here once the application's version is known
-                tables.offers_end()
+            if row.app_id in known and not self.fits(host, row, known[row.app_id]):
+                continue
+            if row.app_id in known and had(unit) is not None:
+                if not had(unit):
+                    jobs[unit] = number, known[row.app_id]
+                    seconds += plain.estimate(row, host)
+                    word = end_word()
+                continue
+            tables.offers_end()  # the offers go on from here once the application's version and the user's past are known
+            if row.app_id not in known:
                 known[row.app_id] = tables.version(host, row.app_id)
-                offers = tables.waiting(unit, number)
-            elif self.fits(host, row, known[row.app_id]):
-                jobs[unit] = number, known[row.app_id]
-                seconds += plain.estimate(row, host)
-                word = end_word()
+            if known[row.app_id] and had(unit) is None:
+                if len(looks) < MOST_LOOKS:
+                    looks[unit] = self.user_had(host.account, unit)
+                else:
+                    past = self.units_of_user(host.account)
+            offers = tables.waiting(unit, number)
         tables.offers_end()
         return jobs, word
 

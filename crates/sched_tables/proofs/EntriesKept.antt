@@ -37,8 +37,7 @@ use Rattle.sched_tables.specs.Commits.{Imports, Keeps, apps_with}
 use Rattle.sched_tables.specs.Entries.{IsRowOf, MakesWith, kept_batch, calls_of, batches_of}
 use Rattle.sched_tables.specs.Slots.{calls_in_slots, IsSlotFor, with_slot}
 use Rattle.sched_tables.specs.Held.{AreWellKept, AreBeside}
-use Rattle.sched_tables.specs.Marks.{IsMarkOf, lowered}
-use Rattle.sched_tables.proofs.MarksStay.{lowered_then}
+use Rattle.sched_tables.specs.Marks.{IsMarkOf}
 use Rattle.sched_tables.specs.Remembering.{AreRemembered}
 use Rattle.sched_tables.specs.Views.{held_in}
 use Rattle.sched_tables.specs.declared.remembered.Remembered.{Remembered}
@@ -282,11 +281,11 @@ module _ (old new : State) (w : World) (cs : List Change) (e : Entry) (kept : Ar
   }
 
   -- what is kept beside the tables is the world's, with the applications that the changes bring
-  pub beside_then : (calls : SlotCalls) (settings : Settings) (apps apps' : List App) (read read' : Remembered) (mark mark' : ℕ) → AreBeside w calls settings apps read mark → apps' ≡ apps_with apps cs → AreRemembered (world_in new.now.trees) (calls_in new.now.trees) read' → mark' ≡ lowered mark cs
+  pub beside_then : (calls : SlotCalls) (settings : Settings) (apps apps' : List App) (read read' : Remembered) (mark mark' : ℕ) → AreBeside w calls settings apps read mark → apps' ≡ apps_with apps cs → AreRemembered (world_in new.now.trees) (calls_in new.now.trees) read' → IsMarkOf (world_in new.now.trees) mark'
       → AreBeside (world_in new.now.trees) (calls_in new.now.trees) settings apps' read' mark'
-  beside_then calls settings apps apps' read read' mark mark' beside brought rows lower = record {
+  beside_then calls settings apps apps' read read' mark mark' beside brought rows marked = record {
     settings_are = beside.settings_are ∙ sym (settings_stay w cs) ∙ sym (ap (λ u. u.settings) world_then);
     apps_are = brought ∙ ap (λ l. apps_with l cs) beside.apps_are ∙ sym (apps_brought w cs) ∙ sym (ap (λ u. u.apps) world_then);
     rows_are = rows;
-    mark_is = subst (λ v. IsMarkOf v mark') (sym world_then) (subst (IsMarkOf (applied w cs)) (sym lower) (lowered_then w mark cs beside.mark_is));
+    mark_is = marked;
   }

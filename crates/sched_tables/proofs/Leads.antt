@@ -20,6 +20,8 @@ use Rattle.stores.specs.declared.entry.Entry.{Entry}
 use Rattle.sched_tables.specs.Commits.{LeadsTo, ArePut, Makes}
 use Rattle.sched_tables.specs.Entries.{ArePutWith, MakesWith}
 use Rattle.sched_tables.specs.Held.{IsHonest}
+use Rattle.sched_tables.proofs.TextsKept.{utf8_then}
+use Rattle.table_rows.specs.Utf8.{HaveUtf8}
 
 -- contents that are the same at each key
 pub held_same : (db : Database) (f g : Contents) → ((key : RowKey) → f key ≡ g key) → Hold db f → Hold db g
@@ -31,28 +33,32 @@ leads w cs rows all more old new changes pushed puts = λ calls calls' batches b
     (subst (PutsRows old new) pushed puts (contents_of w calls batches) holds)
 
 -- so rows put make the changes
-makes : (w : World) (cs : List Change) (more : Option StoredRow) (rows : List StoredRow) (old new : Database) → ArePut w cs more rows → PutsRows old new rows → Makes w cs more old new
-makes w cs more rows old new put puts = record { leads = leads w cs put.changed rows more old new put.are put.all puts; readable = put.readable }
+makes : (w : World) (cs : List Change) (more : Option StoredRow) (rows : List StoredRow) (old new : Database) → ArePut w cs more rows → PutsRows old new rows → HaveUtf8 rows → Makes w cs more old new
+makes w cs more rows old new put puts utf8 = record {
+  leads = leads w cs put.changed rows more old new put.are put.all puts;
+  readable = put.readable;
+  texts = λ calls batches holds. utf8_then old new (contents_of w calls batches) rows puts utf8 holds;
+}
 
 -- with what an entry puts
-makes_with : (w : World) (cs : List Change) (e : Entry) (rows : List StoredRow) (old new : Database) → ArePutWith w cs (calls_in old.trees) e rows → PutsRows old new rows → MakesWith w cs e old new
-makes_with w cs e rows old new put puts = (put.0, put.1, makes w cs put.0 rows old new put.2 puts)
+makes_with : (w : World) (cs : List Change) (e : Entry) (rows : List StoredRow) (old new : Database) → ArePutWith w cs (calls_in old.trees) e rows → PutsRows old new rows → HaveUtf8 rows → MakesWith w cs e old new
+makes_with w cs e rows old new put puts utf8 = (put.0, put.1, makes w cs put.0 rows old new put.2 puts utf8)
 
 -- rows put behind a read that left what stood
 pub puts_all : (old mid new : State) (w : World) (cs : List Change) (e : Entry) (rows : List StoredRow) → mid.now ≡ old.now → new.now ≡ new.committed → ArePutWith w cs (calls_in old.now.trees) e rows
-    → PutsRows mid.now new.committed rows → MakesWith w cs e old.now new.now
-puts_all old mid new w cs e rows same rest put puts =
-    makes_with w cs e rows old.now new.now put (subst (λ (d : Database). PutsRows d new.now rows) same (subst (λ (d : Database). PutsRows mid.now d rows) (sym rest) puts))
+    → PutsRows mid.now new.committed rows → HaveUtf8 rows → MakesWith w cs e old.now new.now
+puts_all old mid new w cs e rows same rest put puts utf8 =
+    makes_with w cs e rows old.now new.now put (subst (λ (d : Database). PutsRows d new.now rows) same (subst (λ (d : Database). PutsRows mid.now d rows) (sym rest) puts)) utf8
 
 -- and what a stop leaves of rows put behind a read is the changes made
 pub leaves_made : (old mid new : State) (w : World) (cs : List Change) (e : Entry) (rows : List StoredRow) (Kept : Type 0) → Reads old mid
-    → Survives mid new (λ trees. IsTrue mid.is_open × (db : Database) × PutsRows mid.now db rows × (trees ≡ db.trees)) → (IsHonest mid → Kept → ArePutWith w cs (calls_in old.now.trees) e rows) → (Kept → old.now ≡ old.committed)
+    → Survives mid new (λ trees. IsTrue mid.is_open × HaveUtf8 rows × (db : Database) × PutsRows mid.now db rows × (trees ≡ db.trees)) → (IsHonest mid → Kept → ArePutWith w cs (calls_in old.now.trees) e rows) → (Kept → old.now ≡ old.committed)
     → Survives old new (λ trees. IsTrue old.is_open × (Kept → (db : Database) × MakesWith w cs e old.now db × (trees ≡ db.trees)))
 leaves_made old mid new w cs e rows Kept reads put puts rests =
     survives_then old mid new _ _ _ (λ _ db none. absurd none) (λ clean db may.
     let honest : IsHonest mid = (omega (arith, put.clean, clean), may.0) in (
       reads.was_open honest.0 honest.1,
-      λ kept. (may.1, makes_with w cs e rows old.now may.1 (puts honest kept) (subst (λ (d : Database). PutsRows d may.1 rows) (reads.same honest.0 honest.1 (rests kept)).0 may.2), may.3),
+      λ kept. (may.2, makes_with w cs e rows old.now may.2 (puts honest kept) (subst (λ (d : Database). PutsRows d may.2 rows) (reads.same honest.0 honest.1 (rests kept)).0 may.3) may.1, may.4),
     )) reads.survives put
 
 pub was_ok : {T E : Type 0} (r : Result T E) (P : Type 0) → is_err r ≡ false → OnOk r P → P

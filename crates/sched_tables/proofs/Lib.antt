@@ -13,4 +13,5 @@ pub mod Stops
 pub mod Told
 pub mod ToldByRows
 pub mod Upgraded
+pub mod TextsKept
 mod Memory

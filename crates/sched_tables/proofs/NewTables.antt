@@ -29,6 +29,9 @@ use Rattle.sched_tables.proofs.EntriesKept.{calls_back, batches_back, held_with_
 use Rattle.sched_tables.proofs.Leads.{held_same}
 use Rattle.sched_tables.proofs.MarksStay.{none_before}
 use Rattle.sched_tables.proofs.Reopened.{held_can_be_opened}
+use Rattle.sched_tables.proofs.TextsKept.{just_utf8}
+use Rattle.table_reading.specs.Reading.{AreUtf8}
+use Rattle.table_rows.specs.Utf8.{HaveUtf8}
 
 nothing_held : (s : Settings) (db : Database) → HoldJust db (setting_rows s) → HoldWorld db (empty_world s) (λ _ _. None) (λ _ _. None)
 nothing_held s db just = held_same db _ _ (new_world s) just
@@ -53,9 +56,11 @@ module _ (s : Settings) (st : State) (rests : st.now ≡ st.committed) (just : H
     readable = subst IsReadable (sym new_world_is) (empty_readable s);
   }
 
-  -- where that world is sound, they can be opened again
-  pub new_can_be_opened : Sound (empty_world s) → CanBeOpened st.now
-  new_can_be_opened sound = held_can_be_opened st.now (empty_world s) (λ _ _. None) (λ _ _. None) sound (record { calls_fit = λ host slot. tt; imports_fit = λ kind text. tt }) held
+  -- where that world is sound, and the texts of its settings are in UTF-8, they can be opened again
+  pub new_can_be_opened : Sound (empty_world s) → HaveUtf8 (setting_rows s) → CanBeOpened st.now
+  new_can_be_opened sound utf8 =
+      held_can_be_opened st.now (empty_world s) (λ _ _. None) (λ _ _. None) sound (record { calls_fit = λ host slot. tt; imports_fit = λ kind text. tt }) held
+      (subst (λ (db : Database). AreUtf8 db.trees) (sym rests) (just_utf8 st.committed (setting_rows s) just utf8))
 
   pub new_beside : (settings : Settings) (apps : List App) (read : Remembered) → settings ≡ s → apps ≡ [] → ((w : World) (calls : SlotCalls) → AreRemembered w calls read) → AreBeside (world_in st.now.trees) (calls_in st.now.trees) settings apps read 0
   new_beside settings apps read same none nothing = record { settings_are = same ∙ sym (ap (λ w. w.settings) new_world_is); apps_are = none ∙ sym (ap (λ w. w.apps) new_world_is); rows_are = nothing _ _; mark_is = none_before (world_in st.now.trees) }

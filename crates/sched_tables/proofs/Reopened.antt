@@ -20,7 +20,7 @@ use Rattle.table_meaning.specs.Kept.{calls_in, batches_in}
 use Rattle.table_meaning.specs.Rows.{setting_key}
 use Rattle.table_meaning.specs.Worlds.{SlotCalls, call_row, contents_of, HoldWorld}
 use Rattle.stores.specs.Standing.{MayBeKept, last_seqno}
-use Rattle.table_reading.specs.Reading.{ReadFrom, MayStandBeside, is_call_of}
+use Rattle.table_reading.specs.Reading.{AreUtf8, ReadFrom, MayStandBeside, is_call_of}
 use Rattle.table_reading.proofs.Formatted.{have_formats}
 use Rattle.table_reading.proofs.HeldRows.{read_beside, formed, held_is_read, stands_for_one}
 use Rattle.table_reading.proofs.KeptRows.{held_by_rows}
@@ -40,6 +40,7 @@ use Rattle.sched_tables.specs.Refusals.{AreNewest, AreRefusedFor}
 use Rattle.sched_tables.specs.Reopening.{CanBeOpened, Reopens}
 use Rattle.sched_tables.proofs.EntriesKept.{beside_entry, now_held}
 use Rattle.sched_tables.proofs.Refusals.{none_earlier}
+use Rattle.sched_tables.proofs.TextsKept.{texts_of}
 
 -- ---- tables that hold a sound world
 
@@ -48,13 +49,14 @@ says_newest : (db : Database) (w : World) (calls : SlotCalls) (batches : Imports
 says_newest db w calls batches holds = record { known = holds.known; said = ap (option_map (λ row. column row 1)) (holds.rows (setting_key (codes "schema"))) }
 
 pub held_can_be_opened : HeldCanBeOpened
-held_can_be_opened db w calls batches sound beside holds = record {
+held_can_be_opened db w calls batches sound beside holds utf8 = record {
   newest = says_newest db w calls batches holds;
   rows = subst (ReadFrom db.trees) (sym (held_is_read_back db w calls batches holds (sound_is_readable w sound))) (held_is_read db w calls batches holds sound beside);
+  texts = utf8;
 }
 
 pub opened_are_taken : OpenedAreTaken
-opened_are_taken db can utf8 = go
+opened_are_taken db can = go
   where
     go : (e : OpenFault) → AreRefusedFor e db → e ≡ Unavailable
     go NotTables others = absurd (others.not_newest can.newest)
@@ -68,7 +70,7 @@ opened_are_taken db can utf8 = go
         let holds = held_by_rows db w can.rows.0 can.newest.known read stand in
         let beside = read_beside db w can.rows.0 read stand in
         absurd (elim spoiled.rows [
-          | inl bad ↦ formed db (contents_of w calls batches) holds (have_formats w calls batches stand.sound beside utf8) bad
+          | inl bad ↦ formed db (contents_of w calls batches) holds (have_formats w calls batches stand.sound beside (texts_of db (contents_of w calls batches) holds can.texts)) bad
           | inr none ↦ stands_for_one db w calls batches holds stand.sound beside none
         ])
     go Unavailable refused = refl
@@ -76,8 +78,8 @@ opened_are_taken db can utf8 = go
 -- ---- at rest, and behind a read
 
 -- well kept tables whose rows were read can be opened again
-pub kept_can_be_opened : (s : State) → AreWellKept s (world_in s.now.trees) → ReadFrom s.now.trees (world_in s.now.trees) → CanBeOpened s.now
-kept_can_be_opened s kept read = record { newest = says_newest s.now (world_in s.now.trees) _ _ kept.holds; rows = read }
+pub kept_can_be_opened : (s : State) → AreWellKept s (world_in s.now.trees) → ReadFrom s.now.trees (world_in s.now.trees) → AreUtf8 s.now.trees → CanBeOpened s.now
+kept_can_be_opened s kept read utf8 = record { newest = says_newest s.now (world_in s.now.trees) _ _ kept.holds; rows = read; texts = utf8 }
 
 -- another database with the same rows is the same
 same_can_be_opened : (db other : Database) → IsDatabase other → other.trees ≡ db.trees → CanBeOpened db → CanBeOpened other
@@ -130,7 +132,7 @@ module _ (old new : State) (cs : List Change) (e : Entry) (Kept : Type 0) (well 
       let calls = calls_in old.now.trees in
       let batches = batches_in old.now.trees in
       let beside = beside_entry (applied w cs) e made.0 calls batches made.1 (may honest).2 (beside_changes w cs calls batches (read_beside old.now w rows.0 rows.1 rows.2)) in
-      held_can_be_opened db (applied w cs) _ _ (may honest).1 beside (now_held old.now db w cs e kept.holds made)
+      held_can_be_opened db (applied w cs) _ _ (may honest).1 beside (now_held old.now db w cs e kept.holds made) (made.2.texts calls batches kept.holds (reopens.now honest).texts)
 
   pub commit_reopens : Survives old new (λ trees. IsTrue old.is_open × (Kept → (db : Database) × MakesWith w cs e old.now db × (trees ≡ db.trees))) → (IsHonest new → IsHonest old)
       → (IsHonest new → Kept → MakesWith w cs e old.now new.now ⊎ (new.now ≡ old.now)) → Reopens new

@@ -10,6 +10,7 @@ use Rattle.sched_book.specs.declared.world.World.{World}
 use Rattle.table_meaning.specs.declared.rows.StoredRow.{StoredRow}
 use Rattle.table_meaning.specs.Rows.{RowKey, kept_key, batch_key, key_of, same_key}
 use Rattle.table_meaning.specs.Worlds.{BatchText, SlotCalls, contents_of, HoldWorld}
+use Rattle.table_reading.specs.Reading.{AreUtf8}
 use Rattle.table_worlds.specs.Changes.{AreChanges}
 use Rattle.table_worlds.specs.Readable.{IsReadable}
 
@@ -37,10 +38,15 @@ abbrev pub LeadsTo : World → List Change → Option StoredRow → Database →
 LeadsTo w cs more old new = (calls calls' : SlotCalls) (batches batches' : Imports)
     → Keeps (applied w cs) (cons_option more []) calls batches calls' batches' → HoldWorld old w calls batches → HoldWorld new (applied w cs) calls' batches'
 
--- They do, and the world after is told by its rows.
+-- Tables that held a world, with texts in UTF-8, have them so.
+abbrev pub KeepsUtf8 : World → Database → Database → Type 0
+KeepsUtf8 w old new = (calls : SlotCalls) (batches : Imports) → HoldWorld old w calls batches → AreUtf8 old.trees → AreUtf8 new.trees
+
+-- They do, the world after is told by its rows, and texts in UTF-8 stay so.
 pub record Makes (w : World) (cs : List Change) (more : Option StoredRow) (old new : Database) : Type 0 where
   pub leads : LeadsTo w cs more old new
   pub readable : IsReadable (applied w cs)
+  pub texts : KeepsUtf8 w old new
 
 -- the applications with one that a change brings, and with those of each change
 abbrev pub app_with : List App → Change → List App

@@ -6,11 +6,9 @@ use Rattle.sched_book.specs.Sound.{Sound}
 use Rattle.sqlite.specs.Effect.{Database}
 use Rattle.sched_book.specs.declared.world.World.{World}
 use Rattle.stores.specs.Held.{Held, IsLeft}
-use Rattle.table_meaning.specs.Kept.{calls_in, batches_in}
 use Rattle.table_meaning.specs.Upgrades.{HostCalls, HoldFirstWorld, HoldSecondWorld, UpgradesWorld}
 use Rattle.table_meaning.specs.Worlds.{SlotCalls, HoldWorld}
 use Rattle.table_reading.specs.Reading.{AreUtf8, MayStandBeside}
-use Rattle.table_worlds.specs.StoredWorld.{world_in}
 use Rattle.sched_tables.specs.Commits.{Imports}
 use Rattle.sched_tables.specs.Reopening.{AreTaken, CanBeOpened}
 use Rattle.sched_tables.specs.Upgrading.{first_held, second_held}
@@ -24,13 +22,13 @@ ReopenedHolds {S} {R} before after =
     (old : Tables S) (t : Tables R) → AreKept after t → Sound (world_of after t) → (h : Held) → (found : MayBeFound (state_of before old) h)
     → found.trees ≡ (state_of after t).now.trees → IsLeft (held_of after t) h
 
--- Tables that hold a sound world, with what may be kept beside it, can be opened again.
+-- Tables that hold a sound world, with what may be kept beside it and with texts in UTF-8, can be opened again.
 abbrev pub HeldCanBeOpened : Type 0
-HeldCanBeOpened = (db : Database) (w : World) (calls : SlotCalls) (batches : Imports) → Sound w → MayStandBeside w calls batches → HoldWorld db w calls batches → CanBeOpened db
+HeldCanBeOpened = (db : Database) (w : World) (calls : SlotCalls) (batches : Imports) → Sound w → MayStandBeside w calls batches → HoldWorld db w calls batches → AreUtf8 db.trees → CanBeOpened db
 
--- Tables that can be opened again are taken, where their texts are UTF-8.
+-- Tables that can be opened again are taken.
 abbrev pub OpenedAreTaken : Type 0
-OpenedAreTaken = (db : Database) → CanBeOpened db → AreUtf8 (world_in db.trees) (calls_in db.trees) (batches_in db.trees) → AreTaken db
+OpenedAreTaken = (db : Database) → CanBeOpened db → AreTaken db
 
 -- What tables of an earlier schema held is held: of the first one, with the last call of each host; of the second, with the calls in the slots.
 pub record UpgradedHold (old : Database) (held : Held) : Type 0 where

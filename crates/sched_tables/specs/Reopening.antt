@@ -2,7 +2,7 @@
 use Rattle.std.specs.Prelude.{◌≡◌}
 use Rattle.sqlite.specs.Effect.{Database, IsDatabase}
 use Rattle.sqlite.specs.State.{State, HasCleanDisk}
-use Rattle.table_reading.specs.Reading.{ReadFrom}
+use Rattle.table_reading.specs.Reading.{AreUtf8, ReadFrom}
 use Rattle.table_rows.specs.declared.opening.OpenFault.{OpenFault}
 use Rattle.table_rows.specs.declared.opening.OpenFault.TheVariants.{Unavailable}
 use Rattle.table_worlds.specs.StoredWorld.{world_in}
@@ -13,11 +13,12 @@ use Rattle.sched_tables.specs.Refusals.{AreNewest, AreRefusedFor}
 abbrev pub AreTaken : Database → Type 0
 AreTaken db = (e : OpenFault) → AreRefusedFor e db → e ≡ Unavailable
 
--- They are those of the newest schema, and say so; and their rows are those of a sound world, with what may be kept beside it
--- (invariants 1 to 12 of docs/STORED.md).
+-- They are those of the newest schema, and say so; their rows are those of a sound world, with what may be kept beside it; and
+-- their texts are in UTF-8 (invariants 1 to 12 of docs/STORED.md).
 pub record CanBeOpened (db : Database) : Type 0 where
   pub newest : AreNewest db
   pub rows : ReadFrom db.trees (world_in db.trees)
+  pub texts : AreUtf8 db.trees
 
 -- They can be opened again, as they stand, and as a stop may leave them now.
 pub record Reopens (s : State) : Type 0 where

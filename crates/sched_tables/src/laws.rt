@@ -21,14 +21,14 @@ pub fn upgraded_holds<S: Alter>()
     ensures { UpgradedHolds S.Store }
 {}
 
-/// Tables that hold a sound world, with calls and imports that may be kept beside it, can be opened again: they are those of
-/// the newest schema, which say so, and their rows are those of a sound world with what may be kept beside it.
+/// Tables that hold a sound world, with calls and imports that may be kept beside it and with texts in UTF-8, can be opened
+/// again: they are those of the newest schema, which say so, and their rows are those of a sound world with what may be kept
+/// beside it.
 pub fn held_can_be_opened()
     ensures { HeldCanBeOpened }
 {}
 
-/// Tables that can be opened again are taken by an opening, where their texts are UTF-8, as each text of the program is: only
-/// memory or the disk refuses them.
+/// Tables that can be opened again are taken by an opening: only memory or the disk refuses them.
 pub fn opened_are_taken()
     ensures { OpenedAreTaken }
 {}

@@ -1,17 +1,13 @@
 -- The rows of a sound world, and of what may be kept beside it, have the formats of their tables, where their texts are UTF-8.
-use Rattle.std.proofs.Common.{◌≡◌, ℕ, zero, suc, ◌≤◌, ◌<◌, ℤ, pos, Bool, true, false, ◌&&◌, ◌||◌, List, [], ◌∷◌, ◌++◌, length, Option, Some, None, option_map, refl, sym, subst, ◌∙◌, inl, inr, arith, IsTrue}
-use Rattle.std.specs.Prelude.{◌==◌, All, IfSome, IsUtf8, codes, flat_map, is_some, nat_le, nat_lt, option_and_then, slice_get, if◌then◌else◌}
-use Rattle.std.specs.List.{AllByRecursion, list_all}
-use Rattle.std.specs.Str.{bytes_eq}
-use Rattle.std.proofs.lemmas.Bool.{and_parts, and_from}
-use Rattle.std.proofs.lemmas.Bool.Decides.{nat_tests}
-use Rattle.std.proofs.lemmas.List.Elements.{All-head, All-tail}
+use Rattle.std.proofs.Common.{◌≡◌, ℕ, zero, suc, ◌≤◌, ◌<◌, ℤ, pos, Bool, true, false, ◌&&◌, List, length, Option, Some, None, option_map, refl, sym, ◌∙◌, inl, inr, arith, IsTrue}
+use Rattle.std.specs.Prelude.{IfSome, codes, is_some, nat_le, nat_lt, option_and_then, slice_get, if◌then◌else◌}
+use Rattle.std.specs.List.{AllByRecursion}
+use Rattle.std.proofs.lemmas.Bool.{and_parts}
 use Rattle.std.proofs.lemmas.Option.{slice_get_within}
-use Rattle.std.proofs.lemmas.Slice.Eq.{bytes_eq-Decides}
 use Rattle.sqlite.specs.Values.{or_null}
 use Rattle.sqlite_value.specs.declared.value.Value.TheVariants.{Int, Text}
-use Rattle.texts.specs.Words.{is_word_byte, is_word}
-use Rattle.texts.proofs.Words.{IsUtf8-list_all, IsUtf8-word}
+use Rattle.texts.specs.Words.{is_word}
+use Rattle.texts.proofs.Words.{IsUtf8-word}
 use Rattle.rpc_records.specs.Ranges.{IsWord}
 use Rattle.reply_register.specs.declared.kept.Kept.{Kept as Call}
 use Rattle.reply_register.specs.Keeping.{most_kept}
@@ -44,13 +40,14 @@ use Rattle.table_meaning.specs.declared.tables.TableName.TheVariants as name
 use Rattle.table_meaning.specs.Formats.{IsStored, IsOf, number, integer, words, flag, optional}
 use Rattle.table_meaning.specs.Rows.{setting_key, account_key, app_key, version_key, class_key, unit_key, mark_key, host_key, instance_key, kept_key, batch_key, columns_of, whole}
 use Rattle.table_meaning.specs.Worlds.{BatchText, SlotCalls, agreement_limit, status_code, lapse_code, joined, app_place, is_marked, account_row, app_row, version_row, class_row, host_row, unit_row, mark_row, instance_row, call_row, contents_of}
+use Rattle.table_rows.specs.Utf8.{IsUtf8Value, HasUtf8}
 use Rattle.table_worlds.specs.RowsOf.{setting_rows}
 use Rattle.table_worlds.proofs.AppsNamed.{named_app}
 use Rattle.table_worlds.proofs.ByPlace.{all_nth, all_got}
 use Rattle.table_worlds.proofs.RowsHold.{all_have, setting_listed}
-use Rattle.table_reading.proofs.HeldRows.{HaveFormats}
+use Rattle.table_reading.proofs.HeldRows.{HaveFormats, HaveTexts}
 use Rattle.stores.specs.Standing.{last_seqno, most_import_bytes}
-use Rattle.table_reading.specs.Reading.{MayStandBeside, AreUtf8, is_call_of, is_import}
+use Rattle.table_reading.specs.Reading.{MayStandBeside, is_call_of, is_import}
 
 -- ---- values
 
@@ -68,7 +65,7 @@ of_integer_or_none : (o : Option ℤ) → IsOf (optional integer) (or_null Int o
 of_integer_or_none None = inl refl
 of_integer_or_none (Some n) = inr (n, refl)
 
-of_text_or_none : (o : Option (List ℕ)) → IfSome o IsUtf8 → IsOf (optional words) (or_null Text o)
+of_text_or_none : (o : Option (List ℕ)) → IsUtf8Value (or_null Text o) → IsOf (optional words) (or_null Text o)
 of_text_or_none None utf8 = inl refl
 of_text_or_none (Some t) utf8 = inr (t, refl, utf8)
 
@@ -80,9 +77,11 @@ weaker : {X : Type 0} {P Q : X → Type 0} (o : Option X) → ((x : X) → P x �
 weaker None f h = tt
 weaker (Some x) f h = f x h
 
-made : {X : Type 0} (f : X → StoredRow) (t : TableName) (o : Option X) → ((x : X) → o ≡ Some x → IsStored t (columns_of (f x))) → IfSome (option_map f o) (λ r. IsStored t (columns_of r))
-made f t None each = tt
-made f t (Some x) each = each x refl
+-- the row that is made of what may stand, with its texts in UTF-8, has its format where each such row has
+made : {X : Type 0} (f : X → StoredRow) (t : TableName) (o : Option X) → IfSome (option_map f o) (λ r. HasUtf8 (columns_of r)) → ((x : X) → o ≡ Some x → HasUtf8 (columns_of (f x)) → IsStored t (columns_of (f x)))
+    → IfSome (option_map f o) (λ r. IsStored t (columns_of r))
+made f t None texts each = tt
+made f t (Some x) texts each = each x refl texts
 
 -- ---- numbers of a world
 
@@ -120,60 +119,6 @@ outcome_small (Some r) = elim r.success as (λ b. (if b then 1 else 3) < 4294967
 place_small : (o : Option Outcome) → IfSome o (λ r. IfSome r.place (λ p. (1 ≤ p) × (p ≤ most_instances))) → IfSome (option_and_then (λ r. r.place) o) (λ n. n < 4294967296)
 place_small None few = tt
 place_small (Some r) few = weaker r.place (λ p le. omega (arith, le.1)) few
-
-output_utf8 : (o : Option Outcome) → IfSome o (λ r. IsUtf8 r.output) → IfSome (option_map (λ r. r.output) o) IsUtf8
-output_utf8 None is = tt
-output_utf8 (Some r) is = is
-
--- ---- platforms
-
-abbrev is_joined_byte : ℕ → Bool
-is_joined_byte b = is_word_byte b || (b == 44)
-
-joined_byte_below : (b : ℕ) → is_joined_byte b ≡ true → b < 128
-joined_byte_below b h = grind (arith, nat_tests)
-
-or_first : (a b : Bool) → a ≡ true → (a || b) ≡ true
-or_first a b h = grind arith
-
-word_joined : (text : List ℕ) → list_all is_word_byte text ≡ true → list_all is_joined_byte text ≡ true
-word_joined [] h = refl
-word_joined (b ∷ bs) h =
-    let parts = and_parts (is_word_byte b) (list_all is_word_byte bs) h in
-    and_from (is_joined_byte b) (list_all is_joined_byte bs) (or_first (is_word_byte b) (b == 44) parts.0) (word_joined bs parts.1)
-
-all_append : (p : ℕ → Bool) (xs ys : List ℕ) → list_all p xs ≡ true → list_all p ys ≡ true → list_all p (xs ++ ys) ≡ true
-all_append p [] ys first later = later
-all_append p (x ∷ xs) ys first later = let parts = and_parts (p x) (list_all p xs) first in and_from (p x) (list_all p (xs ++ ys)) parts.0 (all_append p xs ys parts.1 later)
-
-word_bytes : (word : List ℕ) → IsWord word → list_all is_joined_byte word ≡ true
-word_bytes word is = word_joined word (and_parts (nat_le 1 (length word) && nat_le (length word) 64) (list_all is_word_byte word) is).1
-
-more_bytes : (more : List (List ℕ)) → All IsWord more → list_all is_joined_byte (flat_map (λ w. codes "," ++ w) more) ≡ true
-more_bytes [] all = refl
-more_bytes (word ∷ more) all =
-    all_append is_joined_byte (codes "," ++ word) (flat_map (λ w. codes "," ++ w) more) (word_bytes word (All-head IsWord word more all)) (more_bytes more (All-tail IsWord word more all))
-
-joined_utf8 : (platforms : List (List ℕ)) → All IsWord platforms → IsUtf8 (joined platforms)
-joined_utf8 [] all = IsUtf8-list_all is_joined_byte joined_byte_below [] refl
-joined_utf8 (word ∷ more) all =
-    IsUtf8-list_all is_joined_byte joined_byte_below (joined (word ∷ more))
-    (all_append is_joined_byte word (flat_map (λ w. codes "," ++ w) more) (word_bytes word (All-head IsWord word more all)) (more_bytes more (All-tail IsWord word more all)))
-
--- ---- kinds of imports
-
-kind_word : (kind : List ℕ) → is_some (kind_of kind) ≡ true → IsUtf8 kind
-kind_word kind some = go (bytes_eq kind (codes "accounts")) refl (bytes_eq kind (codes "apps")) refl (bytes_eq kind (codes "versions")) refl (bytes_eq kind (codes "workunits")) refl
-  where
-    of_name : (other : List ℕ) → bytes_eq kind other ≡ true → IsWord other → IsUtf8 kind
-    of_name other same is = subst IsUtf8 (sym ((bytes_eq-Decides kind other).0 same)) (IsUtf8-word other is)
-
-    go : (a : Bool) → bytes_eq kind (codes "accounts") ≡ a → (b : Bool) → bytes_eq kind (codes "apps") ≡ b → (c : Bool) → bytes_eq kind (codes "versions") ≡ c → (d : Bool) → bytes_eq kind (codes "workunits") ≡ d → IsUtf8 kind
-    go true is b _ c _ d _ = of_name (codes "accounts") is refl
-    go false _ true is c _ d _ = of_name (codes "apps") is refl
-    go false _ false _ true is d _ = of_name (codes "versions") is refl
-    go false _ false _ false _ true is = of_name (codes "workunits") is refl
-    go false one false two false three false four = absurd (let none : is_some (kind_of kind) ≡ false = rw (one, two, three, four) refl in let e = sym some ∙ none in cc)
 
 -- ---- rows
 
@@ -228,10 +173,10 @@ module _ (w : World) (sound : Sound w) where
         ),
       )
 
-  account_format : (id : ℕ) (a : Account) → nth w.accounts id ≡ Some a → IsUtf8 a.name → IsStored name.Account (columns_of (stored.Account (account_row id a)))
-  account_format id a is utf8 =
+  account_format : (id : ℕ) (a : Account) → nth w.accounts id ≡ Some a → HasUtf8 (columns_of (stored.Account (account_row id a))) → IsStored name.Account (columns_of (stored.Account (account_row id a)))
+  account_format id a is texts =
       let limits = all_nth IsAccountInLimits w.accounts id a is sound.rows.accounts in
-      (refl, (of_number id (omega (arith, at_most w.accounts id a is, few_accounts)), (of_word a.authenticator limits.authenticator, ((a.name, refl, utf8), tt))))
+      (refl, (of_number id (omega (arith, at_most w.accounts id a is, few_accounts)), (of_word a.authenticator limits.authenticator, ((a.name, refl, texts.1.1.0), tt))))
 
   app_format : (id : ℕ) (a : App) → nth w.apps id ≡ Some a → IsStored name.App (columns_of (stored.App (app_row id a)))
   app_format id a is =
@@ -266,77 +211,79 @@ module _ (w : World) (sound : Sound w) where
       let delay : u.delay_bound < 4294967296 = omega (arith, limits.delay.1) in
       let credit : u.credit < 4294967296 = omega (arith, limits.credit) in (refl, (of_number id (omega (arith, at_most w.units id b is, few_units)), (of_word u.name limits.name, (of_number (app_place w u.app) (app_small u.app one.well.app), (of_number u.min_quorum quorum, (of_number u.target_nresults target, (of_number u.max_error_results errors, (of_number u.max_total_results total, (of_number u.max_success_results successes, (of_number u.delay_bound delay, ((pos u.rsc_fpops_est, refl), ((pos u.rsc_memory_bound, refl), ((pos u.rsc_disk_bound, refl), (of_number u.credit credit, (of_number (status_code (status_of w b)) (status_small (status_of w b)), tt)))))))))))))))
 
-  mark_format : (id : ℕ) (b : UnitBook) → unit_at w id ≡ Some b → IsStored name.UnitMark (columns_of (stored.UnitMark (mark_row id b)))
-  mark_format id b is =
-      let one = all_nth (IsSoundUnit w.hosts w.apps) w.units id b is sound.units in
+  mark_format : (id : ℕ) (b : UnitBook) → unit_at w id ≡ Some b → HasUtf8 (columns_of (stored.UnitMark (mark_row id b))) → IsStored name.UnitMark (columns_of (stored.UnitMark (mark_row id b)))
+  mark_format id b is texts =
       let rule = b.unit.class_rule in
-      let class = weaker (class_of rule) (λ class word. IsUtf8-word class word) one.well.limits.rule in
-      (refl, (of_number id (omega (arith, at_most w.units id b is, few_units)), (of_flag (is_marked rule), (of_text_or_none (class_of rule) class, tt))))
+      (refl, (of_number id (omega (arith, at_most w.units id b is, few_units)), (of_flag (is_marked rule), (of_text_or_none (class_of rule) texts.1.1.0, tt))))
 
-  host_format : (id : ℕ) (h : HostRow) → host_at w id ≡ Some h → IsStored name.Host (columns_of (stored.Host (host_row (length (held_by w id)) (host_credit w id) id h)))
-  host_format id h is =
+  host_format : (id : ℕ) (h : HostRow) → host_at w id ≡ Some h → HasUtf8 (columns_of (stored.Host (host_row (length (held_by w id)) (host_credit w id) id h))) → IsStored name.Host (columns_of (stored.Host (host_row (length (held_by w id)) (host_credit w id) id h)))
+  host_format id h is texts =
       let one = all_nth (IsSoundHost (length w.accounts) w.settings.daily_result_quota) w.hosts id h is sound.rows.hosts in
       let account : h.account < 4294967296 = omega (arith, one.account.1, few_accounts) in
       let most : w.settings.daily_result_quota ≤ 1000000 = sound.rows.settings.quota.1 in
       let quota : h.quota < 4294967296 = omega (arith, one.limits.quota.1, most) in
-      let few : length (held_by w id) ≤ 20000000 = (instances_are_few w bounded).held id in (refl, (of_number id (omega (arith, at_most w.hosts id h is, few_hosts)), (of_number h.account account, (of_word h.cpid one.limits.cpid, ((joined h.platforms, refl, joined_utf8 h.platforms one.limits.words), ((pos h.p_fpops, refl), ((pos h.m_nbytes, refl), ((pos h.d_free, refl), (of_number h.quota quota, (of_number (length (held_by w id)) (omega (arith, few)), ((pos (host_credit w id), refl), tt)))))))))))
+      let few : length (held_by w id) ≤ 20000000 = (instances_are_few w bounded).held id in (refl, (of_number id (omega (arith, at_most w.hosts id h is, few_hosts)), (of_number h.account account, (of_word h.cpid one.limits.cpid, ((joined h.platforms, refl, texts.1.1.1.0), ((pos h.p_fpops, refl), ((pos h.m_nbytes, refl), ((pos h.d_free, refl), (of_number h.quota quota, (of_number (length (held_by w id)) (omega (arith, few)), ((pos (host_credit w id), refl), tt)))))))))))
 
-  instance_format : (unit num : ℕ) (b : UnitBook) (x : Job) → unit_at w unit ≡ Some b → slice_get b.instances num ≡ Some x → IfSome x.report (λ r. IsUtf8 r.output)
+  instance_format : (unit num : ℕ) (b : UnitBook) (x : Job) → unit_at w unit ≡ Some b → slice_get b.instances num ≡ Some x → HasUtf8 (columns_of (stored.Instance (instance_row w b unit num x)))
       → IsStored name.Instance (columns_of (stored.Instance (instance_row w b unit num x)))
-  instance_format unit num b x here there utf8 =
+  instance_format unit num b x here there texts =
       let one = all_nth (IsSoundUnit w.hosts w.apps) w.units unit b here sound.units in
       let owner = all_got (HasOwnerAmong w.hosts) b.instances num x there one.well.owners in
       let limits = all_got IsInstanceInLimits b.instances num x there one.well.instances in
       let few : length b.instances ≤ 100 = one.well.few in
-      let below : num < length b.instances = slice_get_within b.instances num x there in (refl, (of_number unit (omega (arith, at_most w.units unit b here, few_units)), (of_number num (omega (arith, below, few)), (of_number_or_none (host_of x) (weaker (host_of x) (λ host stands. omega (arith, stands_within w.hosts host stands, few_hosts)) owner), (of_integer_or_none (option_map (λ o. pos o.sent) x.owner), (of_integer_or_none (option_map (λ o. pos o.deadline) x.owner), (of_number (lapse_code x.lapse) (lapse_small x.lapse), (of_number_or_none (option_map (λ r. if r.success then 1 else 3) x.report) (outcome_small x.report), (of_text_or_none (option_map (λ r. r.output) x.report) (output_utf8 x.report utf8), (of_number_or_none (option_and_then (λ r. r.place) x.report) (place_small x.report limits.place), (of_flag (instance_row w b unit num x).queued, tt)))))))))))
+      let below : num < length b.instances = slice_get_within b.instances num x there in (refl, (of_number unit (omega (arith, at_most w.units unit b here, few_units)), (of_number num (omega (arith, below, few)), (of_number_or_none (host_of x) (weaker (host_of x) (λ host stands. omega (arith, stands_within w.hosts host stands, few_hosts)) owner), (of_integer_or_none (option_map (λ o. pos o.sent) x.owner), (of_integer_or_none (option_map (λ o. pos o.deadline) x.owner), (of_number (lapse_code x.lapse) (lapse_small x.lapse), (of_number_or_none (option_map (λ r. if r.success then 1 else 3) x.report) (outcome_small x.report), (of_text_or_none (option_map (λ r. r.output) x.report) texts.1.1.1.1.1.1.1.0, (of_number_or_none (option_and_then (λ r. r.place) x.report) (place_small x.report limits.place), (of_flag (instance_row w b unit num x).queued, tt)))))))))))
 
-  call_format : (host slot : ℕ) (k : Call) → is_call_of w (stored.Kept (call_row host slot k)) ≡ true → IsUtf8 k.text × IsUtf8 k.reply → IsStored name.Kept (columns_of (stored.Kept (call_row host slot k)))
-  call_format host slot k fits utf8 =
+  call_format : (host slot : ℕ) (k : Call) → is_call_of w (stored.Kept (call_row host slot k)) ≡ true → HasUtf8 (columns_of (stored.Kept (call_row host slot k))) → IsStored name.Kept (columns_of (stored.Kept (call_row host slot k)))
+  call_format host slot k fits texts =
       let parts = and_parts (is_some (host_at w host)) (nat_lt slot most_kept && nat_le k.seqno last_seqno) fits in
       let ranges = and_parts (nat_lt slot most_kept) (nat_le k.seqno last_seqno) parts.1 in
       let in_slot : slot < 4294967296 = grind (arith, ranges.0) in
       let in_range : k.seqno < 4294967296 = grind (arith, ranges.1) in
-      (refl, (of_number host (omega (arith, stands_within w.hosts host parts.0, few_hosts)), (of_number slot in_slot, (of_number k.seqno in_range, ((k.text, refl, utf8.0), ((k.reply, refl, utf8.1), tt))))))
+      (refl, (of_number host (omega (arith, stands_within w.hosts host parts.0, few_hosts)), (of_number slot in_slot, (of_number k.seqno in_range, ((k.text, refl, texts.1.1.1.0), ((k.reply, refl, texts.1.1.1.1.0), tt))))))
 
-import_format : (kind text : List ℕ) (b : BatchText) → is_import (stored.Batch (record { kind = kind; name = text; text = b.0; answer = b.1 })) ≡ true → IsUtf8 b.1
-    → IsStored name.Batch (columns_of (stored.Batch (record { kind = kind; name = text; text = b.0; answer = b.1 })))
-import_format kind text b fits utf8 =
+import_format : (kind text : List ℕ) (b : BatchText) → is_import (stored.Batch (record { kind = kind; name = text; text = b.0; answer = b.1 })) ≡ true
+    → HasUtf8 (columns_of (stored.Batch (record { kind = kind; name = text; text = b.0; answer = b.1 }))) → IsStored name.Batch (columns_of (stored.Batch (record { kind = kind; name = text; text = b.0; answer = b.1 })))
+import_format kind text b fits texts =
     let parts = and_parts (is_some (kind_of kind)) (is_word text && nat_le (length b.0) most_import_bytes) fits in
     let named = and_parts (is_word text) (nat_le (length b.0) most_import_bytes) parts.1 in
-    (refl, ((kind, refl, kind_word kind parts.0), (of_word text named.0, ((b.0, refl), ((b.1, refl, utf8), tt)))))
+    (refl, ((kind, refl, texts.0), (of_word text named.0, ((b.0, refl), ((b.1, refl, texts.1.1.1.0), tt)))))
 
-pub have_formats : (w : World) (calls : SlotCalls) (batches : List ℕ → List ℕ → Option BatchText) → Sound w → MayStandBeside w calls batches → AreUtf8 w calls batches → HaveFormats (contents_of w calls batches)
-have_formats w calls batches sound beside utf8 (setting_key text) = go (contents_of w calls batches (setting_key text)) refl
+pub have_formats : (w : World) (calls : SlotCalls) (batches : List ℕ → List ℕ → Option BatchText) → Sound w → MayStandBeside w calls batches → HaveTexts (contents_of w calls batches) → HaveFormats (contents_of w calls batches)
+have_formats w calls batches sound beside texts (setting_key text) = go (contents_of w calls batches (setting_key text)) refl
   where
     go : (o : Option StoredRow) → contents_of w calls batches (setting_key text) ≡ o → IfSome o (λ r. IsStored name.Setting (columns_of r))
     go None is = tt
     go (Some r) is = all_have (λ s. IsStored name.Setting (columns_of s)) (setting_rows w.settings) r (setting_formats w sound) (setting_listed w.settings (setting_key text) r is)
-have_formats w calls batches sound beside utf8 (account_key id) =
-    made (λ (a : Account). stored.Account (account_row id a)) name.Account (nth w.accounts id) (λ a is. account_format w sound id a is (all_nth (λ (a : Account). IsUtf8 a.name) w.accounts id a is utf8.names))
-have_formats w calls batches sound beside utf8 (app_key id) = made (λ (a : App). stored.App (app_row id a)) name.App (nth w.apps id) (app_format w sound id)
-have_formats w calls batches sound beside utf8 (version_key id) = made (λ (v : Version). stored.Version (version_row w id v)) name.Version (nth w.versions id) (version_format w sound id)
-have_formats w calls batches sound beside utf8 (class_key id) = made (λ (v : Version). stored.VersionClass (class_row id v)) name.VersionClass (nth w.versions id) (class_format w sound id)
-have_formats w calls batches sound beside utf8 (unit_key id) = made (λ (b : UnitBook). stored.Unit (unit_row w id b)) name.Unit (unit_at w id) (unit_format w sound id)
-have_formats w calls batches sound beside utf8 (mark_key id) = made (λ (b : UnitBook). stored.UnitMark (mark_row id b)) name.UnitMark (unit_at w id) (mark_format w sound id)
-have_formats w calls batches sound beside utf8 (host_key id) =
-    made (λ (h : HostRow). stored.Host (host_row (length (held_by w id)) (host_credit w id) id h)) name.Host (host_at w id) (host_format w sound id)
-have_formats w calls batches sound beside utf8 (instance_key unit num) = go (unit_at w unit) refl
+have_formats w calls batches sound beside texts (account_key id) = made (λ (a : Account). stored.Account (account_row id a)) name.Account (nth w.accounts id) (texts (account_key id)) (account_format w sound id)
+have_formats w calls batches sound beside texts (app_key id) = made (λ (a : App). stored.App (app_row id a)) name.App (nth w.apps id) (texts (app_key id)) (λ a is _. app_format w sound id a is)
+have_formats w calls batches sound beside texts (version_key id) = made (λ (v : Version). stored.Version (version_row w id v)) name.Version (nth w.versions id) (texts (version_key id)) (λ v is _. version_format w sound id v is)
+have_formats w calls batches sound beside texts (class_key id) = made (λ (v : Version). stored.VersionClass (class_row id v)) name.VersionClass (nth w.versions id) (texts (class_key id)) (λ v is _. class_format w sound id v is)
+have_formats w calls batches sound beside texts (unit_key id) = made (λ (b : UnitBook). stored.Unit (unit_row w id b)) name.Unit (unit_at w id) (texts (unit_key id)) (λ b is _. unit_format w sound id b is)
+have_formats w calls batches sound beside texts (mark_key id) = made (λ (b : UnitBook). stored.UnitMark (mark_row id b)) name.UnitMark (unit_at w id) (texts (mark_key id)) (mark_format w sound id)
+have_formats w calls batches sound beside texts (host_key id) =
+    made (λ (h : HostRow). stored.Host (host_row (length (held_by w id)) (host_credit w id) id h)) name.Host (host_at w id) (texts (host_key id)) (host_format w sound id)
+have_formats w calls batches sound beside texts (instance_key unit num) = go (unit_at w unit) refl (texts (instance_key unit num))
   where
-    go : (o : Option UnitBook) → unit_at w unit ≡ o
-        → IfSome (option_and_then (λ (b : UnitBook). option_map (λ (x : Job). stored.Instance (instance_row w b unit num x)) (slice_get b.instances num)) o) (λ r. IsStored name.Instance (columns_of r))
-    go None is = tt
-    go (Some b) is =
-        made (λ (x : Job). stored.Instance (instance_row w b unit num x)) name.Instance (slice_get b.instances num) (λ x there. instance_format w sound unit num b x is there
-        (all_got (λ (x : Job). IfSome x.report (λ r. IsUtf8 r.output)) b.instances num x there (all_nth (λ (b : UnitBook). All (λ (x : Job). IfSome x.report (λ r. IsUtf8 r.output)) b.instances) w.units unit b is utf8.outputs)))
-have_formats w calls batches sound beside utf8 (kept_key host slot) = go (calls host slot) (beside.calls_fit host slot) (utf8.calls_are host slot)
+    row_in : Option UnitBook → Option StoredRow
+    row_in = option_and_then (λ (b : UnitBook). option_map (λ (x : Job). stored.Instance (instance_row w b unit num x)) (slice_get b.instances num))
+
+    go : (o : Option UnitBook) → unit_at w unit ≡ o → IfSome (row_in o) (λ r. HasUtf8 (columns_of r)) → IfSome (row_in o) (λ r. IsStored name.Instance (columns_of r))
+    go None is text = tt
+    go (Some b) is text = made (λ (x : Job). stored.Instance (instance_row w b unit num x)) name.Instance (slice_get b.instances num) text (λ x there. instance_format w sound unit num b x is there)
+have_formats w calls batches sound beside texts (kept_key host slot) = go (calls host slot) (beside.calls_fit host slot) (texts (kept_key host slot))
   where
-    go : (o : Option Call) → IfSome o (λ k. IsTrue (is_call_of w (stored.Kept (call_row host slot k)))) → IfSome o (λ k. IsUtf8 k.text × IsUtf8 k.reply)
-        → IfSome (option_map (λ (k : Call). stored.Kept (call_row host slot k)) o) (λ r. IsStored name.Kept (columns_of r))
-    go None fits texts = tt
-    go (Some k) fits texts = call_format w sound host slot k fits texts
-have_formats w calls batches sound beside utf8 (batch_key kind text) = go (batches kind text) (beside.imports_fit kind text) (utf8.answers kind text)
+    row_in : Option Call → Option StoredRow
+    row_in = option_map (λ (k : Call). stored.Kept (call_row host slot k))
+
+    go : (o : Option Call) → IfSome o (λ k. IsTrue (is_call_of w (stored.Kept (call_row host slot k)))) → IfSome (row_in o) (λ r. HasUtf8 (columns_of r)) → IfSome (row_in o) (λ r. IsStored name.Kept (columns_of r))
+    go None fits text = tt
+    go (Some k) fits text = call_format w sound host slot k fits text
+have_formats w calls batches sound beside texts (batch_key kind text) = go (batches kind text) (beside.imports_fit kind text) (texts (batch_key kind text))
   where
-    go : (o : Option BatchText) → IfSome o (λ b. IsTrue (is_import (stored.Batch (record { kind = kind; name = text; text = b.0; answer = b.1 })))) → IfSome o (λ b. IsUtf8 b.1)
-        → IfSome (option_map (λ (b : BatchText). stored.Batch (record { kind = kind; name = text; text = b.0; answer = b.1 })) o) (λ r. IsStored name.Batch (columns_of r))
-    go None fits texts = tt
-    go (Some b) fits texts = import_format kind text b fits texts
+    row_in : Option BatchText → Option StoredRow
+    row_in = option_map (λ (b : BatchText). stored.Batch (record { kind = kind; name = text; text = b.0; answer = b.1 }))
+
+    go : (o : Option BatchText) → IfSome o (λ b. IsTrue (is_import (stored.Batch (record { kind = kind; name = text; text = b.0; answer = b.1 })))) → IfSome (row_in o) (λ r. HasUtf8 (columns_of r))
+        → IfSome (row_in o) (λ r. IsStored name.Batch (columns_of r))
+    go None fits utf8 = tt
+    go (Some b) fits utf8 = import_format kind text b fits utf8

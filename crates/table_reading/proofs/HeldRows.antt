@@ -22,6 +22,7 @@ use Rattle.table_meaning.proofs.ColumnsTold.{columns_told}
 use Rattle.table_meaning.proofs.Keys.{number_in}
 use Rattle.table_meaning.proofs.RowsHeld.{source, held_row}
 use Rattle.table_meaning.proofs.RowsKeyed.{rows_told, rows_stand}
+use Rattle.table_rows.specs.Utf8.{HasUtf8}
 use Rattle.table_worlds.proofs.RowsAre.{key_of_table, rows_of_world}
 use Rattle.table_reading.proofs.KeptRows.{import_row, each_passes, call_table, import_table, call_shown, import_shown}
 use Rattle.table_reading.specs.Reading.{AllRows, AreAllRead, StandFor, ReadFrom, StandForNone, HasBadTable, HasOtherSchema, MayStandBeside, is_call_of, is_import}
@@ -66,6 +67,10 @@ module _ (db : Database) (w : World) (all : AllRows) (read : AreAllRead db.trees
 -- each of the rows has the format of its table
 abbrev pub HaveFormats : Contents → Type 0
 HaveFormats contents = (key : RowKey) → IfSome (contents key) (λ r. IsStored (table_at key) (columns_of r))
+
+-- each text of each of the rows is in UTF-8
+abbrev pub HaveTexts : Contents → Type 0
+HaveTexts contents = (key : RowKey) → IfSome (contents key) (λ r. HasUtf8 (columns_of r))
 
 -- some row of a table without its format is none of rows that have it
 pub formed : (db : Database) (contents : Contents) → Hold db contents → HaveFormats contents → ¬ HasBadTable db.trees

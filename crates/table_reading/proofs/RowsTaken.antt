@@ -1,5 +1,6 @@
 -- What a reading of all tables holds of their rows.
-use Rattle.std.proofs.Common.{◌≡◌, Bool, true, false, ◌&&◌, List, [], ◌∷◌, ◌++◌, map, fold, refl, sym, ap, subst, ◌∙◌}
+use Rattle.std.proofs.Common.{◌≡◌, Bool, true, false, ◌&&◌, List, [], ◌∷◌, ◌++◌, map, fold, Option, Some, None, refl, sym, ap, subst, ◌∙◌, inl, inr}
+use Rattle.std.specs.Prelude.{IfSome}
 use Rattle.std.specs.List.{AllByRecursion, list_all}
 use Rattle.std.proofs.lemmas.List.{append-nil, append_assoc}
 use Rattle.sqlite_trees.specs.Tree.{Trees}
@@ -7,11 +8,17 @@ use Rattle.table_meaning.specs.declared.rows.StoredRow.{StoredRow}
 use Rattle.table_meaning.specs.declared.rows.StoredRow.TheVariants as stored
 use Rattle.table_meaning.specs.declared.tables.TableName.{TableName}
 use Rattle.table_meaning.specs.declared.tables.TableName.TheVariants as name
-use Rattle.table_meaning.specs.Rows.{table_of, columns_of, rows_in}
+use Rattle.sqlite_rules.specs.Lists.{Has}
+use Rattle.sqlite_value.specs.Order.{Row}
+use Rattle.table_meaning.specs.Rows.{table_of, table_at, columns_of, rows_in, look_up}
+use Rattle.table_meaning.proofs.RowsHeld.{source}
+use Rattle.table_meaning.proofs.RowsKeyed.{row_has}
+use Rattle.table_rows.specs.Utf8.{HasUtf8}
 use Rattle.table_rows.specs.Visits.{VisitsAll, VisitsRows, VisitsTables}
+use Rattle.table_worlds.proofs.RowsHold.{all_have}
 use Rattle.table_reading.specs.declared.rows.Reading.{Reading}
 use Rattle.table_reading.specs.Counting.{noted}
-use Rattle.table_reading.specs.Reading.{AllRows, AreAllRead, AreTyped, all_tables, is_call, is_import, later_host, no_rows, reading_of, with_row}
+use Rattle.table_reading.specs.Reading.{AllRows, AreAllRead, AreTyped, AreUtf8, all_tables, is_call, is_import, later_host, no_rows, reading_of, with_row}
 
 abbrev pub Takes : Reading → StoredRow → Reading → Type 0
 Takes old row new = new ≡ with_row old row
@@ -76,8 +83,37 @@ Fills trees old (t ∷ ts) new = (rows : List StoredRow) × (map columns_of rows
 
 tables_taken : (trees : Trees) (tables : List TableName) (old new : Reading) → VisitsTables Takes trees old tables new → Fills trees old tables new
 tables_taken trees [] old new same = same
-tables_taken trees (t ∷ ts) old new (mid, (rows, are, of_table, took), rest) =
+tables_taken trees (t ∷ ts) old new (mid, (rows, are, of_table, _, took), rest) =
     (rows, are, of_table, subst (λ r. Fills trees r ts new) (rows_taken t old mid rows of_table took) (tables_taken trees ts mid new rest))
+
+-- each row of these tables has its texts in UTF-8
+tables_utf8 : (trees : Trees) (tables : List TableName) (old new : Reading) → VisitsTables Takes trees old tables new → (t : TableName) → Has tables t → (row : Row) → Has (rows_in trees t) row → HasUtf8 row
+tables_utf8 trees [] old new same t has row there = absurd has
+tables_utf8 trees (first ∷ ts) old new (mid, (rows, are, of_table, texts, took), rest) t (inl is) row there =
+    let among : Has (map columns_of rows) row = subst (λ l. Has l row) (ap (rows_in trees) is ∙ sym are) there in
+    let one = source columns_of rows row among in
+    subst HasUtf8 (sym one.2) (all_have (λ r. HasUtf8 (columns_of r)) rows one.0 texts one.1)
+tables_utf8 trees (first ∷ ts) old new (mid, visited, rest) t (inr later) row there = tables_utf8 trees ts mid new rest t later row there
+
+each_table : (t : TableName) → Has all_tables t
+each_table name.Setting = inl refl
+each_table name.Account = inr (inl refl)
+each_table name.App = inr (inr (inl refl))
+each_table name.Version = inr (inr (inr (inl refl)))
+each_table name.VersionClass = inr (inr (inr (inr (inl refl))))
+each_table name.Unit = inr (inr (inr (inr (inr (inl refl)))))
+each_table name.UnitMark = inr (inr (inr (inr (inr (inr (inl refl))))))
+each_table name.Host = inr (inr (inr (inr (inr (inr (inr (inl refl)))))))
+each_table name.Instance = inr (inr (inr (inr (inr (inr (inr (inr (inl refl))))))))
+each_table name.Kept = inr (inr (inr (inr (inr (inr (inr (inr (inr (inl refl)))))))))
+each_table name.Batch = inr (inr (inr (inr (inr (inr (inr (inr (inr (inr (inl refl))))))))))
+
+pub all_utf8 : (trees : Trees) (old new : Reading) → VisitsTables Takes trees old all_tables new → AreUtf8 trees
+all_utf8 trees old new took key = go (look_up trees key) refl
+  where
+    go : (o : Option Row) → look_up trees key ≡ o → IfSome o HasUtf8
+    go None is = tt
+    go (Some row) is = tables_utf8 trees all_tables old new took (table_at key) (each_table (table_at key)) row (row_has trees key row is)
 
 pub tables_more : (trees : Trees) (tables : List TableName) (t : TableName) (old mid new : Reading) → VisitsTables Takes trees old tables mid → VisitsRows Takes t mid (rows_in trees t) new → VisitsTables Takes trees old (tables ++ t ∷ []) new
 tables_more trees [] t old mid new same visits = (new, subst (λ r. VisitsRows Takes t r (rows_in trees t) new) same visits, refl)

@@ -1,5 +1,5 @@
 -- Rule. What the rows of tables have to be for a world to be read from them.
-use Rattle.std.specs.Prelude.{◌≡◌, ℕ, Bool, false, not, ◌&&◌, ◌==◌, nat_le, nat_lt, max, IsTrue, List, [], ◌∷◌, ◌++◌, map, fold, length, is_some, All, Option, IfSome, IsUtf8}
+use Rattle.std.specs.Prelude.{◌≡◌, ℕ, Bool, false, not, ◌&&◌, ◌==◌, nat_le, nat_lt, max, IsTrue, List, [], ◌∷◌, ◌++◌, map, fold, length, is_some, Option, IfSome}
 use Rattle.std.specs.List.{AllByRecursion, list_all}
 use Rattle.sqlite.specs.State.{State, HasCleanDisk}
 use Rattle.sqlite_rules.specs.Lists.{Has}
@@ -17,9 +17,10 @@ use Rattle.table_meaning.specs.declared.tables.TableName.{TableName}
 use Rattle.table_meaning.specs.declared.tables.TableName.TheVariants as name
 use Rattle.table_meaning.specs.Formats.{HasBadRow}
 use Rattle.table_meaning.specs.Holding.{AreKnown}
-use Rattle.table_meaning.specs.Rows.{table_of, columns_of, rows_in}
+use Rattle.table_meaning.specs.Rows.{RowKey, table_of, columns_of, rows_in, look_up}
 use Rattle.table_meaning.specs.Worlds.{BatchText, SlotCalls, call_row}
 use Rattle.table_decoding.specs.Decoding.{schema_row}
+use Rattle.table_rows.specs.Utf8.{HasUtf8}
 use Rattle.table_worlds.specs.RowsOf.{WorldRows, AreRowsOf, AreRead, rows_beside}
 use Rattle.table_reading.specs.Counting.{noted, none_noted}
 use Rattle.table_reading.specs.declared.rows.Reading.{Reading}
@@ -102,13 +103,9 @@ pub record MayStandBeside (w : World) (calls : SlotCalls) (batches : List ℕ �
   pub calls_fit : (host slot : ℕ) → IfSome (calls host slot) (λ k. IsTrue (is_call_of w (stored.Kept (call_row host slot k))))
   pub imports_fit : (kind text : List ℕ) → IfSome (batches kind text) (λ b. IsTrue (is_import (stored.Batch (record { kind = kind; name = text; text = b.0; answer = b.1 }))))
 
--- The texts that need be no words are UTF-8 (RFC 3629), as each text of the program is: the names of users, what was reported, and
--- what is kept of calls and of imports.
-pub record AreUtf8 (w : World) (calls : SlotCalls) (batches : List ℕ → List ℕ → Option BatchText) : Type 0 where
-  pub names : All (λ a. IsUtf8 a.name) w.accounts
-  pub outputs : All (λ b. All (λ x. IfSome x.report (λ r. IsUtf8 r.output)) b.instances) w.units
-  pub calls_are : (host slot : ℕ) → IfSome (calls host slot) (λ k. IsUtf8 k.text × IsUtf8 k.reply)
-  pub answers : (kind text : List ℕ) → IfSome (batches kind text) (λ b. IsUtf8 b.1)
+-- Each text of each row that stands at a key is in UTF-8 (RFC 3629).
+abbrev pub AreUtf8 : Trees → Type 0
+AreUtf8 trees = (key : RowKey) → IfSome (look_up trees key) HasUtf8
 
 -- They are read from the tables, and stand for the world.
 abbrev pub ReadFrom : Trees → World → Type 0

@@ -4,7 +4,7 @@ ghost use Rattle.std.specs.Prelude.{◌≡◌, IfOk, IfErr, OnOk};
 ghost use Rattle.sqlite.specs.Held.{state};
 ghost use Rattle.table_meaning.specs.Reads.{Reads};
 ghost use Rattle.table_rows.specs.Visits.{VisitsTables};
-ghost use Rattle.table_reading.specs.Reading.{AllRows, no_rows, with_row, AreAllRead, AreTyped, reading_of, HasBadTable, WereKnown};
+ghost use Rattle.table_reading.specs.Reading.{AllRows, no_rows, with_row, AreAllRead, AreTyped, AreUtf8, reading_of, HasBadTable, WereKnown};
 
 use crate::counts::UnitCounts;
 use crate::kept::{is_call, is_import};
@@ -124,6 +124,7 @@ pub(crate) fn read_all<S: Alter>(
     ensures reads { Reads (state S.Store conn.old) (state S.Store conn.new) }
     ensures rows { WereKnown (state S.Store conn.old) (state S.Store conn.new)
         → IfOk result (λ reading. (all : AllRows) × AreAllRead (state S.Store conn.old).now.trees all × AreTyped all × (reading ≡ reading_of all)) }
+    ensures utf8 { WereKnown (state S.Store conn.old) (state S.Store conn.new) → OnOk result (AreUtf8 (state S.Store conn.old).now.trees) }
     ensures bad { WereKnown (state S.Store conn.old) (state S.Store conn.new) → IfErr result (λ e. e ≡ OpenFault.BadRow → HasBadTable (state S.Store conn.old).now.trees) }
 {
     let mut reading = Reading::new(alloc);

@@ -12,7 +12,7 @@ ghost use Rattle.table_meaning.specs.Worlds.{HoldWorld};
 ghost use Rattle.table_worlds.specs.RowsOf.{having, without_units, AreRowsBeside};
 ghost use Rattle.table_worlds.specs.StoredWorld.{world_in};
 ghost use Rattle.table_decoding.specs.Decoding.{schema_row};
-ghost use Rattle.table_reading.specs.Reading.{AllRows, AreAllRead, AreTyped, reading_of, WereKnown, ReadFrom, StandFor, StandForNone, HasBadTable, HasOtherSchema};
+ghost use Rattle.table_reading.specs.Reading.{AllRows, AreAllRead, AreTyped, AreUtf8, reading_of, WereKnown, ReadFrom, StandFor, StandForNone, HasBadTable, HasOtherSchema};
 ghost use Rattle.table_reading.specs.Testing.{AreTested, IsFit};
 
 use crate::kept::are_calls_of;
@@ -131,6 +131,7 @@ pub fn stored_world<S: Alter>(
         → OnOk result (ReadFrom (state S.Store conn.old).now.trees (world_in (state S.Store conn.old).now.trees)) }
     ensures held { WereKnown (state S.Store conn.old) (state S.Store conn.new) → OnOk result
         (HoldWorld (state S.Store conn.old).now (world_in (state S.Store conn.old).now.trees) (calls_in (state S.Store conn.old).now.trees) (batches_in (state S.Store conn.old).now.trees)) }
+    ensures utf8 { WereKnown (state S.Store conn.old) (state S.Store conn.new) → OnOk result (AreUtf8 (state S.Store conn.old).now.trees) }
     ensures kept { WereKnown (state S.Store conn.old) (state S.Store conn.new) → IfOk result (λ kept.
         (kept.settings ≡ (world_in (state S.Store conn.old).now.trees).settings) × (kept.apps ≡ (world_in (state S.Store conn.old).now.trees).apps)) }
     ensures other_schema { WereKnown (state S.Store conn.old) (state S.Store conn.new)

@@ -1,4 +1,5 @@
 pub mod Numbered
 pub mod Plain
 pub mod Refusing
+pub mod Utf8
 pub mod Visits

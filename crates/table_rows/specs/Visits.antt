@@ -6,6 +6,7 @@ use Rattle.sqlite_value.specs.Order.{Row}
 use Rattle.table_meaning.specs.declared.rows.StoredRow.{StoredRow}
 use Rattle.table_meaning.specs.declared.tables.TableName.{TableName}
 use Rattle.table_meaning.specs.Rows.{table_of, columns_of, rows_in}
+use Rattle.table_rows.specs.Utf8.{HaveUtf8}
 
 -- `takes` says what a row does that is taken: the visitor before, the row, and the visitor after.
 module _ {V : Type 0} (takes : V → StoredRow → V → Type 0) where
@@ -14,9 +15,9 @@ module _ {V : Type 0} (takes : V → StoredRow → V → Type 0) where
   VisitsAll old [] new = new ≡ old
   VisitsAll old (r ∷ rs) new = (mid : V) × takes old r mid × VisitsAll mid rs new
 
-  -- these rows of the table have types, and are taken so
+  -- these rows of the table have types, with texts in UTF-8, and are taken so
   abbrev pub VisitsRows : TableName → V → List Row → V → Type 0
-  VisitsRows table old rows new = (all : List StoredRow) × (map columns_of all ≡ rows) × AllByRecursion (λ r. table_of r ≡ table) all × VisitsAll old all new
+  VisitsRows table old rows new = (all : List StoredRow) × (map columns_of all ≡ rows) × AllByRecursion (λ r. table_of r ≡ table) all × HaveUtf8 all × VisitsAll old all new
 
   -- the rows of each of the tables are taken, in order
   abbrev pub VisitsTables : Trees → V → List TableName → V → Type 0

@@ -11,6 +11,7 @@ ghost use Rattle.table_meaning.specs.Schemas.{definitions_between};
 ghost use Rattle.table_meaning.specs.Making.{IsLeft};
 ghost use Rattle.table_meaning.specs.Texts.{definition_texts};
 ghost use Rattle.table_meaning.specs.Steps.{HoldJust};
+ghost use Rattle.table_rows.specs.Utf8.{HaveUtf8};
 
 use crate::opening::OpenFault;
 use crate::put::put_each;
@@ -112,6 +113,7 @@ fn make_tables<S: Alter>(
     ensures was_open { HasCleanDisk (state S.Store tx.new.conn.now) → OnOk result (IsTrue (state S.Store tx.old.conn.now).is_open) }
     ensures made { HasCleanDisk (state S.Store tx.new.conn.now) → IsTrue (state S.Store tx.old.conn.now).in_transaction → (state S.Store tx.old.conn.now).now.schema ≡ no_schema
         → IsDatabase (state S.Store tx.old.conn.now).now → OnOk result (IsTrue (state S.Store tx.new.conn.now).in_transaction × HoldJust (state S.Store tx.new.conn.now).now rows.now) }
+    ensures utf8 { OnOk result (HaveUtf8 rows.now) }
 {
     define(tx, 0, NEWEST_SCHEMA)?;
     put_each(alloc, tx, rows)
@@ -131,7 +133,8 @@ pub(crate) fn make_schema<S: Alter>(conn: &mut Connection<S>, schema: u32) -> Re
     Ok(())
 }
 
-/// Makes the tables with these rows, put in order, in a database that has none: all of them or nothing.
+/// Makes the tables with these rows, put in order, in a database that has none: all of them or nothing. Each text of them is in
+/// UTF-8.
 pub fn create<S: Alter>(
     alloc: Global,
     conn: &mut Connection<S>,
@@ -141,6 +144,7 @@ pub fn create<S: Alter>(
     ensures open { HasCleanDisk (state S.Store conn.new) → OnOk result (IsTrue (state S.Store conn.new).is_open) }
     ensures idle { OnOk result ((state S.Store conn.new).in_transaction ≡ false) }
     ensures made { HasCleanDisk (state S.Store conn.new) → OnOk result (HoldJust (state S.Store conn.new).committed rows.now) }
+    ensures utf8 { OnOk result (HaveUtf8 rows.now) }
     ensures rest { HasCleanDisk (state S.Store conn.new) → OnOk result ((state S.Store conn.new).now ≡ (state S.Store conn.new).committed) }
     ensures taken { IfErr result (λ e. e ≡ OpenFault.NotTables → (state S.Store conn.old).now.schema ≢ no_schema) }
     ensures never_bad { IfErr result (λ e. e ≢ OpenFault.BadRow) }

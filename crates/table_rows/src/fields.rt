@@ -1,6 +1,6 @@
 //! Columns of a row as values with types.
 
-ghost use Rattle.std.specs.Prelude.{◌≡◌, pos, IfOk, IfErr, if◌then◌else◌};
+ghost use Rattle.std.specs.Prelude.{◌≡◌, pos, IfOk, IfErr, IsUtf8, if◌then◌else◌};
 ghost use Rattle.std.specs.Bool.{Decides};
 ghost use Rattle.sqlite.specs.Values.{or_null};
 ghost use Rattle.sqlite_value.specs.Value.{owned};
@@ -8,13 +8,14 @@ ghost use Rattle.sqlite_value.specs.declared.value.Value.TheVariants.{Int as Sql
 ghost use Rattle.sqlite_value.specs.Order.{column};
 ghost use Rattle.table_meaning.specs.Rows.{whole as sql_whole, setting_value as sql_setting};
 ghost use Rattle.table_meaning.specs.Formats.{words, flag as sql_flag, octets as sql_octets, optional, either, number as sql_number, integer as sql_integer, IsOf};
+ghost use Rattle.table_rows.specs.Utf8.{IsUtf8Value};
 
 use crate::opening::OpenFault;
 use sqlite::Row;
 use sqlite::types::{FromSql, FromSqlError, ValueRef};
 use std::alloc::Global;
 use table_meaning::rows::SettingValue;
-use texts::{Listed, Text};
+use texts::{Listed, Text, utf8_text};
 
 /// The value in a column, and NULL past the end.
 fn value(row: &Row, at: usize) -> ValueRef<'_>
@@ -64,11 +65,19 @@ pub(crate) fn int(alloc: Global, row: &Row, at: usize) -> Result<i64, OpenFault>
     field(alloc, row, at)
 }
 
+/// A text in UTF-8 (RFC 3629).
 pub(crate) fn text(alloc: Global, row: &Row, at: usize) -> Result<Text, OpenFault>
     ensures read { IfOk result (λ text. SqlText text ≡ column row.now at) }
+    ensures utf8 { IfOk result (λ text. IsUtf8 text) }
     ensures bad { IfErr result (λ e. e ≡ OpenFault.BadRow → ¬ IsOf words (column row.now at)) }
 {
-    Ok(Text::of(field(alloc, row, at)?))
+    let ValueRef::Text(bytes) = value(row, at) else {
+        return Err(OpenFault::BadRow);
+    };
+    match utf8_text(bytes) {
+        Some(text) => Ok(Text::copied(alloc, text)?),
+        None => Err(OpenFault::BadRow),
+    }
 }
 
 pub(crate) fn octets(alloc: Global, row: &Row, at: usize) -> Result<Listed<u8>, OpenFault>
@@ -105,6 +114,7 @@ pub(crate) fn optional_int(alloc: Global, row: &Row, at: usize) -> Result<Option
 
 pub(crate) fn optional_text(alloc: Global, row: &Row, at: usize) -> Result<Option<Text>, OpenFault>
     ensures read { IfOk result (λ text. or_null SqlText text ≡ column row.now at) }
+    ensures utf8 { IfOk result (λ text. IsUtf8Value (or_null SqlText text)) }
     ensures bad { IfErr result (λ e. e ≡ OpenFault.BadRow → ¬ IsOf (optional words) (column row.now at)) }
 {
     match value(row, at) {
@@ -115,6 +125,7 @@ pub(crate) fn optional_text(alloc: Global, row: &Row, at: usize) -> Result<Optio
 
 pub(crate) fn setting_value(alloc: Global, row: &Row, at: usize) -> Result<SettingValue, OpenFault>
     ensures read { IfOk result (λ value. sql_setting value ≡ column row.now at) }
+    ensures utf8 { IfOk result (λ value. IsUtf8Value (sql_setting value)) }
     ensures bad { IfErr result (λ e. e ≡ OpenFault.BadRow → ¬ IsOf (either sql_number words) (column row.now at)) }
 {
     match value(row, at) {

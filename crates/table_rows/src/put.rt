@@ -4,8 +4,9 @@ ghost use Rattle.std.specs.Prelude.{◌≡◌, ◌≢◌, false, [], ◌∷◌, 
 ghost use Rattle.sqlite.specs.Held.{state};
 ghost use Rattle.sqlite.specs.State.{HasCleanDisk, KeepsCommit, Survives};
 ghost use Rattle.table_meaning.specs.Texts.{put_text as sql_put};
-ghost use Rattle.table_meaning.specs.Rows.{table_at, key_of};
+ghost use Rattle.table_meaning.specs.Rows.{table_at, columns_of, key_of};
 ghost use Rattle.table_meaning.specs.Steps.{PutsRows, Moves};
+ghost use Rattle.table_rows.specs.Utf8.{HasUtf8, HaveUtf8};
 
 use crate::connection::test_open;
 use crate::values::values_of;
@@ -59,6 +60,7 @@ fn put_row<S: Alter>(
         → OnOk result (Moves (state S.Store tx.old.conn.now) (state S.Store tx.new.conn.now) (row.now ∷ [])) }
     ensures was_open { HasCleanDisk (state S.Store tx.new.conn.now) → IsTrue (state S.Store tx.old.conn.now).in_transaction
         → OnOk result (IsTrue (state S.Store tx.old.conn.now).is_open) }
+    ensures utf8 { OnOk result (HasUtf8 (columns_of row.now)) }
 {
     let values = values_of(alloc, row)?;
     tx.execute(put_text(row), values.as_slice())?;
@@ -78,6 +80,7 @@ pub(crate) fn put_each<S: Alter>(
         → OnOk result (Moves (state S.Store tx.old.conn.now) (state S.Store tx.new.conn.now) rows.now) }
     ensures was_open { HasCleanDisk (state S.Store tx.new.conn.now) → IsTrue (state S.Store tx.old.conn.now).in_transaction → rows.now ≢ []
         → OnOk result (IsTrue (state S.Store tx.old.conn.now).is_open) }
+    ensures utf8 { OnOk result (HaveUtf8 rows.now) }
 {
     for row in rows {
         put_row(alloc, tx, row)?;
@@ -87,7 +90,7 @@ pub(crate) fn put_each<S: Alter>(
 
 /// Puts each of the rows at its key, in order: all of them or none. Where there is no row, nothing is written. It is good
 /// only where no fault has shut the connection. A stop at any moment leaves what a stop could leave before, or all the
-/// rows, and these only where the connection was open.
+/// rows, and these only where the connection was open. Each text that is put is in UTF-8.
 pub fn put_rows<S: Alter>(
     alloc: Global,
     conn: &mut Connection<S>,
@@ -100,8 +103,9 @@ pub fn put_rows<S: Alter>(
     ensures rest { HasCleanDisk (state S.Store conn.new) → IsTrue (state S.Store conn.new).is_open → OnOk result ((state S.Store conn.new).now ≡ (state S.Store conn.new).committed) }
     ensures neither { HasCleanDisk (state S.Store conn.new) → IsTrue (state S.Store conn.new).is_open
         → OnErr result (((state S.Store conn.new).now ≡ (state S.Store conn.old).now) × ((state S.Store conn.new).committed ≡ (state S.Store conn.old).committed)) }
+    ensures utf8 { OnOk result (HaveUtf8 rows.now) }
     ensures crash { Survives (state S.Store conn.old) (state S.Store conn.new)
-        (λ trees. IsTrue (state S.Store conn.old).is_open × (db : _) × PutsRows (state S.Store conn.old).now db rows.now × (trees ≡ db.trees)) }
+        (λ trees. IsTrue (state S.Store conn.old).is_open × HaveUtf8 rows.now × (db : _) × PutsRows (state S.Store conn.old).now db rows.now × (trees ≡ db.trees)) }
 {
     if !conn.is_autocommit() {
         return Err(Error::SqliteFailure(ErrorCode::TransactionState));

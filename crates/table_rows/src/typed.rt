@@ -5,6 +5,7 @@ ghost use Rattle.table_meaning.specs.declared.rows.StoredRow.TheVariants as stor
 ghost use Rattle.table_meaning.specs.declared.tables.TableName.TheVariants as named;
 ghost use Rattle.table_meaning.specs.Rows.{table_of, columns_of};
 ghost use Rattle.table_meaning.specs.Formats.{kinds_of, AreOf, columns_in, IsStored};
+ghost use Rattle.table_rows.specs.Utf8.{HasUtf8};
 
 use crate::fields::{
     flag, int, octets, optional_int, optional_text, optional_whole, setting_value, text, whole,
@@ -34,6 +35,7 @@ fn width(table: TableName) -> usize
 
 fn setting(alloc: Global, row: &Row) -> Result<StoredSetting, OpenFault>
     ensures read { IfOk result (λ s. columns_of (stored.Setting s) ≡ columns_in row.now 2) }
+    ensures utf8 { IfOk result (λ s. HasUtf8 (columns_of (stored.Setting s))) }
     ensures bad { IfErr result (λ e. e ≡ OpenFault.BadRow → ¬ AreOf (kinds_of named.Setting) row.now 0) }
 {
     Ok(StoredSetting {
@@ -44,6 +46,7 @@ fn setting(alloc: Global, row: &Row) -> Result<StoredSetting, OpenFault>
 
 pub(crate) fn account(alloc: Global, row: &Row) -> Result<StoredAccount, OpenFault>
     ensures read { IfOk result (λ a. columns_of (stored.Account a) ≡ columns_in row.now 3) }
+    ensures utf8 { IfOk result (λ a. HasUtf8 (columns_of (stored.Account a))) }
     ensures bad { IfErr result (λ e. e ≡ OpenFault.BadRow → ¬ AreOf (kinds_of named.Account) row.now 0) }
 {
     Ok(StoredAccount {
@@ -55,6 +58,7 @@ pub(crate) fn account(alloc: Global, row: &Row) -> Result<StoredAccount, OpenFau
 
 pub(crate) fn app(alloc: Global, row: &Row) -> Result<StoredApp, OpenFault>
     ensures read { IfOk result (λ a. columns_of (stored.App a) ≡ columns_in row.now 3) }
+    ensures utf8 { IfOk result (λ a. HasUtf8 (columns_of (stored.App a))) }
     ensures bad { IfErr result (λ e. e ≡ OpenFault.BadRow → ¬ AreOf (kinds_of named.App) row.now 0) }
 {
     Ok(StoredApp {
@@ -66,6 +70,7 @@ pub(crate) fn app(alloc: Global, row: &Row) -> Result<StoredApp, OpenFault>
 
 fn version(alloc: Global, row: &Row) -> Result<StoredVersion, OpenFault>
     ensures read { IfOk result (λ v. columns_of (stored.Version v) ≡ columns_in row.now 4) }
+    ensures utf8 { IfOk result (λ v. HasUtf8 (columns_of (stored.Version v))) }
     ensures bad { IfErr result (λ e. e ≡ OpenFault.BadRow → ¬ AreOf (kinds_of named.Version) row.now 0) }
 {
     Ok(StoredVersion {
@@ -78,6 +83,7 @@ fn version(alloc: Global, row: &Row) -> Result<StoredVersion, OpenFault>
 
 pub(crate) fn unit(alloc: Global, row: &Row) -> Result<StoredUnit, OpenFault>
     ensures read { IfOk result (λ u. columns_of (stored.Unit u) ≡ columns_in row.now 14) }
+    ensures utf8 { IfOk result (λ u. HasUtf8 (columns_of (stored.Unit u))) }
     ensures bad { IfErr result (λ e. e ≡ OpenFault.BadRow → ¬ AreOf (kinds_of named.Unit) row.now 0) }
 {
     Ok(StoredUnit {
@@ -100,6 +106,7 @@ pub(crate) fn unit(alloc: Global, row: &Row) -> Result<StoredUnit, OpenFault>
 
 pub(crate) fn host(alloc: Global, row: &Row) -> Result<StoredHost, OpenFault>
     ensures read { IfOk result (λ h. columns_of (stored.Host h) ≡ columns_in row.now 10) }
+    ensures utf8 { IfOk result (λ h. HasUtf8 (columns_of (stored.Host h))) }
     ensures bad { IfErr result (λ e. e ≡ OpenFault.BadRow → ¬ AreOf (kinds_of named.Host) row.now 0) }
 {
     Ok(StoredHost {
@@ -118,6 +125,7 @@ pub(crate) fn host(alloc: Global, row: &Row) -> Result<StoredHost, OpenFault>
 
 pub(crate) fn instance(alloc: Global, row: &Row) -> Result<StoredInstance, OpenFault>
     ensures read { IfOk result (λ i. columns_of (stored.Instance i) ≡ columns_in row.now 10) }
+    ensures utf8 { IfOk result (λ i. HasUtf8 (columns_of (stored.Instance i))) }
     ensures bad { IfErr result (λ e. e ≡ OpenFault.BadRow → ¬ AreOf (kinds_of named.Instance) row.now 0) }
 {
     Ok(StoredInstance {
@@ -136,6 +144,7 @@ pub(crate) fn instance(alloc: Global, row: &Row) -> Result<StoredInstance, OpenF
 
 pub(crate) fn call(alloc: Global, row: &Row) -> Result<StoredCall, OpenFault>
     ensures read { IfOk result (λ k. columns_of (stored.Kept k) ≡ columns_in row.now 5) }
+    ensures utf8 { IfOk result (λ k. HasUtf8 (columns_of (stored.Kept k))) }
     ensures bad { IfErr result (λ e. e ≡ OpenFault.BadRow → ¬ AreOf (kinds_of named.Kept) row.now 0) }
 {
     Ok(StoredCall {
@@ -149,6 +158,7 @@ pub(crate) fn call(alloc: Global, row: &Row) -> Result<StoredCall, OpenFault>
 
 pub(crate) fn batch(alloc: Global, row: &Row) -> Result<StoredBatch, OpenFault>
     ensures read { IfOk result (λ b. columns_of (stored.Batch b) ≡ columns_in row.now 4) }
+    ensures utf8 { IfOk result (λ b. HasUtf8 (columns_of (stored.Batch b))) }
     ensures bad { IfErr result (λ e. e ≡ OpenFault.BadRow → ¬ AreOf (kinds_of named.Batch) row.now 0) }
 {
     Ok(StoredBatch {
@@ -161,6 +171,7 @@ pub(crate) fn batch(alloc: Global, row: &Row) -> Result<StoredBatch, OpenFault>
 
 pub(crate) fn version_class(alloc: Global, row: &Row) -> Result<StoredVersionClass, OpenFault>
     ensures read { IfOk result (λ c. columns_of (stored.VersionClass c) ≡ columns_in row.now 2) }
+    ensures utf8 { IfOk result (λ c. HasUtf8 (columns_of (stored.VersionClass c))) }
     ensures bad { IfErr result (λ e. e ≡ OpenFault.BadRow → ¬ AreOf (kinds_of named.VersionClass) row.now 0) }
 {
     Ok(StoredVersionClass {
@@ -171,6 +182,7 @@ pub(crate) fn version_class(alloc: Global, row: &Row) -> Result<StoredVersionCla
 
 pub(crate) fn unit_mark(alloc: Global, row: &Row) -> Result<StoredUnitMark, OpenFault>
     ensures read { IfOk result (λ m. columns_of (stored.UnitMark m) ≡ columns_in row.now 3) }
+    ensures utf8 { IfOk result (λ m. HasUtf8 (columns_of (stored.UnitMark m))) }
     ensures bad { IfErr result (λ e. e ≡ OpenFault.BadRow → ¬ AreOf (kinds_of named.UnitMark) row.now 0) }
 {
     Ok(StoredUnitMark {
@@ -184,6 +196,7 @@ pub(crate) fn unit_mark(alloc: Global, row: &Row) -> Result<StoredUnitMark, Open
 pub(crate) fn stored_row(alloc: Global, table: TableName, row: &Row) -> Result<StoredRow, OpenFault>
     ensures exact { IfOk result (λ stored. columns_of stored ≡ row.now) }
     ensures of_table { IfOk result (λ stored. table_of stored ≡ table) }
+    ensures utf8 { IfOk result (λ stored. HasUtf8 (columns_of stored)) }
     ensures bad { IfErr result (λ e. e ≡ OpenFault.BadRow → ¬ IsStored table row.now) }
 {
     if row.column_count() != width(table) {

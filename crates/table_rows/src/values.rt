@@ -1,10 +1,11 @@
 //! A row as the parameters of the statement that puts it.
 
-ghost use Rattle.std.specs.Prelude.{◌≡◌, map, IfOk};
+ghost use Rattle.std.specs.Prelude.{◌≡◌, map, IfOk, IsUtf8};
 ghost use Rattle.sqlite.specs.Values.{or_null};
 ghost use Rattle.sqlite_value.specs.Value.{owned};
 ghost use Rattle.sqlite_value.specs.declared.value.Value.TheVariants.{Int as SqlInt, Text as SqlText};
 ghost use Rattle.table_meaning.specs.Rows.{whole as sql_whole, setting_value as sql_setting, columns_of};
+ghost use Rattle.table_rows.specs.Utf8.{IsUtf8Value, HasUtf8};
 
 use sqlite::types::ValueRef;
 use std::alloc::{AllocError, Global};
@@ -18,7 +19,8 @@ pub(crate) fn whole(n: u32) -> ValueRef<'static>
 }
 
 fn text(text: &Text) -> ValueRef<'_>
-    ensures { owned result ≡ SqlText text.now }
+    ensures value { owned result ≡ SqlText text.now }
+    ensures utf8 { IsUtf8 text.now }
 {
     ValueRef::Text(text.as_str().as_bytes())
 }
@@ -42,7 +44,8 @@ fn optional_int(n: Option<i64>) -> ValueRef<'static>
 }
 
 fn optional_text(text: &Option<Text>) -> ValueRef<'_>
-    ensures { owned result ≡ or_null SqlText text.now }
+    ensures value { owned result ≡ or_null SqlText text.now }
+    ensures utf8 { IsUtf8Value (or_null SqlText text.now) }
 {
     match text {
         Some(text) => ValueRef::Text(text.as_str().as_bytes()),
@@ -51,7 +54,8 @@ fn optional_text(text: &Option<Text>) -> ValueRef<'_>
 }
 
 fn setting_value(value: &SettingValue) -> ValueRef<'_>
-    ensures { owned result ≡ sql_setting value.now }
+    ensures value { owned result ≡ sql_setting value.now }
+    ensures utf8 { IsUtf8Value (sql_setting value.now) }
 {
     match value {
         SettingValue::Number(n) => whole(*n),
@@ -59,9 +63,10 @@ fn setting_value(value: &SettingValue) -> ValueRef<'_>
     }
 }
 
-/// The values of a row's columns, in order.
+/// The values of a row's columns, in order. Its texts are in UTF-8.
 pub fn values_of<'a>(alloc: Global, row: &'a StoredRow) -> Result<Vec<ValueRef<'a>>, AllocError>
-    ensures { IfOk result (λ values. map owned values.items ≡ columns_of row.now) }
+    ensures values { IfOk result (λ values. map owned values.items ≡ columns_of row.now) }
+    ensures utf8 { IfOk result (λ values. HasUtf8 (columns_of row.now)) }
 {
     match row {
         StoredRow::Setting(row) => Ok(vec![in alloc; text(&row.name), setting_value(&row.value)]?),

@@ -38,6 +38,13 @@ returns-in-Ok-test_world-clause-held g c = λ was.
     let stand = c.in-Ok-test_world.ensures.stands (known_after first before after kept read was) rows.0 later rows.2 rows.3 in
     is_held first.now was.known rows.0 rows.1 (having c.in_ok-world.world stand.0) stand.1
 
+pub returns-in-Ok-test_world-clause-utf8 : goal.returns-in-Ok-test_world-clause-utf8
+returns-in-Ok-test_world-clause-utf8 g c = λ was.
+    let first = state g.S.Store c.args.conn.now in
+    let before = state g.S.Store c.read_all.new.conn in
+    let after = state g.S.Store c.test_world.new.conn in
+    c.in-Ok.ensures.utf8 (known_before first before after c.read_all.ensures.reads c.test_world.ensures.reads was)
+
 pub returns-in-Ok-test_world-clause-kept : goal.returns-in-Ok-test_world-clause-kept
 returns-in-Ok-test_world-clause-kept g c = λ was.
     let first = state g.S.Store c.args.conn.now in

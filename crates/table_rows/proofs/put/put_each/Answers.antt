@@ -4,6 +4,9 @@ use Rattle.sqlite.specs.Held.{state}
 use Rattle.sqlite.specs.State.{HasCleanDisk}
 use Rattle.table_meaning.specs.Steps.{Moves}
 use Rattle.table_meaning.proofs.StepLemmas.{survives_on, keeps_then, moved_more}
+use Rattle.sqlite_keyed.proofs.ListLemmas.{all-append}
+use Rattle.table_meaning.specs.Rows.{columns_of}
+use Rattle.table_rows.specs.Utf8.{HasUtf8, HaveUtf8}
 use Rattle.table_rows.proofs.put.put_each.Goals as goal
 
 pub loop-row-preserved : goal.loop-row-preserved
@@ -23,4 +26,5 @@ loop-row-preserved g c =
           let moved = kept.3 (early clean) inside in
           subst (Moves first after) (sym next) (moved_more first before after (take c.loop-row.row-index c.args.rows.now) c.row-item.result moved (c.in_ok-put_row.ensures.moves clean moved.inside)),
       λ clean inside some. (kept.2 (early clean)).was_open (c.in_ok-put_row.ensures.was_open clean (kept.3 (early clean) inside).inside),
+      subst HaveUtf8 (sym next) (all-append (λ r. HasUtf8 (columns_of r)) (take c.loop-row.row-index rows) (c.row-item.result ∷ []) kept.5 (c.in_ok-put_row.ensures.utf8, tt)),
     )

@@ -2,6 +2,7 @@ use Rattle.std.proofs.Common.{◌≡◌, ◌≢◌, [], IsTrue, take}
 use Rattle.sqlite.specs.Held.{state}
 use Rattle.sqlite.specs.State.{HasCleanDisk, KeepsCommit, Survives}
 use Rattle.table_meaning.specs.Steps.{Moves}
+use Rattle.table_rows.specs.Utf8.{HaveUtf8}
 use Rattle.table_rows.proofs.put.put_each.Given as goal
 
 abbrev pub invariant-loop-row : goal.invariant-loop-row
@@ -11,3 +12,4 @@ invariant-loop-row g l =
     (l.tx.conn.ghost_name ≡ l.initial.tx.conn.ghost_name) × Survives old now (λ _. ⊥) × (HasCleanDisk now → KeepsCommit old now)
     × (HasCleanDisk now → IsTrue old.in_transaction → Moves old now (take l.row-index l.rows))
     × (HasCleanDisk now → IsTrue old.in_transaction → take l.row-index l.rows ≢ [] → IsTrue old.is_open)
+    × HaveUtf8 (take l.row-index l.rows)

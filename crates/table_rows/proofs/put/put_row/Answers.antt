@@ -13,7 +13,7 @@ returns-clause-moves g c clean inside =
     let new = state g.S.Store c.execute.new.self.conn.now in
     let row = c.args.row.now in
     let count = c.in_ok-execute.field-0 in
-    let values = ap bound c.as_slice.ensures.value ∙ bound_as c.in_ok-values.values.items row c.in_ok-values.ensures in
+    let values = ap bound c.as_slice.ensures.value ∙ bound_as c.in_ok-values.values.items row c.in_ok-values.ensures.values in
     row_moved row old new count
     (subst (λ sql. ExecutesInside 0 sql (columns_of row) old new (Ok count)) c.put_text.ensures
     (subst (λ params. ExecutesInside 0 c.put_text.result.now params old new (Ok count)) values (c.in_ok-execute.ensures.runs clean inside)))

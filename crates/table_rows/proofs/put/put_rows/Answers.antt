@@ -7,6 +7,7 @@ use Rattle.sqlite.specs.State.{HasCleanDisk, Survives}
 use Rattle.sqlite.proofs.StateLemmas.{survives_then}
 use Rattle.sqlite.proofs.Callers.{survives_begin}
 use Rattle.table_meaning.specs.Steps.{PutsRows}
+use Rattle.table_rows.specs.Utf8.{HaveUtf8}
 use Rattle.table_rows.proofs.put.put_rows.Goals as goal
 
 pub returns-clause-both : goal.returns-clause-both
@@ -30,10 +31,10 @@ returns-clause-crash g c =
     let begun = c.transaction-tx.ensures.begun in
     let same : end ≡ c.conn-2-1.given.0 = search rules in
     let some : c.args.rows.now ≢ [] = search rules in
-    let P = λ (trees : Trees). IsTrue (state g.S.Store old).is_open × (db : Database) × PutsRows (state g.S.Store old).now db c.args.rows.now × (trees ≡ db.trees) in
+    let P = λ (trees : Trees). IsTrue (state g.S.Store old).is_open × HaveUtf8 c.args.rows.now × (db : Database) × PutsRows (state g.S.Store old).now db c.args.rows.now × (trees ≡ db.trees) in
     let whole = survives_then (state g.S.Store old) (state g.S.Store mid) (state g.S.Store end) _ _ P (λ _ db none. absurd none)
     (λ clean db is.
     let early : HasCleanDisk (state g.S.Store mid) = omega (arith, c.commit.ensures.survives.clean) in
-    ((rw begun at c.in_ok-put_each.ensures.was_open) early refl some, _, ((rw begun at c.in_ok-put_each.ensures.moves) early refl).puts, is))
+    ((rw begun at c.in_ok-put_each.ensures.was_open) early refl some, c.in_ok-put_each.ensures.utf8, _, ((rw begun at c.in_ok-put_each.ensures.moves) early refl).puts, is))
     (survives_begin g.S.Store old (state g.S.Store mid) _ (rw begun at c.put_each.ensures.survives)) c.commit.ensures.survives in
     subst (λ h. Survives (state g.S.Store old) (state g.S.Store h) P) same whole

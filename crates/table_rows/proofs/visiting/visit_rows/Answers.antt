@@ -12,6 +12,7 @@ use Rattle.table_meaning.proofs.StepLemmas.{survives_on}
 use Rattle.table_rows.specs.declared.opening.OpenFault.{OpenFault}
 use Rattle.table_rows.specs.declared.opening.OpenFault.TheVariants.{BadRow}
 use Rattle.table_rows.proofs.Visited.{reads_by, stays_failed, commits_nothing, begun_given, given_has, given_all, given_refused, given_on, visits_more}
+use Rattle.table_rows.specs.Utf8.{HasUtf8}
 use Rattle.table_rows.proofs.visiting.visit_rows.Goals as goal
 
 pub returns-in_err-rows-clause-reads : goal.returns-in_err-rows-clause-reads
@@ -31,7 +32,7 @@ rows-init g c =
       made.mode,
       λ clean.
           let begun = begun_given g.S.Store c.args.table [] old new (made.begun clean) in
-          (begun.1, [], tt, begun.0, refl),
+          (begun.1, [], tt, tt, begun.0, refl),
     )
 
 pub returns-in_default-clause-rows : goal.returns-in_default-clause-rows
@@ -40,8 +41,8 @@ returns-in_default-clause-rows g c clean known =
     let now = c.next.follows.lender-at-none.conn.now in
     let late : HasCleanDisk (state g.S.Store now) = search rules in
     let was = c.rows.invariant.3 (omega (arith, moved.survives.clean)) in
-    let shown = (rw (c.in_ok-row.was, c.in_default.is) at (moved.ok late)) (read_text c.args.table) [] (map columns_of was.1) was.3 in
-    (was.1, given_all g.S.Store c.args.table c.args.conn.now c.rows.rows.conn.now was.0 known (state g.S.Store now) (map columns_of was.1) shown, was.2, was.4)
+    let shown = (rw (c.in_ok-row.was, c.in_default.is) at (moved.ok late)) (read_text c.args.table) [] (map columns_of was.1) was.4 in
+    (was.1, given_all g.S.Store c.args.table c.args.conn.now c.rows.rows.conn.now was.0 known (state g.S.Store now) (map columns_of was.1) shown, was.2, was.3, was.5)
 
 pub returns-in_err-stored-clause-bad : goal.returns-in_err-stored-clause-bad
 returns-in_err-stored-clause-bad g c clean known =
@@ -51,7 +52,7 @@ returns-in_err-stored-clause-bad g c clean known =
     let was = c.rows.invariant.3 (omega (arith, moved.survives.clean)) in
     let same = unchanged_then _ _ _ was.0 ((rw c.in_ok-row.was at moved.same) late) in
     let row = c.in-Some.row.now in
-    let given = (rw (c.in_ok-row.was, c.in-Some.is) at (moved.ok late)) (read_text c.args.table) [] (map columns_of was.1) was.3 in
+    let given = (rw (c.in_ok-row.was, c.in-Some.is) at (moved.ok late)) (read_text c.args.table) [] (map columns_of was.1) was.4 in
     let has = given_has g.S.Store c.args.table c.args.conn.now now same known (map columns_of was.1) row given in
     let P = λ (e : OpenFault). e ≡ BadRow → ¬ IsStored c.args.table row in
     let told : IfErr c.from_residual-in_err-stored.result P = search rules in
@@ -65,12 +66,12 @@ returns-in_err-visit-clause-bad g c clean known =
     let was = c.rows.invariant.3 (omega (arith, moved.survives.clean)) in
     let same = unchanged_then _ _ _ was.0 ((rw c.in_ok-row.was at moved.same) late) in
     let row = c.in_ok-stored.stored in
-    let given = (rw (c.in_ok-row.was, c.in-Some.is) at (moved.ok late)) (read_text c.args.table) [] (map columns_of was.1) was.3 in
+    let given = (rw (c.in_ok-row.was, c.in-Some.is) at (moved.ok late)) (read_text c.args.table) [] (map columns_of was.1) was.4 in
     let typed = subst (λ r. HasGiven g.S.Store (read_text c.args.table) [] now (map columns_of was.1 ++ r ∷ [])) (sym c.in_ok-stored.ensures.exact) given in
     let P = λ (e : OpenFault). e ≡ BadRow → g.V.RowVisitor.refuses c.rows.visitor row in
     let told : IfErr c.from_residual-in_err-visit.result P = search rules in
     IfErr-weaker c.from_residual-in_err-visit.result P _
-    (λ e bad is. inr (given_refused g.S.Store c.args.table c.args.conn.now now same known g.V.RowVisitor.takes g.V.RowVisitor.refuses c.args.visitor.now c.rows.visitor was.1 row typed c.in_ok-stored.ensures.of_table was.4 (bad is))) told
+    (λ e bad is. inr (given_refused g.S.Store c.args.table c.args.conn.now now same known g.V.RowVisitor.takes g.V.RowVisitor.refuses c.args.visitor.now c.rows.visitor was.1 row typed c.in_ok-stored.ensures.of_table was.5 (bad is))) told
 
 pub rows-preserved : goal.rows-preserved
 rows-preserved g c =
@@ -83,12 +84,13 @@ rows-preserved g c =
       λ h. moved.mode (kept.2 h),
       λ clean.
           let was = kept.3 (omega (arith, moved.survives.clean)) in
-          let given = (rw (c.in_ok-row.was, c.in-Some.is) at (moved.ok clean)) (read_text c.args.table) [] (map columns_of was.1) was.3 in
+          let given = (rw (c.in_ok-row.was, c.in-Some.is) at (moved.ok clean)) (read_text c.args.table) [] (map columns_of was.1) was.4 in
           let typed = subst (λ r. HasGiven g.S.Store (read_text c.args.table) [] now (map columns_of was.1 ++ r ∷ [])) (sym c.in_ok-stored.ensures.exact) given in (
             unchanged_then _ _ _ was.0 ((rw c.in_ok-row.was at moved.same) clean),
             was.1 ++ row ∷ [],
             all-append (λ r. table_of r ≡ c.args.table) was.1 (row ∷ []) was.2 (c.in_ok-stored.ensures.of_table, tt),
+            all-append (λ r. HasUtf8 (columns_of r)) was.1 (row ∷ []) was.3 (c.in_ok-stored.ensures.utf8, tt),
             given_on g.S.Store c.args.table now was.1 row typed,
-            visits_more g.V.RowVisitor.takes c.args.visitor.now c.rows.visitor c.visit.new.self was.1 row was.4 c.in_ok-visit.ensures.takes,
+            visits_more g.V.RowVisitor.takes c.args.visitor.now c.rows.visitor c.visit.new.self was.1 row was.5 c.in_ok-visit.ensures.takes,
           ),
     )

@@ -1,4 +1,4 @@
-use Rattle.std.proofs.Common.{◌≡◌, inl, inr, refl, sym, ap, subst, ◌∙◌, arith}
+use Rattle.std.proofs.Common.{◌≡◌, inl, inr, refl, ap, subst, ◌∙◌, arith}
 use Rattle.std.specs.Prelude.{IsTrue}
 use Rattle.sqlite.specs.Effect.{Database}
 use Rattle.sched_tables.specs.Commits.{apps_with}
@@ -15,7 +15,6 @@ use Rattle.stores.proofs.Standing.{may_be_kept}
 use Rattle.stores.specs.Held.{calls_with, batches_with}
 use Rattle.sched_book.specs.Delta.{applied}
 use Rattle.sched_tables.proofs.Leads.{all_ok, either_way}
-use Rattle.sched_tables.proofs.MarksStay.{lowered_before}
 use Rattle.sched_tables.proofs.Stops.{found_is_ahead}
 use Rattle.sched_tables.proofs.store.TablesStore.commit.Goals as goal
 
@@ -42,14 +41,14 @@ returns-clause-acts g c =
             (λ apps rests made. (
               kept_then old new w cs c.args.entry.now kept.0 made rests idle,
               beside_then old new w cs c.args.entry.now kept.0 made _ after.settings before.apps after.apps before.remembered after.remembered before.mark after.mark
-                  (record { settings_are = c.commit.ensures.settings ∙ kept.1.settings_are; apps_are = kept.1.apps_are; rows_are = kept.1.rows_are; mark_is = kept.1.mark_is }) apps (c.commit.ensures.remembers honest kept) c.commit.ensures.mark,
+                  (record { settings_are = c.commit.ensures.settings ∙ kept.1.settings_are; apps_are = kept.1.apps_are; rows_are = kept.1.rows_are; mark_is = kept.1.mark_is }) apps (c.commit.ensures.remembers honest kept) (c.commit.ensures.mark honest kept),
             )))
             (c.commit.ensures.left honest kept)
             (λ all. all)
             (λ left. (
               left_kept old new left.0 left.1 kept.0 idle,
               left_beside old new left.0 left.1 kept.0 before.settings after.settings before.apps after.apps before.remembered after.remembered before.mark after.mark c.commit.ensures.settings left.2 (subst (λ (db : Database). AreRemembered (world_in db.trees) (calls_in db.trees) after.remembered) left.0 (c.commit.ensures.remembers honest kept))
-                  (subst (IsMarkOf w) (sym c.commit.ensures.mark) (lowered_before w before.mark cs kept.1.mark_is)) kept.1,
+                  (subst (λ (db : Database). IsMarkOf (world_in db.trees) after.mark) left.0 (c.commit.ensures.mark honest kept)) kept.1,
             ));
         left = λ h found.
             elim (found_is_ahead old new w h cs c.args.entry.now (AreKept g.S.Store before) (λ well. well.0) c.commit.ensures.crash found) [

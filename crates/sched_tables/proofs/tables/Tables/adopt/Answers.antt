@@ -1,9 +1,9 @@
 use Rattle.std.proofs.Common.{◌≡◌, ◌⊎◌, sym, subst, ◌∙◌, IsTrue, rules}
 use Rattle.sqlite.specs.Effect.{Database}
 use Rattle.sqlite.specs.Held.{state}
-use Rattle.sqlite.specs.State.{HasCleanDisk}
+use Rattle.sqlite.specs.State.{State, HasCleanDisk}
 use Rattle.table_meaning.specs.Holding.{AreKnown}
-use Rattle.table_reading.specs.Reading.{WereKnown, HasBadTable, StandForNone, HasOtherSchema}
+use Rattle.table_reading.specs.Reading.{AreUtf8, WereKnown, HasBadTable, StandForNone, HasOtherSchema}
 use Rattle.table_reading.proofs.ReadsOn.{refused_on}
 use Rattle.table_rows.specs.Refusing.{IsAtRest}
 use Rattle.sched_tables.specs.Held.{IsHonest}
@@ -81,7 +81,25 @@ pub returns-in-Ok-clause-reopens : goal.returns-in-Ok-clause-reopens
 returns-in-Ok-clause-reopens g c =
     let after = state g.S.Store c.test_open.new.conn in
     rest_reopens after (λ clean. (returns-in-Ok-clause-open g c clean).1) (λ clean. (returns-in-Ok-clause-held g c clean).0.rests) (g.met.S.Store.settled c.test_open.new.conn.store)
-    (λ clean. kept_can_be_opened after (returns-in-Ok-clause-held g c clean).0 (returns-in-Ok-clause-rows g c clean))
+    (λ clean. kept_can_be_opened after (returns-in-Ok-clause-held g c clean).0 (returns-in-Ok-clause-rows g c clean) (are_utf8 clean))
+  where
+    taken : State
+    taken = state g.S.Store c.in_ok-conn.conn
+
+    read : State
+    read = state g.S.Store c.stored_world-read.new.conn
+
+    last : State
+    last = state g.S.Store c.test_open.new.conn
+
+    are_utf8 : HasCleanDisk last → AreUtf8 last.now.trees
+    are_utf8 clean =
+        let opens = c.in_ok-conn.ensures.opens in
+        let known = c.in_ok-conn.ensures.known in
+        let reads = reads_on taken read last c.stored_world-read.ensures.reads c.test_open.ensures.reads in
+        let honest = returns-in-Ok-clause-open g c clean in
+        let were = was_known taken read opens known c.stored_world-read.ensures.reads (was_honest read last c.test_open.ensures.reads honest) in
+        subst (λ (db : Database). AreUtf8 db.trees) (sym (shows_the_same taken last opens known reads honest)) (c.in-Ok.ensures.utf8 were)
 
 pub returns-in_err-conn-clause-refused : goal.returns-in_err-conn-clause-refused
 returns-in_err-conn-clause-refused g c =

@@ -3,6 +3,7 @@ use Rattle.sqlite.specs.Held.{state}
 use Rattle.table_meaning.specs.Steps.{HoldJust}
 use Rattle.sched_tables.proofs.NewTables.{new_held, new_kept, new_beside, new_can_be_opened}
 use Rattle.sched_tables.proofs.Reopened.{rest_reopens}
+use Rattle.table_rows.specs.Utf8.{HaveUtf8}
 use Rattle.sched_tables.proofs.tables.Tables.create.Goals as goal
 
 pub returns-clause-new : goal.returns-clause-new
@@ -21,4 +22,5 @@ pub returns-clause-reopens : goal.returns-clause-reopens
 returns-clause-reopens g c = λ sound.
     let new = state g.S.Store c.create.new.conn in
     rest_reopens new (c.in_ok-create.ensures.open) (c.in_ok-create.ensures.rest) (g.met.S.Store.settled c.create.new.conn.store)
-    (λ clean. new_can_be_opened c.args.settings.now new (c.in_ok-create.ensures.rest clean) (subst (HoldJust new.committed) (c.as_slice.ensures ∙ c.in_ok-rows.ensures) (c.in_ok-create.ensures.made clean)) sound)
+    (λ clean. new_can_be_opened c.args.settings.now new (c.in_ok-create.ensures.rest clean) (subst (HoldJust new.committed) (c.as_slice.ensures ∙ c.in_ok-rows.ensures) (c.in_ok-create.ensures.made clean)) sound
+    (subst HaveUtf8 (c.as_slice.ensures ∙ c.in_ok-rows.ensures) c.in_ok-create.ensures.utf8))
