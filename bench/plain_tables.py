@@ -84,8 +84,7 @@ FIRST_PAGE, FURTHER_PAGE = 8, 64  # so many places of what waits are asked at a 
 LOOK_UPS = {
     "account by authenticator": "SELECT id, auth, name FROM account WHERE id > 0 AND auth = ?1 ORDER BY id",
     "host by account and client": "SELECT id FROM host WHERE id > 0 AND account_id = ?1 AND cpid = ?2 ORDER BY id",
-    "kept call": f"SELECT {COLUMNS['kept4'][0]} FROM kept4 WHERE host_id = ?1 AND slot = ?2 ORDER BY rowid",
-    "number of a kept call": "SELECT seqno FROM kept4 WHERE host_id = ?1 AND slot = ?2 ORDER BY rowid",
+    "kept calls of a host": f"SELECT {COLUMNS['kept4'][0]} FROM kept4 WHERE host_id = ?1 ORDER BY rowid",
     "host by number": f"SELECT {COLUMNS['host'][0]} FROM host WHERE id = ?1 ORDER BY id",
     "what a host holds": f"{PLACES}host_id = ?1 AND sent >= 0 AND lapse = 0 AND outcome IS NULL "
     "ORDER BY sent DESC LIMIT ?2",
@@ -383,15 +382,15 @@ class Tables:
 
     def kept_calls(self, host):
         """The number, the text and the reply of each kept call of a host. The slot for its next one is kept."""
-        rows = [self.first("kept call", host, slot) for slot in range(SLOTS)]
-        self.slot = host, least([None if row is None else row[2] for row in rows])
-        return [row[2:] for row in rows if row is not None]
+        calls = {slot: call for _, slot, *call in self.shown("kept calls of a host", host)}
+        self.slot = host, least([calls[slot][0] if slot in calls else None for slot in range(SLOTS)])
+        return list(calls.values())
 
     def slot_for(self, host):
         """The slot into which the next call of a host is put."""
-        if self.slot is not None and self.slot[0] == host:
-            return self.slot[1]
-        return least([self.number_of("number of a kept call", host, slot) for slot in range(SLOTS)])
+        if self.slot is None or self.slot[0] != host:
+            self.kept_calls(host)
+        return self.slot[1]
 
     def counts(self):
         """How many rows each table has."""

@@ -8,6 +8,7 @@ pub mod Filling
 pub mod FormatLemmas
 pub mod NextRows
 pub mod Inserting
+pub mod KeptCalls
 pub mod Keys
 pub mod Knowing
 pub mod LastRow

@@ -28,16 +28,16 @@ use Rattle.sqlite_typed.proofs.TestLemmas.{last_key}
 use Rattle.sqlite.specs.State.{State, Shown}
 use Rattle.sqlite.proofs.Callers.{reads_as}
 use Rattle.table_meaning.specs.declared.tables.TableName.{TableName}
-use Rattle.table_meaning.specs.declared.tables.TableName.TheVariants.{Unit, Kept}
+use Rattle.table_meaning.specs.declared.tables.TableName.TheVariants.{Unit}
 use Rattle.table_meaning.specs.Schema.{stored_schema}
 use Rattle.table_meaning.specs.Texts.{read_text, key_text}
-use Rattle.table_meaning.specs.Rows.{tree_of, places_of, key_places, shown, rows_in, whole, RowKey, unit_key, kept_key, table_at, key_columns, has_key, look_up}
+use Rattle.table_meaning.specs.Rows.{tree_of, places_of, key_places, shown, rows_in, whole, RowKey, unit_key, table_at, key_columns, has_key, look_up}
 use Rattle.table_meaning.specs.Reads.{read_query}
-use Rattle.table_meaning.specs.ByKey.{status_text, status_in, call_number_text, call_number_in, key_tests, key_query}
+use Rattle.table_meaning.specs.ByKey.{status_text, status_in, key_tests, key_query}
 use Rattle.table_meaning.specs.Formats.{columns_in}
 use Rattle.table_meaning.specs.Holding.{AreKnown}
 use Rattle.table_meaning.proofs.ByComputing.{names_of, ReadsByKeyIn, computed}
-use Rattle.table_meaning.proofs.ByKey.{status_is_read, call_number_is_read}
+use Rattle.table_meaning.proofs.ByKey.{status_is_read}
 use Rattle.table_meaning.proofs.FormatLemmas.{whole_row as whole_columns}
 use Rattle.table_meaning.proofs.Keys.{key_is}
 
@@ -158,7 +158,3 @@ column_shown_at schema key place at is names text meaning old new known shaped r
 pub status_shown_at : (unit : ℕ) (old new : State) → AreKnown old.now → (rows : List Row) → Shown status_text (whole unit ∷ []) old new rows
     → option_map (λ r. column r 0) (slice_get rows 0) ≡ option_map status_in (look_up old.now.trees (unit_key unit))
 status_shown_at unit old new known rows h = column_shown_at stored_schema (unit_key unit) 14 13 (λ r. refl) _ status_text status_is_read old new known.schema (known.ordered Unit) rows h
-
-pub call_number_shown_at : (host slot : ℕ) (old new : State) → AreKnown old.now → (rows : List Row) → Shown call_number_text (whole host ∷ whole slot ∷ []) old new rows
-    → option_map (λ r. column r 0) (slice_get rows 0) ≡ option_map call_number_in (look_up old.now.trees (kept_key host slot))
-call_number_shown_at host slot old new known rows h = column_shown_at stored_schema (kept_key host slot) 3 2 (λ r. refl) _ call_number_text call_number_is_read old new known.schema (known.ordered Kept) rows h

@@ -1,12 +1,16 @@
--- Words. The statements that read what stands at a key.
-use Rattle.std.specs.Prelude.{ℕ, ◌+◌, List, [], ◌∷◌, codes}
+-- Words. The statements that read what stands at a key, or at the keys that begin with the same number.
+use Rattle.std.specs.Prelude.{ℕ, ◌+◌, List, [], ◌∷◌, filter, codes}
 use Rattle.sqlite_value.specs.declared.value.Value.{Value}
 use Rattle.sqlite_value.specs.declared.keys.Collation.TheVariants.{Binary}
 use Rattle.sqlite_value.specs.Order.{Row, column}
+use Rattle.sqlite_trees.specs.Tree.{Trees}
 use Rattle.sqlite_sql.specs.declared.ops.BinaryOp.TheVariants.{Compare}
 use Rattle.sqlite_sql.specs.declared.ops.CompareOp.TheVariants.{Eq}
 use Rattle.sqlite_sql.specs.Term.{Term, col, op2}
 use Rattle.sqlite_sql.specs.Query.{Query}
+use Rattle.sqlite_schema.specs.Rules.{equal}
+use Rattle.table_meaning.specs.declared.tables.TableName.TheVariants.{Kept}
+use Rattle.table_meaning.specs.Rows.{whole, rows_in}
 use Rattle.table_meaning.specs.Reads.{read_query}
 
 -- reads the status of a workunit
@@ -17,13 +21,13 @@ status_text = codes "SELECT status FROM unit WHERE id = ?1 ORDER BY id"
 abbrev pub status_in : Row → Value
 status_in row = column row 13
 
--- reads the number of a kept call
-abbrev pub call_number_text : List ℕ
-call_number_text = codes "SELECT seqno FROM kept4 WHERE host_id = ?1 AND slot = ?2 ORDER BY rowid"
+-- reads the kept calls of a host
+abbrev pub kept_calls_text : List ℕ
+kept_calls_text = codes "SELECT host_id, slot, seqno, text, reply FROM kept4 WHERE host_id = ?1 ORDER BY rowid"
 
--- the column of it
-abbrev pub call_number_in : Row → Value
-call_number_in row = column row 2
+-- the rows of the kept calls of a host
+abbrev pub kept_rows : Trees → ℕ → List Row
+kept_rows trees host = filter (λ row. equal Binary (column row 0) (whole host)) (rows_in trees Kept)
 
 -- the columns at these places are the parameters from one on
 abbrev pub key_tests : ℕ → List ℕ → List Term

@@ -1,63 +1,56 @@
-//! Rows by their keys, or some columns of them, of the tables that are not read whole at each call.
+//! Rows by their keys, or by what these begin with, or some columns of them, of the tables that are not read whole at each
+//! call.
 
-ghost use Rattle.std.specs.Prelude.{◌≡◌, option_map, IfOk};
+ghost use Rattle.std.specs.Prelude.{◌≡◌, map, option_map, IfOk};
 ghost use Rattle.sqlite.specs.Held.{state};
 ghost use Rattle.sqlite.specs.State.{HasCleanDisk};
 ghost use Rattle.table_meaning.specs.declared.rows.StoredRow.TheVariants as stored;
-ghost use Rattle.table_meaning.specs.ByKey.{status_in, call_number_in};
-ghost use Rattle.table_meaning.specs.Rows.{whole as sql_whole, unit_key, host_key, instance_key, kept_key, batch_key, class_key, mark_key, columns_of, look_up};
+ghost use Rattle.table_meaning.specs.ByKey.{status_in, kept_rows};
+ghost use Rattle.table_meaning.specs.Rows.{whole as sql_whole, unit_key, host_key, instance_key, batch_key, class_key, mark_key, columns_of, look_up};
+ghost use Rattle.table_meaning.specs.Formats.{columns_in};
 ghost use Rattle.table_meaning.specs.Reads.{Reads};
 ghost use Rattle.table_meaning.specs.Holding.{AreKnown};
 
 use crate::opening::OpenFault;
-use crate::read::{first_number, first_shown};
+use crate::read::{first_number, first_shown, shown_by};
 use crate::typed;
 use crate::values::whole;
 use sqlite::types::ValueRef;
-use sqlite::{Alter, Connection};
+use sqlite::{Alter, Connection, Row};
 use std::alloc::Global;
 use table_meaning::rows::{
     StoredBatch, StoredCall, StoredHost, StoredInstance, StoredUnit, StoredUnitMark,
     StoredVersionClass,
 };
+use texts::Listed;
 
-/// The call that is kept of the host of this number in this slot. The connection shows what it showed.
-pub fn kept_of<S: Alter>(
-    alloc: Global,
-    conn: &mut Connection<S>,
-    host: u32,
-    slot: u32,
-) -> Result<Option<StoredCall>, OpenFault>
-    ensures reads { Reads (state S.Store conn.old) (state S.Store conn.new) }
-    ensures row { HasCleanDisk (state S.Store conn.new) → AreKnown (state S.Store conn.old).now
-        → IfOk result (λ row. option_map (λ k. columns_of (stored.Kept k)) row ≡ look_up (state S.Store conn.old).now.trees (kept_key host slot)) }
+/// The rows as kept calls.
+fn calls(alloc: Global, rows: &[Row]) -> Result<Listed<StoredCall>, OpenFault>
+    ensures { IfOk result (λ all. map (λ k. columns_of (stored.Kept k)) all ≡ map (λ row. columns_in row 5) rows.now) }
 {
-    first_shown(
-        alloc,
-        conn,
-        "SELECT host_id, slot, seqno, text, reply FROM kept4 WHERE host_id = ?1 AND slot = ?2 ORDER BY rowid",
-        &[whole(host), whole(slot)],
-        typed::call,
-    )
+    let mut all = Listed::new(alloc);
+    for row in rows {
+        all.push(typed::call(alloc, row)?)?;
+    }
+    Ok(all)
 }
 
-/// The number of the call that is kept of the host of this number in this slot. The connection shows what it showed.
-pub fn kept_number_of<S: Alter>(
+/// The calls that are kept of the host of this number. The connection shows what it showed.
+pub fn kept_calls<S: Alter>(
     alloc: Global,
     conn: &mut Connection<S>,
     host: u32,
-    slot: u32,
-) -> Result<Option<u32>, OpenFault>
+) -> Result<Listed<StoredCall>, OpenFault>
     ensures reads { Reads (state S.Store conn.old) (state S.Store conn.new) }
-    ensures row { HasCleanDisk (state S.Store conn.new) → AreKnown (state S.Store conn.old).now
-        → IfOk result (λ seqno. option_map sql_whole seqno ≡ option_map call_number_in (look_up (state S.Store conn.old).now.trees (kept_key host slot))) }
+    ensures rows { HasCleanDisk (state S.Store conn.new) → AreKnown (state S.Store conn.old).now
+        → IfOk result (λ rows. map (λ k. columns_of (stored.Kept k)) rows ≡ kept_rows (state S.Store conn.old).now.trees host) }
 {
-    first_number(
-        alloc,
+    let rows = shown_by(
         conn,
-        "SELECT seqno FROM kept4 WHERE host_id = ?1 AND slot = ?2 ORDER BY rowid",
-        &[whole(host), whole(slot)],
-    )
+        "SELECT host_id, slot, seqno, text, reply FROM kept4 WHERE host_id = ?1 ORDER BY rowid",
+        &[whole(host)],
+    )?;
+    calls(alloc, rows.as_slice())
 }
 
 /// What is kept of the import of this kind and name. The connection shows what it showed.

@@ -21,7 +21,7 @@ pub mod visiting;
 pub use connection::test_open;
 pub use definitions::create;
 pub use keyed::{
-    batch_of, class_of, host_of, instance_of, kept_number_of, kept_of, mark_of, status_of, unit_of,
+    batch_of, class_of, host_of, instance_of, kept_calls, mark_of, status_of, unit_of,
 };
 pub use listing::{credits_of_user, hosts_of_user, version_numbers};
 pub use names::{NumberedTable, account_with, host_known, last_number, unit_named, version_known};
