@@ -10,9 +10,9 @@ tables of the first schema over to the newest.
 
 It keeps settings and applications beside the tables and looks all else up by the statements of the proved program, as
 often as the program does: rows of accounts and workunits, and versions, are kept until they are put, those of instances and
-hosts as they are put, and the slot for the next call of a host until anything is put. With --once nothing is kept from one message to the next, and no
-statement at all is run twice for one message. Each message that changes anything is one transaction, on the disk when it
-is answered (journal_mode WAL, synchronous FULL).
+hosts as they are put, and the slot for the next call of a host and the first places of what waits until anything is put.
+With --once nothing is kept from one message to the next, and no statement at all is run twice for one message. Each message
+that changes anything is one transaction, on the disk when it is answered (journal_mode WAL, synchronous FULL).
 """
 import socket
 import sqlite3
@@ -301,6 +301,8 @@ class Tables:
         for pragma in pragmas:
             self.connection.execute(f"PRAGMA {pragma}").fetchall()
         self.once, self.slot, self.noted = once, None, []
+        # the first places of what waits that were read last: from which on, and those
+        self.page = None, []
         self.seen = {kind: Kept(MOST_KEPT) for kind in (LOOK_UPS if once else KEPT)}
         self.versions = Kept(MOST_VERSIONS)
         # no instance that is held has its deadline before the mark; and what moment was asked about last
@@ -322,6 +324,7 @@ class Tables:
         """What was looked up is looked up anew."""
         for seen in (*self.seen.values(), self.versions):
             seen.clear()
+        self.page = None, []
 
     def note(self, table, row):
         """What was looked up of a row that is put is kept as it is put, or looked up anew."""
@@ -361,7 +364,7 @@ class Tables:
 
     def put(self, rows):
         """Puts rows, each a table and its values, in one transaction."""
-        self.slot = None
+        self.slot, self.page = None, (None, [])
         for table, row in rows:
             if table == "instance" and row[2] is not None and row[5] == 0 and row[6] is None:
                 self.mark = min(self.mark, row[4])
@@ -479,16 +482,25 @@ class Tables:
             self.seen["mark of a workunit"].keep((unit,), mark)
         self.noted.clear()
 
-    def waiting(self, unit, number):
+    def first_page(self, *place):
+        """The first places of what waits, from a place on or from one before it that were read last and have the place."""
+        begin, places = self.page
+        if place != begin and place not in places:
+            places = self.shown(f"what waits, {FIRST_PAGE} places", *place)
+            self.page = place, places
+        return places
+
+    def waiting(self, *place):
         """What waits to be given out, from a place on: each place with its workunit's row."""
-        size = FIRST_PAGE
+        page, size = self.first_page(*place), FIRST_PAGE
+        places = page[page.index(place) :] if place in page else page
         while True:
-            places = self.shown(f"what waits, {size} places", unit, number)
             for unit, number in places:
                 yield unit, number, self.offered(unit)
-            if len(places) < size:
+            if len(page) < size:
                 return
-            size, number = FURTHER_PAGE, number + 1
+            size = FURTHER_PAGE
+            places = page = self.shown(f"what waits, {size} places", unit, number + 1)
 
 
 class Page:

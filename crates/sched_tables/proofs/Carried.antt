@@ -20,6 +20,7 @@ use Rattle.sched_book.specs.declared.rows.Account.{Account}
 use Rattle.sched_book.specs.declared.rows.App.{App}
 use Rattle.sched_book.specs.declared.rows.HostRow.{HostRow}
 use Rattle.sched_book.specs.declared.world.World.{World}
+use Rattle.table_desk.specs.FirstPage.{IsFirstPageOf}
 use Rattle.table_meaning.specs.declared.rows.StoredRow.{StoredRow}
 use Rattle.table_meaning.specs.declared.rows.StoredInstance.{StoredInstance}
 use Rattle.table_meaning.specs.declared.rows.StoredRow.TheVariants as stored
@@ -237,7 +238,7 @@ holds_of_some cmp Of Before After old new some before carry = λ k row is.
 
 module _ (w w' : World) (readable : IsReadable w) (readable' : IsReadable w') (Stays : RowKey → Type 0) (stay : (k : WorldKey) → Stays (row_key k) → row_in w k ≡ row_in w' k)
     (Puts : StoredRow → Type 0) (put : (r : StoredRow) (k : WorldKey) → Puts r → key_of r ≡ row_key k → row_in w' k ≡ Some r)
-    (calls calls' : SlotCalls) (old new : Remembered) (left : AreCarried Stays Puts old new) (none : new.slot ≡ None) (before : AreRemembered w calls old) where
+    (calls calls' : SlotCalls) (old new : Remembered) (left : AreCarried Stays Puts old new) (none : new.slot ≡ None) (no_page : new.page ≡ None) (before : AreRemembered w calls old) where
   apps_stay : ((id : ℕ) → Stays (row_key (key.App id))) → w.apps ≡ w'.apps
   apps_stay unput = same_apps w w' readable readable' (λ n. stay (key.App n) (unput n))
 
@@ -274,4 +275,5 @@ module _ (w w' : World) (readable : IsReadable w) (readable' : IsReadable w') (S
         (λ name a unput is. subst (λ (accounts : List Account). placed_where (λ (a : Account). bytes_eq a.authenticator name) accounts ≡ Some (record { place = a.place; row = a.row })) (same_accounts w w' readable readable' (λ n. stay (key.Account n) (unput n))) is);
     versions = versions_left old.versions.items new.versions.items left.versions before.versions;
     slot = subst (λ o. IfSome o (IsSlotOf calls')) (sym none) tt;
+    page = subst (λ o. IfSome o (IsFirstPageOf w')) (sym no_page) tt;
   }

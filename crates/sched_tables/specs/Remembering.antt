@@ -8,6 +8,7 @@ use Rattle.sched_book.specs.declared.rows.HostRow.{HostRow}
 use Rattle.sched_book.specs.declared.rows.Workunit.{Workunit}
 use Rattle.sched_book.specs.declared.world.World.{World}
 use Rattle.table_desk.specs.Columns.{counted_host_at}
+use Rattle.table_desk.specs.FirstPage.{IsFirstPageOf}
 use Rattle.table_meaning.specs.Worlds.{SlotCalls}
 use Rattle.sched_tables.specs.RowsRead.{HoldOfEach}
 use Rattle.sched_tables.specs.Slots.{IsSlotFor}
@@ -38,7 +39,8 @@ IsVersionOf w v = (h : HostRow) → h.platforms ≡ v.platforms → version_at w
 abbrev pub IsSlotOf : SlotCalls → SlotRead → Type 0
 IsSlotOf calls s = IsSlotFor (calls s.host) s.slot
 
--- What is remembered is what the world has, and of the calls in the slots of a host which slot is for the next.
+-- What is remembered is what the world has, of what is unsent its first places from one place on, and of the calls in the slots of a host
+-- which slot is for the next.
 pub record AreRemembered (w : World) (calls : SlotCalls) (r : Remembered) : Type 0 where
   pub units : AreUnitsOf w r.units
   pub instances : HoldOfEach nat_cmp (λ n xs. xs ≡ instances_at w n) r.instances
@@ -46,3 +48,4 @@ pub record AreRemembered (w : World) (calls : SlotCalls) (r : Remembered) : Type
   pub accounts : HoldOfEach (slice_cmp nat_cmp) (IsAccountOf w) r.accounts
   pub versions : All (IsVersionOf w) r.versions.items
   pub slot : IfSome r.slot (IsSlotOf calls)
+  pub page : IfSome r.page (IsFirstPageOf w)

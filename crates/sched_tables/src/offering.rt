@@ -1,4 +1,5 @@
-//! What waits is offered, and the workunits that are offered first are remembered.
+//! What waits is offered: the page of it that was read last goes on where it has the place, and it is remembered with the
+//! workunits that are offered first.
 
 ghost use Rattle.std.specs.Prelude.{◌≡◌, All, OnErr, OnOk};
 ghost use Rattle.sched_book.specs.Offers.{OffersAll, OffersSome, unsent};
@@ -6,8 +7,7 @@ ghost use Rattle.sched_book.specs.declared.world.World.{World};
 ghost use Rattle.sched_tables.specs.Held.{IsHonest};
 ghost use Rattle.sched_tables.specs.Offering.{IsCandidateOf};
 ghost use Rattle.sched_tables.specs.Remembering.{IsUnitOf};
-ghost use Rattle.sched_tables.specs.Views.{state_of, world_of, AreKept};
-ghost use Rattle.table_meaning.specs.Reads.{Reads};
+ghost use Rattle.sched_tables.specs.Views.{state_of, world_of, AreKept, AreReadOn};
 
 use crate::remembered::UnitRead;
 use crate::tables::Tables;
@@ -63,28 +63,32 @@ impl<'a, T: Taker> Taker for Noting<'a, T> {
 }
 
 impl<S: Alter> Tables<S> {
-    /// Offers what waits from this place on, and takes note of the workunits that are offered first.
+    /// Offers what waits from this place on, and takes note of the workunits that are offered first. The page with which the
+    /// offers begin is remembered.
     pub(crate) fn offer_from<T: Taker>(
         &mut self,
         from: Place,
         taker: &mut T,
         noted: &mut Vec<UnitRead>,
     ) -> Result<(), Unavailable>
-        ensures reads { Reads (state_of S.Store self.old) (state_of S.Store self.new) }
-        ensures beside { (self.new.settings ≡ self.old.settings) × (self.new.apps ≡ self.old.apps) × (self.new.remembered ≡ self.old.remembered) × (self.new.mark ≡ self.old.mark) }
+        ensures reads { AreReadOn S.Store self.old self.new }
         ensures all { IsHonest (state_of S.Store self.new) → AreKept S.Store self.old → OnOk result (OffersAll T.takes taker.old (unsent (world_of S.Store self.old) from) taker.new) }
         ensures some { IsHonest (state_of S.Store self.new) → AreKept S.Store self.old → OnErr result (OffersSome T.takes taker.old (unsent (world_of S.Store self.old) from) taker.new) }
         ensures noted { IsHonest (state_of S.Store self.new) → AreKept S.Store self.old
             → All (IsUnitOf (world_of S.Store self.old)) noted.old.items → All (IsUnitOf (world_of S.Store self.old)) noted.new.items }
     {
+        let mut page = self.remembered.take_page();
         let mut noting = Noting { taker, noted };
-        table_desk::unsent_from(
+        let offered = table_desk::unsent_from(
             self.alloc,
             &mut self.conn,
             self.apps.as_slice(),
             &self.remembered,
+            &mut page,
             from,
             &mut noting,
-        )
+        );
+        self.remembered.remember_page(page);
+        offered
     }
 }

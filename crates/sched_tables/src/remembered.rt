@@ -6,6 +6,7 @@ ghost use Rattle.sched_book.specs.Fits.{version_at};
 ghost use Rattle.sched_book.specs.declared.rows.HostRow.{HostRow as BookHost};
 ghost use Rattle.sched_book.specs.declared.world.World.{World};
 ghost use Rattle.table_desk.specs.Columns.{counted_host_at};
+ghost use Rattle.table_desk.specs.FirstPage.{IsFirstPageOf};
 ghost use Rattle.table_meaning.specs.Worlds.{SlotCalls};
 ghost use Rattle.table_meaning.specs.declared.rows.StoredRow.TheVariants as stored;
 ghost use Rattle.sched_tables.specs.Carrying.{counted_of, AreCarried, AreHostsCarried, AreInstancesCarried, IsOtherKey, IsPut, IsRenewed, IsUnput};
@@ -16,7 +17,7 @@ use crate::rows_read::RowsRead;
 use sched_book::{Account, Instance, Placed, Version, Workunit, copy_of};
 use std::alloc::Global;
 use table_decoding::{host, instance};
-use table_desk::{CountedHost, KnownUnits};
+use table_desk::{CountedHost, KnownUnits, PageRead};
 use table_meaning::rows::{StoredHost, StoredInstance, StoredRow};
 use texts::{Listed, Memory, Same, Text};
 
@@ -149,8 +150,8 @@ fn renew_host(alloc: Global, known: &mut RowsRead<u32, CountedHost>, row: &Store
     }
 }
 
-/// What was read, and is as it was read or as it was put since: rows by their keys, versions, and the slot for the next
-/// call of the host whose calls were read last.
+/// What was read, and is as it was read or as it was put since: rows by their keys, versions, the slot for the next call of
+/// the host whose calls were read last, and the first places of what waits that were read last.
 pub(crate) struct Remembered {
     units: RowsRead<u32, Workunit>,
     instances: RowsRead<u32, Listed<Instance>>,
@@ -158,6 +159,7 @@ pub(crate) struct Remembered {
     accounts: RowsRead<Text, AccountRead>,
     versions: Vec<VersionRead>,
     slot: Option<SlotRead>,
+    page: Option<PageRead>,
 }
 
 // It is written out, so that a caller does not prove again how each part is dropped.
@@ -170,6 +172,7 @@ impl Drop for Remembered {
             accounts: _accounts,
             versions: _versions,
             slot: _slot,
+            page: _page,
         } = self;
     }
 }
@@ -186,6 +189,7 @@ impl Remembered {
             accounts: RowsRead::new(alloc),
             versions: Vec::new(alloc),
             slot: None,
+            page: None,
         }
     }
 
@@ -316,6 +320,20 @@ impl Remembered {
         self.slot = Some(SlotRead { host, slot });
     }
 
+    /// Takes away the first places of what waits that were read last.
+    pub(crate) fn take_page(&mut self) -> Option<PageRead>
+        ensures { (w : World) (calls : SlotCalls) → AreRemembered w calls self.old → AreRemembered w calls self.new × IfSome result (IsFirstPageOf w) }
+    {
+        self.page.take()
+    }
+
+    /// Remembers the first places of what waits that were read last, where some were.
+    pub(crate) fn remember_page(&mut self, page: Option<PageRead>)
+        ensures { (w : World) (calls : SlotCalls) → AreRemembered w calls self.old → IfSome page (IsFirstPageOf w) → AreRemembered w calls self.new }
+    {
+        self.page = page;
+    }
+
     /// Takes note of a row that was put.
     fn note_row(&mut self, alloc: Global, row: &StoredRow)
         ensures { AreCarried (IsOtherKey row.now) (λ s. s ≡ row.now) self.old self.new }
@@ -336,15 +354,17 @@ impl Remembered {
     }
 
     /// Takes note of rows that were put: what they tell of hosts and of instances is renewed, and what else was read of them is
-    /// forgotten, with the slot for a call.
+    /// forgotten, with the slot for a call and the places that wait.
     pub(crate) fn note_put(&mut self, alloc: Global, rows: &[StoredRow])
         ensures carried { AreCarried (IsUnput rows.now) (IsPut rows.now) self.old self.new }
         ensures slot { self.new.slot ≡ None }
+        ensures page { self.new.page ≡ None }
     {
         for row in rows {
             self.note_row(alloc, row);
         }
         self.slot = None;
+        self.page = None;
     }
 
     /// Forgets it all.
@@ -357,6 +377,7 @@ impl Remembered {
         self.accounts.forget_all();
         self.versions.clear();
         self.slot = None;
+        self.page = None;
     }
 }
 

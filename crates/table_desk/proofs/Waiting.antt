@@ -1,11 +1,11 @@
--- What is unsent is, place by place, what waits in the tables; and what waits behind a page of places is what is left behind it.
-use Rattle.std.proofs.Common.{◌≡◌, ℕ, zero, suc, ◌+◌, Bool, true, false, ◌&&◌, cond, not, List, [], ◌∷◌, ◌++◌, filter, take, drop, slice_get, Option, Some, None, option_map, refl, sym, ap, ap₂, subst, ◌∙◌, arith, nat_le, nat_lt, is_none}
+-- What is unsent is, place by place, what waits in the tables; and what waits from a place of a page on is the rest of the page and what is left behind it.
+use Rattle.std.proofs.Common.{◌≡◌, ℕ, zero, suc, ◌+◌, ◌≤◌, Bool, true, false, true≢false, ◌&&◌, cond, not, List, [], ◌∷◌, ◌++◌, filter, length, map, take, drop, slice_get, Option, Some, None, option_map, refl, sym, ap, ap₂, subst, ◌∙◌, arith, nat_le, nat_lt, is_none}
 use Rattle.std.specs.Prelude.{◌==◌, ◌||◌, option_and_then, unwrap_or}
 use Rattle.std.specs.List.{AllByRecursion, cons_option}
 use Rattle.std.proofs.lemmas.Bool.Decides.{nat_tests}
-use Rattle.std.proofs.lemmas.List.{take-append-drop}
+use Rattle.std.proofs.lemmas.List.{take-append-drop, drop-append-le}
 use Rattle.std.proofs.lemmas.List.Elements.{filter-append, filter_map-append}
-use Rattle.std.proofs.lemmas.Option.{none-some, same_Some}
+use Rattle.std.proofs.lemmas.Option.{none-some, same_Some, slice_get_within}
 use Rattle.sqlite.specs.Effect.{Database}
 use Rattle.sqlite.specs.Held.{Held, state}
 use Rattle.sqlite.specs.State.{HasCleanDisk}
@@ -24,17 +24,18 @@ use Rattle.sched_book.specs.declared.instance.UnitBook.{UnitBook}
 use Rattle.sched_book.specs.declared.world.World.{World}
 use Rattle.sched_book.proofs.PlacesOf.{nth-suc}
 use Rattle.sqlite_sql.specs.declared.ops.CompareOp.TheVariants.{Eq}
-use Rattle.table_meaning.specs.declared.tables.Page.{Page}
-use Rattle.table_meaning.specs.declared.tables.Page.TheVariants.{First, Further}
+use Rattle.table_meaning.specs.declared.tables.Page.TheVariants.{Further}
 use Rattle.table_meaning.specs.declared.rows.StoredRow.TheVariants as stored
 use Rattle.table_meaning.specs.Holding.{Contents, Hold}
 use Rattle.table_meaning.specs.Places as table
-use Rattle.table_meaning.specs.Places.{page_size, IsBefore, AreAllPlaces, instance_at, shows_passing, compares, is_not_before, waits_from}
+use Rattle.table_meaning.specs.Places.{IsBefore, AreAllPlaces, instance_at, shows_passing, compares, waits_from}
 use Rattle.table_meaning.specs.Rows.{columns_of, whole}
 use Rattle.table_meaning.specs.Worlds.{contents_of, instance_row, is_queued, status_code}
 use Rattle.table_meaning.proofs.PlacesTests.{equal_numbers, above_number, not_below_number}
 use Rattle.table_desk.specs.Asked.{Asked, Tell}
-use Rattle.table_desk.specs.Pages.{candidate_at, candidates_at, behind, next_page, unsent_on}
+use Rattle.table_desk.specs.FirstPage.{IsFirstPageOf}
+use Rattle.table_desk.specs.Pages.{candidate_at, candidates_at, behind, next_page, unsent_on, unsent_behind}
+use Rattle.table_desk.specs.declared.pages.PageRead.{PageRead}
 use Rattle.table_desk.proofs.PlacesStand.{all_places}
 
 -- the places from one on that wait to be given out
@@ -174,52 +175,70 @@ module _ (q : Place → Bool) (from : Place) where
       turn true (suc m) later is = later m is
       turn false n later is = later n is
 
-  -- behind a place that the test lets through, it lets through what waits behind the place
-  all_behind : (p : Place) → keeps from p ≡ true → (ps : List Place) → AllByRecursion (IsBefore p) ps → filter (keeps from) ps ≡ filter (keeps (behind p)) ps
-  all_behind p kept [] above = refl
-  all_behind p kept (r ∷ rs) above = ap₂ (λ b (l : List Place). cond b (r ∷ l) l) (alike above.0) (all_behind p kept rs above.1)
-    where
-      from_kept : not (is_before p from) ≡ true
-      from_kept = grind arith
+  -- Of the places that it lets through, those from one of them on, with that one or without, are those that it lets through from a later
+  -- place on: it lets through none before the one, and above the one all the same.
+  module _ (it late : Place) (stays : Bool) (before : (p : Place) → IsBefore p it → keeps late p ≡ false) (itself : keeps from it ≡ true → keeps late it ≡ stays)
+      (above : (r : Place) → keeps from it ≡ true → IsBefore it r → is_before r from ≡ is_before r late) where
+    all_above : keeps from it ≡ true → (ps : List Place) → AllByRecursion (IsBefore it) ps → filter (keeps late) ps ≡ filter (keeps from) ps
+    all_above kept [] rise = refl
+    all_above kept (r ∷ rs) rise = ap₂ (λ b (l : List Place). cond (q r && not b) (r ∷ l) l) (sym (above r kept rise.0)) (all_above kept rs rise.1)
 
-      both : IsBefore p r → is_before r from ≡ is_before r (behind p)
-      both before = grind (arith, nat_tests)
+    left_at : (n : ℕ) (ps : List Place) → IsAscending IsBefore ps → slice_get (filter (keeps from) ps) n ≡ Some it → filter (keeps late) ps ≡ cond stays (drop n (filter (keeps from) ps)) (drop (suc n) (filter (keeps from) ps))
+    left_at n [] rise is = absurd (none-some _ is)
+    left_at n (p ∷ ps) rise is = turn (keeps from p) refl n (λ m. left_at m ps rise.1) is
+      where
+        more : List Place
+        more = filter (keeps from) ps
 
-      alike : IsBefore p r → keeps from r ≡ keeps (behind p) r
-      alike before = ap (λ b. q r && not b) (both before)
+        left : List Place
+        left = filter (keeps late) ps
 
-  -- a place before one is not behind it, nor is the place itself
+        skipped : (m : ℕ) → slice_get more m ≡ Some it → cond (keeps late p) (p ∷ left) left ≡ left
+        skipped m is = ap (λ b. cond b (p ∷ left) left) (before p (holds_of (IsBefore p) ps m it rise.0 is))
+
+        turn : (b : Bool) → keeps from p ≡ b → (n : ℕ) → ((m : ℕ) → slice_get more m ≡ Some it → left ≡ cond stays (drop m more) (drop (suc m) more)) → slice_get (cond b (p ∷ more) more) n ≡ Some it
+            → cond (keeps late p) (p ∷ left) left ≡ cond stays (drop n (cond b (p ∷ more) more)) (drop (suc n) (cond b (p ∷ more) more))
+        turn true kept zero later is =
+            let same : p ≡ it = same_Some _ _ is in
+            let here : keeps from it ≡ true = ap (keeps from) (sym same) ∙ kept in
+            ap₂ (λ b (l : List Place). cond b (p ∷ l) l) (ap (keeps late) same ∙ itself here) (all_above here ps (subst (λ r. AllByRecursion (IsBefore r) ps) same rise.0))
+        turn true kept (suc m) later is = skipped m is ∙ later m is
+        turn false fails n later is = skipped n is ∙ later n is
+
+  -- without: those behind it
   passed : (p last : Place) → is_before p (behind last) ≡ true → keeps (behind last) p ≡ false
   passed p last before = grind arith
 
-  ahead : (p last : Place) → IsBefore p last → is_before p (behind last) ≡ true
-  ahead p last before = grind (arith, nat_tests)
-
-  itself : (p : Place) → is_before p (behind p) ≡ true
-  itself p = grind (arith, nat_tests)
-
-  rest_behind : (last : Place) (n : ℕ) (ps : List Place) → IsAscending IsBefore ps → slice_get (filter (keeps from) ps) n ≡ Some last → drop (suc n) (filter (keeps from) ps) ≡ filter (keeps (behind last)) ps
-  rest_behind last n [] rise is = absurd (none-some _ is)
-  rest_behind last n (p ∷ ps) rise is = turn (keeps from p) refl n (λ m. rest_behind last m ps rise.1) is
+  rest_behind : (last : Place) (n : ℕ) (ps : List Place) → IsAscending IsBefore ps → slice_get (filter (keeps from) ps) n ≡ Some last → filter (keeps (behind last)) ps ≡ drop (suc n) (filter (keeps from) ps)
+  rest_behind last = left_at last (behind last) false (λ p before. passed p last (ahead p before)) (λ kept. passed last last itself) above
     where
-      more : List Place
-      more = filter (keeps from) ps
+      ahead : (p : Place) → IsBefore p last → is_before p (behind last) ≡ true
+      ahead p before = grind (arith, nat_tests)
 
-      left : List Place
-      left = filter (keeps (behind last)) ps
+      itself : is_before last (behind last) ≡ true
+      itself = grind (arith, nat_tests)
 
-      skipped : keeps (behind last) p ≡ false → left ≡ cond (keeps (behind last) p) (p ∷ left) left
-      skipped is = sym (ap (λ b. cond b (p ∷ left) left) is)
+      above : (r : Place) → keeps from last ≡ true → IsBefore last r → is_before r from ≡ is_before r (behind last)
+      above r kept before = grind (arith, nat_tests)
 
-      below : (m : ℕ) → slice_get more m ≡ Some last → keeps (behind last) p ≡ false
-      below m is = passed p last (ahead p last (holds_of (IsBefore p) ps m last rise.0 is))
+  -- with it: those from it on
+  rest_from : (first : Place) (n : ℕ) (ps : List Place) → IsAscending IsBefore ps → slice_get (filter (keeps from) ps) n ≡ Some first → filter (keeps first) ps ≡ drop n (filter (keeps from) ps)
+  rest_from first = left_at first first true (λ p before. passed_by p (ahead p before)) (λ kept. stands kept itself) above
+    where
+      ahead : (p : Place) → IsBefore p first → is_before p first ≡ true
+      ahead p before = grind (arith, nat_tests)
 
-      turn : (b : Bool) → keeps from p ≡ b → (n : ℕ) → ((m : ℕ) → slice_get more m ≡ Some last → drop (suc m) more ≡ left) → slice_get (cond b (p ∷ more) more) n ≡ Some last → drop (suc n) (cond b (p ∷ more) more) ≡ cond (keeps (behind last) p) (p ∷ left) left
-      turn true kept zero later is =
-          let same : p ≡ last = same_Some _ _ is in
-          all_behind p kept ps rise.0 ∙ ap (λ r. filter (keeps (behind r)) ps) same ∙ skipped (passed p last (subst (λ r. is_before p (behind r) ≡ true) same (itself p)))
-      turn true kept (suc m) later is = later m is ∙ skipped (below m is)
-      turn false fails n later is = later n is ∙ skipped (below n is)
+      passed_by : (p : Place) → is_before p first ≡ true → keeps first p ≡ false
+      passed_by p before = grind arith
+
+      itself : is_before first first ≡ false
+      itself = grind (arith, nat_tests)
+
+      stands : keeps from first ≡ true → is_before first first ≡ false → keeps first first ≡ true
+      stands kept none = grind arith
+
+      above : (r : Place) → keeps from first ≡ true → IsBefore first r → is_before r from ≡ is_before r first
+      above r kept before = grind (arith, nat_tests)
 
 none_left : {X : Type 0} (n : ℕ) (xs : List X) → slice_get xs n ≡ None → drop (suc n) xs ≡ []
 none_left n [] is = refl
@@ -228,30 +247,89 @@ none_left (suc n) (x ∷ xs) is = none_left n xs is
 
 -- ---- a page of places
 
-module _ (db : Database) (w : World) (tell : Tell db w) where
+-- each place that waits has its workunit
+places_offered : (w : World) (from : Place) (ps : List Place) → map (λ (c : Candidate). c.place) (candidates_at w (filter (waits w from) ps)) ≡ filter (waits w from) ps
+places_offered w from [] = refl
+places_offered w from (p ∷ ps) = one (unit_at w p.unit) refl (waits w from p) refl (places_offered w from ps)
+  where
+    more : List Place
+    more = filter (waits w from) ps
+
+    one : (o : Option UnitBook) → unit_at w p.unit ≡ o → (b : Bool) → waits w from p ≡ b → map (λ (c : Candidate). c.place) (candidates_at w more) ≡ more
+        → map (λ (c : Candidate). c.place) (candidates_at w (cond b (p ∷ more) more)) ≡ cond b (p ∷ more) more
+    one o stands false is later = later
+    one None stands true is later = absurd (true≢false (sym is ∙ ap (λ (o : Option UnitBook). unwrap_or (option_and_then (λ b. option_map (is_queued w b) (slice_get b.instances p.number)) o) false && not (is_before p from)) stands))
+    one (Some b) stands true is later =
+        ap (λ (o : Option UnitBook). map (λ (c : Candidate). c.place) (cons_option (option_map (λ u. record { place = p; unit = u }) (option_map (λ (b : UnitBook). b.unit) o)) (candidates_at w more))) stands
+        ∙ ap (λ l. p ∷ l) later
+
+got_in_front : {X : Type 0} (xs ys : List X) (n : ℕ) (x : X) → slice_get xs n ≡ Some x → slice_get (xs ++ ys) n ≡ Some x
+got_in_front [] ys n x is = absurd (none-some _ is)
+got_in_front (y ∷ xs) ys zero x is = is
+got_in_front (y ∷ xs) ys (suc n) x is = got_in_front xs ys n x is
+
+module _ (w : World) where
+  rise : IsAscending IsBefore (places w)
+  rise = (all_places w (λ _ _. None) (λ _ _. None)).rise
+
   left_behind : (n : ℕ) (from : Place) (o : Option Place) → slice_get (waiting w from) n ≡ o → candidates_at w (drop (suc n) (waiting w from)) ≡ unsent_on w (option_map behind o)
   left_behind n from None is = ap (candidates_at w) (none_left n (waiting w from) is)
-  left_behind n from (Some last) is =
-      ap (candidates_at w) (rest_behind (passes w (is_queued w)) from last n (places w) (all_places w tell.calls tell.batches).rise is) ∙ unsent_waiting w (behind last)
+  left_behind n from (Some last) is = ap (candidates_at w) (sym (rest_behind (passes w (is_queued w)) from last n (places w) rise is)) ∙ unsent_waiting w (behind last)
 
-  -- the candidates of a page, and what is unsent behind it, are what is unsent from the page's first place on
-  places_of : (n : ℕ) (from : Place) (queued : List Place) → queued ≡ take (suc n) (table.places_where (contents db w tell from) (waits_from from) (places w))
-      → unsent w from ≡ candidates_at w queued ++ unsent_on w (option_map behind (slice_get queued n))
-  places_of n from queued is =
-      let all = waiting w from in
-      let page : queued ≡ take (suc n) all = is ∙ ap (take (suc n)) (waiting_told db w tell from) in
-      let next : slice_get all n ≡ slice_get queued n = sym (slice_get-take (suc n) all n (omega arith)) ∙ ap (λ l. slice_get l n) (sym page) in
-      sym (unsent_waiting w from) ∙ ap (candidates_at w) (sym (take-append-drop (suc n) all)) ∙ filter_map-append (candidate_at w) (take (suc n) all) (drop (suc n) all)
-      ∙ ap₂ (λ (xs ys : List Candidate). xs ++ ys) (ap (candidates_at w) (sym page)) (left_behind n from (slice_get queued n) next)
+  -- what waits behind some places of a page is the others and what waits behind the page
+  module _ (n : ℕ) (from : Place) (page : List Place) (is : page ≡ take (suc n) (waiting w from)) where
+    abbrev rest : List Place
+    rest = drop (suc n) (waiting w from)
 
-  page_of : (page : Page) (from : Place) (queued : List Place) → queued ≡ take (page_size page) (table.places_where (contents db w tell from) (waits_from from) (places w))
-      → unsent w from ≡ candidates_at w queued ++ unsent_on w (next_page page queued)
-  page_of First = places_of 7
-  page_of Further = places_of 63
+    parted : waiting w from ≡ page ++ rest
+    parted = sym (take-append-drop (suc n) (waiting w from)) ∙ ap (λ l. l ++ rest) (sym is)
 
--- a page of places that a read shows
-pub page_read : {S : Type 0} (store : Ghosts S) (first mid : Held S) (which : Page) (from : Place) (queued page : List Place) → page ≡ queued
-    → (HasCleanDisk (state store mid) → (contents : Contents) (places : List Place) → Hold (state store first).now contents → AreAllPlaces contents places → queued ≡ take (page_size which) (table.places_where contents (waits_from from) places))
-    → Asked store first mid (λ w. unsent w from ≡ candidates_at w page ++ unsent_on w (next_page which page))
-page_read store first mid which from queued page same shown = λ clean is_open rests w tell.
-    page_of (state store first).now w tell which from page (same ∙ shown clean (contents_of w tell.calls tell.batches) (places w) tell.holds (all_places w tell.calls tell.batches))
+    left_then : candidates_at w rest ≡ unsent_on w (option_map behind (slice_get page n))
+    left_then = left_behind n from (slice_get page n) (sym (slice_get-take (suc n) (waiting w from) n (omega arith)) ∙ ap (λ l. slice_get l n) (sym is))
+
+    parts_at : (at : ℕ) → at ≤ length page → candidates_at w (drop at (waiting w from)) ≡ candidates_at w (drop at page) ++ unsent_on w (option_map behind (slice_get page n))
+    parts_at at within =
+        ap (λ l. candidates_at w (drop at l)) parted ∙ ap (candidates_at w) (drop-append-le at page rest within) ∙ filter_map-append (candidate_at w) (drop at page) rest
+        ∙ ap (λ (cs : List Candidate). candidates_at w (drop at page) ++ cs) left_then
+
+    -- from the page's first place on, and from one of its places on
+    parts : unsent w from ≡ candidates_at w page ++ unsent_on w (option_map behind (slice_get page n))
+    parts = sym (unsent_waiting w from) ∙ parts_at 0 (omega arith)
+
+    parts_from : (at : ℕ) (first : Place) → slice_get page at ≡ Some first → unsent w first ≡ candidates_at w (drop at page) ++ unsent_on w (option_map behind (slice_get page n))
+    parts_from at first stands =
+        let within : at ≤ length page = let below = slice_get_within page at first stands in omega (arith, below) in
+        let there : slice_get (waiting w from) at ≡ Some first = ap (λ l. slice_get l at) parted ∙ got_in_front page rest at first stands in
+        sym (unsent_waiting w first) ∙ ap (candidates_at w) (rest_from (passes w (is_queued w)) from first at (places w) rise there) ∙ parts_at at within
+
+-- ---- a page that was read
+
+places_unsent : (w : World) (from : Place) → map (λ (c : Candidate). c.place) (unsent w from) ≡ waiting w from
+places_unsent w from = ap (map (λ (c : Candidate). c.place)) (sym (unsent_waiting w from)) ∙ places_offered w from (places w)
+
+module _ (w : World) (page : PageRead) (is : IsFirstPageOf w page) where
+  page_waits : page.places ≡ take 8 (waiting w page.from)
+  page_waits = is ∙ ap (take 8) (places_unsent w page.from)
+
+  pub unsent_of_all : (from : Place) → page.from ≡ from → (places : List Place) → places ≡ page.places → unsent w from ≡ candidates_at w places ++ unsent_behind w page
+  unsent_of_all from same places are =
+      ap (unsent w) (sym same) ∙ parts w 7 page.from page.places page_waits ∙ ap (λ (ps : List Place). candidates_at w ps ++ unsent_behind w page) (sym are)
+
+  pub unsent_of_rest : (at : ℕ) (first : Place) → slice_get page.places at ≡ Some first → (places : List Place) → places ≡ drop at page.places → unsent w first ≡ candidates_at w places ++ unsent_behind w page
+  unsent_of_rest at first stands places are = parts_from w 7 page.from page.places page_waits at first stands ∙ ap (λ (ps : List Place). candidates_at w ps ++ unsent_behind w page) (sym are)
+
+-- ---- pages that a read shows
+
+module _ {S : Type 0} (store : Ghosts S) (first mid : Held S) (from : Place) (queued : List Place) where
+  abbrev Shows : ℕ → Type 0
+  Shows n = HasCleanDisk (state store mid) → (contents : Contents) (places : List Place) → Hold (state store first).now contents → AreAllPlaces contents places → queued ≡ take n (table.places_where contents (waits_from from) places)
+
+  waiting_read : (n : ℕ) → Shows n → Asked store first mid (λ w. queued ≡ take n (waiting w from))
+  waiting_read n shown = λ clean is_open rests w tell.
+      shown clean (contents_of w tell.calls tell.batches) (places w) tell.holds (all_places w tell.calls tell.batches) ∙ ap (take n) (waiting_told (state store first).now w tell from)
+
+  pub first_page_read : Shows 8 → Asked store first mid (λ w. queued ≡ take 8 (map (λ (c : Candidate). c.place) (unsent w from)))
+  first_page_read shown = λ clean is_open rests w tell. waiting_read 8 shown clean is_open rests w tell ∙ ap (take 8) (sym (places_unsent w from))
+
+  pub further_page_read : Shows 64 → (page : List Place) → page ≡ queued → Asked store first mid (λ w. unsent w from ≡ candidates_at w page ++ unsent_on w (next_page Further page))
+  further_page_read shown page same = λ clean is_open rests w tell. parts w 63 from page (same ∙ waiting_read 64 shown clean is_open rests w tell)

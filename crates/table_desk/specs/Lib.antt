@@ -1,5 +1,6 @@
 pub mod Asked
 pub mod Columns
+pub mod FirstPage
 pub mod Pages
 pub mod Users
 pub mod Versions

@@ -7,6 +7,8 @@ use Rattle.sched_book.specs.declared.instance.Place.{Place}
 use Rattle.sched_book.specs.declared.world.World.{World}
 use Rattle.table_meaning.specs.Places.{page_size}
 use Rattle.table_meaning.specs.declared.tables.Page.{Page}
+use Rattle.table_meaning.specs.declared.tables.Page.TheVariants.{First}
+use Rattle.table_desk.specs.declared.pages.PageRead.{PageRead}
 
 -- a place with its workunit, where one stands
 abbrev pub candidate_at : World → Place → Option Candidate
@@ -27,3 +29,7 @@ next_page page places = option_map behind (slice_get places (page_size page - 1)
 abbrev pub unsent_on : World → Option Place → List Candidate
 unsent_on w None = []
 unsent_on w (Some from) = unsent w from
+
+-- what is unsent behind the first page, as it was read
+abbrev pub unsent_behind : World → PageRead → List Candidate
+unsent_behind w page = unsent_on w (next_page First page.places)

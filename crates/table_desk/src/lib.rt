@@ -10,6 +10,7 @@ mod columns;
 mod hosts;
 mod lengths;
 mod offers;
+mod pages;
 mod places;
 mod users;
 mod workunits;
@@ -20,6 +21,7 @@ pub use columns::{credit_of_none_given, credit_of_user, held_of_none_given, stat
 pub use hosts::{CountedHost, counted_host};
 pub use lengths::counts;
 pub use offers::{KnownUnits, unsent_from};
+pub use pages::PageRead;
 pub use places::{due_before, held_by, owned_by, sent_on_day};
 pub use users::units_of_user;
 pub use workunits::{instance_at, instances_at, unit_at, unit_by_name};

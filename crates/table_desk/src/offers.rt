@@ -1,14 +1,15 @@
 //! Offers of the instances that wait, to a taker, a page of places at a time.
 
-ghost use Rattle.std.specs.Prelude.{◌≡◌, ℕ, Some, IfOk, IfSome, OnOk, OnErr};
+ghost use Rattle.std.specs.Prelude.{◌≡◌, ◌++◌, Some, IfOk, IfSome, OnOk, OnErr};
 ghost use Rattle.sqlite.specs.Held.{state};
 ghost use Rattle.sched_book.specs.Offers.{unsent, OffersAll, OffersSome, Offered, OfferedSome, Leads};
 ghost use Rattle.sched_book.specs.declared.desk.Candidate.{Candidate as BookCandidate};
-ghost use Rattle.table_meaning.specs.Places.{page_size};
 ghost use Rattle.table_meaning.specs.Reads.{Reads};
 ghost use Rattle.table_desk.specs.Asked.{Asked};
-ghost use Rattle.table_desk.specs.Pages.{candidate_at, candidates_at, next_page, unsent_on};
+ghost use Rattle.table_desk.specs.FirstPage.{IsFirstPageOf};
+ghost use Rattle.table_desk.specs.Pages.{candidate_at, candidates_at, unsent_on, unsent_behind};
 
+use crate::pages::{PageRead, next_page};
 use crate::workunits::unit_at;
 use sched_book::limits::{MOST_INSTANCES, MOST_WORKUNITS};
 use sched_book::{App, Candidate, Flow, Place, Taker, Unavailable, Workunit};
@@ -18,18 +19,8 @@ use table_meaning::tables::Page;
 use table_rows::queued_from;
 use texts::Memory;
 
-/// More pages than the instances of all workunits fill, the further ones having 64 places.
+/// More pages of 64 places than the instances of all workunits fill.
 const MOST_PAGES: usize = MOST_WORKUNITS * MOST_INSTANCES / 64 + 2;
-
-/// How many places a page has at most.
-fn size(page: Page) -> usize
-    ensures { result ≡ page_size page }
-{
-    match page {
-        Page::First => 8,
-        Page::Further => 64,
-    }
-}
 
 /// Who knows some workunits, so that they need not be read.
 pub trait KnownUnits {
@@ -42,22 +33,6 @@ pub trait KnownUnits {
     /// The workunit at this place, where it is known.
     fn known_unit(&self, unit: u32) -> Result<Option<Workunit>, Memory>
         ensures { (w : World) → are_of w self.now → IfOk result (λ r. IfSome r (λ u. workunit_at w unit ≡ Some u)) };
-}
-
-/// Where the next page begins, if this one is full. Refused where the number of the last place is the greatest one.
-fn next_page(page: Page, places: &[Place]) -> Result<Option<Place>, Unavailable>
-    ensures { IfOk result (λ next. next ≡ next_page page places.now) }
-{
-    match places.get(size(page) - 1) {
-        None => Ok(None),
-        Some(last) => match last.number.checked_add(1) {
-            None => Err(Unavailable),
-            Some(number) => Ok(Some(Place {
-                unit: last.unit,
-                number,
-            })),
-        },
-    }
 }
 
 /// Offers the candidate at this place, whose workunit is read where it is not known, and says whether the taker wants more. Refused where no workunit stands there.
@@ -106,7 +81,7 @@ fn offer_each<S: Alter, K: KnownUnits, T: Taker>(
     Ok(Flow::GoOn)
 }
 
-/// Offers what waits from this place on, a page of it, and says from where there may be more. The connection shows
+/// Offers what waits from this place on, a further page of it, and says from where there may be more. The connection shows
 /// what it showed.
 fn offer_page<S: Alter, K: KnownUnits, T: Taker>(
     alloc: Global,
@@ -114,43 +89,89 @@ fn offer_page<S: Alter, K: KnownUnits, T: Taker>(
     apps: &[App],
     known: &K,
     from: Place,
-    page: Page,
     taker: &mut T,
 ) -> Result<Option<Place>, Unavailable>
     ensures reads { Reads (state S.Store conn.old) (state S.Store conn.new) }
     ensures all { Asked S.Store conn.old conn.new (λ w. apps.now ≡ w.apps → K.are_of w known.now → IfOk result (λ next. Leads T.takes taker.old (unsent w from) taker.new (unsent_on w next))) }
     ensures some { Asked S.Store conn.old conn.new (λ w. apps.now ≡ w.apps → K.are_of w known.now → OnErr result (OffersSome T.takes taker.old (unsent w from) taker.new)) }
 {
-    let queued = queued_from(alloc, conn, from, page)?;
+    let queued = queued_from(alloc, conn, from, Page::Further)?;
     match offer_each(alloc, conn, apps, known, queued.as_slice(), taker)? {
         Flow::Stop => Ok(None),
-        Flow::GoOn => next_page(page, queued.as_slice()),
+        Flow::GoOn => next_page(Page::Further, queued.as_slice()),
+    }
+}
+
+/// Offers what waits from this place on, where there is one, a further page after another. The connection shows what it
+/// showed.
+fn offer_pages<S: Alter, K: KnownUnits, T: Taker>(
+    alloc: Global,
+    conn: &mut Connection<S>,
+    apps: &[App],
+    known: &K,
+    from: Option<Place>,
+    taker: &mut T,
+) -> Result<(), Unavailable>
+    ensures reads { Reads (state S.Store conn.old) (state S.Store conn.new) }
+    ensures all { Asked S.Store conn.old conn.new (λ w. apps.now ≡ w.apps → K.are_of w known.now → OnOk result (OffersAll T.takes taker.old (unsent_on w from) taker.new)) }
+    ensures some { Asked S.Store conn.old conn.new (λ w. apps.now ≡ w.apps → K.are_of w known.now → OnErr result (OffersSome T.takes taker.old (unsent_on w from) taker.new)) }
+{
+    let mut next = from;
+    for _turn in 0..MOST_PAGES {
+        match next {
+            None => return Ok(()),
+            Some(place) => next = offer_page(alloc, conn, apps, known, place, taker)?,
+        }
+    }
+    Err(Unavailable)
+}
+
+/// Offers the candidates at these places of a page, and then what waits behind the page. The connection shows what it
+/// showed.
+fn offer_on<S: Alter, K: KnownUnits, T: Taker>(
+    alloc: Global,
+    conn: &mut Connection<S>,
+    apps: &[App],
+    known: &K,
+    page: &PageRead,
+    places: &[Place],
+    taker: &mut T,
+) -> Result<(), Unavailable>
+    ensures reads { Reads (state S.Store conn.old) (state S.Store conn.new) }
+    ensures all { Asked S.Store conn.old conn.new (λ w. apps.now ≡ w.apps → K.are_of w known.now → OnOk result (OffersAll T.takes taker.old (candidates_at w places.now ++ unsent_behind w page.now) taker.new)) }
+    ensures some { Asked S.Store conn.old conn.new (λ w. apps.now ≡ w.apps → K.are_of w known.now → OnErr result (OffersSome T.takes taker.old (candidates_at w places.now ++ unsent_behind w page.now) taker.new)) }
+{
+    match offer_each(alloc, conn, apps, known, places, taker)? {
+        Flow::Stop => Ok(()),
+        Flow::GoOn => offer_pages(alloc, conn, apps, known, page.next()?, taker),
     }
 }
 
 /// Offers the instances of open workunits that nobody was given, beside all applications, in the order of their places
-/// and from this place on, until the taker says stop. A workunit is read where it is not known. Where the tables are unavailable the offers end early. The
-/// connection shows what it showed.
+/// and from this place on, until the taker says stop. The page that was read last goes on where it has the place, and else
+/// another one is read in its stead. A workunit is read where it is not known. Where the tables are unavailable the offers
+/// end early. The connection shows what it showed.
 pub fn unsent_from<S: Alter, K: KnownUnits, T: Taker>(
     alloc: Global,
     conn: &mut Connection<S>,
     apps: &[App],
     known: &K,
+    read: &mut Option<PageRead>,
     from: Place,
     taker: &mut T,
 ) -> Result<(), Unavailable>
     ensures reads { Reads (state S.Store conn.old) (state S.Store conn.new) }
-    ensures all { Asked S.Store conn.old conn.new (λ w. apps.now ≡ w.apps → K.are_of w known.now → OnOk result (OffersAll T.takes taker.old (unsent w from) taker.new)) }
-    ensures some { Asked S.Store conn.old conn.new (λ w. apps.now ≡ w.apps → K.are_of w known.now → OnErr result (OffersSome T.takes taker.old (unsent w from) taker.new)) }
+    ensures page { Asked S.Store conn.old conn.new (λ w. IfSome read.old (IsFirstPageOf w) → IfSome read.new (IsFirstPageOf w)) }
+    ensures all { Asked S.Store conn.old conn.new (λ w. apps.now ≡ w.apps → K.are_of w known.now → IfSome read.old (IsFirstPageOf w) → OnOk result (OffersAll T.takes taker.old (unsent w from) taker.new)) }
+    ensures some { Asked S.Store conn.old conn.new (λ w. apps.now ≡ w.apps → K.are_of w known.now → IfSome read.old (IsFirstPageOf w) → OnErr result (OffersSome T.takes taker.old (unsent w from) taker.new)) }
 {
-    let mut next = from;
-    let mut page = Page::First;
-    for _turn in 0..MOST_PAGES {
-        match offer_page(alloc, conn, apps, known, next, page, taker)? {
-            None => return Ok(()),
-            Some(behind) => next = behind,
+    if let Some(page) = read {
+        if let Some(places) = page.places_from(from) {
+            return offer_on(alloc, conn, apps, known, page, places, taker);
         }
-        page = Page::Further;
     }
-    Err(Unavailable)
+    let page = PageRead::read(alloc, conn, from)?;
+    let offered = offer_on(alloc, conn, apps, known, &page, page.places(), taker);
+    *read = Some(page);
+    offered
 }

@@ -18,4 +18,5 @@ returns-in-Ok-account_read c = λ w calls read found.
       accounts = holds_with (slice_cmp nat_cmp) one_text (IsAccountOf w) c.args.self.now.accounts c.put.new.self c.in-Ok.key c.in-Ok-account_read.read c.put.ensures read.accounts here;
       versions = read.versions;
       slot = read.slot;
+      page = read.page;
     }

@@ -16,4 +16,5 @@ loop-unit-preserved c = λ w calls before all.
       accounts = so_far.accounts;
       versions = so_far.versions;
       slot = so_far.slot;
+      page = so_far.page;
     }

@@ -87,7 +87,7 @@ returns-clause-remembers g c = λ honest kept.
     let put : ArePutWith w cs (calls_in old.now.trees) e rows = subst (ArePutWith w cs (calls_in old.now.trees) e) (sym c.as_slice-put.ensures) (c.in_ok-rows.ensures.rows early kept) in
     subst (λ u. AreRemembered u (calls_in new.now.trees) c.note_put.new.self) (sym (world_then old new w cs e kept.0 (returns-clause-made g c honest kept)))
     (remembered_then w (applied w cs) kept.0.readable put.2.readable (IsUnput rows) (row_stays w cs put.0 rows put.2) (IsPut rows) (row_put w cs (calls_in old.now.trees) e rows put)
-    (calls_in old.now.trees) (calls_in new.now.trees) c.rows_with-rows.new.self.remembered c.note_put.new.self c.note_put.ensures.carried c.note_put.ensures.slot (c.rows_with-rows.ensures.reads.3 early kept))
+    (calls_in old.now.trees) (calls_in new.now.trees) c.rows_with-rows.new.self.remembered c.note_put.new.self c.note_put.ensures.carried c.note_put.ensures.slot c.note_put.ensures.page (c.rows_with-rows.ensures.reads.3 early kept))
 
 pub returns-then-is_err-clause-remembers : goal.returns-then-is_err-clause-remembers
 returns-then-is_err-clause-remembers g c = λ honest kept. c.forget_all.ensures _ _

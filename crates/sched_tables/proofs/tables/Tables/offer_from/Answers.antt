@@ -9,10 +9,22 @@ use Rattle.sched_tables.proofs.Offered.{handed_all, handed_some}
 use Rattle.sched_tables.proofs.Told.{told}
 use Rattle.sched_tables.proofs.tables.Tables.offer_from.Goals as goal
 
+pub returns-clause-reads : goal.returns-clause-reads
+returns-clause-reads g c = (
+  search rules,
+  search rules,
+  search rules,
+  λ honest kept.
+      let taken = c.take_page-page.ensures _ _ kept.1.rows_are in
+      c.remember_page.ensures _ _ taken.0 (told g.S.Store c.args.self.now c.unsent_from-offered.new.conn _ c.unsent_from-offered.ensures.page honest kept taken.1),
+  λ honest kept. kept.1.mark_is,
+)
+
 pub returns-clause-all : goal.returns-clause-all
 returns-clause-all g c = λ honest kept.
     let w = world_of g.S.Store c.args.self.now in
-    each_ok c.unsent_from.result _ _ (told g.S.Store c.args.self.now c.unsent_from.new.conn _ c.unsent_from.ensures.all honest kept (c.as_slice.ensures ∙ kept.1.apps_are) kept.1.rows_are.units)
+    let taken = c.take_page-page.ensures _ _ kept.1.rows_are in
+    each_ok c.unsent_from-offered.result _ _ (told g.S.Store c.args.self.now c.unsent_from-offered.new.conn _ c.unsent_from-offered.ensures.all honest kept (c.as_slice.ensures ∙ kept.1.apps_are) taken.0.units taken.1)
     (λ offered.
     let on = handed_all g.T.Taker.takes w c.args.from _ _ offered in
     let names = on.1.1 in
@@ -21,7 +33,8 @@ returns-clause-all g c = λ honest kept.
 pub returns-clause-some : goal.returns-clause-some
 returns-clause-some g c = λ honest kept.
     let w = world_of g.S.Store c.args.self.now in
-    all_err c.unsent_from.result _ _ (told g.S.Store c.args.self.now c.unsent_from.new.conn _ c.unsent_from.ensures.some honest kept (c.as_slice.ensures ∙ kept.1.apps_are) kept.1.rows_are.units)
+    let taken = c.take_page-page.ensures _ _ kept.1.rows_are in
+    all_err c.unsent_from-offered.result _ _ (told g.S.Store c.args.self.now c.unsent_from-offered.new.conn _ c.unsent_from-offered.ensures.some honest kept (c.as_slice.ensures ∙ kept.1.apps_are) taken.0.units taken.1)
     (λ offered.
     let on = handed_some g.T.Taker.takes w c.args.from _ _ offered in
     let names = on.1.1 in
@@ -30,9 +43,10 @@ returns-clause-some g c = λ honest kept.
 pub returns-clause-noted : goal.returns-clause-noted
 returns-clause-noted g c = λ honest kept before.
     let w = world_of g.S.Store c.args.self.now in
-    either_way c.unsent_from.result _ _ _
-    (told g.S.Store c.args.self.now c.unsent_from.new.conn _ c.unsent_from.ensures.all honest kept (c.as_slice.ensures ∙ kept.1.apps_are) kept.1.rows_are.units)
-    (told g.S.Store c.args.self.now c.unsent_from.new.conn _ c.unsent_from.ensures.some honest kept (c.as_slice.ensures ∙ kept.1.apps_are) kept.1.rows_are.units)
+    let taken = c.take_page-page.ensures _ _ kept.1.rows_are in
+    either_way c.unsent_from-offered.result _ _ _
+    (told g.S.Store c.args.self.now c.unsent_from-offered.new.conn _ c.unsent_from-offered.ensures.all honest kept (c.as_slice.ensures ∙ kept.1.apps_are) taken.0.units taken.1)
+    (told g.S.Store c.args.self.now c.unsent_from-offered.new.conn _ c.unsent_from-offered.ensures.some honest kept (c.as_slice.ensures ∙ kept.1.apps_are) taken.0.units taken.1)
     (λ offered.
     let on = handed_all g.T.Taker.takes w c.args.from _ _ offered in
     let names = on.1.2 in
