@@ -72,13 +72,14 @@ impl<S: Alter> Tables<S> {
         Ok(rows)
     }
 
-    /// Makes these changes and keeps what the entry tells, in one transaction: where it is unavailable, neither is done, unless
-    /// a fault has shut the connection. Where it is good, the connection is open. It puts the rows that the changes touch, and
-    /// looks at no others. What was read of a row that is put is renewed or forgotten, so that what is remembered is what the
-    /// tables then hold; and the mark is lowered to the least deadline that the changes give to what is held, so that whatever
-    /// comes of the commit, nothing that is held has a deadline before it. A stop at any moment leaves what a stop could leave before, or the whole, and this only where the connection was
-    /// open. Where the changes leave a sound world, and what the entry keeps may stand beside it, tables that could be opened
-    /// again still can, and so can whatever a stop leaves.
+    /// Makes these changes and keeps what the entry tells, in one transaction: where it is unavailable, neither is done,
+    /// unless a fault has shut the connection. Where it is good, the connection is open. It puts the rows that the changes
+    /// touch, and looks at no others. What was read of a row that is put is renewed or forgotten, so that what is remembered
+    /// is what the tables then hold; and the mark is lowered to the least deadline that the changes give to what is held, so
+    /// that whatever comes of the commit, nothing that is held has a deadline before it. A stop at any moment leaves what a
+    /// stop could leave before, or the whole, and this only where the connection was open. Where the changes leave a sound
+    /// world, and what the entry keeps may stand beside it, tables that could be opened again still can, and so can whatever a
+    /// stop leaves.
     pub fn commit(&mut self, delta: &Delta, entry: &Entry) -> Result<(), Unavailable>
         ensures honest { IsHonest (state_of S.Store self.new) → IsHonest (state_of S.Store self.old) }
         ensures open { HasCleanDisk (state_of S.Store self.new) → OnOk result (IsTrue (state_of S.Store self.new).is_open) }
