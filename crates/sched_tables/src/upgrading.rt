@@ -56,5 +56,5 @@ pub fn upgrade<S: Alter>(alloc: Global, conn: &mut Connection<S>) -> Result<u32,
     ensures crash { Survives (state S.Store conn.old) (state S.Store conn.new)
         (λ trees. IsTrue (state S.Store conn.old).is_open × (db : _) × IsLeftBehindWorld (state S.Store conn.old).now db × (trees ≡ db.trees)) }
 {
-    table_rows::upgrade(alloc, conn)
+    table_upgrades::upgrade(alloc, conn)
 }

@@ -4,6 +4,5 @@ pub mod LastNumbers
 pub mod PlainSchema
 pub mod Quiet
 pub mod Reopening
-pub mod Upgraded
 pub mod Visited
 mod Unrun

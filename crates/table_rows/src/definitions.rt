@@ -81,8 +81,8 @@ fn is_empty<S: Alter>(conn: &Connection<S>) -> bool
         && schema.views.as_slice().is_empty()
 }
 
-/// Makes the tables and the indexes that one schema lacks and another has, one after another.
-pub(crate) fn define<S: Alter>(tx: &mut Transaction<'_, S>, from: u32, to: u32) -> Result<(), Error>
+/// Makes the tables and the indexes that one schema lacks and another has, one after another, within the transaction.
+pub fn define<S: Alter>(tx: &mut Transaction<'_, S>, from: u32, to: u32) -> Result<(), Error>
     requires from { from ≤ newest }
     requires to { to ≤ newest }
     ensures same_reference { tx.new.conn.ghost_name ≡ tx.old.conn.ghost_name }

@@ -40,7 +40,7 @@ fn field<T: FromSql>(alloc: Global, row: &Row, at: usize) -> Result<T, OpenFault
 }
 
 /// A number below 2^32.
-pub(crate) fn whole(alloc: Global, row: &Row, at: usize) -> Result<u32, OpenFault>
+pub fn whole(alloc: Global, row: &Row, at: usize) -> Result<u32, OpenFault>
     ensures read { IfOk result (λ n. sql_whole n ≡ column row.now at) }
     ensures bad { IfErr result (λ e. e ≡ OpenFault.BadRow → ¬ IsOf sql_number (column row.now at)) }
 {

@@ -14,7 +14,6 @@ pub mod put;
 pub mod read;
 pub mod schemas;
 pub mod typed;
-pub mod upgrading;
 pub mod values;
 pub mod visiting;
 
@@ -28,5 +27,4 @@ pub use names::{NumberedTable, account_with, host_known, last_number, unit_named
 pub use opening::{OpenFault, Refused, known};
 pub use places::{instances_in, places_due, places_held, places_owned, queued_from, sent_between};
 pub use put::put_rows;
-pub use upgrading::upgrade;
 pub use visiting::{RowVisitor, visit_rows};

@@ -15,7 +15,7 @@ use std::alloc::Global;
 use table_meaning::rows::StoredRow;
 
 /// The statement that puts a setting.
-pub(crate) const PUT_SETTING: &str =
+pub const PUT_SETTING: &str =
     "INSERT INTO setting (name, value) VALUES (?1, ?2) ON CONFLICT (name) DO UPDATE SET name = excluded.name, value = excluded.value";
 
 /// The statement that puts the row.

@@ -45,7 +45,7 @@ fn has_schema<S: Alter>(alloc: Global, conn: &Connection<S>, schema: u32) -> Res
 }
 
 /// The number of the schema of which the tables are, if there is one. The newest is tried first.
-pub(crate) fn schema_number<S: Alter>(
+pub fn schema_number<S: Alter>(
     alloc: Global,
     conn: &Connection<S>,
 ) -> Result<Option<u32>, OpenFault>
@@ -73,7 +73,7 @@ fn begins_with(rows: &[Row], number: u32) -> bool
 }
 
 /// Whether the tables say that they are of the schema of this number. The connection shows what it showed.
-pub(crate) fn says_schema<S: Alter>(conn: &mut Connection<S>, schema: u32) -> Result<bool, Error>
+pub fn says_schema<S: Alter>(conn: &mut Connection<S>, schema: u32) -> Result<bool, Error>
     ensures reads { Reads (state S.Store conn.old) (state S.Store conn.new) }
     ensures said { HasCleanDisk (state S.Store conn.new) → IsSchema schema → AreKnownAt schema (state S.Store conn.old).now
         → IfOk result (λ said. Decides said (schema_said (state S.Store conn.old).now.trees ≡ Some (sql_whole schema))) }

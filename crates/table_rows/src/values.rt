@@ -12,7 +12,8 @@ use std::alloc::{AllocError, Global};
 use table_meaning::rows::{SettingValue, StoredRow};
 use texts::Text;
 
-pub(crate) fn whole(n: u32) -> ValueRef<'static>
+/// A number below 2^32 as a value of SQL.
+pub fn whole(n: u32) -> ValueRef<'static>
     ensures { owned result ≡ sql_whole n }
 {
     ValueRef::Int(i64::from(n))

@@ -1,0 +1,7 @@
+//! Tables of an earlier schema made into those of the newest one. It knows no world.
+#![tactic(auto)]
+
+pub mod fills;
+pub mod steps;
+
+pub use steps::upgrade;
