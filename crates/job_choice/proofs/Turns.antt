@@ -1,6 +1,6 @@
 -- Offers in turns, each up to a candidate that could not be judged, are one choice among all candidates.
 use Rattle.std.proofs.Common.{◌≡◌, ◌⊎◌, inl, inr, Bool, true, false, cond, List, [], ◌∷◌, ◌++◌, Option, Some, None, sym, refl, ap, ◌∙◌, subst}
-use Rattle.std.specs.Prelude.{◌||◌, is_some}
+use Rattle.std.specs.Prelude.{◌||◌, is_some, unwrap_or}
 use Rattle.std.proofs.lemmas.Bool.{both_ways}
 use Rattle.sched_book.specs.Fits.{fits, version_for}
 use Rattle.sched_book.specs.Offers.{unsent, OffersAll}
@@ -43,7 +43,7 @@ module _ (w : World) where
 
     -- it is judged as the world says, or not at all
     judged_or_not : (new : Choosing) → IsReady w t → new ≡ after t c → (new ≡ judged w t c) ⊎ (new ≡ unjudged_at t c)
-    judged_or_not new ready is = by (has_job_of t.jobs c.place.unit) (known_of t.known.apps c.unit.app) refl is
+    judged_or_not new ready is = by_job (has_job_of t.jobs c.place.unit) is
       where
         known_past : Option Bool
         known_past = known_had t.known.past c.place.unit
@@ -59,12 +59,32 @@ module _ (w : World) where
         by_version None is = inl is
         by_version (Some v) is = by_past v (fits t.host.now c.unit (Some v)) known_past refl is
 
-        by : (has : Bool) (k : Option KnownApp) → known_of t.known.apps c.unit.app ≡ k → new ≡ cond has t (after_app t c known_past k)
-            → (new ≡ cond has t (after_version t c (Some had) (version_for w t.host.now c.unit.app))) ⊎ (new ≡ unjudged_at t c)
-        by true k found is = inl is
-        by false None found is = inr is
-        by false (Some k) found is = by_version (version_for w t.host.now c.unit.app)
+        by_app : (k : Option KnownApp) → known_of t.known.apps c.unit.app ≡ k → new ≡ after_app t c known_past k
+            → (new ≡ after_version t c (Some had) (version_for w t.host.now c.unit.app)) ⊎ (new ≡ unjudged_at t c)
+        by_app None found is = inr is
+        by_app (Some k) found is = by_version (version_for w t.host.now c.unit.app)
             (is ∙ ap (after_version t c known_past) (known_is w t.host.now c.unit.app t.known.apps k ready.known.apps found))
+
+        -- of a workunit of which the user had one nothing is taken
+        had_one : (o : Option Version) → true ≡ had → t ≡ after_version t c (Some had) o
+        had_one None one = refl
+        had_one (Some v) one = subst (λ h. t ≡ cond (fits t.host.now c.unit (Some v)) (cond h t (with_job t c v)) t) one (same (fits t.host.now c.unit (Some v)))
+          where
+            same : (fit : Bool) → t ≡ cond fit t t
+            same true = refl
+            same false = refl
+
+        by_known : (o : Option Bool) → known_past ≡ o → new ≡ cond (unwrap_or o false) t (after_app t c known_past (known_of t.known.apps c.unit.app))
+            → (new ≡ after_version t c (Some had) (version_for w t.host.now c.unit.app)) ⊎ (new ≡ unjudged_at t c)
+        by_known None known is = by_app (known_of t.known.apps c.unit.app) refl is
+        by_known (Some false) known is = by_app (known_of t.known.apps c.unit.app) refl is
+        by_known (Some true) known is =
+            inl (is ∙ had_one (version_for w t.host.now c.unit.app) (had_is w t.host.now.account t.known.past c.place.unit true ready.known.past known))
+
+        by_job : (has : Bool) → new ≡ cond (has || unwrap_or known_past false) t (after_app t c known_past (known_of t.known.apps c.unit.app))
+            → (new ≡ cond has t (after_version t c (Some had) (version_for w t.host.now c.unit.app))) ⊎ (new ≡ unjudged_at t c)
+        by_job true is = inl is
+        by_job false is = by_known known_past refl is
 
     -- what is known makes no difference to what the world says
     knows_else : (known later : Known) → record (judged w (record t { known = known }) c) { known = later } ≡ record (judged w t c) { known = later }

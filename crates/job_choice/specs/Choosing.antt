@@ -1,5 +1,5 @@
 -- Rule. What one who chooses jobs does with each candidate, and when it stops.
-use Rattle.std.specs.Prelude.{◌≡◌, ◌⊎◌, ℕ, ◌-◌, Bool, not, ◌||◌, ◌==◌, nat_le, if◌then◌else◌, IsTrue, List, [], ◌∷◌, ◌++◌, length, find, Option, Some, None, is_some, option_map}
+use Rattle.std.specs.Prelude.{◌≡◌, ◌⊎◌, ℕ, ◌-◌, Bool, false, not, ◌||◌, ◌==◌, nat_le, if◌then◌else◌, IsTrue, List, [], ◌∷◌, ◌++◌, length, find, Option, Some, None, is_some, option_map, unwrap_or}
 use Rattle.std.specs.List.{list_any}
 use Rattle.std.specs.Str.{bytes_eq}
 use Rattle.rpc_records.specs.declared.reply.EndWord.{EndWord}
@@ -72,10 +72,14 @@ abbrev pub after_app : Choosing → Candidate → Option Bool → Option KnownAp
 after_app t c had None = unjudged_at t c
 after_app t c had (Some k) = after_version t c had k.version
 
--- a candidate of whose workunit there is no job yet is judged by what is known
+-- nothing of the workunit is taken, whatever it is: there is a job of it, or it is known that the user had one
+abbrev pub is_left : Choosing → ℕ → Bool
+is_left t unit = has_job_of t.jobs unit || unwrap_or (known_had t.known.past unit) false
+
+-- a candidate of whose workunit a job may be taken is judged by what is known
 abbrev pub after : Choosing → Candidate → Choosing
 after t c =
-    if has_job_of t.jobs c.place.unit then t
+    if is_left t c.place.unit then t
     else after_app t c (known_had t.known.past c.place.unit) (known_of t.known.apps c.unit.app)
 
 -- It stops for want of memory; or else at a candidate that it could not judge, and once it is full.

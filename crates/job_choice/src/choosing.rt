@@ -2,7 +2,7 @@
 
 ghost use Rattle.std.specs.Prelude.{◌≡◌, nat_le, OnOk};
 ghost use Rattle.std.specs.Option.{option_copied};
-ghost use Rattle.job_choice.specs.Choosing.{is_full, has_job_of, end_word_at, known_of, known_runs, unjudged_at, with_job, after};
+ghost use Rattle.job_choice.specs.Choosing.{is_full, is_left as leaves, has_job_of, end_word_at, known_of, known_runs, unjudged_at, with_job, after};
 ghost use Rattle.job_choice.specs.Offered.{IsBegun};
 
 use crate::fitting::{fits, seconds_at};
@@ -140,6 +140,14 @@ fn has_job(jobs: &[Granted], unit: u32) -> bool
     jobs.iter().any(|job| job.place.unit == unit)
 }
 
+/// Whether nothing of the workunit at this place is taken, whatever it is: there is a job of it, or it is known that the
+/// user had one.
+fn is_left(choosing: &Choosing, unit: u32) -> bool
+    ensures { result ≡ leaves choosing.now unit }
+{
+    has_job(choosing.jobs.as_slice(), unit) || choosing.known.past.user_had(unit).unwrap_or(false)
+}
+
 /// What is known of the application of this name.
 fn find_known<'a>(apps: &'a [KnownApp], app: &str) -> Option<&'a KnownApp>
     ensures { option_copied result ≡ known_of apps.now app.now }
@@ -190,7 +198,7 @@ fn consider(choosing: &mut Choosing, candidate: &Candidate) -> Result<(), Memory
 {
     let place = candidate.place;
     let unit = &candidate.unit;
-    if has_job(choosing.jobs.as_slice(), place.unit) {
+    if is_left(choosing, place.unit) {
         return Ok(());
     }
     let Some(known) = find_known(choosing.known.apps.as_slice(), unit.app.as_str()) else {
@@ -202,11 +210,8 @@ fn consider(choosing: &mut Choosing, candidate: &Candidate) -> Result<(), Memory
     if !fits(choosing.host, unit, Some(version)) {
         return Ok(());
     }
-    let Some(had) = choosing.known.past.user_had(place.unit) else {
+    if choosing.known.past.user_had(place.unit).is_none() {
         return leave_unjudged(choosing, candidate);
-    };
-    if had {
-        return Ok(());
     }
     let version = version.clone()?;
     take(choosing, candidate, version)
@@ -227,5 +232,9 @@ impl Taker for Choosing<'_> {
         } else {
             Flow::GoOn
         }
+    }
+
+    fn passes_over(&self, place: Place) -> bool {
+        self.unjudged.is_none() && !is_done(self) && is_left(self, place.unit)
     }
 }

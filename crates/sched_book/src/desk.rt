@@ -1,6 +1,6 @@
 //! What a desk is: who stands for a world, and answers what that world says.
 
-ghost use Rattle.std.specs.Prelude.{◌≡◌, ◌≤◌, length, IfOk, OnOk, OnErr};
+ghost use Rattle.std.specs.Prelude.{◌≡◌, ◌≤◌, length, IsTrue, IfOk, OnOk, OnErr};
 ghost use Rattle.sched_book.specs.Limits.{most_instances};
 ghost use Rattle.sched_book.specs.Places.{instance_at, host_at, unit_named, known_host, held_by, owned_by, overdue, sent_on_day, host_credit, user_credit};
 ghost use Rattle.sched_book.specs.Fits.{version_at};
@@ -69,6 +69,7 @@ impl From<Memory> for Unavailable {
 pub trait Taker {
     ghost use Rattle.sched_book.specs.declared.desk.Candidate.{Candidate};
     ghost use Rattle.sched_book.specs.declared.desk.Flow.{Flow};
+    ghost use Rattle.sched_book.specs.declared.desk.Flow.TheVariants.{GoOn};
 
     /// What an offer may do: the taker before, the candidate, the answer, and the taker after.
     ghost takes: { Self → Candidate → Flow → Self → Type 0 };
@@ -76,6 +77,11 @@ pub trait Taker {
     /// Takes the candidate or leaves it, and says whether to be offered more.
     fn offer(&mut self, candidate: &Candidate) -> Flow
         ensures { takes self.old candidate.now result self.new };
+
+    /// Whether it leaves a candidate at this place, whatever workunit stands there, and goes on: then the workunit need not be
+    /// read, and the offer need not be made.
+    fn passes_over(&self, place: Place) -> bool
+        ensures { IsTrue result → (c : Candidate) → c.place ≡ place → takes self.now c GoOn self.now };
 }
 
 /// Who can be asked about workunits and their instances.

@@ -60,6 +60,10 @@ impl<'a, T: Taker> Taker for Noting<'a, T> {
         note(self.noted, candidate);
         self.taker.offer(candidate)
     }
+
+    fn passes_over(&self, place: Place) -> bool {
+        self.taker.passes_over(place)
+    }
 }
 
 impl<S: Alter> Tables<S> {

@@ -1,6 +1,6 @@
 -- Offers of one candidate after another, and of one page after another, are offers of all.
-use Rattle.std.proofs.Common.{◌≡◌, ◌<◌, ◌+◌, ℕ, List, [], ◌∷◌, ◌++◌, drop, length, get_or, Some, Ok, Err, sym, ap, subst, ◌∙◌, inl, inr}
-use Rattle.std.specs.Prelude.{Result, OnErr}
+use Rattle.std.proofs.Common.{◌≡◌, ◌<◌, ◌+◌, ℕ, List, [], ◌∷◌, ◌++◌, drop, length, get_or, Option, Some, None, Ok, Err, refl, sym, ap, subst, ◌∙◌, inl, inr}
+use Rattle.std.specs.Prelude.{Result, OnErr, option_map}
 use Rattle.std.specs.List.{cons_option}
 use Rattle.std.proofs.lemmas.List.{at_drop_more}
 use Rattle.sched_book.specs.Offers.{OffersAll, OffersSome, Offered, OfferedSome, Leads}
@@ -8,7 +8,9 @@ use Rattle.sched_book.specs.declared.desk.Candidate.{Candidate}
 use Rattle.sched_book.specs.declared.desk.Flow.{Flow}
 use Rattle.sched_book.specs.declared.desk.Flow.TheVariants.{GoOn, Stop}
 use Rattle.sched_book.specs.declared.instance.Place.{Place}
+use Rattle.sched_book.specs.declared.rows.Workunit.{Workunit}
 use Rattle.sched_book.specs.declared.world.World.{World}
+use Rattle.sched_book.specs.Desk.{workunit_at}
 use Rattle.sched_book.proofs.Offering.{offered_none}
 use Rattle.table_desk.specs.Pages.{candidate_at, candidates_at}
 
@@ -51,6 +53,20 @@ module _ {T : Type 0} (takes : T → Candidate → Flow → T → Type 0) where
       let left = candidates_at w (drop (i + 1) places) ++ more in
       let here : candidates_at w (drop i places) ++ more ≡ c ∷ left = at_drop_more (λ ps. candidates_at w ps ++ more) places i d lt ∙ ap (λ o. cons_option o (candidates_at w (drop (i + 1) places)) ++ more) found in
       leads_on old now new all (c ∷ left) left (subst (Leads takes old all now) here before) (leads_one now new c left taken)
+
+  -- the candidate at one place more, if a workunit stands there, was passed over
+  pub one_passed : (w : World) (old now : T) (places : List Place) (i : ℕ) (d : Place) (all more : List Candidate) → i < length places → ((c : Candidate) → c.place ≡ get_or places i d → takes now c GoOn now)
+      → Leads takes old all now (candidates_at w (drop i places) ++ more) → Leads takes old all now (candidates_at w (drop (i + 1) places) ++ more)
+  one_passed w old now places i d all more lt passes before = by (workunit_at w place.unit) refl
+    where
+      place : Place
+      place = get_or places i d
+
+      by : (o : Option Workunit) → workunit_at w place.unit ≡ o → Leads takes old all now (candidates_at w (drop (i + 1) places) ++ more)
+      by None none =
+          let found : candidate_at w place ≡ None = ap (option_map (λ u. record { place = place; unit = u })) none in
+          subst (Leads takes old all now) (at_drop_more (λ ps. candidates_at w ps ++ more) places i d lt ∙ ap (λ o. cons_option o (candidates_at w (drop (i + 1) places)) ++ more) found) before
+      by (Some u) some = one_more w old now now places i d all more (record { place = place; unit = u }) lt (ap (option_map (λ u. record { place = place; unit = u })) some) (passes _ refl) before
 
   -- ---- a page, behind which others are left
 

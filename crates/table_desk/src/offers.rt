@@ -35,8 +35,8 @@ pub trait KnownUnits {
         ensures { (w : World) → are_of w self.now → IfOk result (λ r. IfSome r (λ u. workunit_at w unit ≡ Some u)) };
 }
 
-/// Offers the candidate at this place, whose workunit is read where it is not known, and says whether the taker wants more. Refused where no workunit stands there.
-/// The connection shows what it showed.
+/// Offers the candidate at this place, whose workunit is read where it is not known, and says whether the taker wants more.
+/// Refused where no workunit stands there. The connection shows what it showed.
 fn offer_at<S: Alter, K: KnownUnits, T: Taker>(
     alloc: Global,
     conn: &mut Connection<S>,
@@ -59,7 +59,8 @@ fn offer_at<S: Alter, K: KnownUnits, T: Taker>(
     }
 }
 
-/// Offers the candidates at these places, and says whether the taker wants more. The connection shows what it showed.
+/// Offers the candidates at these places, but for those that the taker passes over, and says whether it wants more. The
+/// connection shows what it showed.
 fn offer_each<S: Alter, K: KnownUnits, T: Taker>(
     alloc: Global,
     conn: &mut Connection<S>,
@@ -73,6 +74,9 @@ fn offer_each<S: Alter, K: KnownUnits, T: Taker>(
     ensures some { Asked S.Store conn.old conn.new (λ w. apps.now ≡ w.apps → K.are_of w known.now → OnErr result (OfferedSome T.takes taker.old (candidates_at w places.now) taker.new)) }
 {
     for place in places {
+        if taker.passes_over(*place) {
+            continue;
+        }
         match offer_at(alloc, conn, apps, known, *place, taker)? {
             Flow::GoOn => {}
             Flow::Stop => return Ok(Flow::Stop),
@@ -148,9 +152,9 @@ fn offer_on<S: Alter, K: KnownUnits, T: Taker>(
 }
 
 /// Offers the instances of open workunits that nobody was given, beside all applications, in the order of their places
-/// and from this place on, until the taker says stop. The page that was read last goes on where it has the place, and else
-/// another one is read in its stead. A workunit is read where it is not known. Where the tables are unavailable the offers
-/// end early. The connection shows what it showed.
+/// and from this place on, until the taker says stop. A candidate that the taker passes over is not offered. The page that
+/// was read last goes on where it has the place, and else another one is read in its stead. A workunit is read where it is
+/// not known. Where the tables are unavailable the offers end early. The connection shows what it showed.
 pub fn unsent_from<S: Alter, K: KnownUnits, T: Taker>(
     alloc: Global,
     conn: &mut Connection<S>,

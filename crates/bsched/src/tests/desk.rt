@@ -60,6 +60,10 @@ impl Taker for Noting {
         }
         Flow::GoOn
     }
+
+    fn passes_over(&self, _place: Place) -> bool {
+        false
+    }
 }
 
 /// The places that the tables of a database offer from the first on, at most so many.

@@ -5,7 +5,7 @@ use Rattle.sched_book.specs.declared.desk.Flow.{Flow}
 use Rattle.table_meaning.proofs.StepLemmas.{reads_on}
 use Rattle.table_desk.specs.Pages.{candidates_at}
 use Rattle.table_desk.proofs.AskedOn.{asked_before, asked_after}
-use Rattle.table_desk.proofs.PagesOffered.{on_any, none_offered, one_more}
+use Rattle.table_desk.proofs.PagesOffered.{on_any, none_offered, one_more, one_passed}
 use Rattle.table_desk.proofs.offers.offer_each.Goals as goal
 
 pub returns-in_err-offer_at-clause-some : goal.returns-in_err-offer_at-clause-some
@@ -38,3 +38,11 @@ loop-place-preserved g c =
           let taken = subst (λ (flow : Flow). takes now offered.0 flow new) c.in-GoOn.is offered.2 in
           one_more takes w c.args.taker.now now new c.args.places.now c.loop-place.place-index _ (candidates_at w c.args.places.now ++ more) more offered.0 c.loop-place-test.true offered.1 taken (kept more),
     )
+
+pub loop-place-preserved-then-passes_over : goal.loop-place-preserved-then-passes_over
+loop-place-preserved-then-passes_over g c = (
+  c.loop-place.invariant.0,
+  λ clean is_open rests w tell same known more.
+      one_passed g.T.Taker.takes w c.args.taker.now c.loop-place.taker c.args.places.now c.loop-place.place-index _ (candidates_at w c.args.places.now ++ more) more c.loop-place-test.true
+      (c.passes_over.ensures c.if-passes_over.true) (c.loop-place.invariant.1 clean is_open rests w tell same known more),
+)
