@@ -120,18 +120,24 @@ MOST_LOOKS = 8  # so many workunits are looked at by key whether the user had on
 MOST_NOTED = 16  # of so many workunits that are offered on one way through what waits the rows are kept
 
 
-def put_text(table):
-    """The statement that puts a row of a table at its key, over the one that stands there."""
+def put_texts(table):
+    """The statements that put a row of a table at its key, over the one that stands there, and that change one that stands."""
     columns, keys = COLUMNS[table]
     names = columns.split(", ")
+    given = [f"{name} = ?{number}" for number, name in enumerate(names, 1)]
     values = ", ".join(f"?{number}" for number in range(1, len(names) + 1))
     # where the key is one number, or one name, it stays; of a key of two columns both are written once more
-    changed = names[1:] if keys == 1 and table != "setting" else names
-    moved = ", ".join(f"{name} = excluded.{name}" for name in changed)
-    return f"INSERT INTO {table} ({columns}) VALUES ({values}) ON CONFLICT ({', '.join(names[:keys])}) DO UPDATE SET {moved}"
+    kept = 1 if keys == 1 and table != "setting" else 0
+    moved = ", ".join(f"{name} = excluded.{name}" for name in names[kept:])
+    return (
+        f"INSERT INTO {table} ({columns}) VALUES ({values}) ON CONFLICT ({', '.join(names[:keys])}) DO UPDATE SET {moved}",
+        f"UPDATE {table} SET {', '.join(given[kept:])} WHERE {' AND '.join(given[:keys])}",
+    )
 
 
-PUTS = {table: put_text(table) for table in COLUMNS}
+PUTS = {table: put_texts(table)[0] for table in COLUMNS}
+# tables whose rows mostly stand before they are put, so that an UPDATE is tried first
+CHANGES = {table: put_texts(table)[1] for table in ("unit", "host", "instance")}
 STATUSES = ["open", "done", "errors", "success", "total"]
 LAPSES = [None, "late", "dropped"]
 OUTCOMES = {None: None, 1: 0, 3: 1}  # of a stored outcome, an exit status that means the same
@@ -371,7 +377,8 @@ class Tables:
         if rows:
             self.connection.execute("BEGIN IMMEDIATE")
             for table, row in rows:
-                self.connection.execute(PUTS[table], row)
+                if table not in CHANGES or self.connection.execute(CHANGES[table], row).rowcount == 0:
+                    self.connection.execute(PUTS[table], row)
             self.connection.execute("COMMIT")
         for table, row in rows:
             self.note(table, row)
@@ -491,15 +498,14 @@ class Tables:
         return places
 
     def waiting(self, *place):
-        """What waits to be given out, from a place on: each place with its workunit's row."""
+        """The places of what waits to be given out, from a place on."""
         page, size = self.first_page(*place), FIRST_PAGE
         places = page[page.index(place) :] if place in page else page
         while True:
-            for unit, number in places:
-                yield unit, number, self.offered(unit)
+            yield from places
             if len(page) < size:
                 return
-            size = FURTHER_PAGE
+            size, (unit, number) = FURTHER_PAGE, page[-1]
             places = page = self.shown(f"what waits, {size} places", unit, number + 1)
 
 
@@ -678,19 +684,19 @@ class Machine:
 
         word, offers = end_word(), tables.waiting(1, 0)
         while word is None:
-            unit, number, row = next(offers, (None, None, None))
+            unit, number = next(offers, (None, None))
             if unit is None:
                 tables.offers_end()
                 return jobs, "no_eligible_work"
-            if unit in jobs:
+            if unit in jobs or had(unit):  # whatever workunit it is: its row is not read
                 continue
+            row = tables.offered(unit)
             if row.app_id in known and not self.fits(host, row, known[row.app_id]):
                 continue
             if row.app_id in known and had(unit) is not None:
-                if not had(unit):
-                    jobs[unit] = number, known[row.app_id]
-                    seconds += plain.estimate(row, host)
-                    word = end_word()
+                jobs[unit] = number, known[row.app_id]
+                seconds += plain.estimate(row, host)
+                word = end_word()
                 continue
             tables.offers_end()  # the offers go on from here once the application's version and the user's past are known
             if row.app_id not in known:

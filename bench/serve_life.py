@@ -654,7 +654,11 @@ def past(program, folder):
 
 def kind_of(said):
     """The kind of a statement that was run."""
-    kinds = {**plain_tables.LOOK_UPS, **{f"put: {table}": put for table, put in plain_tables.PUTS.items()}}
+    kinds = {
+        **plain_tables.LOOK_UPS,
+        **{f"put: {table}": put for table, put in plain_tables.PUTS.items()},
+        **{f"change: {table}": change for table, change in plain_tables.CHANGES.items()},
+    }
     for kind, statement in kinds.items():
         if re.fullmatch(re.sub(r"\\\?\d+", ".*", re.escape(statement)), said, re.DOTALL):
             return kind
@@ -757,6 +761,7 @@ def profile(program, folder):
         crates[function.split("::")[0] if "::" in function else "libc"] += many
     stages = {"sqlite::connection::Connection::query_near": "look-ups", "table_rows::put::put_each": "puts"}
     stages["sqlite::connection::Connection::commit"] = "the commit"
+    stages["table_changes::changes::rows_of_changes"] = "the rows that changes put, with what they look up"
     for what, many in [
         *((f"all {stage}", whole[function]) for function, stage in stages.items()),
         *((f"the crate {crate}", many) for crate, many in crates.most_common(10)), *own.most_common(16),

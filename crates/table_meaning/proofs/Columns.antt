@@ -41,10 +41,14 @@ abbrev pub source_by : Key → Row → Row
 source_by numbered c = column c 0 ∷ behind_by numbered c
 source_by (by_first n) c = Null ∷ c
 
--- the terms of the row that is put, and of the columns that DO UPDATE sets, where so many columns are the parameters
+-- the terms of the columns that UPDATE sets, of the row that is put, and of the columns that DO UPDATE sets, where so many columns are the parameters
+abbrev pub given_terms : Key → ℕ → List Term
+given_terms numbered count = lit Null ∷ map (col 0) (range_with_len 1 (count - 1))
+given_terms (by_first n) count = map (col 0) (range_with_len 0 count)
+
 abbrev pub put_terms : Key → ℕ → List Term
-put_terms numbered count = col 0 0 ∷ lit Null ∷ map (col 0) (range_with_len 1 (count - 1))
-put_terms (by_first n) count = lit Null ∷ map (col 0) (range_with_len 0 count)
+put_terms numbered count = col 0 0 ∷ given_terms numbered count
+put_terms (by_first n) count = lit Null ∷ given_terms (by_first n) count
 
 abbrev pub set_terms : Key → ℕ → List Term
 set_terms numbered count = lit Null ∷ map (col 0) (range_with_len (count + 3) (count - 1))

@@ -37,3 +37,5 @@ pub mod Typed
 pub mod TypedRows
 pub mod UpgradedWorlds
 pub mod Upgrading
+pub mod UpdateTexts
+pub mod Updating

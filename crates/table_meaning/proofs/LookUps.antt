@@ -125,6 +125,19 @@ hold_put row old new schema sound ran contents holds = record {
   keyed = λ name. put_keyed newest row old.trees new.trees ran name (newest_has name) (holds.keyed name);
 }
 
+-- tables with the same rows hold the same
+pub hold_left : (old new : Database) → new.schema ≡ stored_schema → IsDatabase new → ((t : TableName) → new.trees (tree_of t) ≡ old.trees (tree_of t)) → (contents : Contents) → Hold old contents → Hold new contents
+hold_left old new schema sound same contents holds = record {
+  known = record {
+    schema = schema;
+    sound = sound;
+    ordered = λ t. subst (IsShaped TableTree) (sym (same t)) (holds.known.ordered t);
+    apart = λ t. subst (AreApart (key_places t)) (sym (same t)) (holds.known.apart t);
+  };
+  rows = λ key. ap (λ rows. option_map (shown (table_at key)) (find (has_key key) rows)) (same (table_at key)) ∙ holds.rows key;
+  keyed = λ t. subst (HaveKeys t) (sym (same t)) (holds.keyed t);
+}
+
 -- ---- new tables
 
 pub new_known : (db : Database) → AreNew db → AreKnown db

@@ -60,6 +60,10 @@ keys_by (by_first n) count c r id other shows is named h =
 
 -- ---- the facts
 
+-- columns that are written out are the columns
+pub written_whole : (t : TableName) (c : Row) → have_types (kinds_of t) c ≡ true → written_out t c ≡ c
+written_whole t c typed = whole_row c (count_of t) (long (kinds_of t) c typed ∙ length-map (layout_of t).columns _)
+
 -- at the newest schema
 pub puts_newest : (t : TableName) → PutsAt newest t
 puts_newest t = let it = computed t in record { is = it.puts; plain_text = it.plain_text; listed = it.listed; meets = it.meets }
@@ -84,7 +88,7 @@ module _ (n : ℕ) (t : TableName) (at : PutsAt n t) (c : Row) where
 
   pub facts_at : have_types (kinds_of t) c ≡ true → Facts n t c
   facts_at typed =
-      let whole = whole_row c (count_of t) (long (kinds_of t) c typed ∙ length-map (layout_of t).columns _) in
+      let whole = written_whole t c typed in
       subst (Facts n t) whole (written_facts (subst (λ r. have_types (kinds_of t) r ≡ true) (sym whole) typed))
 
 pub facts : (t : TableName) (c : Row) → have_types (kinds_of t) c ≡ true → Facts newest t c

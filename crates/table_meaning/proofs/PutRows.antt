@@ -2,7 +2,7 @@
 use Rattle.std.proofs.Common.{◌≡◌, ◌⊎◌, ℕ, ℤ, Bool, true, false, not, cond, List, [], ◌∷◌, map, filter, find, Some, refl, sym, ap, subst, ◌∙◌, inl, inr, Ordering, Less, Equal, Greater, is_eq, IsTrue, true≢false}
 use Rattle.std.specs.List.{AllByRecursion}
 use Rattle.std.specs.Ordering.{match_ordering, ordering_reverse}
-use Rattle.std.proofs.lemmas.Bool.{both_ways, false_from_ne_true, not-true}
+use Rattle.std.proofs.lemmas.Bool.{cases_Bool, both_ways, false_from_ne_true, not-true}
 use Rattle.std.proofs.lemmas.Cmp.{tied_itself}
 use Rattle.sqlite_value.specs.declared.value.Value.TheVariants.{Int}
 use Rattle.sqlite_value.specs.Order.{Row, column, value_cmp}
@@ -166,3 +166,10 @@ module _ (places : List ℕ) (xs : List Row) (r : Row) (id : ℤ) (shaped : IsSh
       only_in (y ∷ ys) up tests (inr later) =
           let here : test y ≡ false = tests y (inl refl) ∙ ap is_eq (all_has _ ys r up.0 later) in
           rw here (only_in ys up.1 (λ x has. tests x (inr has)) later)
+
+  -- and so does one that no other row passes
+  pub only_passing : (test : Row → Bool) → test r ≡ true → ((x : Row) → Has xs x → test x ≡ true → x ≡ r) → filter test xs ≡ r ∷ []
+  only_passing test passes single = only test (λ x has. elim (cases_Bool (test x)) [
+    | inl here ↦ here ∙ sym (ap (λ y. is_eq (value_cmp (rowid y) (rowid r))) (single x has here) ∙ ap is_eq (tied_itself value_cmp_total (rowid r)))
+    | inr other ↦ other ∙ sym (false_from_ne_true _ (λ same. both_ways _ other (ap test (tied_same xs x r shaped.0 has there (equal_is _ same)) ∙ passes)))
+  ])

@@ -77,6 +77,26 @@ module _ (n : ℕ) (t : TableName) (c : Row) where
 
 -- ---- from the facts to the tree
 
+-- a row has the key, and the columns are written over it
+module _ (n : ℕ) (t : TableName) (c : Row) (f : Facts n t c) (db : Trees) (shaped : IsShaped TableTree (db (tree_of t))) (alone : AreApart (key_places t) (db (tree_of t))) where
+  pub over_one : (next : Trees) (first : ℤ) → IsNumbered t c first → (r : Row) → Has (db (tree_of t)) r → agree plain (key_places t) r (key_places t) (Int first ∷ behind t c) ≡ true
+      → (asked : List Row) → asked ≡ (rowid r ∷ rowid r ∷ behind t c) ∷ [] → Applies (schema_at n) Enforced db (edit_of db (table_by t) (ids_of asked) Given 1 asked) next → PutsColumns n t c db next
+  over_one next first is_first r there agrees asked line applies =
+      let rows = db (tree_of t) in
+      let id = id_in (rowid r) in
+      let is : rowid r ≡ Int id = int_is (rowid r) (all_has _ rows r shaped.1 there) in
+      let keyed = f.keys r id first is is_first agrees in
+      let over = Int id ∷ behind t c in
+      let lines : asked ≡ (Int id ∷ over) ∷ [] = line ∙ (λ i. (is i ∷ is i ∷ behind t c) ∷ []) in
+      let edit = λ (all : List Row). edit_of db (table_by t) (ids_of all) Given 1 all in
+      let applied = subst (λ all. Applies (schema_at n) Enforced db (edit all) next) lines applies in
+      let news : cast_row (table_by t) over ≡ over = f.fixed id in
+      let free = not-true _ (and_parts _ _ applied.fresh).0 in
+      let left = without_rowid id rows in
+      let same = agree_chain plain (key_places t) (key_places t) (key_places t) r (Int first ∷ behind t c) over agrees (agree_back plain (key_places t) (key_places t) over (Int first ∷ behind t c) keyed.1) in
+      let put = replaced (key_places t) rows r id shaped there is over refl (subst (λ m. is_taken left m ≡ false) news free) alone same in
+      (id, keyed.0, subst (λ ys. Puts (key_places t) rows ys over) (sym (applied.rows ∙ ap (λ m. put_row m left) news)) put, applied.tables)
+
 module _ (n : ℕ) (stands : IsSchema n) (t : TableName) (c : Row) (f : Facts n t c) (old new : State) (schema : old.now.schema ≡ schema_at n) (shaped : IsShaped TableTree (old.now.trees (tree_of t)))
     (alone : AreApart (key_places t) (old.now.trees (tree_of t))) where
   abbrev db : Trees
@@ -109,23 +129,11 @@ module _ (n : ℕ) (stands : IsSchema n) (t : TableName) (c : Row) (f : Facts n 
       let row = numbered_as first in
       let met = found.sound there (inl refl) in
       let r = met.0 in
-      let id = id_in (rowid r) in
-      let is : rowid r ≡ Int id = int_is (rowid r) (all_has _ rows r shaped.1 met.1) in
-      let agrees = sym (f.meets first r) ∙ met.2 in
-      let keyed = f.keys r id first is is_first agrees in
-      let over = numbered_as id in
+      let is : rowid r ≡ Int (id_in (rowid r)) = int_is (rowid r) (all_has _ rows r shaped.1 met.1) in
       let given = c ++ rowid there ∷ shown_by (table_by t) row in
-      let number : rowid there ≡ Int id = ap rowid met.3 ∙ is in
-      let line = row_found db (tree_of t) (count_of t) columns given id r (f.own db) (f.slot_is (rowid there) (shown_by (table_by t) row) ∙ number) shaped met.1 is asked (answers.answer Null) in
-      let lines : asked ≡ (Int id ∷ over) ∷ [] = line ∙ (λ i. (is i ∷ is i ∷ f.columns_are first r (rowid there) i) ∷ []) in
-      let edit = λ (all : List Row). edit_of db (table_by t) (ids_of all) Given 1 all in
-      let applied = subst (λ all. Applies (schema_at n) Enforced db (edit all) next) lines applies in
-      let news : cast_row (table_by t) over ≡ over = f.fixed id in
-      let free = not-true _ (and_parts _ _ applied.fresh).0 in
-      let left = without_rowid id rows in
-      let same = agree_chain plain (key_places t) (key_places t) (key_places t) r row over agrees (agree_back plain (key_places t) (key_places t) over row keyed.1) in
-      let put = replaced (key_places t) rows r id shaped met.1 is over refl (subst (λ m. is_taken left m ≡ false) news free) alone same in
-      (id, keyed.0, subst (λ ys. Puts (key_places t) rows ys over) (sym (applied.rows ∙ ap (λ m. put_row m left) news)) put, applied.tables)
+      let number : rowid there ≡ Int (id_in (rowid r)) = ap rowid met.3 ∙ is in
+      let line = row_found db (tree_of t) (count_of t) columns given (id_in (rowid r)) r (f.own db) (f.slot_is (rowid there) (shown_by (table_by t) row) ∙ number) shaped met.1 is asked (answers.answer Null) in
+      over_one n t c f db shaped alone next first is_first r met.1 (sym (f.meets first r) ∙ met.2) asked (line ∙ (λ i. (rowid r ∷ rowid r ∷ f.columns_are first r (rowid there) i) ∷ [])) applies
 
   pub puts : (count : ℕ) → Executes (put_text t) c old new (Ok count) → (new.now.schema ≡ schema_at n) × IsDatabase new.now × PutsColumns n t c db new.now.trees
   puts count h =

@@ -3,6 +3,7 @@ use Rattle.std.proofs.Common.{◌≡◌, ◌⊎◌, ℕ, zero, suc, arith, ◌/�
 use Rattle.std.specs.Prelude.{◌==◌}
 use Rattle.std.specs.List.{list_all, filter_map}
 use Rattle.std.specs.List.Sorted.{IsPermutation}
+use Rattle.std.proofs.lemmas.List.Sorted.{length_permutation}
 use Rattle.sqlite_value.specs.declared.value.Value.TheVariants.{Int}
 use Rattle.sqlite_value.specs.declared.keys.Collation.TheVariants.{Binary}
 use Rattle.sqlite_value.specs.Order.{Row, column, value_cmp}
@@ -38,7 +39,7 @@ use Rattle.sqlite.specs.Listing.{understood}
 use Rattle.sqlite.proofs.Callers.{IsPlain, command_of, statement_of, runs_as, one_step, one_permutation}
 use Rattle.table_meaning.specs.Schema.{schema_at}
 use Rattle.table_meaning.specs.Schemas.{IsSchema}
-use Rattle.table_meaning.specs.Upserts.{update_query, update_at, put_command}
+use Rattle.table_meaning.specs.Upserts.{change_query, update_query, update_at, put_command}
 use Rattle.table_meaning.proofs.PutRows.{only}
 
 -- a part that gave a value did not stop on the way
@@ -64,13 +65,39 @@ no_acts (suc (suc (suc zero))) is tree olds news = elim (length news == 0) as (�
     flat_map (λ child. filter_map (λ ref. work_by 0 tree (pairs olds news) child ref (deed_for Enforced b ref) (parent_key (schema_at 3).tables ref)) child.references) (schema_at 3).tables ≡ []) [ true ↦ refl | false ↦ refl ]
 no_acts (suc (suc (suc (suc n)))) is tree olds news = absurd (omega (arith, is.1))
 
--- ---- the row that an update finds
+-- ---- the rows that an update finds
 
 flat_only : {X Y : Type 0} (test : X → Bool) (f : X → Y) (xs : List X) → flat_map (λ x. cond (test x) (f x ∷ []) []) xs ≡ map f (filter test xs)
 flat_only test f [] = refl
 flat_only test f (x ∷ xs) =
     elim (test x) as (λ b. cond b (f x ∷ []) [] ++ flat_map (λ y. cond (test y) (f y ∷ []) []) xs ≡ map f (cond b (x ∷ filter test xs) (filter test xs)))
     [ true ↦ ap (λ l. f x ∷ l) (flat_only test f xs) | false ↦ flat_only test f xs ]
+
+no_permutation : {X : Type 0} (ys : List X) → IsPermutation [] ys → ys ≡ []
+no_permutation [] h = refl
+no_permutation (y ∷ ys) h = absurd (omega (arith, length_permutation [] (y ∷ ys) h))
+
+module _ (db : Trees) (tree : ℕ) (tests columns : List Term) (params : Row) (own : overlay db [] tree ≡ db tree) where
+  abbrev passes : Row → Bool
+  passes x = list_all (holds (params ∷ x ∷ [])) tests
+
+  abbrev shown_alone : Row → Output
+  shown_alone r = ([], rowid r ∷ rowid r ∷ eval_all columns (params ∷ r ∷ []))
+
+  module _ (rows : List Row) (a : IsAnswer (change_query tree tests columns) (overlay db []) params rows) where
+    kept_from : (found : List Row) → filter passes (db tree) ≡ found → a.kept ≡ map (output (change_query tree tests columns)) (map (λ x. params ∷ x ∷ []) found)
+    kept_from found is =
+        a.distinct ∙ ap (map (output (change_query tree tests columns)))
+        (a.grouped ∙ ap (flat_map (λ x. cond (passes x) ((params ∷ x ∷ []) ∷ []) [])) own ∙ flat_only passes (λ x. params ∷ x ∷ []) (db tree) ∙ ap (map (λ x. params ∷ x ∷ [])) is)
+
+    shown_from : (ordered : List Output) → a.ordered ≡ ordered → rows ≡ page (change_query tree tests columns) params (map (λ (p : Output). p.1) ordered)
+    shown_from ordered is = a.shown ∙ ap (λ os. page (change_query tree tests columns) params (map (λ (p : Output). p.1) os)) is
+
+    pub none_shown : filter passes (db tree) ≡ [] → rows ≡ []
+    none_shown none = shown_from [] (no_permutation a.ordered (subst (λ k. IsPermutation k a.ordered) (kept_from [] none) a.same))
+
+    pub one_shown : (r : Row) → filter passes (db tree) ≡ r ∷ [] → rows ≡ (rowid r ∷ rowid r ∷ eval_all columns (params ∷ r ∷ [])) ∷ []
+    one_shown r one = shown_from (shown_alone r ∷ []) (one_permutation (shown_alone r) a.ordered (subst (λ k. IsPermutation k a.ordered) (kept_from (r ∷ []) one) a.same))
 
 pub row_found : (db : Trees) (tree slot : ℕ) (columns : List Term) (params : Row) (id : ℤ) (r : Row) → overlay db [] tree ≡ db tree → column params slot ≡ Int id → IsShaped TableTree (db tree)
     → Has (db tree) r → rowid r ≡ Int id → (rows : List Row) → IsAnswer (update_query tree slot columns) (overlay db []) params rows
@@ -85,13 +112,7 @@ row_found db tree slot columns params id r own given shaped there is rows a =
     ∙ at_ints false Eq (id_in (rowid x)) id)
     ∙ ap is_eq (sym (value_cmp-Int (id_in (rowid x)) id))
     ∙ ap (λ v. is_eq (value_cmp v (Int id))) (sym number) ∙ ap (λ v. is_eq (value_cmp (rowid x) v)) (sym is) in
-    let staged : a.staged ≡ (params ∷ r ∷ []) ∷ [] =
-    a.grouped ∙ ap (flat_map (λ x. cond (test x) ((params ∷ x ∷ []) ∷ []) [])) own ∙ flat_only test (λ x. params ∷ x ∷ []) (db tree)
-    ∙ ap (map (λ x. params ∷ x ∷ [])) (only [] (db tree) r id shaped there is test tests) in
-    let o : Output = ([], rowid r ∷ rowid r ∷ eval_all columns (params ∷ r ∷ [])) in
-    let kept : a.kept ≡ o ∷ [] = a.distinct ∙ ap (map (output query)) staged in
-    let ordered = one_permutation o a.ordered (subst (λ k. IsPermutation k a.ordered) kept a.same) in
-    a.shown ∙ ap (λ os. page query params (map (λ (p : Output). p.1) os)) ordered
+    one_shown db tree query.filter columns params own rows a r (only [] (db tree) r id shaped there is test tests)
 
 -- ---- one row is tried
 

@@ -1,7 +1,8 @@
 -- The steps of a transaction, one after another, and what its end leaves.
 use Rattle.std.proofs.Common.{◌≡◌, ◌⊎◌, cond, ℕ, zero, suc, ◌+◌, true, false, List, [], ◌∷◌, ◌++◌, map, drop, fold, length, ◌<◌, ◌≤◌, take, slice_index_or, Option, Some, None, Result, Ok, Err, IsTrue, refl, sym, ap, subst, ◌∙◌, inl, inr, arith}
 use Rattle.std.specs.List.{AllByRecursion}
-use Rattle.std.proofs.lemmas.Bool.{cases_Bool}
+use Rattle.std.specs.Prelude.{nat_lt, if◌then◌else◌}
+use Rattle.std.proofs.lemmas.Bool.{cases_Bool, lt-ltb}
 use Rattle.std.proofs.lemmas.List.{drop_all, length-take}
 use Rattle.sqlite_value.specs.Order.{Row}
 use Rattle.sqlite_trees.specs.declared.store.Store.{Ghosts}
@@ -25,7 +26,7 @@ use Rattle.sqlite.proofs.StateLemmas.{survives_then}
 use Rattle.table_meaning.specs.declared.tables.TableName.TheVariants.{Instance}
 use Rattle.table_meaning.specs.declared.rows.StoredRow.{StoredRow}
 use Rattle.table_meaning.specs.Schema.{newest, stored_schema, table_by, place_of}
-use Rattle.table_meaning.specs.Texts.{Made, made_table, made_index, definitions, definition_texts, put_text}
+use Rattle.table_meaning.specs.Texts.{Made, made_table, made_index, definitions, definition_texts, put_text, update_first}
 use Rattle.table_meaning.specs.Making.{with_made, MakeInTurn, AreFree, IsLeft, no_rows}
 use Rattle.table_meaning.specs.Rows.{table_of, columns_of}
 use Rattle.table_meaning.specs.Holding.{Contents, Hold, with_row, with_rows}
@@ -33,9 +34,11 @@ use Rattle.table_meaning.specs.Reads.{Reads}
 use Rattle.table_meaning.specs.Steps.{Moves, AreNew}
 use Rattle.table_meaning.proofs.EachTable.{of_each}
 use Rattle.table_meaning.proofs.TypedRows.{typed}
-use Rattle.table_meaning.proofs.PutFacts.{facts}
+use Rattle.table_meaning.proofs.PutFacts.{facts, written_whole}
 use Rattle.table_meaning.proofs.Putting.{puts}
-use Rattle.table_meaning.proofs.LookUps.{hold_put}
+use Rattle.table_meaning.proofs.LookUps.{hold_put, hold_left}
+use Rattle.table_meaning.proofs.UpdateTexts.{changes_row, tried_first}
+use Rattle.table_meaning.proofs.Updating.{updated}
 
 -- ---- rows put
 
@@ -57,6 +60,24 @@ row_moved row old new count h = record {
       let t = table_of row in
       let ran = puts newest (omega arith, omega arith) t (columns_of row) (facts _ _ (typed row)) old new holds.known.schema (holds.known.ordered t) (holds.known.apart t) count h.0 in
       hold_put row old.now new.now ran.0 ran.1 ran.2 contents holds;
+}
+
+-- the row is put where a row stood, and else nothing is
+pub row_updated : (row : StoredRow) (text : List ℕ) → Some text ≡ update_first (table_of row) → (old new : State) (count : ℕ) → ExecutesInside 0 text (columns_of row) old new (Ok count)
+    → Moves old new (if nat_lt 0 count then row ∷ [] else [])
+row_updated row text is old new count h = record {
+  inside = h.1.mode;
+  puts = λ contents holds.
+      let t = table_of row in
+      let c = columns_of row in
+      let tried = tried_first t text is in
+      let f = facts t c (typed row) in
+      let ran = updated t c f (changes_row t tried.0) (written_whole t c (typed row)) old new holds.known.schema (holds.known.ordered t) (holds.known.apart t) count
+      (subst (λ sql. Executes sql c old new (Ok count)) tried.1 h.0) in
+      elim ran.2 [
+        | inl none ↦ subst (λ n. Hold new.now (with_rows contents (if nat_lt 0 n then row ∷ [] else []))) (sym none.0) (hold_left old.now new.now ran.0 ran.1 none.1 contents holds)
+        | inr some ↦ subst (λ b. Hold new.now (with_rows contents (if b then row ∷ [] else []))) (sym (lt-ltb 0 count some.0)) (hold_put row old.now new.now ran.0 ran.1 some.1 contents holds)
+      ];
 }
 
 -- ---- nothing is committed on the way

@@ -1,12 +1,12 @@
 -- Rule. The SQL texts: what makes the tables, what reads each whole or at a key, and what puts a row of each.
-use Rattle.std.specs.Prelude.{ℕ, ◌+◌, ◌/◌, ◌%◌, Bool, ◌&&◌, ◌==◌, nat_lt, if◌then◌else◌, List, [], ◌∷◌, ◌++◌, map, filter, flat_map, length, codes, slice_index, slice_index_or, Option, Some, None}
+use Rattle.std.specs.Prelude.{ℕ, ◌+◌, ◌/◌, ◌%◌, Bool, true, false, ◌&&◌, ◌==◌, nat_lt, if◌then◌else◌, List, [], ◌∷◌, ◌++◌, map, filter, flat_map, length, codes, slice_index, slice_index_or, Option, Some, None}
 use Rattle.std.specs.List.{range_with_len, enumerate_from, list_any}
 use Rattle.sqlite_schema.specs.declared.schema.Kind.{Kind as SqlKind}
 use Rattle.sqlite_schema.specs.declared.schema.Kind.TheVariants as sql
 use Rattle.sqlite_schema.specs.declared.schema.Table.{Table}
 use Rattle.sqlite_schema.specs.declared.schema.Index.{Index}
 use Rattle.table_meaning.specs.declared.tables.TableName.{TableName}
-use Rattle.table_meaning.specs.declared.tables.TableName.TheVariants.{Instance}
+use Rattle.table_meaning.specs.declared.tables.TableName.TheVariants.{Unit, Host, Instance}
 use Rattle.table_meaning.specs.Layouts.{Column, Layout, layout_of, names, key_width, of_key, behind_number}
 use Rattle.table_meaning.specs.Schema.{type_of, is_by_number, is_needed, sql_table, table_by, Indexing, index_by, Part, a_table, a_former, an_index, parts_at, newest}
 
@@ -116,9 +116,13 @@ read_text t = let l = layout_of t in select_text l ++ order_text l
 abbrev is_parameter : ℕ × List ℕ → List ℕ
 is_parameter test = test.1 ++ codes " = " ++ parameter test.0
 
+-- the columns of the key are the first parameters
+abbrev key_test : Layout → List ℕ
+key_test l = codes " WHERE " ++ joined_by (codes " AND ") (map is_parameter (enumerate_from 1 (key_names l)))
+
 -- reads the rows that have a key, whose columns are the parameters
 abbrev pub key_text : TableName → List ℕ
-key_text t = let l = layout_of t in select_text l ++ codes " WHERE " ++ joined_by (codes " AND ") (map is_parameter (enumerate_from 1 (key_names l))) ++ order_text l
+key_text t = let l = layout_of t in select_text l ++ key_test l ++ order_text l
 
 -- ---- what puts a row
 
@@ -131,3 +135,18 @@ put_text t =
     let l = layout_of t in
     codes "INSERT INTO " ++ l.name ++ codes " " ++ in_parentheses (names l) ++ codes " VALUES " ++ in_parentheses (map parameter (range_with_len 1 (length l.columns)))
     ++ codes " ON CONFLICT " ++ in_parentheses (key_names l) ++ codes " DO UPDATE SET " ++ listed (map set_text (behind_number l.key (names l)))
+
+-- changes the row that has the key, of which no column stays
+abbrev pub update_text : TableName → List ℕ
+update_text t = let l = layout_of t in codes "UPDATE " ++ l.name ++ codes " SET " ++ listed (map is_parameter (behind_number l.key (enumerate_from 1 (names l)))) ++ key_test l
+
+-- the tables whose rows mostly stand before they are put
+abbrev pub mostly_stand : TableName → Bool
+mostly_stand Unit = true
+mostly_stand Host = true
+mostly_stand Instance = true
+mostly_stand _ = false
+
+-- what is tried before a row of such a table is put
+abbrev pub update_first : TableName → Option (List ℕ)
+update_first t = if mostly_stand t then Some (update_text t) else None

@@ -1,15 +1,17 @@
 //! Rows put at their keys, in one transaction.
 
-ghost use Rattle.std.specs.Prelude.{◌≡◌, ◌≢◌, false, [], ◌∷◌, IsTrue, OnOk, OnErr};
+ghost use Rattle.std.specs.Prelude.{◌≡◌, ◌≢◌, false, [], ◌∷◌, map, option_map, if◌then◌else◌, IsTrue, IfOk, OnOk, OnErr};
 ghost use Rattle.sqlite.specs.Held.{state};
 ghost use Rattle.sqlite.specs.State.{HasCleanDisk, KeepsCommit, Survives};
-ghost use Rattle.table_meaning.specs.Texts.{put_text as sql_put};
+ghost use Rattle.sqlite_value.specs.Value.{owned};
+ghost use Rattle.table_meaning.specs.Texts.{put_text as sql_put, update_first};
 ghost use Rattle.table_meaning.specs.Rows.{table_at, columns_of, key_of};
 ghost use Rattle.table_meaning.specs.Steps.{PutsRows, Moves};
 ghost use Rattle.table_rows.specs.Utf8.{HasUtf8, HaveUtf8};
 
 use crate::connection::test_open;
 use crate::values::values_of;
+use sqlite::types::ValueRef;
 use sqlite::{Alter, Connection, Error, ErrorCode, Transaction};
 use std::alloc::Global;
 use table_meaning::rows::StoredRow;
@@ -47,7 +49,47 @@ fn put_text(row: &StoredRow) -> &'static str
     }
 }
 
-/// Puts one row at its key, over the one that stands there.
+/// The statement that changes the row that stands at its key. There is one for the tables whose rows mostly stand before
+/// they are put, and it costs less there than the statement that puts the row.
+fn update_text(row: &StoredRow) -> Option<&'static str>
+    ensures { option_map (λ text. text.now) result ≡ update_first (table_at (key_of row.now)) }
+{
+    match row {
+        StoredRow::Unit(_) => Some(
+            "UPDATE unit SET name = ?2, app_id = ?3, min_quorum = ?4, target_nresults = ?5, max_error_results = ?6, max_total_results = ?7, max_success_results = ?8, delay_bound = ?9, rsc_fpops_est = ?10, rsc_memory_bound = ?11, rsc_disk_bound = ?12, credit = ?13, status = ?14 WHERE id = ?1",
+        ),
+        StoredRow::Host(_) => Some(
+            "UPDATE host SET account_id = ?2, cpid = ?3, platforms = ?4, fpops = ?5, memory = ?6, disk = ?7, quota = ?8, held = ?9, credit = ?10 WHERE id = ?1",
+        ),
+        StoredRow::Instance(_) => Some(
+            "UPDATE instance SET unit_id = ?1, num = ?2, host_id = ?3, sent = ?4, deadline = ?5, lapse = ?6, outcome = ?7, output = ?8, place = ?9, queued = ?10 WHERE unit_id = ?1 AND num = ?2",
+        ),
+        _ => None,
+    }
+}
+
+/// Changes the row that stands at its key, and tells whether one stood there and was changed.
+fn update_row<S: Alter>(
+    tx: &mut Transaction<'_, S>,
+    row: &StoredRow,
+    values: &[ValueRef<'_>],
+) -> Result<bool, Error>
+    ensures same_reference { tx.new.conn.ghost_name ≡ tx.old.conn.ghost_name }
+    ensures survives { Survives (state S.Store tx.old.conn.now) (state S.Store tx.new.conn.now) (λ _. ⊥) }
+    ensures kept { HasCleanDisk (state S.Store tx.new.conn.now) → KeepsCommit (state S.Store tx.old.conn.now) (state S.Store tx.new.conn.now) }
+    ensures moves { HasCleanDisk (state S.Store tx.new.conn.now) → IsTrue (state S.Store tx.old.conn.now).in_transaction → map owned values.now ≡ columns_of row.now
+        → IfOk result (λ done. Moves (state S.Store tx.old.conn.now) (state S.Store tx.new.conn.now) (if done then row.now ∷ [] else [])) }
+    ensures was_open { HasCleanDisk (state S.Store tx.new.conn.now) → IsTrue (state S.Store tx.old.conn.now).in_transaction
+        → IfOk result (λ done. IsTrue done → IsTrue (state S.Store tx.old.conn.now).is_open) }
+{
+    let Some(text) = update_text(row) else {
+        return Ok(false);
+    };
+    let count = tx.execute(text, values)?;
+    Ok(count > 0)
+}
+
+/// Puts one row at its key, over the one that stands there. Where that is likely, the change of one is tried first.
 fn put_row<S: Alter>(
     alloc: Global,
     tx: &mut Transaction<'_, S>,
@@ -63,7 +105,12 @@ fn put_row<S: Alter>(
     ensures utf8 { OnOk result (HasUtf8 (columns_of row.now)) }
 {
     let values = values_of(alloc, row)?;
-    tx.execute(put_text(row), values.as_slice())?;
+    let params = values.as_slice();
+    let done = update_row(tx, row, params)?;
+    if done {
+        return Ok(());
+    }
+    tx.execute(put_text(row), params)?;
     Ok(())
 }
 
