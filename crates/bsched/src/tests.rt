@@ -1,14 +1,11 @@
 //! The worked rows, and lines that are none, too long or broken.
 
 mod classes;
-mod cuts;
 mod desk;
 mod jobs;
 mod judging;
 mod lapses;
-mod largest;
 mod messages;
-mod mixed;
 mod quotas;
 mod refusals;
 mod repeats;

@@ -35,14 +35,6 @@ pub(crate) fn tally(totals: &BTreeMap<u32, Total>, host: u32) -> Total
     }
 }
 
-/// Puts a total in the place of what was counted of the host.
-fn put_total(totals: &mut BTreeMap<u32, Total>, host: u32, total: Total) -> Result<(), Memory>
-    ensures { OnOk result ((n : ℕ) → tally totals.new n ≡ (if host == n then total else tally totals.old n)) }
-{
-    totals.insert(host, total)?;
-    Ok(())
-}
-
 /// Counts so many more instances held and so much more credit of a host.
 fn count_more(
     totals: &mut BTreeMap<u32, Total>,
@@ -53,7 +45,7 @@ fn count_more(
     ensures { OnOk result ((n : ℕ) → tally totals.new n ≡ (if host == n then more (tally totals.old n) held credit else tally totals.old n)) }
 {
     let total = tally(totals, host).plus(held, credit)?;
-    put_total(totals, host, total)?;
+    totals.insert(host, total).map_err(Memory::from)?;
     Ok(())
 }
 
