@@ -761,7 +761,8 @@ def profile(program, folder):
         crates[function.split("::")[0] if "::" in function else "libc"] += many
     stages = {"sqlite::connection::Connection::query_near": "look-ups", "table_rows::put::put_each": "puts"}
     stages["sqlite::connection::Connection::commit"] = "the commit"
-    stages["table_changes::changes::rows_of_changes"] = "the rows that changes put, with what they look up"
+    stages["message_engine::commits::commit_and_answer"] = "that a commit calls, these two with it"
+    stages["call_sheet::standing::put_all"] = "changes put onto a page, in the step and in the commit"
     for what, many in [
         *((f"all {stage}", whole[function]) for function, stage in stages.items()),
         *((f"the crate {crate}", many) for crate, many in crates.most_common(10)), *own.most_common(16),
