@@ -126,7 +126,11 @@ fn touched_by(alloc: Global, changes: &[Change]) -> Result<Listed<u32>, Memory>
             Change::Class { unit, class: _ } => {
                 units.insert(*unit)?;
             }
-            _ => {}
+            Change::Account(_)
+            | Change::App(_)
+            | Change::Version(_)
+            | Change::Workunit(_)
+            | Change::Host { .. } => {}
         }
     }
     Ok(Listed::of(units.iter().copied().collect(alloc)?))

@@ -22,7 +22,7 @@ pub fn copy_kept(kept: &Kept) -> Result<Kept, Memory>
 }
 
 /// Puts copies of these calls behind the others.
-pub fn append_copies(calls: &mut Listed<Kept>, more: &[Kept]) -> Result<(), Memory>
+fn append_copies(calls: &mut Listed<Kept>, more: &[Kept]) -> Result<(), Memory>
     ensures { OnOk result (calls.new ≡ calls.old ++ more.now) }
 {
     for kept in more {

@@ -7,7 +7,7 @@ pub mod key;
 pub mod laws;
 pub mod register;
 
-pub use keeping::{MOST_KEPT, append_copies, copy_kept};
+pub use keeping::{MOST_KEPT, copy_kept};
 pub use kept::{Heard, Kept, classify};
 pub use key::Key;
 pub use register::Register;

@@ -1,13 +1,13 @@
 //! Lists that contracts see as their items.
 
-ghost use Rattle.std.specs.Prelude.{◌≡◌, ◌<◌, ◌-◌, ◌==◌, List, [], ◌∷◌, ◌++◌, length, take, slice_get, slice_set, Some, OnOk, OnErr};
+ghost use Rattle.std.specs.Prelude.{◌≡◌, ◌<◌, ◌-◌, ◌==◌, List, [], ◌∷◌, ◌++◌, length, take, slice_set, OnOk, OnErr};
 ghost use Rattle.std.specs.List.{cons_option};
 
 use crate::Memory;
 use crate::same::Same;
 use std::alloc::Global;
+use std::fmt;
 use std::marker::Model;
-use std::{fmt, mem};
 
 /// A list of items in order, which contracts see as just that.
 #[derive(Drop)]
@@ -98,15 +98,6 @@ impl<T: Drop> Listed<T> {
         ensures { self.new ≡ slice_set self.old index item }
     {
         self.items[index] = item;
-    }
-
-    /// Puts `item` in the place of the one at `index`, and gives that one.
-    pub fn exchange(&mut self, index: usize, item: T) -> T
-        requires { index < length self.old }
-        ensures put { self.new ≡ slice_set self.old index item }
-        ensures taken { slice_get self.old index ≡ Some result }
-    {
-        mem::replace(&mut self.items[index], item)
     }
 
     /// Lets go of the last item, where there is one.
