@@ -9,7 +9,7 @@ ghost use Rattle.table_desk.specs.Asked.{Asked};
 use sched_book::{Counts, Unavailable};
 use sqlite::{Alter, Connection};
 use std::alloc::Global;
-use table_rows::{NumberedTable, last_number};
+use table_rows::{CountedTable, last_number};
 
 /// How many rows each table has: numbers run from 1 without a gap, so it is the last number of each. The connection
 /// shows what it showed.
@@ -17,11 +17,11 @@ pub fn counts<S: Alter>(alloc: Global, conn: &mut Connection<S>) -> Result<Count
     ensures reads { Reads (state S.Store conn.old) (state S.Store conn.new) }
     ensures answer { Asked S.Store conn.old conn.new (λ w. IfOk result (λ r. r ≡ counts_in w)) }
 {
-    let accounts = last_number(alloc, conn, NumberedTable::Account)?;
-    let apps = last_number(alloc, conn, NumberedTable::App)?;
-    let versions = last_number(alloc, conn, NumberedTable::Version)?;
-    let workunits = last_number(alloc, conn, NumberedTable::Unit)?;
-    let hosts = last_number(alloc, conn, NumberedTable::Host)?;
+    let accounts = last_number(alloc, conn, CountedTable::Account)?;
+    let apps = last_number(alloc, conn, CountedTable::App)?;
+    let versions = last_number(alloc, conn, CountedTable::Version)?;
+    let workunits = last_number(alloc, conn, CountedTable::Unit)?;
+    let hosts = last_number(alloc, conn, CountedTable::Host)?;
     Ok(Counts {
         accounts,
         apps,

@@ -1,4 +1,4 @@
-pub mod Numbered
+pub mod Counted
 pub mod Plain
 pub mod Refusing
 pub mod Utf8

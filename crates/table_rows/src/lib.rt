@@ -23,7 +23,7 @@ pub use keyed::{
     batch_of, class_of, host_of, instance_of, kept_calls, mark_of, status_of, unit_of,
 };
 pub use listing::{credits_of_user, hosts_of_user, version_numbers};
-pub use names::{NumberedTable, account_with, host_known, last_number, unit_named, version_known};
+pub use names::{CountedTable, account_with, host_known, last_number, unit_named, version_known};
 pub use opening::{OpenFault, Refused, known};
 pub use places::{instances_in, places_due, places_held, places_owned, queued_from, sent_between};
 pub use put::put_rows;

@@ -10,7 +10,7 @@ ghost use Rattle.table_meaning.specs.Rows.{whole as sql_whole, columns_of};
 ghost use Rattle.table_meaning.specs.Listings.{rows_where, has_text, is_host_known, is_version_known, last_number_in};
 ghost use Rattle.table_meaning.specs.Reads.{Reads};
 ghost use Rattle.table_meaning.specs.Holding.{AreKnown};
-ghost use Rattle.table_rows.specs.Numbered.{numbered_table, last_text as sql_last};
+ghost use Rattle.table_rows.specs.Counted.{counted_table, last_text as sql_last};
 
 use crate::opening::OpenFault;
 use crate::read::{first_number, first_shown};
@@ -99,9 +99,9 @@ pub fn version_known<S: Alter>(
     )
 }
 
-/// The tables whose rows are named by a number alone.
+/// The tables whose rows count from 1 on, so that the last number tells how many there are.
 #[derive(Clone, Copy)]
-pub enum NumberedTable {
+pub enum CountedTable {
     Account,
     App,
     Version,
@@ -110,15 +110,15 @@ pub enum NumberedTable {
 }
 
 /// The statement that reads the number of the last row.
-fn last_text(table: NumberedTable) -> &'static str
+fn last_text(table: CountedTable) -> &'static str
     ensures { result.now ≡ sql_last table }
 {
     match table {
-        NumberedTable::Account => "SELECT id FROM account WHERE id > 0 ORDER BY id DESC LIMIT 1",
-        NumberedTable::App => "SELECT id FROM app WHERE id > 0 ORDER BY id DESC LIMIT 1",
-        NumberedTable::Version => "SELECT id FROM version WHERE id > 0 ORDER BY id DESC LIMIT 1",
-        NumberedTable::Unit => "SELECT id FROM unit WHERE id > 0 ORDER BY id DESC LIMIT 1",
-        NumberedTable::Host => "SELECT id FROM host WHERE id > 0 ORDER BY id DESC LIMIT 1",
+        CountedTable::Account => "SELECT id FROM account WHERE id > 0 ORDER BY id DESC LIMIT 1",
+        CountedTable::App => "SELECT id FROM app WHERE id > 0 ORDER BY id DESC LIMIT 1",
+        CountedTable::Version => "SELECT id FROM version WHERE id > 0 ORDER BY id DESC LIMIT 1",
+        CountedTable::Unit => "SELECT id FROM unit WHERE id > 0 ORDER BY id DESC LIMIT 1",
+        CountedTable::Host => "SELECT id FROM host WHERE id > 0 ORDER BY id DESC LIMIT 1",
     }
 }
 
@@ -127,11 +127,11 @@ fn last_text(table: NumberedTable) -> &'static str
 pub fn last_number<S: Alter>(
     alloc: Global,
     conn: &mut Connection<S>,
-    table: NumberedTable,
+    table: CountedTable,
 ) -> Result<u32, OpenFault>
     ensures reads { Reads (state S.Store conn.old) (state S.Store conn.new) }
     ensures last { HasCleanDisk (state S.Store conn.new) → AreKnown (state S.Store conn.old).now
-        → IfOk result (λ number. sql_whole number ≡ last_number_in (rows_where (state S.Store conn.old).now.trees (numbered_table table) (λ row. true))) }
+        → IfOk result (λ number. sql_whole number ≡ last_number_in (rows_where (state S.Store conn.old).now.trees (counted_table table) (λ row. true))) }
 {
     let last = first_number(alloc, conn, last_text(table), &[])?;
     Ok(last.unwrap_or(0))

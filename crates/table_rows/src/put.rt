@@ -64,37 +64,26 @@ fn update_text(row: &StoredRow) -> Option<&'static str>
         StoredRow::Instance(_) => Some(
             "UPDATE instance SET unit_id = ?1, num = ?2, host_id = ?3, sent = ?4, deadline = ?5, lapse = ?6, outcome = ?7, output = ?8, place = ?9, queued = ?10 WHERE unit_id = ?1 AND num = ?2",
         ),
-        _ => None,
+        StoredRow::Setting(_)
+        | StoredRow::Account(_)
+        | StoredRow::App(_)
+        | StoredRow::Version(_)
+        | StoredRow::Kept(_)
+        | StoredRow::Batch(_)
+        | StoredRow::VersionClass(_)
+        | StoredRow::UnitMark(_) => None,
     }
 }
 
-/// Changes the row that stands at its key, and tells whether one stood there and was changed.
-fn update_row<S: Alter>(
-    tx: &mut Transaction<'_, S>,
-    row: &StoredRow,
-    values: &[ValueRef<'_>],
-) -> Result<bool, Error>
-    ensures same_reference { tx.new.conn.ghost_name ≡ tx.old.conn.ghost_name }
-    ensures survives { Survives (state S.Store tx.old.conn.now) (state S.Store tx.new.conn.now) (λ _. ⊥) }
-    ensures kept { HasCleanDisk (state S.Store tx.new.conn.now) → KeepsCommit (state S.Store tx.old.conn.now) (state S.Store tx.new.conn.now) }
-    ensures moves { HasCleanDisk (state S.Store tx.new.conn.now) → IsTrue (state S.Store tx.old.conn.now).in_transaction → map owned values.now ≡ columns_of row.now
-        → IfOk result (λ done. Moves (state S.Store tx.old.conn.now) (state S.Store tx.new.conn.now) (if done then row.now ∷ [] else [])) }
-    ensures was_open { HasCleanDisk (state S.Store tx.new.conn.now) → IsTrue (state S.Store tx.old.conn.now).in_transaction
-        → IfOk result (λ done. IsTrue done → IsTrue (state S.Store tx.old.conn.now).is_open) }
-{
-    let Some(text) = update_text(row) else {
-        return Ok(false);
-    };
-    let count = tx.execute(text, values)?;
-    Ok(count > 0)
-}
-
-/// Puts one row at its key, over the one that stands there. Where that is likely, the change of one is tried first.
+/// Puts one row at its key, over the one that stands there. Where one is expected there and its table has a statement that
+/// changes a row, that is tried first. Tells whether rows are to be expected behind it: no longer, once one was and did not
+/// stand.
 fn put_row<S: Alter>(
     alloc: Global,
     tx: &mut Transaction<'_, S>,
     row: &StoredRow,
-) -> Result<(), Error>
+    expected: bool,
+) -> Result<bool, Error>
     ensures same_reference { tx.new.conn.ghost_name ≡ tx.old.conn.ghost_name }
     ensures survives { Survives (state S.Store tx.old.conn.now) (state S.Store tx.new.conn.now) (λ _. ⊥) }
     ensures kept { HasCleanDisk (state S.Store tx.new.conn.now) → KeepsCommit (state S.Store tx.old.conn.now) (state S.Store tx.new.conn.now) }
@@ -106,15 +95,23 @@ fn put_row<S: Alter>(
 {
     let values = values_of(alloc, row)?;
     let params = values.as_slice();
-    let done = update_row(tx, row, params)?;
-    if done {
-        return Ok(());
+    match update_text(row) {
+        Some(text) if expected => {
+            let stood = tx.execute(text, params)? > 0;
+            if !stood {
+                tx.execute(put_text(row), params)?;
+            }
+            Ok(stood)
+        }
+        Some(_) | None => {
+            tx.execute(put_text(row), params)?;
+            Ok(expected)
+        }
     }
-    tx.execute(put_text(row), params)?;
-    Ok(())
 }
 
-/// Puts each row in turn.
+/// Puts each row in turn. At first rows are expected to stand there, as they do when a call is served; those of an import
+/// are new.
 pub(crate) fn put_each<S: Alter>(
     alloc: Global,
     tx: &mut Transaction<'_, S>,
@@ -129,8 +126,9 @@ pub(crate) fn put_each<S: Alter>(
         → OnOk result (IsTrue (state S.Store tx.old.conn.now).is_open) }
     ensures utf8 { OnOk result (HaveUtf8 rows.now) }
 {
+    let mut expected = true;
     for row in rows {
-        put_row(alloc, tx, row)?;
+        expected = put_row(alloc, tx, row, expected)?;
     }
     Ok(())
 }

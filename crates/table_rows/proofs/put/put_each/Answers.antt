@@ -24,7 +24,7 @@ loop-row-preserved g c =
       λ clean. keeps_then first before after (kept.2 (early clean)) (c.put_row.ensures.kept clean),
       λ clean inside.
           let moved = kept.3 (early clean) inside in
-          subst (Moves first after) (sym next) (moved_more first before after (take c.loop-row.row-index c.args.rows.now) c.row-item.result moved (c.in_ok-put_row.ensures.moves clean moved.inside)),
-      λ clean inside some. (kept.2 (early clean)).was_open (c.in_ok-put_row.ensures.was_open clean (kept.3 (early clean) inside).inside),
-      subst HaveUtf8 (sym next) (all-append (λ r. HasUtf8 (columns_of r)) (take c.loop-row.row-index rows) (c.row-item.result ∷ []) kept.5 (c.in_ok-put_row.ensures.utf8, tt)),
+          subst (Moves first after) (sym next) (moved_more first before after (take c.loop-row.row-index c.args.rows.now) c.row-item.result moved (c.in_ok-expected.ensures.moves clean moved.inside)),
+      λ clean inside some. (kept.2 (early clean)).was_open (c.in_ok-expected.ensures.was_open clean (kept.3 (early clean) inside).inside),
+      subst HaveUtf8 (sym next) (all-append (λ r. HasUtf8 (columns_of r)) (take c.loop-row.row-index rows) (c.row-item.result ∷ []) kept.5 (c.in_ok-expected.ensures.utf8, tt)),
     )
