@@ -1,4 +1,4 @@
--- What is left of an upgrade that took two steps, or looked at the tables first.
+-- What is left of a step of an upgrade, and of an upgrade that took two steps, or looked at the tables first.
 use Rattle.std.proofs.Common.{◌≡◌, ℕ, IsTrue, refl, sym, ap, subst, ◌∙◌, inl, inr, arith}
 use Rattle.sqlite_trees.specs.Tree.{Trees}
 use Rattle.sqlite.specs.Effect.{Database}
@@ -9,6 +9,16 @@ use Rattle.table_meaning.specs.Schemas.{IsEarlier}
 use Rattle.table_meaning.specs.Reads.{Reads}
 use Rattle.table_meaning.specs.Upgrades.{MakesSecond, MakesNext, Upgrades, IsHalfway, IsLeftBehind, StaysOrHalfway}
 use Rattle.table_meaning.proofs.Upgrading.{upgraded_first, upgraded_second}
+
+-- ---- one step
+
+-- its rows were put, and it was committed, or stopped before
+pub step_stopped : (n : ℕ) (old mid new : State) → (HasCleanDisk mid → IsTrue old.is_open × MakesNext n old.now mid.now) → Survives old mid (λ _. ⊥) → Survives mid new (λ trees. trees ≡ mid.now.trees)
+    → Survives old new (λ trees. IsTrue old.is_open × (db : Database) × MakesNext n old.now db × (trees ≡ db.trees))
+step_stopped n old mid new made one two = survives_then old mid new _ _ _ (λ _ db none. absurd none)
+    (λ clean db is.
+    let early : HasCleanDisk mid = omega (arith, two.clean) in
+    ((made early).0, mid.now, (made early).1, is)) one two
 
 -- ---- two steps
 

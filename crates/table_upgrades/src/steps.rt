@@ -82,8 +82,7 @@ fn upgrade_step<S: Alter>(
     }
     let mut tx = conn.transaction();
     upgrade_tables(alloc, &mut tx, schema)?;
-    tx.commit()?;
-    Ok(())
+    tx.commit().map_err(OpenFault::from)
 }
 
 /// Makes tables of the first schema into those of the second, and these into those of the third.
