@@ -63,6 +63,8 @@ impl fmt::Display for Failure {
     }
 }
 
+impl std::error::Error for Failure {}
+
 impl From<Memory> for Failure {
     fn from(_memory: Memory) -> Failure {
         Failure::Unavailable
