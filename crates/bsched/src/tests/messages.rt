@@ -289,19 +289,16 @@ const ONLY_POST: &str =
     "HTTP/1.1 405 Method Not Allowed\r\nallow: POST\r\ncontent-type: application/json\r\ncontent-length: 35\r\nconnection: close\r\n\r\n{\"error\":\"wrong_method\",\"number\":3}";
 
 /// Whether a statement of no host and a tick by another method are answered so, to the last byte.
-fn answers_wholly<S: Store>(alloc: Global, service: &mut Service<S>) -> Result<bool, Fail> {
-    let ninth = answered(alloc, service, READS_NINTH.as_bytes())?;
-    let put = answered(alloc, service, b"PUT /tick HTTP/1.1\r\n\r\n")?;
+fn answers_wholly<S: Store + Drop>(alloc: Global, store: S) -> Result<bool, Fail> {
+    let mut service = service_over(alloc, store)?;
+    let ninth = answered(alloc, &mut service, READS_NINTH.as_bytes())?;
+    let put = answered(alloc, &mut service, b"PUT /tick HTTP/1.1\r\n\r\n")?;
     Ok(ninth.as_slice() == NINTH_IS_NONE.as_bytes() && put.as_slice() == ONLY_POST.as_bytes())
-}
-
-fn is_answered_wholly<S: Store + Drop>(alloc: Global, store: S) -> Result<bool, Fail> {
-    answers_wholly(alloc, &mut service_over(alloc, store)?)
 }
 
 #[test]
 fn answers_to_their_last_byte(rt: HostRuntime) -> Result<(), Fail> {
-    assert!(rt; is_answered_wholly(rt.alloc(), new_store(rt.alloc())?)?);
+    assert!(rt; answers_wholly(rt.alloc(), new_store(rt.alloc())?)?);
     Ok(())
 }
 

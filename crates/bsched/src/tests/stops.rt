@@ -54,9 +54,6 @@ pub const LASTING: Fuses = Fuses {
     db: u64::MAX,
 };
 
-/// A connection to a database in two such files.
-pub type Fused = Connection<FileStore<Fuse<Memory>>>;
-
 /// A disk on which these bytes stand.
 fn disk(alloc: Global, bytes: &[u8]) -> Result<Memory, Fail>
     ensures { IfOk result (λ d. IsTrue (memory_is_usable d)) }
@@ -69,24 +66,8 @@ fn disk(alloc: Global, bytes: &[u8]) -> Result<Memory, Fail>
     Ok(disk)
 }
 
-/// A connection to the database in these files, or the files, where one of them fails while they are opened.
-pub fn connected(
-    alloc: Global,
-    image: &Image,
-    fuses: Fuses,
-) -> Result<Result<Fused, Files<Fuse<Memory>>>, Fail> {
-    let log = Fuse::new(disk(alloc, &image.log)?, fuses.log);
-    let db = Fuse::new(disk(alloc, &image.db)?, fuses.db);
-    let mut options = Options::new(1);
-    options.checkpoint_frames = 20;
-    match Connection::open_files(alloc, Files { log, db }, options) {
-        Ok(conn) => Ok(Ok(conn)),
-        Err((_, left)) => Ok(Err(left.into_files())),
-    }
-}
-
-/// What the files hold behind a stop: what was synced.
-pub fn image_of(alloc: Global, mut files: Files<Fuse<Memory>>) -> Result<Image, Fail> {
+/// What files hold behind a stop: what was synced.
+fn image_of(alloc: Global, mut files: Files<Fuse<Memory>>) -> Result<Image, Fail> {
     files.log.crash();
     files.db.crash();
     Ok(Image {
@@ -95,10 +76,59 @@ pub fn image_of(alloc: Global, mut files: Files<Fuse<Memory>>) -> Result<Image, 
     })
 }
 
-/// What a closed database leaves in its files.
-pub fn closed(alloc: Global, conn: Fused) -> Result<Image, Fail> {
-    let files = conn.close_files().ok().ok_or("the files are not closed")?;
-    image_of(alloc, files)
+/// A store that leaves files.
+pub trait Leaves {
+    /// What its files hold behind a stop.
+    fn stopped(self, alloc: Global) -> Result<Image, Fail>;
+
+    /// What its files hold when it is closed.
+    fn closed(self, alloc: Global) -> Result<Image, Fail>;
+}
+
+impl Leaves for FileStore<Fuse<Memory>> {
+    fn stopped(self, alloc: Global) -> Result<Image, Fail> {
+        image_of(alloc, self.close())
+    }
+
+    fn closed(mut self, alloc: Global) -> Result<Image, Fail> {
+        self.checkpoint().ok().ok_or("the log is not copied")?;
+        self.stopped(alloc)
+    }
+}
+
+/// What is done with the database in files.
+pub trait Deed: Copy {
+    /// What it shows.
+    type Shown;
+
+    fn over<S: Alter + Leaves + Drop>(
+        self,
+        alloc: Global,
+        conn: Connection<S>,
+    ) -> Result<Self::Shown, Fail>;
+
+    /// What shows where one of the files failed while they were opened, which left this.
+    fn unopened(self, _alloc: Global, _left: Image) -> Result<Self::Shown, Fail> {
+        Err(Fail::new("the files are not opened"))
+    }
+}
+
+/// What a deed shows over the database in files that fail behind so many calls. (This alone owns a connection to such files by
+/// name, since the proof of each function that does takes a minute.)
+pub fn done_in<D: Deed>(
+    alloc: Global,
+    image: &Image,
+    fuses: Fuses,
+    deed: D,
+) -> Result<D::Shown, Fail> {
+    let log = Fuse::new(disk(alloc, &image.log)?, fuses.log);
+    let db = Fuse::new(disk(alloc, &image.db)?, fuses.db);
+    let mut options = Options::new(1);
+    options.checkpoint_frames = 20;
+    match Connection::open_files(alloc, Files { log, db }, options) {
+        Ok(conn) => deed.over(alloc, conn),
+        Err((_, left)) => deed.unopened(alloc, image_of(alloc, left.into_files())?),
+    }
 }
 
 /// Files that hold nothing.
@@ -109,11 +139,19 @@ pub fn empty(alloc: Global) -> Image {
     }
 }
 
-/// New tables in files, which are closed.
-fn created(alloc: Global) -> Result<Image, Fail> {
-    match connected(alloc, &empty(alloc), LASTING)? {
-        Ok(conn) => closed(alloc, with_lines(alloc, conn, &[])?),
-        Err(_) => Err(Fail::new("new files are not opened")),
+/// New tables are made.
+#[derive(Clone, Copy)]
+struct Create;
+
+impl Deed for Create {
+    type Shown = Image;
+
+    fn over<S: Alter + Leaves + Drop>(
+        self,
+        alloc: Global,
+        conn: Connection<S>,
+    ) -> Result<Image, Fail> {
+        with_lines(alloc, conn, &[])?.into_store().closed(alloc)
     }
 }
 
@@ -146,11 +184,19 @@ pub fn rows_told<S: Alter>(alloc: Global, conn: &mut Connection<S>) -> Result<St
     Ok(told)
 }
 
-/// All rows of the tables in files.
-pub fn rows_in(alloc: Global, image: &Image) -> Result<String, Fail> {
-    match connected(alloc, image, LASTING)? {
-        Ok(mut conn) => rows_told(alloc, &mut conn),
-        Err(_) => Err(Fail::new("the files are not opened")),
+/// All rows of the tables are told.
+#[derive(Clone, Copy)]
+pub struct TellRows;
+
+impl Deed for TellRows {
+    type Shown = String;
+
+    fn over<S: Alter + Leaves + Drop>(
+        self,
+        alloc: Global,
+        mut conn: Connection<S>,
+    ) -> Result<String, Fail> {
+        rows_told(alloc, &mut conn)
     }
 }
 
@@ -198,40 +244,30 @@ fn served<S: Store + Drop>(
     Ok((answers, service.into_tables()))
 }
 
-/// The answers over the tables of a database, and its store behind them; no store where the tables are not opened.
-fn served_over<S: Alter + Drop>(
-    alloc: Global,
-    conn: Connection<S>,
-    arrivals: &[Arrival],
-) -> Result<(Vec<Answer>, Option<S>), Fail> {
-    let Ok(tables) = Tables::open(alloc, conn) else {
-        return Ok((Vec::new(alloc), None));
-    };
-    let (answers, tables) = served(alloc, tables, arrivals)?;
-    Ok((answers, Some(tables.into_connection().into_store())))
+/// Arrivals are answered up to a stop. It shows the answers, and what the files hold then, where that may be another thing.
+#[derive(Clone, Copy)]
+struct Serve<'a> {
+    arrivals: &'a [Arrival],
 }
 
-/// What a store leaves in its files.
-fn left_by(alloc: Global, store: Option<FileStore<Fuse<Memory>>>) -> Result<Option<Image>, Fail> {
-    match store {
-        Some(store) => Ok(Some(image_of(alloc, store.close())?)),
-        None => Ok(None),
+impl Deed for Serve<'_> {
+    type Shown = (Vec<Answer>, Option<Image>);
+
+    fn over<S: Alter + Leaves + Drop>(
+        self,
+        alloc: Global,
+        conn: Connection<S>,
+    ) -> Result<(Vec<Answer>, Option<Image>), Fail> {
+        let Ok(tables) = Tables::open(alloc, conn) else {
+            return Ok((Vec::new(alloc), None));
+        };
+        let (answers, tables) = served(alloc, tables, self.arrivals)?;
+        let left = tables.into_connection().into_store().stopped(alloc)?;
+        Ok((answers, Some(left)))
     }
-}
 
-/// The answers over files with fuses up to a stop, and what the files hold then, where that may be another thing.
-fn stopped(
-    alloc: Global,
-    image: &Image,
-    fuses: Fuses,
-    arrivals: &[Arrival],
-) -> Result<(Vec<Answer>, Option<Image>), Fail> {
-    match connected(alloc, image, fuses)? {
-        Ok(conn) => {
-            let (answers, store) = served_over(alloc, conn, arrivals)?;
-            Ok((answers, left_by(alloc, store)?))
-        }
-        Err(files) => Ok((Vec::new(alloc), Some(image_of(alloc, files)?))),
+    fn unopened(self, alloc: Global, left: Image) -> Result<(Vec<Answer>, Option<Image>), Fail> {
+        Ok((Vec::new(alloc), Some(left)))
     }
 }
 
@@ -244,12 +280,12 @@ struct Unstopped {
 
 fn whole(alloc: Global, mut image: Image, arrivals: &[Arrival]) -> Result<Unstopped, Fail> {
     let mut answers = Vec::new(alloc);
-    let mut rows = vec![in alloc; rows_in(alloc, &image)?]?;
+    let mut rows = vec![in alloc; done_in(alloc, &image, LASTING, TellRows)?]?;
     for arrival in arrivals.chunks(1) {
-        let (answer, left) = stopped(alloc, &image, LASTING, arrival)?;
+        let (answer, left) = done_in(alloc, &image, LASTING, Serve { arrivals: arrival })?;
         image = left.unwrap_or(image);
         answers.extend(answer)?;
-        rows.push(rows_in(alloc, &image)?)?;
+        rows.push(done_in(alloc, &image, LASTING, TellRows)?)?;
     }
     Ok(Unstopped { answers, rows })
 }
@@ -286,14 +322,21 @@ fn goes_on(
     whole: &Unstopped,
 ) -> Result<bool, Fail> {
     let done = answers.len();
-    let rows = rows_in(alloc, left)?;
+    let rows = done_in(alloc, left, LASTING, TellRows)?;
     let was_in = whole.rows.get(done + 1) == Some(&rows);
     if !was_in && whole.rows.get(done) != Some(&rows) {
         return Ok(false);
     }
-    let (more, end) = stopped(alloc, left, LASTING, arrivals.get(done..).unwrap_or(&[]))?;
+    let (more, end) = done_in(
+        alloc,
+        left,
+        LASTING,
+        Serve {
+            arrivals: arrivals.get(done..).unwrap_or(&[]),
+        },
+    )?;
     answers.extend(more)?;
-    let rows = rows_in(alloc, end.as_ref().unwrap_or(left))?;
+    let rows = done_in(alloc, end.as_ref().unwrap_or(left), LASTING, TellRows)?;
     Ok(
         whole.rows.last() == Some(&rows)
             && are_answers(&answers, &whole.answers, was_in.then_some(done)),
@@ -308,7 +351,7 @@ fn ran_over(
     arrivals: &[Arrival],
     whole: &Unstopped,
 ) -> Result<Ran, Fail> {
-    let (answers, left) = stopped(alloc, image, fuses, arrivals)?;
+    let (answers, left) = done_in(alloc, image, fuses, Serve { arrivals })?;
     if answers.len() == arrivals.len() {
         return Ok(Ran::Through);
     }
@@ -324,9 +367,13 @@ pub const MOST_CALLS: u64 = 100_000;
 
 /// How many stops of the log, or of the database file, all went on as with no stop; none where one did not.
 fn stops_survived(alloc: Global, in_log: bool) -> Result<Option<u64>, Fail> {
-    let image = created(alloc)?;
+    let image = done_in(alloc, &empty(alloc), LASTING, Create)?;
     let arrivals = arrivals(alloc)?;
-    let whole = whole(alloc, created(alloc)?, &arrivals)?;
+    let whole = whole(
+        alloc,
+        done_in(alloc, &empty(alloc), LASTING, Create)?,
+        &arrivals,
+    )?;
     for calls in 0..MOST_CALLS {
         match ran_over(
             alloc,
@@ -383,32 +430,33 @@ fn served_by<S: Store + Drop>(
     served_on_a_socket(rt, &mut service_over(rt.alloc(), store)?, message)
 }
 
-/// The same over the tables of a database; nothing where they are not opened.
-fn served_over_tables<S: Alter + Drop>(
-    rt: &HostRuntime,
-    conn: Connection<S>,
-    message: &[u8],
-) -> Result<Option<(Result<(), Failure>, String)>, Fail> {
-    let Ok(tables) = Tables::open(rt.alloc(), conn) else {
-        return Ok(None);
-    };
-    Ok(Some(served_by(rt, tables, message)?))
+/// One connection of two is served that sent a message each.
+#[derive(Clone, Copy)]
+struct ServeOn<'a> {
+    rt: &'a HostRuntime,
+    message: &'a [u8],
 }
 
-/// The same over files of which the log fails behind so many calls.
-fn served_over_a_fuse(
-    rt: &HostRuntime,
-    image: &Image,
-    calls: u64,
-    message: &[u8],
-) -> Result<Option<(Result<(), Failure>, String)>, Fail> {
-    let fuses = Fuses {
-        log: calls,
-        db: u64::MAX,
-    };
-    match connected(rt.alloc(), image, fuses)? {
-        Ok(conn) => served_over_tables(rt, conn, message),
-        Err(_) => Ok(None),
+impl Deed for ServeOn<'_> {
+    type Shown = Option<(Result<(), Failure>, String)>;
+
+    fn over<S: Alter + Leaves + Drop>(
+        self,
+        _alloc: Global,
+        conn: Connection<S>,
+    ) -> Result<Option<(Result<(), Failure>, String)>, Fail> {
+        let Ok(tables) = Tables::open(self.rt.alloc(), conn) else {
+            return Ok(None);
+        };
+        Ok(Some(served_by(self.rt, tables, self.message)?))
+    }
+
+    fn unopened(
+        self,
+        _alloc: Global,
+        _left: Image,
+    ) -> Result<Option<(Result<(), Failure>, String)>, Fail> {
+        Ok(None)
     }
 }
 
@@ -421,12 +469,13 @@ fn ended_by_a_fault(alloc: Global, ended: Failure, answer: &str) -> Result<bool,
 /// Whether serving over a log that fails behind each of its calls in turn ends by a fault where it ends, and does so at least once.
 /// (A log that fails before a commit's last byte leaves the store open: then serving goes on.)
 fn ends_by_faults(rt: &HostRuntime) -> Result<bool, Fail> {
-    let image = created(rt.alloc())?;
+    let image = done_in(rt.alloc(), &empty(rt.alloc()), LASTING, Create)?;
     let arrivals = arrivals(rt.alloc())?;
     let message = arrivals.first().ok_or("nothing arrives")?.bytes.as_slice();
     let mut was_shut = false;
     for calls in 0..MOST_CALLS {
-        match served_over_a_fuse(rt, &image, calls, message)? {
+        let fuses = Fuses::behind(calls, true);
+        match done_in(rt.alloc(), &image, fuses, ServeOn { rt, message })? {
             None => {}
             Some((Ok(()), answer)) => {
                 if answer.as_str().starts_with("HTTP/1.1 200 ") {

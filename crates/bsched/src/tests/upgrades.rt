@@ -2,8 +2,7 @@
 
 use super::rows::{NEXT, lines_of, name_of};
 use super::stops::{
-    Fused, Fuses, Image, LASTING, MOST_CALLS, closed, connected, empty, image_of, rows_in,
-    rows_told,
+    Deed, Fuses, Image, LASTING, Leaves, MOST_CALLS, TellRows, done_in, empty, rows_told,
 };
 use super::stored::{WORKUNITS, filled_with, run};
 use super::{CALL_START, PROJECT, jobs, judging, lapses, replayed_over};
@@ -117,15 +116,6 @@ fn copy_rows<F: Alter, T: Alter>(
     Ok(())
 }
 
-/// Makes the tables of an earlier schema in an empty database, with no row.
-fn make_tables<S: Alter>(conn: &mut Connection<S>, former: Former) -> Result<(), Fail> {
-    conn.execute_batch(SCHEMA_1)?;
-    if let Former::Second = former {
-        conn.execute_batch(KEPT4)?;
-    }
-    Ok(())
-}
-
 /// Makes tables of an earlier schema in an empty database, with the rows that these tables of the newest one have.
 fn make_former<F: Alter, T: Alter>(
     alloc: Global,
@@ -133,7 +123,10 @@ fn make_former<F: Alter, T: Alter>(
     conn: &mut Connection<T>,
     former: Former,
 ) -> Result<(), Fail> {
-    make_tables(conn, former)?;
+    conn.execute_batch(SCHEMA_1)?;
+    if let Former::Second = former {
+        conn.execute_batch(KEPT4)?;
+    }
     for (read, put) in COPIED {
         copy_rows(alloc, newest, conn, read, put)?;
     }
@@ -395,52 +388,73 @@ fn tables_of_an_earlier_schema_are_old(rt: HostRuntime) -> Result<(), Fail> {
     Ok(())
 }
 
-/// Tables of an earlier schema in files, which are closed.
-fn former_image(alloc: Global, schema: Former) -> Result<Image, Fail> {
-    match connected(alloc, &empty(alloc), LASTING)? {
-        Ok(mut conn) => {
-            let mut newest = filled_with(alloc, lines(alloc)?.as_bytes())?;
-            make_former(alloc, &mut newest, &mut conn, schema)?;
-            closed(alloc, conn)
-        }
-        Err(_) => Err(Fail::new("new files are not opened")),
+/// Tables of an earlier schema are made, with the rows of a project in which a host called twice.
+#[derive(Clone, Copy)]
+struct MakeFormer {
+    schema: Former,
+}
+
+impl Deed for MakeFormer {
+    type Shown = Image;
+
+    fn over<S: Alter + Leaves + Drop>(
+        self,
+        alloc: Global,
+        mut conn: Connection<S>,
+    ) -> Result<Image, Fail> {
+        let mut newest = filled_with(alloc, lines(alloc)?.as_bytes())?;
+        make_former(alloc, &mut newest, &mut conn, self.schema)?;
+        conn.into_store().closed(alloc)
     }
 }
 
-/// Upgrades the tables of a database in files: the number of their schema, or how they are refused, and what the files
-/// hold then.
-fn upgraded(alloc: Global, mut conn: Fused) -> Result<(Result<u32, OpenFault>, Image), Fail> {
-    let ended = upgrade(alloc, &mut conn);
-    Ok((ended, image_of(alloc, conn.into_store().close())?))
-}
+/// The tables are upgraded. It shows the number of their schema, or how they are refused, and what the files hold then.
+#[derive(Clone, Copy)]
+struct Upgrade;
 
-/// The same, where one of the files may stop.
-fn upgraded_over(
-    alloc: Global,
-    image: &Image,
-    fuses: Fuses,
-) -> Result<(Result<u32, OpenFault>, Image), Fail> {
-    match connected(alloc, image, fuses)? {
-        Ok(conn) => upgraded(alloc, conn),
-        Err(files) => Ok((Err(OpenFault::Unavailable), image_of(alloc, files)?)),
+impl Deed for Upgrade {
+    type Shown = (Result<u32, OpenFault>, Image);
+
+    fn over<S: Alter + Leaves + Drop>(
+        self,
+        alloc: Global,
+        mut conn: Connection<S>,
+    ) -> Result<(Result<u32, OpenFault>, Image), Fail> {
+        let ended = upgrade(alloc, &mut conn);
+        Ok((ended, conn.into_store().stopped(alloc)?))
+    }
+
+    fn unopened(
+        self,
+        _alloc: Global,
+        left: Image,
+    ) -> Result<(Result<u32, OpenFault>, Image), Fail> {
+        Ok((Err(OpenFault::Unavailable), left))
     }
 }
 
-/// The number of the schema of which the tables of a database in files are whole, by how they are opened; none where they
-/// are of no schema, or have a bad row.
-fn schema_in(alloc: Global, image: &Image) -> Result<Option<u32>, Fail> {
-    match connected(alloc, image, LASTING)? {
-        Ok(conn) => Ok(schema_of(alloc, conn)),
-        Err(_) => Err(Fail::new("the files are not opened")),
+/// The number of the schema of whole tables is told, by how they are opened; none where they are of no schema, or have a bad row.
+#[derive(Clone, Copy)]
+struct TellSchema;
+
+impl Deed for TellSchema {
+    type Shown = Option<u32>;
+
+    fn over<S: Alter + Leaves + Drop>(
+        self,
+        alloc: Global,
+        conn: Connection<S>,
+    ) -> Result<Option<u32>, Fail> {
+        Ok(schema_of(alloc, conn))
     }
 }
 
 /// The number of the schema that a stop left of an upgrade, of which the tables are whole: they are upgraded to these rows. None
 /// where they are of no schema, or upgraded otherwise.
 fn schema_left(alloc: Global, left: &Image, rows: &str) -> Result<Option<u32>, Fail> {
-    let schema = schema_in(alloc, left)?;
-    let (ended, image) = upgraded_over(alloc, left, LASTING)?;
-    if ended == Ok(3) && rows_in(alloc, &image)?.as_str() == rows {
+    let schema = done_in(alloc, left, LASTING, TellSchema)?;
+    let (ended, image) = done_in(alloc, left, LASTING, Upgrade)?;
+    if ended == Ok(3) && done_in(alloc, &image, LASTING, TellRows)?.as_str() == rows {
         return Ok(schema);
     }
     Ok(None)
@@ -449,12 +463,12 @@ fn schema_left(alloc: Global, left: &Image, rows: &str) -> Result<Option<u32>, F
 /// The numbers of the schemas that the stops of an upgrade left whole, of the log or of the database file, one for each call
 /// of it; none where one left no schema whole.
 fn schemas_left(alloc: Global, schema: Former, in_log: bool) -> Result<Option<Vec<u32>>, Fail> {
-    let image = former_image(alloc, schema)?;
-    let (_, whole) = upgraded_over(alloc, &image, LASTING)?;
-    let rows = rows_in(alloc, &whole)?;
+    let image = done_in(alloc, &empty(alloc), LASTING, MakeFormer { schema })?;
+    let (_, whole) = done_in(alloc, &image, LASTING, Upgrade)?;
+    let rows = done_in(alloc, &whole, LASTING, TellRows)?;
     let mut schemas = Vec::new(alloc);
     for calls in 0..MOST_CALLS {
-        let (ended, left) = upgraded_over(alloc, &image, Fuses::behind(calls, in_log))?;
+        let (ended, left) = done_in(alloc, &image, Fuses::behind(calls, in_log), Upgrade)?;
         if ended.is_ok() {
             return Ok(Some(schemas));
         }
