@@ -376,9 +376,13 @@ class Tables:
                 self.mark = min(self.mark, row[4])
         if rows:
             self.connection.execute("BEGIN IMMEDIATE")
+            expected = True  # rows to stand already: no longer, once one was and did not
             for table, row in rows:
-                if table not in CHANGES or self.connection.execute(CHANGES[table], row).rowcount == 0:
+                tried = expected and table in CHANGES
+                stood = tried and self.connection.execute(CHANGES[table], row).rowcount > 0
+                if not stood:
                     self.connection.execute(PUTS[table], row)
+                expected = stood if tried else expected
             self.connection.execute("COMMIT")
         for table, row in rows:
             self.note(table, row)
