@@ -12,6 +12,7 @@ from http.server import BaseHTTPRequestHandler, HTTPServer
 sys.dont_write_bytecode = True
 sys.path.insert(0, os.path.dirname(os.path.abspath(__file__)))
 import plain
+from served import needs
 
 
 class Handler(BaseHTTPRequestHandler):
@@ -36,6 +37,8 @@ class Handler(BaseHTTPRequestHandler):
 
 
 def main():
+    if len(sys.argv) != 3:
+        needs("bench/plain_server.py", "it needs PROJECT, a folder with the CSV files of a project, and PORT")
     folder, port = sys.argv[1], int(sys.argv[2])
     server = HTTPServer(("127.0.0.1", port), Handler)
     server.service = plain.Service({**plain.SETTINGS, "max_hosts": 100})

@@ -23,6 +23,7 @@ from collections import Counter, namedtuple
 sys.dont_write_bytecode = True
 import plain
 from plain_formats import KINDS, Refused, is_word, record_of, rows_of, text
+from served import needs
 
 FIRST_SCHEMA = """
 CREATE TABLE setting (name TEXT NOT NULL PRIMARY KEY, value ANY NOT NULL) STRICT;
@@ -953,6 +954,8 @@ def heard(connection):
 
 def main():
     """Serves until it is killed, or upgrades."""
+    if len(sys.argv) < 3:
+        needs("bench/plain_tables.py", "it needs [--once] TABLES PORT, or --upgrade TABLES")
     *options, path, port = sys.argv[1:]
     if path == "--upgrade":
         upgrade(port)

@@ -1,7 +1,25 @@
-"""What the cases of `bench/serve` share: servers that run, and what is measured of them."""
+"""What the scripts of this folder share: where the built program is, servers that run, and what is measured of them."""
+import os
 import socket
 import subprocess
+import sys
 import time
+
+BUILT = os.path.join(os.path.dirname(os.path.dirname(os.path.abspath(__file__))), "crates", "bsched", "out", "bsched")
+USAGE = 64  # the status of a script that lacks what it needs
+
+
+def needs(script, what):
+    """Ends the script with one line that says what it needs."""
+    print(f"{script}: {what}", file=sys.stderr)
+    sys.exit(USAGE)
+
+
+def program_at(script, path):
+    """The path of the program, from the root. The script ends with one line if there is no program."""
+    if not os.access(path, os.X_OK) or os.path.isdir(path):
+        needs(script, f"there is no program at {path}: build it with `rt run` in crates/bsched, or say --program PATH")
+    return os.path.abspath(path)
 
 
 def free_port():
