@@ -1,9 +1,7 @@
 //! Tables of the earlier schemas, which are carried over to the newest one.
 
 use super::rows::{NEXT, lines_of, name_of};
-use super::stops::{
-    Deed, Fuses, Image, LASTING, Leaves, MOST_CALLS, TellRows, done_in, empty,
-};
+use super::stops::{Deed, Fuses, Image, LASTING, Leaves, MOST_CALLS, TellRows, done_in, empty};
 use super::stored::{WORKUNITS, filled_with, run};
 use super::{CALL_START, PROJECT, jobs, judging, lapses, replayed_over};
 use sched_tables::{OpenFault, SCHEMA_1, Tables, upgrade};
@@ -294,8 +292,14 @@ fn schema_of<S: Alter + Drop>(alloc: Global, conn: Connection<S>) -> Option<u32>
 #[test]
 fn tables_of_an_earlier_schema_are_old(rt: HostRuntime) -> Result<(), Fail> {
     let alloc = rt.alloc();
-    assert_eq!(rt; schema_of(alloc, filled_former(alloc, Former::First)?), Some(1));
-    assert_eq!(rt; schema_of(alloc, filled_former(alloc, Former::Second)?), Some(2));
+    assert_eq!(rt;
+        schema_of(alloc, filled_former(alloc, Former::First)?),
+        Some(1)
+    );
+    assert_eq!(rt;
+        schema_of(alloc, filled_former(alloc, Former::Second)?),
+        Some(2)
+    );
     let mut conn = Connection::open_in_memory(alloc)?;
     assert_eq!(rt; upgrade(alloc, &mut conn).err(), Some(OpenFault::NotTables));
     Ok(())
