@@ -1,0 +1,130 @@
+"""A clean Debian 12 in a folder, and a machine that runs in it."""
+import os
+import shutil
+import signal
+import subprocess
+import time
+from pathlib import Path
+from typing import TypeAlias
+
+SUITE = "bookworm"
+BOOT_SECONDS = 120
+CLEAN = {
+    "PATH": "/usr/sbin:/usr/bin:/sbin:/bin", "HOME": "/root", "LC_ALL": "C.UTF-8",
+    "DEBIAN_FRONTEND": "noninteractive",
+}
+Done: TypeAlias = "subprocess.CompletedProcess[str]"
+
+
+class TrialFault(Exception):
+    """Something is not as it must be."""
+
+
+def run(words: list[str], seconds: int = 60, environment: dict[str, str] | None = None) -> str:
+    """What a command prints on both outputs. A command that fails ends the trial."""
+    done = finished(words, seconds, environment)
+    if done.returncode:
+        raise TrialFault(f"{' '.join(words)}: status {done.returncode}\n{done.stdout[-3000:]}")
+    return done.stdout
+
+
+def finished(words: list[str], seconds: int = 60, environment: dict[str, str] | None = None) -> Done:
+    """How a command ended, within so many seconds."""
+    try:
+        return subprocess.run(
+            words, stdin=subprocess.DEVNULL, stdout=subprocess.PIPE, stderr=subprocess.STDOUT, text=True,
+            timeout=seconds, env=environment,
+        )
+    except subprocess.TimeoutExpired as late:
+        raise TrialFault(f"{' '.join(words)}: not done after {seconds} seconds") from late
+
+
+class Root:
+    """The folder of a clean Debian. Packages are installed into it before its machine starts."""
+
+    def __init__(self, folder: Path, mirror: str, extra: str):
+        self.path = folder / "root"
+        options = ["--quiet", "--variant=apt", f"--include={extra}"]
+        run(["mmdebstrap", *options, SUITE, str(self.path), mirror], 900)
+        shutil.copy("/etc/resolv.conf", self.path / "etc" / "resolv.conf")
+
+    def run(self, command: str, seconds: int = 60) -> str:
+        """What a shell command in the folder prints; nothing is booted for it."""
+        return run(["chroot", str(self.path), "sh", "-ec", command], seconds, CLEAN)
+
+    def packages(self) -> set[str]:
+        """The names of the installed packages."""
+        return set(self.run("dpkg-query --show --showformat='${Package}\\n'").split())
+
+
+class Machine:
+    """A machine over a root, with a network of its own: booted by systemd-nspawn, or with nothing started."""
+
+    def __init__(self, root: Root, log: Path, boots: bool):
+        self.boots = boots
+        folder = str(root.path)
+        if boots:
+            words = ["systemd-nspawn", "--quiet", f"--directory={folder}", "--boot", "--private-network",
+                     "--register=no", "--keep-unit", "--console=pipe", "--resolv-conf=off", "--timezone=off"]
+        else:
+            words = ["unshare", "--net", "--pid", "--mount", "--uts", "--ipc", "--fork", "--kill-child",
+                     "chroot", folder, "sh", "-c", "mount -t proc proc /proc && exec sleep infinity"]
+        with log.open("w") as file:
+            self.process = subprocess.Popen(words, stdin=subprocess.DEVNULL, stdout=file, stderr=file)
+        self.leader = ""
+        try:
+            self.wait_until_up()
+        except BaseException:
+            self.stop()
+            raise
+
+    def wait_until_up(self) -> None:
+        """Waits until commands can be run in it; a booted machine says that it runs."""
+        until = time.monotonic() + BOOT_SECONDS
+        while time.monotonic() < until and self.process.poll() is None:
+            time.sleep(0.5)
+            children = Path(f"/proc/{self.process.pid}/task/{self.process.pid}/children").read_text().split()
+            if children:
+                self.leader = children[-1]
+                if self.is_up():
+                    return
+        raise TrialFault("the machine does not start")
+
+    def is_up(self) -> bool:
+        """Whether it is up; without a boot its loopback is set up here."""
+        if self.boots:
+            return self.finished("systemctl is-system-running").stdout.strip() in ("running", "degraded")
+        loopback = ["nsenter", "--target", self.leader, "--net", "ip", "link", "set", "lo", "up"]
+        return finished(loopback).returncode == 0 and self.finished("test -d /proc/1").returncode == 0
+
+    def finished(self, command: str, seconds: int = 60) -> Done:
+        """How a shell command in it ended."""
+        enter = ["nsenter", "--target", self.leader, "--all", "--root", "--wd", "--"]
+        return finished([*enter, "bash", "-c", command], seconds, CLEAN)
+
+    def run(self, command: str, seconds: int = 60) -> str:
+        """What a shell command in it prints; it must end with status 0."""
+        done = self.finished(command, seconds)
+        if done.returncode:
+            raise TrialFault(f"{command}: status {done.returncode}\n{done.stdout[-3000:]}")
+        return done.stdout
+
+    def refused(self, command: str, status: int, words: str) -> str:
+        """The one line of a command that must be refused with this status and these words."""
+        done = self.finished(command)
+        line = done.stdout.strip()
+        if done.returncode != status or words not in line or "\n" in line:
+            wanted = f"{status} and one line with {words!r}"
+            raise TrialFault(f"{command}: status {done.returncode} and {line!r}, not {wanted}")
+        return line
+
+    def stop(self) -> None:
+        """Stops it with all that runs in it."""
+        if self.leader and os.path.exists(f"/proc/{self.leader}"):
+            os.kill(int(self.leader), signal.SIGKILL)
+        self.process.terminate()
+        try:
+            self.process.wait(30)
+        except subprocess.TimeoutExpired:
+            self.process.kill()
+            self.process.wait()

@@ -1,0 +1,111 @@
+"""The units of a machine: by systemd if it is booted, else each command of a unit as the unit's user."""
+import re
+import shlex
+import time
+
+from .debian import Machine, TrialFault
+
+
+class Units:
+    """What is done with units."""
+
+    def __init__(self, machine: Machine):
+        self.machine = machine
+
+    def start(self, unit: str) -> None:
+        """Starts a unit that must come up."""
+        if self.machine.boots:
+            self.machine.run(f"systemctl enable --now {unit}", 120)
+        else:
+            done, said = self.begin_by_hand(unit)
+            if not done:
+                raise TrialFault(f"{unit} does not start: {said}")
+
+    def refused(self, unit: str, words: str) -> str:
+        """The line of a unit that must not start, with these words."""
+        if self.machine.boots:
+            # systemd goes on trying, so the order is not waited for
+            self.machine.run(f"systemctl start --no-block {unit}")
+            said = self.line_in_journal(unit, words)
+            self.machine.run(f"systemctl stop {unit}")
+        else:
+            done, said = self.begin_by_hand(unit)
+            if done:
+                raise TrialFault(f"{unit} started, though it should not")
+        lines = [line for line in said.splitlines() if words in line]
+        if not lines:
+            raise TrialFault(f"{unit} says {said!r}, and not {words!r}")
+        return lines[0]
+
+    def line_in_journal(self, unit: str, words: str) -> str:
+        """What the journal has of a unit, once it has these words."""
+        said = ""
+        for _ in range(40):
+            said = self.machine.run(f"journalctl --no-pager --output=cat --unit={unit}")
+            if words in said:
+                return said
+            time.sleep(0.5)
+        return said
+
+    def stop(self, unit: str) -> None:
+        """Stops a unit."""
+        if self.machine.boots:
+            self.machine.run(f"systemctl stop {unit}")
+        else:
+            pid = self.main_pid(unit)
+            self.machine.run(f"kill {pid}; while kill -0 {pid} 2> /dev/null; do sleep 0.1; done")
+
+    def is_active(self, unit: str) -> bool:
+        """Whether a unit runs."""
+        if self.machine.boots:
+            return self.machine.finished(f"systemctl is-active {unit}").stdout.strip() == "active"
+        return self.machine.finished(f"kill -0 $(cat /run/{unit}.pid)").returncode == 0
+
+    def main_pid(self, unit: str) -> str:
+        """The number of the unit's main process."""
+        if self.machine.boots:
+            return self.machine.run(f"systemctl show --property=MainPID --value {unit}").strip()
+        return self.machine.run(f"cat /run/{unit}.pid").strip()
+
+    # ---- Without a boot
+
+    def begin_by_hand(self, unit: str) -> tuple[bool, str]:
+        """Runs a unit's commands as its user, in systemd's order. Whether it came up, and what it said."""
+        name, _, instance = unit.removesuffix(".service").partition("@")
+        keys = self.keys_of(f"{name}@.service", instance)
+        log, pid = f"/tmp/{unit}.log", f"/run/{unit}.pid"
+        user, ports, folder = keys["User"][0], keys["EnvironmentFile"][0], keys["WorkingDirectory"][0]
+        setting = f"set -a; . {ports}; set +a; cd {folder}; umask {keys['UMask'][0]}"
+        for command in keys.get("ExecStartPre", []):
+            done = self.machine.finished(f"{setting}; runuser -u {user} -- {expanded(command)}", 120)
+            if done.returncode:
+                return False, done.stdout
+        begun = f"echo $$ > {pid}; exec {expanded(keys['ExecStart'][0])}"
+        self.machine.run(
+            f"{setting}; touch {pid}; chown {user}: {pid}; "
+            f"setsid runuser -u {user} -- bash -c {shlex.quote(begun)} > {log} 2>&1 < /dev/null & sleep 1"
+        )
+        setting += f"; export MAINPID=$(cat {pid})"
+        for command in [*keys.get("ExecStartPost", []), *waits_for_notice(keys)]:
+            done = self.machine.finished(f"{setting}; runuser -u {user} -- {expanded(command)}", 120)
+            if done.returncode:
+                return False, self.machine.run(f"cat {log}")
+        return True, self.machine.run(f"cat {log}")
+
+    def keys_of(self, file: str, instance: str) -> dict[str, list[str]]:
+        """The keys of a unit file, with the name of the instance in them."""
+        text = self.machine.run(f"cat /lib/systemd/system/{file}").replace("%i", instance)
+        keys: dict[str, list[str]] = {"UMask": ["0022"]}
+        for key, value in re.findall(r"^([A-Z]\w+)=(.+)$", text, re.MULTILINE):
+            keys[key] = [*(keys.get(key, []) if key != "UMask" else []), value]
+        return keys
+
+
+def waits_for_notice(keys: dict[str, list[str]]) -> list[str]:
+    """What waits for a unit of which systemd would await the notice: its port answers."""
+    return ["/usr/libexec/bsched/wait-for-port ${BRIDGE_PORT}"] if "notify" in keys.get("Type", []) else []
+
+
+def expanded(command: str) -> str:
+    """A command of a unit file for a shell, which puts in the variables as systemd does."""
+    return " ".join(f'"{word}"' if "${" in word else shlex.quote(word) for word in shlex.split(command))
