@@ -67,6 +67,7 @@ class Application:
             "cgi": ("POST", self._scheduler),
             "get_project_config.php": ("GET", self._project_config),
             "lookup_account.php": ("GET", self._account),
+            "create_account.php": ("GET", self._creation),
             "status": ("GET", self._status),
         }
 
@@ -120,7 +121,7 @@ class Application:
         return HTML, pages.status_page(self.settings, self.statements.status())
 
     def _account(self, environ: Environ) -> tuple[str, bytes]:
-        """An account by its authenticator, which a volunteer writes where the BOINC Manager asks for an e-mail address."""
+        """An account by its authenticator, which a volunteer types as user name into the BOINC Manager."""
         said = parse_qs(environ.get("QUERY_STRING", ""))
         authenticator = (said.get("authenticator") or said.get("email_addr") or [""])[-1]
         try:
@@ -128,6 +129,10 @@ class Application:
         except NoAnswer:
             stands = None
         return XML, pages.account_page(authenticator, stands)
+
+    def _creation(self, _environ: Environ) -> tuple[str, bytes]:
+        """A client that asks for a new account is refused."""
+        return XML, pages.creation_off_page()
 
     def _scheduler(self, environ: Environ) -> tuple[str, bytes]:
         """A scheduler_request: whatever becomes of it, the client gets a scheduler_reply."""

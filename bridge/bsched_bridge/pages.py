@@ -8,8 +8,8 @@ from .client_replies import add, written
 from .settings import Settings
 from .statements import Status
 
-# BOINC's numbers of errors: nothing is found, and the project is down
-NOT_FOUND, DOWN = -136, -183
+# BOINC's numbers of errors. The Manager hangs on some others, such as -136 (nothing is found).
+WRONG_ACCOUNT, DOWN, CREATION_OFF = -155, -183, -208
 STYLE = (
     "body { font-family: sans-serif; max-width: 60em; margin: 2em auto } "
     "td, th { padding: 0.2em 1em 0.2em 0; text-align: left }"
@@ -43,11 +43,15 @@ def master_page(settings: Settings) -> bytes:
 
 
 def project_config(settings: Settings, catalogue: Catalogue) -> bytes:
-    """What a client asks for before it attaches (get_project_config.php). Accounts are made by the operator alone."""
+    """What a client asks for before it attaches (get_project_config.php). Only the operator makes accounts.
+
+    So the Manager asks for a user name, which takes an account key as it is: as an e-mail address it takes none.
+    """
     root = Element("project_config")
     add(root, "name", settings.name)
     add(root, "master_url", settings.url)
     add(root, "web_rpc_url_base", settings.url)
+    add(root, "uses_username", 1)
     add(root, "min_passwd_length", 1)
     add(root, "account_creation_disabled", 1)
     add(root, "client_account_creation_disabled", 1)
@@ -57,16 +61,28 @@ def project_config(settings: Settings, catalogue: Catalogue) -> bytes:
     return written(root)
 
 
-def account_page(authenticator: str, stands: bool | None) -> bytes:
-    """The answer to lookup_account.php; whether the account stands is not known where bsched gave no answer."""
-    if stands:
-        root = Element("account_out")
-        add(root, "authenticator", authenticator)
-    else:
-        root = Element("error")
-        add(root, "error_num", DOWN if stands is None else NOT_FOUND)
-        add(root, "error_msg", "the project is down" if stands is None else "no account has this key")
+def account_error(number: int, text: str) -> bytes:
+    """An error in answer to a message about an account. The client reads it only where the status is 200."""
+    root = Element("error")
+    add(root, "error_num", number)
+    add(root, "error_msg", text)
     return written(root)
+
+
+def account_page(authenticator: str, stands: bool | None) -> bytes:
+    """The answer to lookup_account.php; it is not known whether the account exists if bsched gave no answer."""
+    if stands is None:
+        return account_error(DOWN, "The project gives no answer at the moment. Try again later.")
+    if not stands:
+        return account_error(WRONG_ACCOUNT, "No account has this key.")
+    root = Element("account_out")
+    add(root, "authenticator", authenticator)
+    return written(root)
+
+
+def creation_off_page() -> bytes:
+    """The answer to create_account.php: only the operator makes accounts."""
+    return account_error(CREATION_OFF, "Only the project's operator makes accounts.")
 
 
 def credits_text(millicredits: int) -> str:

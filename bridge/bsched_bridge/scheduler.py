@@ -3,8 +3,8 @@ import http.client
 import json
 import logging
 import time
-from dataclasses import dataclass, field
-from typing import Any
+from dataclasses import dataclass, field, fields
+from typing import Any, NoReturn
 
 from .settings import Address
 
@@ -12,7 +12,7 @@ ATTEMPTS = 3
 PAUSE_SECONDS = 0.5  # between attempts
 UNAVAILABLE = "unavailable"
 NO_HOST = 2**31 - 1  # no host has this number: there are at most 100,000
-MOST_ANSWER = 16 * 1024 * 1024
+MOST_ANSWER = 16 * 1024 * 1024  # bytes
 
 log = logging.getLogger(__name__)
 
@@ -59,9 +59,19 @@ class Refusal:
     members: dict[str, Any] = field(default_factory=dict)
 
 
+REPLY_MEMBERS = frozenset(member.name for member in fields(Reply))
+JOB_MEMBERS = frozenset(member.name for member in fields(Job))
+
+
+def known_members(said: dict[str, Any], known: frozenset[str]) -> dict[str, Any]:
+    """The members that the bridge knows. A newer bsched may send more of them."""
+    return {name: value for name, value in said.items() if name in known}
+
+
 def read_reply(said: dict[str, Any]) -> Reply:
-    """The reply of a JSON object."""
-    return Reply(**{**said, "results": [Job(**job) for job in said["results"]]})
+    """The reply of a JSON object; a KeyError or a TypeError where a member is missing."""
+    jobs = [Job(**known_members(job, JOB_MEMBERS)) for job in said["results"]]
+    return Reply(**{**known_members(said, REPLY_MEMBERS), "results": jobs})
 
 
 class Scheduler:
@@ -76,12 +86,19 @@ class Scheduler:
         try:
             connection.request(method, path, body, fields or {})
             response = connection.getresponse()
-            told = response.read(MOST_ANSWER)
+            told = response.read(MOST_ANSWER + 1)
         except (OSError, http.client.HTTPException) as error:
             raise NoAnswer(str(error) or type(error).__name__) from None
         finally:
             connection.close()
+        if len(told) > MOST_ANSWER:
+            self._is_too_long(method, path)
         return response.status, told
+
+    def _is_too_long(self, method: str, path: str) -> NoReturn:
+        """Refuses an answer of which only a part was read."""
+        log.error("the answer of bsched to %s %s is longer than %d bytes, and is not used", method, path, MOST_ANSWER)
+        raise NoAnswer(f"an answer longer than {MOST_ANSWER} bytes")
 
     def call_once(self, body: bytes) -> Reply | Refusal:
         """The answer to a call."""

@@ -15,20 +15,44 @@ def test_the_master_page_has_both_forms(bridge):
     assert '<link rel="boinc_scheduler" href="http://127.0.0.1:8081/p/cgi">' in lines
 
 
-def test_the_pages_of_an_attach(bridge):
+# the numbers of BOINC's errors with which the Manager's wizard never ends, in an answer to a look-up
+HANGING_ERRORS = {"-136", "-161", "-205", "-206", "-204"}
+
+
+def account_answer(bridge, query):
+    """The answer to a message about an account; the client reads its body only where the status is 200."""
+    status, fields, body = bridge.got(f"/p/{query}")
+    assert (status, fields["Content-Type"]) == ("200 OK", "text/xml; charset=utf-8")
+    return ElementTree.fromstring(body)
+
+
+def test_what_a_client_asks_before_it_attaches(bridge):
     config = ElementTree.fromstring(bridge.got("/p/get_project_config.php")[2])
     assert config.findtext("name") == "Sums"
-    assert config.findtext("master_url") == "http://127.0.0.1:8081/p/"
+    assert config.findtext("master_url") == config.findtext("web_rpc_url_base") == "http://127.0.0.1:8081/p/"
     assert config.findtext("platforms/platform/platform_name") == "x86_64-pc-linux-gnu"
+    # as an e-mail address the Manager takes no account key, as a user name it takes any text
+    for member in ("uses_username", "account_creation_disabled", "client_account_creation_disabled"):
+        assert config.findtext(member) == "1"
+
+
+def test_an_account_is_looked_up_by_its_key(bridge):
     for member in ("authenticator", "email_addr"):
-        told = bridge.got(f"/p/lookup_account.php?{member}=ann-key&passwd_hash=00")[2]
-        assert ElementTree.fromstring(told).findtext("authenticator") == "ann-key"
+        told = account_answer(bridge, f"lookup_account.php?{member}=ann-key&passwd_hash=00")
+        assert told.findtext("authenticator") == "ann-key"
     for query in ("?authenticator=nobody", "?authenticator=a%20b", "?email_addr=", ""):
-        told = ElementTree.fromstring(bridge.got(f"/p/lookup_account.php{query}")[2])
-        assert (told.tag, told.findtext("error_num")) == ("error", "-136")
+        told = account_answer(bridge, f"lookup_account.php{query}")
+        assert (told.tag, told.findtext("error_num")) == ("error", "-155")
+        assert told.findtext("error_num") not in HANGING_ERRORS
     assert bridge.twin.service.machine.hosts == {}  # asking makes no host
     bridge.twin.close()
-    assert ElementTree.fromstring(bridge.got("/p/lookup_account.php?authenticator=ann-key")[2]).findtext("error_num") == "-183"
+    assert account_answer(bridge, "lookup_account.php?authenticator=ann-key").findtext("error_num") == "-183"
+
+
+def test_no_client_makes_an_account(bridge):
+    told = account_answer(bridge, "create_account.php?email_addr=a@b.example&passwd_hash=00&user_name=Ann")
+    assert (told.tag, told.findtext("error_num")) == ("error", "-208")
+    assert bridge.twin.heard == []
 
 
 def test_the_status_page(bridge):

@@ -88,6 +88,35 @@ def test_no_answer_is_a_reply_with_a_delay_and_no_loss(bridge, twin, fault):
     assert len(twin.heard) == 6
 
 
+def test_members_that_the_bridge_does_not_know_are_passed_over(bridge, twin):
+    handle = twin.service.scheduler
+
+    def newer(body, now):
+        said = json.loads(handle(body, now))
+        jobs = [{**job, "job_news": [1]} for job in said["results"]]
+        return json.dumps({**said, "results": jobs, "news": {"a": 1}})
+
+    twin.service.scheduler = newer
+    assert jobs(bridge.call(request())) == ["u1_0"]
+    assert len(twin.heard) == 1
+
+
+def test_an_answer_that_lacks_a_member_is_none(bridge, twin):
+    handle = twin.service.scheduler
+    twin.service.scheduler = lambda body, now: handle(body, now).replace('"end_word":', '"last_word":')
+    assert value(bridge.call(request()), "project_is_down") == "1"
+
+
+def test_an_answer_that_is_too_long_is_an_error(bridge, twin, monkeypatch, caplog):
+    bridge.call(request())
+    longest = max(map(len, twin.told))
+    monkeypatch.setattr("bsched_bridge.scheduler.MOST_ANSWER", longest)
+    assert names(bridge.call(request(hostid=1, reports=[("u1_0", "42")], seconds=0)), "result_ack") == ["u1_0"]
+    monkeypatch.setattr("bsched_bridge.scheduler.MOST_ANSWER", 100)
+    assert value(bridge.call(request(hostid=1)), "project_is_down") == "1"
+    assert "the answer of bsched to POST /scheduler is longer than 100 bytes" in caplog.text
+
+
 def test_bsched_that_is_not_there(bridge, twin):
     twin.close()
     assert value(bridge.call(request()), "project_is_down") == "1"
