@@ -1,7 +1,7 @@
 """A bridge between BOINC's client, which speaks XML, and the scheduler `bsched`, which speaks JSON.
 
-`docs/PROFILE.md` states the JSON side, and in its section 'Writing a bridge' what a bridge does with each element.
-`bridge/README.md` tells how to run it and how to write an application.
+`docs/PROFILE.md` states the JSON side, and in its section 'Writing a bridge' what a bridge does with each
+element. `bridge/README.md` tells how to run it and how to write an application.
 
 A request goes through these modules, in this order:
 
@@ -14,6 +14,6 @@ scheduler        the connection to bsched, and what its answers say
 client_replies   the XML of a reply
 catalogue        files, command lines and signatures, as the operator wrote them
 
-Beside these are settings, operator_files (TOML with the lines of its faults), code_signing, key_locks, words, and for people
-pages and statements.
+Beside these are settings, operator_files (TOML with the lines of its faults), code_signing, key_locks, words,
+and for people pages and statements.
 """

@@ -19,3 +19,8 @@ def cut_to_bytes(text: str, most: int) -> str:
 def xml_text(text: str) -> str:
     """A text in which each character that can't stand in XML is U+FFFD."""
     return NO_XML.sub("\ufffd", text)
+
+
+def shown_key(authenticator: str) -> str:
+    """The front of an account key, by which an operator finds the account, and nobody else gets into it."""
+    return authenticator[: min(6, len(authenticator) // 2)] + ".."

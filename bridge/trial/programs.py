@@ -33,7 +33,9 @@ def listens(port: int) -> bool:
 class Program:
     """A program that runs, writes to a log, and can be killed and started again."""
 
-    def __init__(self, name: str, words: list[str], folder: Path, port: int, environment: dict[str, str] | None = None):
+    def __init__(
+        self, name: str, words: list[str], folder: Path, port: int, environment: dict[str, str] | None = None
+    ):
         self.name, self.words, self.folder, self.port = name, words, folder, port
         self.environment = {**os.environ, **(environment or {})}
         self.process: subprocess.Popen | None = None
@@ -41,7 +43,9 @@ class Program:
     def start(self) -> None:
         """Starts it, and waits until it listens."""
         with (self.folder / f"{self.name}.log").open("ab") as log:
-            self.process = subprocess.Popen(self.words, cwd=self.folder, env=self.environment, stdout=log, stderr=log)
+            self.process = subprocess.Popen(
+                self.words, cwd=self.folder, env=self.environment, stdout=log, stderr=log
+            )
         for _ in range(300):
             if listens(self.port):
                 return
@@ -69,13 +73,17 @@ class Scheduler(Program):
         """What an order prints."""
         told = subprocess.run([self.program, *words], cwd=self.folder, capture_output=True, text=True)
         if told.returncode:
-            raise TrialFault(f"bsched {' '.join(words)}: status {told.returncode}, {told.stdout}{told.stderr}")
+            raise TrialFault(
+                f"bsched {' '.join(words)}: status {told.returncode}, {told.stdout}{told.stderr}"
+            )
         return told.stdout
 
     def asked(self, path: str, body: str | None = None) -> str:
         """The answer to an operator's message."""
         message = urllib.request.Request(
-            f"http://127.0.0.1:{self.port}{path}", None if body is None else body.encode(), {"x-operator-key": self.operator_key}
+            f"http://127.0.0.1:{self.port}{path}",
+            None if body is None else body.encode(),
+            {"x-operator-key": self.operator_key},
         )
         with urllib.request.urlopen(message, timeout=30) as response:
             return response.read().decode()
@@ -91,12 +99,19 @@ class Bridge(Program):
 
     def __init__(self, folder: Path, port: int):
         words = [sys.executable, "-m", "bsched_bridge", "--config", "bridge.toml"]
-        super().__init__("bridge", words, folder, port, {"PYTHONPATH": str(BRIDGE), "PYTHONDONTWRITEBYTECODE": "1"})
+        super().__init__(
+            "bridge", words, folder, port, {"PYTHONPATH": str(BRIDGE), "PYTHONDONTWRITEBYTECODE": "1"}
+        )
 
     def order(self, *words: str) -> str:
         """What an order prints."""
         return subprocess.run(
-            [*self.words[:3], *words], cwd=self.folder, env=self.environment, check=True, capture_output=True, text=True
+            [*self.words[:3], *words],
+            cwd=self.folder,
+            env=self.environment,
+            check=True,
+            capture_output=True,
+            text=True,
         ).stdout
 
 
@@ -135,14 +150,18 @@ class Client(Program):
         return dict(re.findall(r"^   name: (\S+)$.*?^   state: ([^\n]*)$", told, re.MULTILINE | re.DOTALL))
 
     def downloads(self) -> bool:
-        """Whether files of a task are on their way. What breaks off is tried again minutes later, and no job is asked for till then."""
+        """Whether files of a task are on their way. What breaks off is tried again minutes later, and no job
+        is asked for till then.
+        """
         return any(state in ("new", "downloading") for state in self.tasks().values())
 
     def rename(self, host_cpid: str) -> None:
         """Stops the client, and starts it again with another host_cpid."""
         self.kill()
         state = self.home / "client_state.xml"
-        state.write_text(re.sub("<host_cpid>.*?</host_cpid>", f"<host_cpid>{host_cpid}</host_cpid>", state.read_text()))
+        state.write_text(
+            re.sub("<host_cpid>.*?</host_cpid>", f"<host_cpid>{host_cpid}</host_cpid>", state.read_text())
+        )
         self.start()
 
     def log(self) -> str:
