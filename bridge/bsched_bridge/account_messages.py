@@ -14,7 +14,7 @@ from .http_messages import NO_STORE, XML, Answer, Environ, has_method, is_of_no_
 from .limits import is_loopback, network_of
 from .scheduler import NoAnswer, Scheduler
 from .settings import Settings
-from .words import is_word
+from .words import in_small_letters, is_word
 
 # characters; the server gets a hash, so only the Manager and the page for passwords look at it
 LEAST_PASSWORD = 6
@@ -107,7 +107,7 @@ class AccountMessages:
         """The key of a new account."""
         if self.accounts is None:
             raise AccountFault(Fault.NO_CREATION)
-        email, secret = told.get("email_addr", "").lower(), told.get("passwd_hash", "").lower()
+        email, secret = in_small_letters(told.get("email_addr", "")), told.get("passwd_hash", "").lower()
         has_consent = told.get("consent_flag") == "1"
         return self.accounts.create(
             email, secret, told.get("user_name", ""), has_consent, self.client(environ)
@@ -121,7 +121,7 @@ class AccountMessages:
         if self.accounts is None or is_word(name):
             return self._known_key(name)
         return self.accounts.look_up(
-            name.lower(), told.get("passwd_hash", "").lower(), self.client(environ)
+            in_small_letters(name), told.get("passwd_hash", "").lower(), self.client(environ)
         ).authenticator
 
     def _known_key(self, authenticator: str) -> str:

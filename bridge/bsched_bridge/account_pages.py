@@ -3,7 +3,7 @@
 There are no cookies. Each form sends the key or the password that it needs, so no other page can use its
 visitors.
 """
-from dataclasses import dataclass, field
+from dataclasses import dataclass, field, replace
 
 from .account_messages import LEAST_PASSWORD, client_of
 from .accounts import AccountFault, Accounts, Fault, clean_name, is_email
@@ -14,6 +14,7 @@ from .passwords import client_hash
 from .settings import Settings
 from .statements import HostStatus, Statements
 from .texts import credits_text, moment_text
+from .words import in_small_letters
 
 BACK = ((".", "The project"), ("status", "How the project stands"))
 MOST_PASSWORD = 1000  # characters
@@ -112,7 +113,7 @@ class AccountPages:
         member = self.accounts.of_key(query_of(environ).get("auth", ""))
         if member is None:
             return self._entrance(Form(faults={"key": Fault.WRONG_KEY.text}), 404)
-        return self._account(member, "")
+        return self._account(member)
 
     def account(self, environ: Environ) -> Answer:
         """The way to an account, by its key or by address and password."""
@@ -122,18 +123,17 @@ class AccountPages:
         sent, client = Form(form_of(environ)), client_of(environ, self._field)
         try:
             if "key" in sent.told:
-                return self._account(self.accounts.of_owner(sent.text("key"), client), "")
-            email = sent.text("email").lower()
-            return self._account(
-                self.accounts.look_up(email, client_hash(sent.told.get("password", ""), email), client), ""
-            )
+                return self._account(self.accounts.of_owner(sent.text("key"), client))
+            email = in_small_letters(sent.text("email"))
+            told = client_hash(sent.told.get("password", ""), email)
+            return self._account(self.accounts.look_up(email, told, client))
         except AccountFault as fault:
             sent.faults["key" if "key" in sent.told else "password"] = fault.fault.text
             return self._entrance(sent)
 
     def _entrance(self, sent: Form, status: int = 200) -> Answer:
         """The page that asks for an account."""
-        email = Input("email", EMAIL.label, EMAIL.kind, sent.text("email"), complete=EMAIL.complete)
+        email = replace(EMAIL, value=sent.text("email"))
         return page(
             f"{self.settings.name}: your account",
             element("h2", "With your e-mail address"),
@@ -156,15 +156,16 @@ class AccountPages:
             member = self.accounts.of_owner(sent.text("key"), client)
             if not name:
                 sent.faults["name"] = "Give a name."
-                return self._account(member, "", sent)
+                return self._account(member, sent=sent)
             self.accounts.members.changed(member, name, sent.text("is_exported") == "1")
         except AccountFault as fault:
             return self._entrance(Form(faults={"key": fault.fault.text}))
         member = self.accounts.of_key(member.authenticator) or member
         return self._account(member, "Your changes are saved.")
 
-    def _account(self, member: Member, done: str, sent: Form = Form()) -> Answer:
+    def _account(self, member: Member, done: str = "", sent: Form | None = None) -> Answer:
         """The page of an account."""
+        sent = sent or Form()
         hosts = self.statements.of_account(member.authenticator)
         name = Input(
             "name", "Name", value=sent.told.get("name", member.name), note="Everybody can see it.", most=64
@@ -182,8 +183,7 @@ class AccountPages:
             element(
                 "p",
                 "Who has the key has the account, so show it to nobody. BOINC keeps it for you. To add "
-                "another computer, "
-                "give BOINC there the same e-mail address and password.",
+                "another computer, give BOINC there the same e-mail address and password.",
                 class_="note",
             ),
             element("h2", "Credit"),
@@ -210,7 +210,7 @@ class AccountPages:
         if environ["REQUEST_METHOD"] != "POST":
             return self._password_form(Form())
         sent, client = Form(form_of(environ)), client_of(environ, self._field)
-        email, password = sent.text("email").lower(), sent.told.get("password", "")
+        email, password = in_small_letters(sent.text("email")), sent.told.get("password", "")
         if not is_email(email):
             sent.faults["email"] = Fault.NO_ADDRESS.text
         if not LEAST_PASSWORD <= len(password) <= MOST_PASSWORD:
@@ -232,8 +232,8 @@ class AccountPages:
 
     def _password_form(self, sent: Form) -> Answer:
         """The page that asks for a new password."""
-        email = Input("email", EMAIL.label, EMAIL.kind, sent.text("email"), complete=EMAIL.complete)
-        key = Input("key", KEY.label, value=sent.text("key"), note=KEY.note, most=KEY.most)
+        email = replace(EMAIL, value=sent.text("email"))
+        key = replace(KEY, value=sent.text("key"))
         return page(
             f"{self.settings.name}: your password",
             element("p", "Your account key shows that the account is yours. This project sends no e-mail."),

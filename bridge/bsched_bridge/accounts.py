@@ -215,11 +215,12 @@ class Accounts:
 
     def _new_row(self, email: str, told: str, name: str, has_consent: bool) -> Member:
         """The row of a new account, within the limit of a day."""
-        secret = self.passwords.new_secret(told)
         chosen = (clean_name(name) if self.settings.is_name_told else "") or made_name()
-        most = self.settings.most_a_day
+        now, most = int(time.time()), self.settings.most_a_day
         try:
-            return self.members.insert(email, secret, chosen, has_consent, int(time.time()), most)
+            if self.members.is_day_full(now, most):  # before the work of a hash; the row is counted once more
+                raise DayIsFull
+            return self.members.insert(email, self.passwords.new_secret(told), chosen, has_consent, now, most)
         except DayIsFull:
             log.warning("%d accounts were made in 24 hours, so no more are made now", most)
             raise AccountFault(Fault.DAY_FULL) from None

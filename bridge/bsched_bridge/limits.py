@@ -2,7 +2,7 @@
 import ipaddress
 import threading
 import time
-from collections import OrderedDict, deque
+from collections import OrderedDict
 from collections.abc import Callable, Hashable
 
 MOST_KEYS = 100_000
@@ -18,15 +18,15 @@ class RecentCounts:
     def __init__(self, most: int, seconds: float, clock: Callable[[], float] = time.monotonic):
         self.most, self.seconds, self.clock = most, seconds, clock
         self._lock = threading.Lock()
-        self._times: OrderedDict[Hashable, deque[float]] = OrderedDict()
+        self._times: OrderedDict[Hashable, list[float]] = OrderedDict()
 
     def take(self, key: Hashable) -> bool:
         """Counts one more of a key, if it has not done as much as it may."""
         with self._lock:
             now = self.clock()
-            times = self._times.setdefault(key, deque())
+            times = self._times.setdefault(key, [])
             while times and times[0] <= now - self.seconds:
-                times.popleft()
+                times.pop(0)
             if len(times) >= self.most:
                 return False
             times.append(now)

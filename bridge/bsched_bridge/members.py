@@ -6,7 +6,7 @@ which are known once a host of theirs was heard.
 import secrets
 import sqlite3
 from collections.abc import Iterator
-from dataclasses import dataclass
+from dataclasses import dataclass, replace
 from typing import cast
 
 from .passwords import Secret
@@ -16,6 +16,12 @@ COLUMNS = (
     "id, authenticator, email, salt, secret, cost, name, batch, is_imported, cpid, consent_at, is_exported, "
     "created_at"
 )
+INSERT = (
+    "INSERT INTO member (authenticator, email, salt, secret, cost, name, batch, cpid, consent_at, "
+    "created_at, is_imported) VALUES (?, ?, ?, ?, ?, ?, ?, ?, ?, ?, 0)"
+)
+# rows of the operator's accounts have no batch
+MADE_SINCE = "SELECT count(*) FROM member WHERE batch IS NOT NULL AND created_at > ?"
 DAY = 86400
 
 
@@ -122,38 +128,45 @@ class Members:
 
     # ---- Making an account
 
+    def is_day_full(self, now: int, most_a_day: int) -> bool:
+        """Whether as many accounts as may be were made in the last 24 hours; the operator's don't count."""
+        row = self.file.row(MADE_SINCE, now - DAY)
+        return row is not None and cast(int, row[0]) >= most_a_day
+
     def insert(
         self, email: str, secret: Secret, name: str, has_consent: bool, now: int, most_a_day: int
     ) -> Member:
         """A new account with a key of its own; it is on the disk before it is given, and not yet imported."""
-        authenticator = secrets.token_hex(16)
+        member = Member(
+            id=0,
+            authenticator=secrets.token_hex(16),
+            email=email,
+            secret=secret,
+            name=name,
+            batch=new_batch_name(),
+            is_imported=False,
+            cpid=secrets.token_hex(16),
+            consent_at=now if has_consent else None,
+            is_exported=False,
+            created_at=now,
+        )
+        values = (
+            member.authenticator,
+            email,
+            secret.salt,
+            secret.digest,
+            secret.cost,
+            name,
+            member.batch,
+            member.cpid,
+            member.consent_at,
+            now,
+        )
         with self.file.transaction() as connection:
-            # rows of the operator's accounts have no batch, and don't count
-            made = connection.execute(
-                "SELECT count(*) FROM member WHERE batch IS NOT NULL AND created_at > ?", (now - DAY,)
-            ).fetchone()[0]
-            if made >= most_a_day:
+            if connection.execute(MADE_SINCE, (now - DAY,)).fetchone()[0] >= most_a_day:
                 raise DayIsFull
-            connection.execute(
-                "INSERT INTO member (authenticator, email, salt, secret, cost, name, batch, is_imported, "
-                "cpid, consent_at, "
-                "created_at) VALUES (?, ?, ?, ?, ?, ?, ?, 0, ?, ?, ?)",
-                (
-                    authenticator,
-                    email,
-                    secret.salt,
-                    secret.digest,
-                    secret.cost,
-                    name,
-                    new_batch_name(),
-                    secrets.token_hex(16),
-                    now if has_consent else None,
-                    now,
-                ),
-            )
-        member = self.of_key(authenticator)
-        assert member is not None
-        return member
+            cursor = connection.execute(INSERT, values)
+        return replace(member, id=cast(int, cursor.lastrowid))
 
     def imported(self, member: Member) -> None:
         """bsched has the account. It need not be synced: if this is lost, one more equal import follows."""

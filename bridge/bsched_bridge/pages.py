@@ -149,7 +149,7 @@ def users_markup(status: Status, environ: Environ) -> list[Markup]:
     ]
     return [
         element("h2", "Users"),
-        element("p", f"{len(status.ranking)} users have computers that called."),
+        element("p", f"Users with computers that called: {len(status.ranking)}."),
         table(["place", "user", "credit"], rows),
         element("p", *(joined(turn, " ") for turn in turns)) if turns else Markup(""),
     ]
@@ -185,9 +185,7 @@ def hosts_markup(status: Status) -> list[Markup]:
     return [
         element("h2", "Computers"),
         element(
-            "p",
-            f"{status.count_of_hosts} computers have called; these are the {len(recent.hosts)} that called "
-            "last.",
+            "p", f"Computers that called: {status.count_of_hosts}. The last {len(recent.hosts)} of them:"
         ),
         table(header, rows),
         *(element("p", note, class_="note") for note in notes),

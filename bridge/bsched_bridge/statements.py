@@ -7,7 +7,7 @@ import json
 import threading
 import time
 from collections import Counter, OrderedDict
-from dataclasses import dataclass
+from dataclasses import dataclass, replace
 from decimal import Decimal, InvalidOperation
 from pathlib import Path
 
@@ -155,8 +155,9 @@ class Statements:
 
     def _read(self) -> Status:
         """Reads how the project stands."""
-        recent = self._hosts(self.counts.heard_hosts(MOST_HOSTS))
         names = self.members.names()
+        heard = self.counts.heard_hosts(MOST_HOSTS)
+        recent = self._hosts([replace(host, user_name=names.get(host.authenticator, "?")) for host in heard])
         ranking = [(names.get(key, "?"), credit) for key, credit in self.counts.user_credits()]
         return Status(
             recent, self.counts.count_of_hosts(), sorted(ranking, key=lambda user: (-user[1], user[0])),

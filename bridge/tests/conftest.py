@@ -11,7 +11,8 @@ sys.dont_write_bytecode = True
 BRIDGE = Path(__file__).resolve().parent.parent
 sys.path[:0] = [str(BRIDGE), str(BRIDGE.parent / "bench"), str(BRIDGE / "tests")]
 
-if os.access("/dev/shm", os.W_OK):  # the tests stop programs, and never the power, so no sync has to reach a disk
+# the tests stop programs and never the power, so nothing need reach a disk
+if os.access("/dev/shm", os.W_OK):
     os.environ.setdefault("PYTEST_DEBUG_TEMPROOT", "/dev/shm")
 hypothesis.configuration.set_hypothesis_home_dir(BRIDGE / ".pytest_cache" / "hypothesis")
 

@@ -381,6 +381,24 @@ def test_two_hashes_at_once_and_few_that_wait(monkeypatch):
     passwords.new_secret("0" * 32)
 
 
+def test_what_is_refused_takes_no_hash(project, open_bridge, monkeypatch):
+    create(open_bridge)
+    text = (project / "bridge.toml").read_text().replace("most_a_day = 50", "most_a_day = 1")
+    (project / "bridge.toml").write_text(text)
+    open_bridge.restart()
+    monkeypatch.setattr("bsched_bridge.passwords.scrypt", lambda *_words: 1 // 0)
+    assert create(open_bridge, "bob@sums.example") == -208
+    for number in range(10):
+        open_bridge.application.accounts._wrong.take(("client", CLIENT))
+    assert create(open_bridge) == look_up(open_bridge) == -183
+
+
+def test_letters_are_made_small_as_the_client_does_it(open_bridge):
+    key = create(open_bridge, "É@sums.example")  # as the client sends what was written É@Sums.example
+    assert look_up(open_bridge, "É@sums.example") == key
+    assert rows(open_bridge)[0][0] == "É@sums.example"
+
+
 def test_a_bridge_that_is_busy(open_bridge, monkeypatch):
     def busy(*_words):
         raise TooBusy

@@ -82,7 +82,7 @@ def test_users_of_one_name_are_two(bridge):
 
 
 def test_the_status_page_of_no_hosts(bridge):
-    assert "0 users have computers" in bridge.got("/p/status")[2].decode()
+    assert "Users with computers that called: 0." in bridge.got("/p/status")[2].decode()
 
 
 def test_the_status_page_without_statements(bridge):

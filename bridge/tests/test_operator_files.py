@@ -88,8 +88,8 @@ SETTINGS_FAULTS = [
     ('"bridge.db"', '"bridge.db"\n[accounts]\nmost_a_day = 0', 9, "most_a_day is not within 1 to 10000"),
     ('"bridge.db"', '"bridge.db"\n[accounts]\nmost_a_day = 1\nnames = "any"', 10, 'names is not "told" or'),
     ('"bridge.db"', '"bridge.db"\n[accounts]\nmost_a_day = 1\nname = "told"', 10, "name is not known here"),
-    ('"bridge.db"', '"bridge.db"\n[accounts]\nmost_a_day = 1\nterms = "none"', 10, "terms: .* does not stand"),
-    ('"bridge.db"', '"bridge.db"\n[accounts]\nmost_a_day = 1\naddress_field = "X Y"', 10, "address_field is no"),
+    ('"bridge.db"', '"bridge.db"\n[accounts]\nmost_a_day = 1\nterms = "none"', 10, "does not stand"),
+    ('"bridge.db"', '"bridge.db"\n[accounts]\nmost_a_day = 1\naddress_field = "X Y"', 10, "is no name of"),
     (
         '"bridge.db"', '"bridge.db"\n[accounts]\nmost_a_day = 1\naddress_field = "x-forwarded-for"', 10,
         "address_field: a client can write into",

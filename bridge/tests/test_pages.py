@@ -182,7 +182,8 @@ def test_a_name_and_consent_are_changed(open_bridge):
     assert (member.name, member.is_exported) == ("Ann <A>", True)
     reply = open_bridge.call(request(key=key, cpid="c1")).decode()
     assert "<user_name>Ann &lt;A&gt;</user_name>" in reply
-    assert "Ann &lt;A&gt;" in open_bridge.got("/p/status")[2].decode()
+    shown = open_bridge.got("/p/status")[2].decode()
+    assert shown.count("<td>Ann &lt;A&gt;</td>") == 2  # as user, and of the host
     posted(open_bridge, "account_finish.php", key=key, name="Ann")
     assert open_bridge.members.of_key(key).is_exported is False
 
@@ -310,8 +311,8 @@ def test_a_ranking_of_all_users(open_bridge, twin):
             )
     page = page_of(open_bridge.got("/p/status"))
     assert (
-        "130 users have computers that called." in page.text
-        and "these are the 50 that called last" in page.text
+        "Users with computers that called: 130." in page.text
+        and "Computers that called: 130. The last 50 of them:" in page.text
     )
     assert "User 129" in page.text and "User 030" in page.text and "User 029" not in page.text
     assert page.links == ["status?page=2", "."]

@@ -13,7 +13,9 @@ BRIDGE = Path(__file__).resolve().parent.parent
 CLIENT_OPTIONS = ["--allow_multiple_clients", "--skip_cpu_benchmarks", "--no_gpus", "--no_info_fetch"]
 CLIENT_CONFIG = """\
 <cc_config>
-<log_flags><sched_ops>1</sched_ops><task>1</task><file_xfer>1</file_xfer><sched_op_debug>1</sched_op_debug></log_flags>
+<log_flags>
+<sched_ops>1</sched_ops><task>1</task><file_xfer>1</file_xfer><sched_op_debug>1</sched_op_debug>
+</log_flags>
 <options><ncpus>2</ncpus></options>
 </cc_config>
 """
@@ -53,6 +55,10 @@ class Program:
                 break
             time.sleep(0.1)
         raise TrialFault(f"{self.name} does not start, see {self.folder / self.name}.log")
+
+    def log(self) -> str:
+        """What it told."""
+        return (self.folder / f"{self.name}.log").read_text(errors="replace")
 
     def kill(self) -> None:
         """Kills it with no time to do anything."""
@@ -126,6 +132,7 @@ class Client(Program):
         words = ["boinc", "--dir", str(self.home), "--gui_rpc_port", str(port), *CLIENT_OPTIONS]
         super().__init__(name, words, folder, port)
         self.authenticator, self.url = authenticator, url
+        self.said = ""  # what boinccmd printed about an account
 
     def command(self, *words: str) -> str:
         """What boinccmd prints."""
@@ -139,6 +146,26 @@ class Client(Program):
     def attach(self) -> None:
         """Attaches the client to the project."""
         self.command("--project_attach", self.url, self.authenticator)
+
+    def create_account(self, email: str, password: str, name: str) -> str | None:
+        """Makes an account at the project; its key, or none where it gets none."""
+        return self._account_key("--create_account", self.url, email, password, name)
+
+    def look_up(self, email: str, password: str) -> str | None:
+        """Looks an account up; its key, or none."""
+        return self._account_key("--lookup_account", self.url, email, password)
+
+    def _account_key(self, *words: str) -> str | None:
+        """The key that boinccmd prints."""
+        self.said = self.command(*words)
+        found = re.search(r"account key: (\S+)", self.said)
+        return found[1] if found else None
+
+    def credit(self) -> float:
+        """The credit of this machine at the project, as the client shows it."""
+        told = self.command("--get_project_status").partition(f"master URL: {self.url}\n")[2]
+        found = re.search(r"host_total_credit: (\S+)", told)
+        return float(found[1]) if found else 0.0
 
     def update(self) -> None:
         """Has the client call its project as soon as it can."""
@@ -163,7 +190,3 @@ class Client(Program):
             re.sub("<host_cpid>.*?</host_cpid>", f"<host_cpid>{host_cpid}</host_cpid>", state.read_text())
         )
         self.start()
-
-    def log(self) -> str:
-        """What the client told."""
-        return (self.folder / f"{self.name}.log").read_text(errors="replace")
