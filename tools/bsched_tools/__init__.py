@@ -1,0 +1,10 @@
+"""Tools for the operator of a project: copies while it serves, results, statistics, counts, and what is
+wrong.
+
+All but `copy` and `doctor` read a copy of the tables. Nothing here writes the tables. A module for each noun:
+
+holders, stopping     which process has the tables, and how it stands still for a moment
+taking, copies        the bytes of the tables at one moment, and a folder of copies
+copying               how a copy is made of these
+schemas, tables       the tables in a copy, opened for reading
+"""

@@ -1,0 +1,85 @@
+"""The command line of the tools."""
+import argparse
+import os
+import signal
+import sys
+from pathlib import Path
+from types import FrameType
+from typing import NoReturn
+
+from .copying import copy_tables
+from .faults import Fault
+
+FAULT, BAD_COMMAND_LINE = 1, 64
+NAME = "bsched-tools"
+
+
+class CommandLine(argparse.ArgumentParser):
+    """A parser that ends with the status of bsched for a bad command line."""
+
+    def error(self, message: str) -> NoReturn:
+        """Says what is wrong."""
+        self.print_usage(sys.stderr)
+        self.exit(BAD_COMMAND_LINE, f"{NAME}: {message}\n")
+
+
+def count(text: str) -> int:
+    """A whole number from 1."""
+    if not (text.isascii() and text.isdigit()) or int(text) < 1:
+        raise argparse.ArgumentTypeError(f"{text} is not a whole number from 1")
+    return int(text)
+
+
+def words() -> argparse.ArgumentParser:
+    """The command line."""
+    parser = CommandLine(prog=NAME, description="Tools for the operator of a project of bsched.")
+    commands = parser.add_subparsers(dest="command", metavar="COMMAND", required=True)
+    copy = commands.add_parser("copy", help="copies the tables while a program serves them")
+    copy.add_argument("--tables", type=Path, required=True, metavar="F", help="the tables of the project")
+    copy.add_argument("--to", type=Path, required=True, metavar="G", help="a folder of copies, or a new file")
+    copy.add_argument("--keep", type=count, metavar="N", help="keeps so many copies, and removes older ones")
+    copy.add_argument("--check", type=Path, metavar="PROGRAM", help="has this bsched open the copy, too")
+    return parser
+
+
+def copy(told: argparse.Namespace) -> None:
+    """Copies the tables, and says how long serving stood still."""
+    copied = copy_tables(told.tables, told.to, told.keep, told.check)
+    still = "nobody had the tables"
+    if copied.still_seconds is not None:
+        still = f"serving stood still for {copied.still_seconds * 1000:.0f} milliseconds"
+    print(f"{copied.path}: {copied.size} bytes, {still}")
+    for path in copied.removed:
+        print(f"removed {path}")
+
+
+COMMANDS = {"copy": copy}
+
+
+def end_by_signal(number: int, _frame: FrameType | None) -> NoReturn:
+    """A signal to end: what was begun is put away first."""
+    raise Fault(f"ended by {signal.Signals(number).name}")
+
+
+def main() -> int:
+    """Does what the command line says; the status."""
+    told = words().parse_args()
+    for number in (signal.SIGINT, signal.SIGTERM, signal.SIGHUP):
+        signal.signal(number, end_by_signal)
+    try:
+        COMMANDS[told.command](told)
+        sys.stdout.flush()
+    except Fault as fault:
+        print(f"{NAME}: {fault}", file=sys.stderr)
+        return FAULT
+    except OSError as error:
+        where = f"{error.filename}: " if error.filename else "standard output: "
+        print(f"{NAME}: {where}{error.strerror}", file=sys.stderr)
+        # what could not be written is not tried again at the end
+        os.dup2(os.open(os.devnull, os.O_WRONLY), 1)
+        return FAULT
+    return 0
+
+
+if __name__ == "__main__":
+    sys.exit(main())
