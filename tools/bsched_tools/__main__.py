@@ -3,12 +3,14 @@ import argparse
 import os
 import signal
 import sys
+from io import TextIOWrapper
 from pathlib import Path
 from types import FrameType
 from typing import NoReturn
 
 from .copying import copy_tables
 from .faults import Fault
+from .results import write_results
 
 FAULT, BAD_COMMAND_LINE = 1, 64
 NAME = "bsched-tools"
@@ -39,7 +41,21 @@ def words() -> argparse.ArgumentParser:
     copy.add_argument("--to", type=Path, required=True, metavar="G", help="a folder of copies, or a new file")
     copy.add_argument("--keep", type=count, metavar="N", help="keeps so many copies, and removes older ones")
     copy.add_argument("--check", type=Path, metavar="PROGRAM", help="has this bsched open the copy, too")
+    results = commands.add_parser("results", help="the results of workunits that are done or have failed")
+    add_copies(results)
+    results.add_argument("--json", action="store_true", help="lines of JSON, and not comma-separated values")
+    begin = results.add_mutually_exclusive_group()
+    begin.add_argument("--after", metavar="NAME", help="only workunits that were imported after this one")
+    begin.add_argument("--cursor", type=Path, metavar="FILE", help="only what was not given out before")
     return parser
+
+
+def add_copies(parser: argparse.ArgumentParser) -> None:
+    """The option that names the tables which are read."""
+    parser.add_argument(
+        "--tables", type=Path, required=True, nargs="+", metavar="COPY",
+        help="copies of the tables, or folders of copies, of which the newest one is read",
+    )
 
 
 def copy(told: argparse.Namespace) -> None:
@@ -53,7 +69,12 @@ def copy(told: argparse.Namespace) -> None:
         print(f"removed {path}")
 
 
-COMMANDS = {"copy": copy}
+def results(told: argparse.Namespace) -> None:
+    """Writes results to standard output."""
+    write_results(told.tables, told.json, told.after, told.cursor)
+
+
+COMMANDS = {"copy": copy, "results": results}
 
 
 def end_by_signal(number: int, _frame: FrameType | None) -> NoReturn:
@@ -66,6 +87,8 @@ def main() -> int:
     told = words().parse_args()
     for number in (signal.SIGINT, signal.SIGTERM, signal.SIGHUP):
         signal.signal(number, end_by_signal)
+    if isinstance(sys.stdout, TextIOWrapper):
+        sys.stdout.reconfigure(encoding="utf-8", newline="")
     try:
         COMMANDS[told.command](told)
         sys.stdout.flush()

@@ -27,7 +27,7 @@ def merge(path: Path) -> None:
         busy, *_ = connection.execute("PRAGMA wal_checkpoint(TRUNCATE)").fetchone()
     if busy or tables.log_size(path):
         raise Fault("its log could not be moved into the file: another program has it")
-    path.with_name(f"{path.name}-wal").unlink(missing_ok=True)
+    tables.log_of(path).unlink(missing_ok=True)
 
 
 def check_whole(path: Path) -> None:

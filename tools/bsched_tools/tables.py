@@ -103,16 +103,21 @@ def check_file(path: Path) -> None:
         raise Fault(f"{path}: it is cut off: it has {size} of {whole} bytes: take another copy")
 
 
+def log_of(path: Path) -> Path:
+    """The name of the log beside a file."""
+    return path.with_name(f"{path.name}-wal")
+
+
 def log_size(path: Path) -> int:
     """The size of the log beside a file; 0 if there is none."""
-    log = path.with_name(f"{path.name}-wal")
+    log = log_of(path)
     return log.stat().st_size if log.exists() else 0
 
 
 def connected(path: Path) -> sqlite3.Connection:
     """A connection that only reads. Each program that works on tables makes a log beside them: a file without
     one is written by nobody. Then SQLite takes no lock and leaves nothing beside it."""
-    mode = "mode=ro" if log_size(path) else "mode=ro&immutable=1"
+    mode = "mode=ro" if log_of(path).exists() else "mode=ro&immutable=1"
     name = quote(str(path.absolute()))
     return sqlite3.connect(f"file:{name}?{mode}", uri=True, timeout=BUSY_SECONDS, isolation_level=None)
 

@@ -32,7 +32,7 @@ def make_tables(path, units=20, users=4, settings=SETTINGS):
     service.imported("apps", "b1", "name,agreement\ndock,exact\nfold,within:2\n")
     service.imported("versions", "b1", "app,platform,version_num\ndock,linux,1\nfold,linux,2\n")
     rows = "".join(f"w{n},dock,{LIMITS}\n" for n in range(1, units + 1))
-    service.imported("workunits", "b1", f"{WORKUNITS}\n{rows}".replace(",marked", ""))
+    service.imported("workunits", "b1", f"{WORKUNITS}\n{rows}")
     tables.connection.close()
     return path
 
