@@ -7,4 +7,7 @@ holders, stopping     which process has the tables, and how it stands still for 
 taking, copies        the bytes of the tables at one moment, and a folder of copies
 copying               how a copy is made of these
 schemas, tables       the tables in a copy, opened for reading
+workunits             what became of a workunit, by the rules of docs/PROFILE.md
+results, cursors      the results of workunits, and which were given out before
+counts                how many there are of each thing
 """

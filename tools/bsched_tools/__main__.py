@@ -9,6 +9,7 @@ from types import FrameType
 from typing import NoReturn
 
 from .copying import copy_tables
+from .counts import as_json, as_lines, as_metrics, counted
 from .faults import Fault
 from .results import write_results
 
@@ -47,6 +48,11 @@ def words() -> argparse.ArgumentParser:
     begin = results.add_mutually_exclusive_group()
     begin.add_argument("--after", metavar="NAME", help="only workunits that were imported after this one")
     begin.add_argument("--cursor", type=Path, metavar="FILE", help="only what was not given out before")
+    counts = commands.add_parser("counts", help="how many there are of each thing, and how much room is left")
+    add_copies(counts)
+    form = counts.add_mutually_exclusive_group()
+    form.add_argument("--json", action="store_true", help="one line of JSON")
+    form.add_argument("--prometheus", action="store_true", help="the text format of Prometheus")
     return parser
 
 
@@ -74,7 +80,14 @@ def results(told: argparse.Namespace) -> None:
     write_results(told.tables, told.json, told.after, told.cursor)
 
 
-COMMANDS = {"copy": copy, "results": results}
+def counts(told: argparse.Namespace) -> None:
+    """Prints the counts."""
+    form = as_json if told.json else as_metrics if told.prometheus else as_lines
+    for line in form(counted(told.tables)):
+        print(line)
+
+
+COMMANDS = {"copy": copy, "results": results, "counts": counts}
 
 
 def end_by_signal(number: int, _frame: FrameType | None) -> NoReturn:

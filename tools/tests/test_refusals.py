@@ -7,7 +7,7 @@ import plain_tables
 import pytest
 from small_project import TOOLS, make_tables, tools
 
-COMMANDS = {"results": []}
+COMMANDS = {"results": [], "counts": []}
 
 
 def other_program(path, _good):
@@ -93,7 +93,7 @@ def test_tables_that_a_program_serves(project, twin, tmp_path, command):
     assert twin.call(1, 1)["hostid"] == 1
 
 
-@pytest.mark.parametrize("command", ["results"])
+@pytest.mark.parametrize("command", ["results", "counts"])
 def test_a_full_output(project, command):
     words = [sys.executable, "-m", "bsched_tools", command, "--tables", str(project)]
     path = {"PYTHONPATH": str(TOOLS)}
