@@ -1,5 +1,4 @@
-"""Tools for the operator of a project: copies while it serves, results, statistics, counts, and what is
-wrong.
+"""Tools for the operator of a project: copies while it serves, results, counts, and why a file is refused.
 
 All but `copy` and `doctor` read a copy of the tables. Nothing here writes the tables. A module for each noun:
 
@@ -10,4 +9,5 @@ schemas, tables       the tables in a copy, opened for reading
 workunits             what became of a workunit, by the rules of docs/PROFILE.md
 results, cursors      the results of workunits, and which were given out before
 counts                how many there are of each thing
+checks, settings_file, doctor   why bsched refuses a file
 """

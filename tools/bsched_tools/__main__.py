@@ -3,6 +3,7 @@ import argparse
 import os
 import signal
 import sys
+from collections.abc import Callable
 from io import TextIOWrapper
 from pathlib import Path
 from types import FrameType
@@ -10,6 +11,7 @@ from typing import NoReturn
 
 from .copying import copy_tables
 from .counts import as_json, as_lines, as_metrics, counted
+from .doctor import examined
 from .faults import Fault
 from .results import write_results
 
@@ -53,6 +55,9 @@ def words() -> argparse.ArgumentParser:
     form = counts.add_mutually_exclusive_group()
     form.add_argument("--json", action="store_true", help="one line of JSON")
     form.add_argument("--prometheus", action="store_true", help="the text format of Prometheus")
+    doctor = commands.add_parser("doctor", help="why bsched says `bsched: file` or `bsched: settings`")
+    doctor.add_argument("--tables", type=Path, metavar="F", help="the tables")
+    doctor.add_argument("--settings", type=Path, metavar="S", help="the file of settings")
     return parser
 
 
@@ -87,7 +92,22 @@ def counts(told: argparse.Namespace) -> None:
         print(line)
 
 
-COMMANDS = {"copy": copy, "results": results, "counts": counts}
+def doctor(told: argparse.Namespace) -> int:
+    """Prints why a file is refused; the status."""
+    if told.tables is None and told.settings is None:
+        words().error("doctor: --tables F, --settings S, or both")
+    found = False
+    for fault in examined(told.tables, told.settings):
+        found = True
+        print(fault)
+    if not found:
+        print("good: nothing is found that bsched refuses")
+    return FAULT if found else 0
+
+
+COMMANDS: dict[str, Callable[[argparse.Namespace], int | None]] = {
+    "copy": copy, "results": results, "counts": counts, "doctor": doctor,
+}
 
 
 def end_by_signal(number: int, _frame: FrameType | None) -> NoReturn:
@@ -103,7 +123,7 @@ def main() -> int:
     if isinstance(sys.stdout, TextIOWrapper):
         sys.stdout.reconfigure(encoding="utf-8", newline="")
     try:
-        COMMANDS[told.command](told)
+        status = COMMANDS[told.command](told)
         sys.stdout.flush()
     except Fault as fault:
         print(f"{NAME}: {fault}", file=sys.stderr)
@@ -114,7 +134,7 @@ def main() -> int:
         # what could not be written is not tried again at the end
         os.dup2(os.open(os.devnull, os.O_WRONLY), 1)
         return FAULT
-    return 0
+    return status or 0
 
 
 if __name__ == "__main__":
