@@ -9,5 +9,6 @@ schemas, tables       the tables in a copy, opened for reading
 workunits             what became of a workunit, by the rules of docs/PROFILE.md
 results, cursors      the results of workunits, and which were given out before
 counts                how many there are of each thing
+members, averages, exports      users over several files, and the files that statistics sites read
 checks, settings_file, doctor   why bsched refuses a file
 """

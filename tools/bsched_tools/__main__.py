@@ -12,6 +12,7 @@ from typing import NoReturn
 from .copying import copy_tables
 from .counts import as_json, as_lines, as_metrics, counted
 from .doctor import examined
+from .exports import export
 from .faults import Fault
 from .results import write_results
 
@@ -58,6 +59,12 @@ def words() -> argparse.ArgumentParser:
     doctor = commands.add_parser("doctor", help="why bsched says `bsched: file` or `bsched: settings`")
     doctor.add_argument("--tables", type=Path, metavar="F", help="the tables")
     doctor.add_argument("--settings", type=Path, metavar="S", help="the file of settings")
+    statistics = commands.add_parser("statistics", help="the files that statistics sites read")
+    add_copies(statistics)
+    statistics.add_argument("--to", type=Path, required=True, metavar="DIR", help="the folder of the files")
+    who = statistics.add_mutually_exclusive_group()
+    who.add_argument("--agreed", type=Path, metavar="FILE", help="the authenticators of users who agreed")
+    who.add_argument("--everybody", action="store_true", help="all users agreed")
     return parser
 
 
@@ -105,8 +112,14 @@ def doctor(told: argparse.Namespace) -> int:
     return FAULT if found else 0
 
 
+def statistics(told: argparse.Namespace) -> None:
+    """Writes the files, and says whose names are in them."""
+    made = export(told.tables, told.to, told.agreed, told.everybody)
+    print(f"{told.to}: {made.users} users, of whom {made.agreed} agreed to be named, and {made.hosts} hosts")
+
+
 COMMANDS: dict[str, Callable[[argparse.Namespace], int | None]] = {
-    "copy": copy, "results": results, "counts": counts, "doctor": doctor,
+    "copy": copy, "results": results, "counts": counts, "doctor": doctor, "statistics": statistics,
 }
 
 

@@ -7,7 +7,7 @@ import plain_tables
 import pytest
 from small_project import TOOLS, make_tables, tools
 
-COMMANDS = {"results": [], "counts": []}
+COMMANDS = {"results": [], "counts": [], "statistics": ["--to", "DIR"]}
 
 
 def other_program(path, _good):
