@@ -10,5 +10,6 @@ workunits             what became of a workunit, by the rules of docs/PROFILE.md
 results, cursors      the results of workunits, and which were given out before
 counts                how many there are of each thing
 members, averages, exports      users over several files, and the files that statistics sites read
+history, findings, plots, page  the page: what earlier ones counted, what it says, and how it is drawn
 checks, settings_file, doctor   why bsched refuses a file
 """

@@ -65,6 +65,9 @@ def words() -> argparse.ArgumentParser:
     who = statistics.add_mutually_exclusive_group()
     who.add_argument("--agreed", type=Path, metavar="FILE", help="the authenticators of users who agreed")
     who.add_argument("--everybody", action="store_true", help="all users agreed")
+    report = commands.add_parser("report", help="a page with tables and plots")
+    report.add_argument("--tables", type=Path, required=True, metavar="COPY", help="a copy, or a folder")
+    report.add_argument("--to", type=Path, required=True, metavar="DIR", help="the folder of the page")
     return parser
 
 
@@ -118,8 +121,18 @@ def statistics(told: argparse.Namespace) -> None:
     print(f"{told.to}: {made.users} users, of whom {made.agreed} agreed to be named, and {made.hosts} hosts")
 
 
+def report(told: argparse.Namespace) -> None:
+    """Writes the page."""
+    try:
+        from .page import write_report
+    except ModuleNotFoundError:
+        raise Fault("report: it needs Debian's python3-matplotlib: install that") from None
+    print(write_report(told.tables, told.to))
+
+
 COMMANDS: dict[str, Callable[[argparse.Namespace], int | None]] = {
     "copy": copy, "results": results, "counts": counts, "doctor": doctor, "statistics": statistics,
+    "report": report,
 }
 
 

@@ -7,7 +7,9 @@ import plain_tables
 import pytest
 from small_project import TOOLS, make_tables, tools
 
-COMMANDS = {"results": [], "counts": [], "statistics": ["--to", "DIR"]}
+COMMANDS = {
+    "results": [], "counts": [], "statistics": ["--to", "DIR"], "report": ["--to", "DIR"],
+}
 
 
 def other_program(path, _good):
