@@ -78,11 +78,14 @@ def beside(path: Path) -> list[Path]:
     return [path.with_name(f"{path.name}-{end}") for end in ("wal", "shm", "journal")]
 
 
-def place(taken: Taken, target: Path) -> None:
-    """Gives a copy its name, which nothing has yet, by one rename."""
+def place(taken: Taken, source: Source, target: Path) -> None:
+    """Gives a copy the owner of the tables and its name, which nothing has yet, by one rename."""
     for path in (target, *beside(target)):
         if path.exists():
             raise Fault(f"{path}: it exists, and a copy is never written over another: name a new file")
+    owner = source.path.stat()
+    with suppress(PermissionError):
+        os.chown(taken.path, owner.st_uid, owner.st_gid)
     os.utime(taken.path, (taken.moment, taken.moment))
     sync(taken.path)
     os.rename(taken.path, target)

@@ -101,7 +101,7 @@ def copy_tables(path: Path, target: Path, keep: int | None = None, program: Path
                 raise Fault(f"{path}: the copy was not good, and is not kept: {told}") from None
             with turn(folder, TURN_SECONDS):
                 name = target if folder != target else folder / copy_name(source, taken.moment)
-                place(taken, name)
+                place(taken, source, name)
                 removed = remove_older(name, source.path.stem, keep) if keep is not None else []
     except OSError as error:
         raise Fault(f"{error.filename or folder}: {error.strerror}") from None

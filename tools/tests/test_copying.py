@@ -173,6 +173,22 @@ def test_a_process_that_does_not_stop_goes_on(project, twin, copies, monkeypatch
     assert list(copies.iterdir()) == []
 
 
+def test_a_process_that_stood_still_before_goes_on_too(project, twin, copies):
+    """So a copy mends what a killed tool left whose child was killed with it."""
+    os.kill(twin.process.pid, signal.SIGSTOP)
+    copied = copying.copy_tables(project, copies)
+    assert copied.still_seconds is not None and goes_on(twin)
+
+
+def test_a_copy_has_the_owner_of_the_tables(project, copies):
+    try:
+        os.chown(project, 1234, 1235)
+    except PermissionError:
+        pytest.skip("no owner may be set")
+    found = copying.copy_tables(project, copies).path.stat()
+    assert (found.st_uid, found.st_gid) == (1234, 1235)
+
+
 def test_tables_that_nobody_has(project, copies):
     copied = copying.copy_tables(project, copies)
     assert copied.still_seconds is None
