@@ -173,6 +173,31 @@ def test_a_process_that_does_not_stop_goes_on(project, twin, copies, monkeypatch
     assert list(copies.iterdir()) == []
 
 
+LIKE_THE_PROGRAM = """
+import sys, time
+from bsched_tools import taking
+files = [open(path, "rb+") for path in sys.argv[1:]]
+assert all(taking.lock(file.fileno()) for file in files)
+print("locked", flush=True)
+time.sleep(60)
+"""
+
+
+def test_locks_of_open_files(project, copies):
+    """bsched locks the file and its log by locks of the kind that names no process."""
+    log = project.with_name("project.db-wal")
+    log.write_bytes(b"")
+    words = [sys.executable, "-c", LIKE_THE_PROGRAM, str(project), str(log)]
+    with subprocess.Popen(words, env={"PYTHONPATH": str(TOOLS)}, stdout=subprocess.PIPE) as holder:
+        try:
+            assert holder.stdout.readline() == b"locked\n"
+            identity = holders.identity_of(project)
+            assert holders.holder_among(holders.all_open_files(identity)).pid == holder.pid
+            assert copying.copy_tables(project, copies).still_seconds is not None
+        finally:
+            holder.kill()
+
+
 def test_a_process_that_stood_still_before_goes_on_too(project, twin, copies):
     """So a copy mends what a killed tool left whose child was killed with it."""
     os.kill(twin.process.pid, signal.SIGSTOP)
