@@ -90,6 +90,8 @@ def folder_of(target: Path, keep: int | None) -> Path:
 def copy_tables(path: Path, target: Path, keep: int | None = None, program: Path | None = None) -> Copied:
     """Copies tables into a folder of copies, or to a new file."""
     source, folder = source_of(path), folder_of(target, keep)
+    if journal := tables.journal_fault(source.path):
+        raise Fault(f"{path}: {journal}")
     try:
         with turn(source.path, TURN_SECONDS), work_folder(folder) as made:
             with ExitStack() as stack:

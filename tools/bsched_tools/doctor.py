@@ -10,7 +10,9 @@ from . import holders
 from .checks import wrong_rows
 from .faults import Fault
 from .settings_file import settings_faults
-from .tables import Tables, check_file, connected, faults_of, log_of, moment_of, schema_fault
+from .tables import (
+    Tables, check_file, connected, faults_of, journal_fault, log_of, moment_of, schema_fault,
+)
 
 MOST_ROWS = 50
 RESTORE = "put back a copy (docs/OPERATING.md, \"Backup and restore\")"
@@ -34,9 +36,8 @@ def file_faults(path: Path) -> Iterator[str]:
             yield f"{name}it has {found.st_nlink} names (hard links), and bsched takes a file with one"
         elif not os.access(one, os.R_OK | os.W_OK):
             yield f"{name}this user may not read and write it: run this as the user of bsched"
-    journal = path.with_name(f"{path.name}-journal")
-    if journal.exists() and journal.read_bytes()[:1] not in (b"", b"\0"):
-        yield f"{journal} is left of SQLite: open the file once with `sqlite3`, which puts it in order"
+    if fault := journal_fault(path):
+        yield fault
 
 
 def holder_faults(path: Path) -> Iterator[str]:

@@ -108,6 +108,14 @@ def log_of(path: Path) -> Path:
     return path.with_name(f"{path.name}-wal")
 
 
+def journal_fault(path: Path) -> str | None:
+    """What is wrong if SQLite left a journal beside a file that it would play back."""
+    journal = path.with_name(f"{path.name}-journal")
+    if journal.exists() and journal.read_bytes()[:1] not in (b"", b"\0"):
+        return f"{journal} is left of SQLite: open the file once with `sqlite3`, which puts it in order"
+    return None
+
+
 def log_size(path: Path) -> int:
     """The size of the log beside a file; 0 if there is none."""
     log = log_of(path)

@@ -378,6 +378,12 @@ def test_tables_of_another_program(tmp_path, copies):
     assert list(copies.iterdir()) == []
 
 
+def test_a_journal_that_sqlite_left(project, copies):
+    project.with_name("project.db-journal").write_bytes(b"\xd9")
+    with pytest.raises(Fault, match="project.db-journal is left of SQLite"):
+        copying.copy_tables(project, copies)
+
+
 def test_the_command_line(project, copies):
     status, told, fault = tools("copy", "--tables", project, "--to", copies, "--keep", "1")
     assert (status, fault) == (0, "")
