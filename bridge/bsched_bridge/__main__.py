@@ -5,15 +5,15 @@ import sys
 from pathlib import Path
 from typing import NoReturn
 
-import waitress
+import waitress  # type: ignore[import]
 
 from . import client_requests
 from .application import new_application
 from .catalogue import read_catalogue
 from .code_signing import KeyFault, file_md5, read_private_key, signature_text, write_new_keys
-from .counts import StateFault
 from .operator_files import OperatorFault
 from .settings import read_settings
+from .state_file import StateFault
 
 FAULT, BAD_COMMAND_LINE = 1, 64
 MOST_CONNECTIONS = 1000
@@ -30,7 +30,9 @@ class CommandLine(argparse.ArgumentParser):
 
 def words() -> argparse.ArgumentParser:
     """The command line."""
-    parser = CommandLine(prog="python3 -m bsched_bridge", description="A bridge between BOINC's client and bsched.")
+    parser = CommandLine(
+        prog="python3 -m bsched_bridge", description="A bridge between BOINC's client and bsched."
+    )
     parser.add_argument("--config", type=Path, metavar="FILE", help="the settings (TOML); serves them")
     parser.add_argument("--check", action="store_true", help="looks at the settings and the catalogue alone")
     orders = parser.add_subparsers(dest="order", metavar="ORDER")
@@ -48,9 +50,10 @@ def serve(path: Path, only_check: bool) -> None:
     settings = read_settings(path)
     if only_check:
         catalogue = read_catalogue(settings.catalogue)
-        print(f"good: {len(catalogue.apps)} applications, {len(catalogue.versions)} versions, {len(catalogue.works)} workunits")
+        counts = len(catalogue.apps), len(catalogue.versions), len(catalogue.works)
+        print("good: {} applications, {} versions, {} workunits".format(*counts))
         return
-    application = new_application(settings)
+    application = new_application(path)
     print(f"serving {settings.url} on {settings.listen.host}:{settings.listen.port}", flush=True)
     waitress.serve(
         application,

@@ -22,7 +22,9 @@ def told_report(report: Report) -> dict[str, object]:
 
 
 def reports_that_fit(request: ClientRequest, room: int, by_name: bool) -> int:
-    """How many reports, from the first on, go into so many bytes. The others are told by their names, where names are told."""
+    """How many reports, from the first on, go into so many bytes. The others are told by their names, where
+    names are told.
+    """
     names = [written_length(report.name) if by_name else 0 for report in request.results]
     room -= sum(names)
     for count, (report, name) in enumerate(zip(request.results[:MOST_REPORTS], names)):
@@ -32,13 +34,15 @@ def reports_that_fit(request: ClientRequest, room: int, by_name: bool) -> int:
     return min(len(request.results), MOST_REPORTS)
 
 
-def call_text(request: ClientRequest, host_cpid: str, number: int, in_hand: list[str], seconds_in_hand: int) -> bytes:
+def call_text(
+    request: ClientRequest, host_cpid: str, number: int, in_hand: list[str], seconds_in_hand: int
+) -> bytes:
     """The call of a request, under a number of the bridge's own.
 
-    The names in hand are those of jobs that the bridge has for the client: they are told as if the client had them, and
-    their seconds count as received. What the profile has no room for is put off: results beyond the first ones are told
-    by their names, so that they don't count as lost, and all names are left out where they are too many, or leave no room
-    for a single report.
+    The names in hand are those of jobs that the bridge has for the client: they are told as if the client had
+    them, and their seconds count as received. What the profile has no room for is put off: results beyond the
+    first ones are told by their names, so that they don't count as lost, and all names are left out where
+    they are too many, or leave no room for a single report.
     """
     record = {
         "authenticator": request.authenticator,
@@ -62,7 +66,11 @@ def call_text(request: ClientRequest, host_cpid: str, number: int, in_hand: list
         names_room = room - sum(map(written_length, other))
         count = reports_that_fit(request, names_room, True)
         other += [report.name for report in request.results[count:]]
-        if len(other) > MOST_OTHER_RESULTS or sum(map(written_length, other)) > room or count == 0 < len(request.results):
+        if (
+            len(other) > MOST_OTHER_RESULTS
+            or sum(map(written_length, other)) > room
+            or count == 0 < len(request.results)
+        ):
             other = None
     if other is None:
         count = reports_that_fit(request, room, False)

@@ -1,7 +1,7 @@
 """The catalogue: what a client needs for its jobs and the profile does not carry.
 
-It tells, for each application, the command line and the input files of its workunits, and for each version its files. The
-file is TOML, written by the operator, and looked at when the bridge starts.
+It tells, for each application, the command line and the input files of its workunits, and for each version
+its files. The file is TOML, written by the operator, and looked at when the bridge starts.
 """
 import re
 import threading
@@ -15,7 +15,8 @@ from .operator_files import Entry, OperatorFile
 from .words import NO_XML
 
 FILE_NAME = re.compile(r"[A-Za-z0-9_][A-Za-z0-9_.+-]{0,127}")
-WORKUNIT = "{workunit}"  # stands for the name of the workunit, in what an application tells for all of its workunits
+# stands for the name of the workunit, in what an application tells for all of its workunits
+WORKUNIT = "{workunit}"
 
 
 @dataclass(frozen=True, slots=True)
@@ -64,7 +65,9 @@ class Work:
 
     def of(self, workunit: str) -> "Work":
         """The same for one workunit of an application."""
-        files = tuple(InputFile(file.name.replace(WORKUNIT, workunit), file.open_name) for file in self.input_files)
+        files = tuple(
+            InputFile(file.name.replace(WORKUNIT, workunit), file.open_name) for file in self.input_files
+        )
         return Work(self.command_line.replace(WORKUNIT, workunit), files)
 
 
@@ -140,15 +143,27 @@ def file_name(entry: Entry, member: str, with_workunit: bool = False) -> str:
     name = entry.text(member)
     plain = name.replace(WORKUNIT, "w") if with_workunit else name
     if not FILE_NAME.fullmatch(plain):
-        entry.fault(f"{member} is no name of a file: letters, digits, '_', '.', '+' and '-', at most 128", member)
+        entry.fault(
+            f"{member} is no name of a file: letters, digits, '_', '.', '+' and '-', at most 128", member
+        )
     return name
 
 
 def read_work(entry: Entry, folder: FileFolder, of_app: bool) -> Work:
-    """The command line and the input files that an entry tells. Files that are named in full have to be there."""
+    """The command line and the input files that an entry tells. Files that are named in full have to be
+    there.
+    """
     command_line = entry.text("command_line", "")
-    if NO_XML.search(command_line) or "\n" in command_line or "\r" in command_line or len(command_line.encode()) > 4096:
-        entry.fault("command_line has more than one line, more than 4096 bytes, or a control character", "command_line")
+    if (
+        NO_XML.search(command_line)
+        or "\n" in command_line
+        or "\r" in command_line
+        or len(command_line.encode()) > 4096
+    ):
+        entry.fault(
+            "command_line has more than one line, more than 4096 bytes, or a control character",
+            "command_line",
+        )
     files = []
     for item in entry.entries("input_files", []):
         name = file_name(item, "name", of_app)

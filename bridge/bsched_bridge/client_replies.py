@@ -24,6 +24,7 @@ NO_JOBS = {
     "no_eligible_work": "No tasks are available for this computer",
 }
 
+Files = dict[str, tuple[StoredFile, str | None, bool]]  # with the signature, and whether it is a program
 log = logging.getLogger(__name__)
 
 
@@ -41,7 +42,8 @@ def add_message(parent: Element, text: str, priority: str) -> None:
 def written(root: Element) -> bytes:
     """The text of an element."""
     indent(root, "    ")
-    return tostring(root, encoding="utf-8", xml_declaration=False, short_empty_elements=False) + b"\n"
+    text: bytes = tostring(root, encoding="utf-8", xml_declaration=False, short_empty_elements=False)
+    return text + b"\n"
 
 
 class ReplyWriter:
@@ -68,7 +70,9 @@ class ReplyWriter:
         return written(root)
 
     def reply(self, request: ClientRequest, reply: Reply) -> bytes:
-        """The reply to a request. A client that has a hostid would take another for a sign that it was copied."""
+        """The reply to a request. A client that has a hostid would take another for a sign that it was
+        copied.
+        """
         root = self._begun(reply.request_delay)
         add(root, "user_name", reply.user_name)
         add(root, "user_total_credit", f"{reply.user_total_credit / MILLICREDITS:.3f}")
@@ -85,7 +89,9 @@ class ReplyWriter:
         return written(root)
 
     def _add_key(self, root: Element, has: str) -> None:
-        """Adds the code signing key for a client that has none: one that has a key takes it for a change of the key."""
+        """Adds the code signing key for a client that has none: one that has a key takes it for a change of
+        the key.
+        """
         if not has:
             add(root, "code_sign_key", "\n" + self.catalogue.code_sign_key)
         elif has != "".join(self.catalogue.code_sign_key.split()):
@@ -97,14 +103,16 @@ class ReplyWriter:
         """Adds the jobs with all that they need, each application, version and file once."""
         apps: dict[str, App] = {}
         versions: dict[tuple[str, str, int], Version] = {}
-        files: dict[str, tuple[StoredFile, str | None, bool]] = {}  # with the signature, and whether it is a program
+        files: Files = {}
         sent: list[tuple[Job, App, Work]] = []
         for job in jobs:
             try:
                 sent.append((job, *self._needs(job, apps, versions, files)))
             except MissingFile as missing:
                 # without an entry in the client's next list of what it has, it comes again
-                log.error("job %s is not handed on: %s is not in the catalogue or not there", job.name, missing)
+                log.error(
+                    "job %s is not handed on: %s is not in the catalogue or not there", job.name, missing
+                )
                 add_message(root, f"The project lacks a file for the job {job.name}.", "low")
         for app in apps.values():
             self._add_app(root, app)
@@ -120,7 +128,9 @@ class ReplyWriter:
         for job, _, _ in sent:
             self._add_result(root, job)
 
-    def _needs(self, job: Job, apps: dict, versions: dict, files: dict) -> tuple[App, Work]:
+    def _needs(
+        self, job: Job, apps: dict[str, App], versions: dict[tuple[str, str, int], Version], files: Files
+    ) -> tuple[App, Work]:
         """The application of a job and its work; what it needs is put to what is told already."""
         key = job.app_name, job.platform, job.version_num
         app, version = self.catalogue.apps.get(job.app_name), self.catalogue.versions.get(key)

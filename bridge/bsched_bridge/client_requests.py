@@ -1,15 +1,15 @@
 """What the XML of a scheduler_request says (BOINC's documentation, "Scheduler RPC protocol").
 
-The elements become what the profile takes, as the table in 'Writing a bridge' of docs/PROFILE.md has it: decimals become
-whole numbers, and what is longer than the profile takes is cut. XML is read by defusedxml, which refuses entities and
-document types.
+The elements become what the profile takes, as the table in 'Writing a bridge' of docs/PROFILE.md has it:
+decimals become whole numbers, and what is longer than the profile takes is cut. XML is read by defusedxml,
+which refuses entities and document types.
 """
 import re
 from dataclasses import dataclass
 from decimal import Decimal, InvalidOperation
 from xml.etree.ElementTree import Element, ParseError
 
-from defusedxml import DefusedXmlException, ElementTree
+from defusedxml import DefusedXmlException, ElementTree  # type: ignore[import]
 
 from .words import cut_to_bytes, is_word, xml_text
 
@@ -24,8 +24,9 @@ FINISHED = 5  # the client's state of a result that ended well (RESULT_FILES_UPL
 LEAST_STATUS, MOST_STATUS = -(2**31), 2**31 - 1
 WITHOUT_STATUS = 1  # the exit status that is told of a result that did not end well, and has none
 
-# The client puts what a program wrote to its standard error between these, and lines of its own before them. It stands in a
-# section CDATA as it was written, but for bytes beyond ASCII: each is written as the reference of a character.
+# The client puts what a program wrote to its standard error between these, and lines of its own before them.
+# It stands in a section CDATA as it was written, but for bytes beyond ASCII: each is written as the reference
+# of a character.
 STANDARD_ERROR = re.compile(r"<stderr_txt>(.*)</stderr_txt>", re.DOTALL)
 BYTE = re.compile(rb"&#(12[89]|1[3-9][0-9]|2[0-4][0-9]|25[0-5]);")
 SECTION_BEGINS, SECTION_ENDS, ERROR_ENDS = "<![CDATA[", "]]>", "</stderr_out>"
@@ -61,7 +62,8 @@ class ClientRequest:
     work_req_seconds: int
     other_results: tuple[str, ...] | None  # None where the client tells nothing of what it has
     results: tuple[Report, ...]
-    code_sign_key: str  # the key that the client has, without blanks and ends of lines; empty where it has none
+    # the key that the client has, without blanks and ends of lines; empty where it has none
+    code_sign_key: str
 
 
 # ---- Elements
@@ -103,7 +105,7 @@ def whole_of(parent: Element, path: str, least: int, most: int, absent: int, up:
 def word_of(parent: Element, path: str) -> str:
     """The word of an element that has to stand."""
     word = text_of(parent, path)
-    if not is_word(word):
+    if word is None or not is_word(word):
         raise RequestFault(f"{path} is missing, or is not 1 to 64 letters, digits, '_', '-' and '.'")
     return word
 
@@ -117,7 +119,9 @@ def is_result_name(name: str | None) -> bool:
 
 
 def with_whole_sections(text: str) -> str:
-    """The text of a request in which no standard error ends its section: the client does not look whether `]]>` stands in it."""
+    """The text of a request in which no standard error ends its section: the client does not look whether
+    `]]>` stands in it.
+    """
     parts = text.split(ERROR_ENDS)
     for index, part in enumerate(parts):
         begins = part.find(SECTION_BEGINS) + len(SECTION_BEGINS)
@@ -134,7 +138,9 @@ def with_bytes(text: str) -> str:
 
 
 def output_of(result: Element) -> str:
-    """What a program wrote to its standard error, without blanks around it, or what it marked of that as its answer."""
+    """What a program wrote to its standard error, without blanks around it, or what it marked of that as its
+    answer.
+    """
     told = result.find("stderr_out")
     if told is None:
         return ""
@@ -149,7 +155,7 @@ def output_of(result: Element) -> str:
 def report_of(result: Element) -> Report | None:
     """The report of a finished result; none where its name can't be one."""
     name = text_of(result, "name")
-    if not is_result_name(name):
+    if name is None or not is_result_name(name):
         return None
     status = whole_of(result, "exit_status", LEAST_STATUS, MOST_STATUS, 0)
     state = whole_of(result, "state", 0, 100, 0)
@@ -164,8 +170,8 @@ def report_of(result: Element) -> Report | None:
 def element_of(body: bytes) -> Element:
     """The element of a request.
 
-    What a program wrote to its standard error may have characters that XML has no place for, and `]]>`; the client sends it
-    as it is, so these are replaced before the XML is read.
+    What a program wrote to its standard error may have characters that XML has no place for, and `]]>`; the
+    client sends it as it is, so these are replaced before the XML is read.
     """
     if len(body) > MOST_BYTES:
         raise RequestFault("the request is too long")
@@ -173,7 +179,7 @@ def element_of(body: bytes) -> Element:
         raise RequestFault("the request has too many elements")
     try:
         text = with_whole_sections(xml_text(body.decode(errors="replace")))
-        root = ElementTree.fromstring(text.encode(), forbid_dtd=True)
+        root: Element = ElementTree.fromstring(text.encode(), forbid_dtd=True)
     except ParseError as error:
         raise RequestFault(f"incomplete or faulty XML: {error}") from None
     except DefusedXmlException:
@@ -187,11 +193,12 @@ def read_request(body: bytes) -> ClientRequest:
     """The request of a body; a RequestFault where it is none."""
     root = element_of(body)
     has = root.find("other_results")
-    other = None
+    other: tuple[str, ...] | None = None
     if has is not None:
         told = (text_of(item, "name") for item in has.findall("other_result"))
-        other = tuple(filter(is_result_name, told))
-    alternatives = filter(is_word, (text_of(item, "name") for item in root.findall("alt_platform")))
+        other = tuple(name for name in told if name is not None and is_result_name(name))
+    platforms = (text_of(item, "name") for item in root.findall("alt_platform"))
+    alternatives = (name for name in platforms if name is not None and is_word(name))
     return ClientRequest(
         authenticator=word_of(root, "authenticator"),
         hostid=whole_of(root, "hostid", 0, 2**31 - 1, 0),

@@ -1,9 +1,10 @@
 """Code signing as BOINC's client checks it (BOINC's documentation, "Code signing").
 
-A signature is RSA over the MD5 of a file: the 32 hexadecimal digits of the MD5, as text, are padded by PKCS #1 v1.5
-(block type 1, with no name of a hash before them) and raised to the private exponent. Keys and signatures are written as
-hexadecimal digits, 32 bytes a line, with a line that is a point behind them. A key has one line before that, its bits.
-The client takes keys of at most 1024 bits: each of their numbers has 128 bytes, those of a prime 64.
+A signature is RSA over the MD5 of a file: the 32 hexadecimal digits of the MD5, as text, are padded by PKCS
+#1 v1.5 (block type 1, with no name of a hash before them) and raised to the private exponent. Keys and
+signatures are written as hexadecimal digits, 32 bytes a line, with a line that is a point behind them. A key
+has one line before that, its bits. The client takes keys of at most 1024 bits: each of their numbers has 128
+bytes, those of a prime 64.
 """
 import hashlib
 import os
@@ -35,7 +36,7 @@ def file_md5(path: Path) -> str:
 
 def hex_lines(data: bytes) -> str:
     """Bytes as BOINC writes them: 32 a line, and a point behind the last."""
-    lines = [data[start : start + 32].hex() for start in range(0, len(data), 32)]
+    lines = [data[start:][:32].hex() for start in range(0, len(data), 32)]
     return "\n".join([*lines, ".\n"])
 
 
@@ -68,7 +69,7 @@ def numbers_of(data: bytes, lengths: list[int]) -> list[int]:
     """The numbers that stand in bytes one behind the other, each with its length."""
     numbers, start = [], 0
     for length in lengths:
-        numbers.append(int.from_bytes(data[start : start + length], "big"))
+        numbers.append(int.from_bytes(data[start:][:length], "big"))
         start += length
     return numbers
 
@@ -76,7 +77,9 @@ def numbers_of(data: bytes, lengths: list[int]) -> list[int]:
 def public_key_text(key: rsa.RSAPublicKey) -> str:
     """A public key: the modulus and the exponent."""
     numbers = key.public_numbers()
-    return f"{BITS}\n" + hex_lines(b"".join(number.to_bytes(NUMBER_BYTES, "big") for number in (numbers.n, numbers.e)))
+    return f"{BITS}\n" + hex_lines(
+        b"".join(number.to_bytes(NUMBER_BYTES, "big") for number in (numbers.n, numbers.e))
+    )
 
 
 def read_public_key(text: str) -> rsa.RSAPublicKey:
@@ -120,7 +123,10 @@ def new_key() -> rsa.RSAPrivateKey:
 def write_new_keys(private_path: Path, public_path: Path) -> None:
     """Writes a new pair of keys; nothing may stand there, and only the owner may read the private one."""
     key = new_key()
-    for path, text, mode in ((private_path, private_key_text(key), 0o600), (public_path, public_key_text(key.public_key()), 0o644)):
+    for path, text, mode in (
+        (private_path, private_key_text(key), 0o600),
+        (public_path, public_key_text(key.public_key()), 0o644),
+    ):
         with os.fdopen(os.open(path, os.O_WRONLY | os.O_CREAT | os.O_EXCL, mode), "w") as file:
             file.write(text)
 
@@ -131,8 +137,8 @@ def write_new_keys(private_path: Path, public_path: Path) -> None:
 def signature_text(md5: str, key: rsa.RSAPrivateKey) -> str:
     """The signature of a file with this MD5.
 
-    The library pads only with the name of a hash before the digest, which the client does not expect; so the padding,
-    which has no choice in it, and the power are written out here.
+    The library pads only with the name of a hash before the digest, which the client does not expect; so the
+    padding, which has no choice in it, and the power are written out here.
     """
     private = key.private_numbers()
     filled = b"\xff" * (NUMBER_BYTES - 3 - len(md5))

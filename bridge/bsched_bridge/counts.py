@@ -1,47 +1,33 @@
-"""The keys of bsched with what has to outlive a stop of the bridge, in SQLite.
+"""The keys of bsched with what has to outlive a stop of the bridge.
 
-A key is an authenticator and a host_cpid. Of each key there are the number of its last call and, as long as no answer came,
-the bytes of that call: both are on the disk before the call is sent. And there are jobs in hand: those that an answer brought
-when no client waited for it any more.
+A key is an authenticator and a host_cpid. Of each key there are the number of its last call and, as long as
+no answer came, the bytes of that call: both are on the disk before the call is sent. And there are jobs in
+hand: those that an answer brought when no client waited for it any more.
 """
 import json
-import sqlite3
-import threading
 import time
-from collections.abc import Callable, Iterator
-from contextlib import contextmanager
+from collections.abc import Callable
 from dataclasses import asdict, dataclass
-from pathlib import Path
+from typing import cast
 
+from .members import first_heard
 from .scheduler import Job, Reply
+from .state_file import StateFile
 
 MOST_NUMBER = 2**31 - 1
-# the name of the format, in the file's header: "bscb"
-APPLICATION_ID, SCHEMA_VERSION = 0x62736362, 1
-SCHEMA = f"""
-CREATE TABLE host (
-  authenticator TEXT NOT NULL, host_cpid TEXT NOT NULL,  -- the key; the host_cpid is the one with which the host was made
-  hostid INTEGER,             -- bsched's number of the host, once a reply told it
-  last_number INTEGER NOT NULL,  -- the rpc_seqno of the last call
-  open_call BLOB,             -- its bytes, where no answer came yet
-  jobs_in_hand TEXT NOT NULL DEFAULT '[]',  -- as JSON, as replies have them
-  user_name TEXT, user_credit INTEGER, host_credit INTEGER, heard_at INTEGER,  -- as the last reply told them, and when
-  PRIMARY KEY (authenticator, host_cpid)
-) STRICT;
-CREATE UNIQUE INDEX host_by_number ON host (authenticator, hostid);
-CREATE INDEX host_with_open_call ON host (authenticator, host_cpid) WHERE open_call IS NOT NULL;
-CREATE INDEX host_heard ON host (heard_at) WHERE hostid IS NOT NULL;
-PRAGMA application_id = {APPLICATION_ID};
-PRAGMA user_version = {SCHEMA_VERSION};
-"""
-
-
-class StateFault(Exception):
-    """The file of the counts can't be used."""
+HEARD = "authenticator, hostid, user_name, user_credit, host_credit, heard_at"
 
 
 class CountEnded(Exception):
     """A key has had its last number."""
+
+
+class TooManyHosts(Exception):
+    """A new key of an account that has as many hosts as it may have."""
+
+    def __init__(self, count: int):
+        super().__init__(f"the account has {count} hosts")
+        self.count = count
 
 
 @dataclass(frozen=True, slots=True)
@@ -68,133 +54,165 @@ class HeardHost:
 
 
 class Counts:
-    """The counts in a file. One process at a time has it; its threads take turns."""
+    """The counts in a state file."""
 
-    def __init__(self, path: Path):
-        self._lock = threading.Lock()
-        try:
-            self._connection = sqlite3.connect(path, isolation_level=None, check_same_thread=False, timeout=1)
-            for pragma in ("locking_mode = EXCLUSIVE", "journal_mode = WAL"):
-                self._connection.execute(f"PRAGMA {pragma}").fetchall()
-            with self._transaction():
-                self._prepare()
-        except sqlite3.Error as error:
-            raise StateFault(f"{path}: {error}; no other bridge may have it") from None
-
-    def _prepare(self) -> None:
-        """Makes the tables in a new file."""
-        told = [self._connection.execute(f"PRAGMA {name}").fetchone()[0] for name in ("application_id", "user_version")]
-        if told == [APPLICATION_ID, SCHEMA_VERSION]:
-            return
-        if told != [0, 0] or self._connection.execute("SELECT count(*) FROM sqlite_schema").fetchone()[0]:
-            raise sqlite3.DatabaseError("is not the file of a bridge of this kind")
-        for statement in SCHEMA.strip().rstrip(";").split(";\n"):
-            self._connection.execute(statement)
-
-    @contextmanager
-    def _transaction(self, is_synced: bool = True) -> Iterator[sqlite3.Connection]:
-        """One transaction: it is on the disk behind the block, or was not.
-
-        Where it need not be synced, a power failure may undo it, but only with no later one that was synced. So what closes a
-        call is not synced: if it is undone, the call is the last of its key, and sent again it gets the answer that it had.
-        """
-        with self._lock:
-            self._connection.execute(f"PRAGMA synchronous = {'FULL' if is_synced else 'NORMAL'}")
-            self._connection.execute("BEGIN IMMEDIATE")
-            try:
-                yield self._connection
-            except BaseException:
-                self._connection.execute("ROLLBACK")
-                raise
-            self._connection.execute("COMMIT")
-
-    def _row(self, statement: str, *values: object) -> tuple | None:
-        """The first row of a query."""
-        with self._lock:
-            return self._connection.execute(statement, values).fetchone()
-
-    def close(self) -> None:
-        """Lets the file go."""
-        with self._lock:
-            self._connection.close()
+    def __init__(self, file: StateFile):
+        self.file = file
 
     # ---- Keys
 
     def key_of(self, authenticator: str, hostid: int, host_cpid: str) -> Key:
         """The key under which a client is known, also where its host_cpid is another by now."""
         told = Key(authenticator, host_cpid)
-        if hostid == 0 or self._row("SELECT 1 FROM host WHERE authenticator = ? AND host_cpid = ?", authenticator, host_cpid):
+        if hostid == 0 or self._of_key("1", told):
             return told
-        made = self._row("SELECT host_cpid FROM host WHERE authenticator = ? AND hostid = ?", authenticator, hostid)
-        return told if made is None else Key(authenticator, made[0])
+        made = self.file.row(
+            "SELECT host_cpid FROM host WHERE authenticator = ? AND hostid = ?", authenticator, hostid
+        )
+        return told if made is None else Key(authenticator, cast(str, made[0]))
+
+    def _of_key(self, column: str, key: Key) -> tuple[object, ...] | None:
+        """A column of the row of a key."""
+        return self.file.row(
+            f"SELECT {column} FROM host WHERE authenticator = ? AND host_cpid = ?",
+            key.authenticator,
+            key.host_cpid,
+        )
+
+    def newest_host(self, authenticator: str) -> tuple[Key, int] | None:
+        """The host of an account that was made last, with its number, among those with no open call."""
+        row = self.file.row(
+            "SELECT host_cpid, hostid FROM host WHERE authenticator = ? AND hostid IS NOT NULL AND "
+            "open_call IS NULL "
+            "ORDER BY hostid DESC LIMIT 1",
+            authenticator,
+        )
+        return None if row is None else (Key(authenticator, cast(str, row[0])), cast(int, row[1]))
+
+    def forgotten(self, key: Key) -> None:
+        """Forgets a key that bsched does not know, unless it has an open call by now."""
+        with self.file.transaction() as connection:
+            connection.execute(
+                "DELETE FROM host WHERE authenticator = ? AND host_cpid = ? AND open_call IS NULL",
+                (key.authenticator, key.host_cpid),
+            )
 
     # ---- Calls
 
     def open_call(self, key: Key) -> bytes | None:
         """The call of a key that got no answer yet."""
-        row = self._row("SELECT open_call FROM host WHERE authenticator = ? AND host_cpid = ?", key.authenticator, key.host_cpid)
-        return None if row is None else row[0]
+        row = self._of_key("open_call", key)
+        return None if row is None else cast("bytes | None", row[0])
 
     def next_open(self, after: Key) -> Key | None:
-        """The first key behind another that has such a call."""
-        row = self._row(
-            "SELECT authenticator, host_cpid FROM host WHERE open_call IS NOT NULL AND (authenticator, host_cpid) > (?, ?) "
-            "ORDER BY authenticator, host_cpid LIMIT 1", after.authenticator, after.host_cpid,
+        """The first key after another that has such a call."""
+        row = self.file.row(
+            "SELECT authenticator, host_cpid FROM host WHERE open_call IS NOT NULL AND (authenticator, "
+            "host_cpid) > (?, ?) "
+            "ORDER BY authenticator, host_cpid LIMIT 1",
+            after.authenticator,
+            after.host_cpid,
         )
-        return None if row is None else Key(*row)
+        return None if row is None else Key(cast(str, row[0]), cast(str, row[1]))
 
-    def opened(self, key: Key, text: Callable[[int], bytes], above: int = 0) -> bytes:
-        """The text of a new call, under the next number above all numbers of its key; both are kept before it is given."""
-        with self._transaction() as connection:
+    def opened(
+        self, key: Key, text: Callable[[int], bytes], above: int = 0, most_hosts: int | None = None
+    ) -> bytes:
+        """The text of a new call, under the next number above all numbers of its key; both are kept before it
+        is given.
+
+        A new key counts as one more host of its account; with most_hosts there may be only so many.
+        """
+        with self.file.transaction() as connection:
             row = connection.execute(
-                "SELECT last_number FROM host WHERE authenticator = ? AND host_cpid = ?", (key.authenticator, key.host_cpid)
+                "SELECT last_number FROM host WHERE authenticator = ? AND host_cpid = ?",
+                (key.authenticator, key.host_cpid),
             ).fetchone()
+            if row is None and most_hosts is not None:
+                count = connection.execute(
+                    "SELECT count(*) FROM host WHERE authenticator = ?", (key.authenticator,)
+                )
+                if (hosts := count.fetchone()[0]) >= most_hosts:
+                    raise TooManyHosts(hosts)
             number = max(above, row[0] if row else 0) + 1
             if number > MOST_NUMBER:
                 raise CountEnded
             call = text(number)
             connection.execute(
-                "INSERT INTO host (authenticator, host_cpid, last_number, open_call) VALUES (?, ?, ?, ?) ON CONFLICT "
-                "(authenticator, host_cpid) DO UPDATE SET last_number = excluded.last_number, open_call = excluded.open_call",
+                "INSERT INTO host (authenticator, host_cpid, last_number, open_call) VALUES (?, ?, ?, ?) "
+                "ON CONFLICT "
+                "(authenticator, host_cpid) DO UPDATE SET last_number = excluded.last_number, open_call = "
+                "excluded.open_call",
                 (key.authenticator, key.host_cpid, number, call),
             )
         return call
 
+    # What closes a call is not synced: if a power failure undoes it, the call is the last of its key, and
+    # sent again it gets the answer that it had.
+
     def refused(self, key: Key) -> None:
-        """The open call of a key was refused, so it changed nothing. A key of which bsched knows no host is forgotten."""
-        with self._transaction(is_synced=False) as connection:
+        """The open call of a key was refused, so it changed nothing. A key of which bsched knows no host is
+        forgotten.
+        """
+        with self.file.transaction(is_synced=False) as connection:
             values = key.authenticator, key.host_cpid
-            connection.execute("DELETE FROM host WHERE authenticator = ? AND host_cpid = ? AND hostid IS NULL", values)
-            connection.execute("UPDATE host SET open_call = NULL WHERE authenticator = ? AND host_cpid = ?", values)
+            connection.execute(
+                "DELETE FROM host WHERE authenticator = ? AND host_cpid = ? AND hostid IS NULL", values
+            )
+            connection.execute(
+                "UPDATE host SET open_call = NULL WHERE authenticator = ? AND host_cpid = ?", values
+            )
 
     def answered(self, key: Key, reply: Reply, jobs_in_hand: list[Job]) -> None:
         """The open call of a key got a reply; these jobs are in hand from now on."""
-        jobs = json.dumps([asdict(job) for job in jobs_in_hand])
-        with self._transaction(is_synced=False) as connection:
+        jobs, now = json.dumps([asdict(job) for job in jobs_in_hand]), int(time.time())
+        with self.file.transaction(is_synced=False) as connection:
             # bsched's tables may have been put back to an older copy, and give a number anew
             connection.execute(
                 "UPDATE host SET hostid = NULL WHERE authenticator = ? AND hostid = ? AND host_cpid <> ?",
                 (key.authenticator, reply.hostid, key.host_cpid),
             )
             connection.execute(
-                "UPDATE host SET open_call = NULL, jobs_in_hand = ?, hostid = ?, user_name = ?, user_credit = ?, "
+                "UPDATE host SET open_call = NULL, jobs_in_hand = ?, hostid = ?, user_name = ?, "
+                "user_credit = ?, "
                 "host_credit = ?, heard_at = ? WHERE authenticator = ? AND host_cpid = ?",
-                (jobs, reply.hostid, reply.user_name, reply.user_total_credit, reply.host_total_credit, int(time.time()),
-                 key.authenticator, key.host_cpid),
+                (
+                    jobs,
+                    reply.hostid,
+                    reply.user_name,
+                    reply.user_total_credit,
+                    reply.host_total_credit,
+                    now,
+                    key.authenticator,
+                    key.host_cpid,
+                ),
             )
+            first_heard(connection, key.authenticator, reply.user_name, now)
 
     def jobs_in_hand(self, key: Key) -> list[Job]:
         """The jobs that an answer brought when no client waited for it."""
-        row = self._row("SELECT jobs_in_hand FROM host WHERE authenticator = ? AND host_cpid = ?", key.authenticator, key.host_cpid)
-        return [] if row is None else [Job(**job) for job in json.loads(row[0])]
+        row = self._of_key("jobs_in_hand", key)
+        return [] if row is None else [Job(**job) for job in json.loads(cast(str, row[0]))]
 
     # ---- Hosts, for people
 
-    def heard_hosts(self, most: int) -> list[HeardHost]:
-        """The hosts that called last, the latest first."""
-        with self._lock:
-            rows = self._connection.execute(
-                "SELECT authenticator, hostid, user_name, user_credit, host_credit, heard_at FROM host WHERE hostid IS NOT NULL "
-                "ORDER BY heard_at DESC, hostid DESC LIMIT ?", (most,),
-            ).fetchall()
-        return [HeardHost(*row) for row in rows]
+    def heard_hosts(self, most: int, authenticator: str | None = None) -> list[HeardHost]:
+        """The hosts that called last, of all accounts or of one, the latest first."""
+        rows = self.file.rows(
+            f"SELECT {HEARD} FROM host WHERE hostid IS NOT NULL AND (?1 IS NULL OR authenticator = ?1) "
+            "ORDER BY heard_at DESC, hostid DESC LIMIT ?2", authenticator, most,
+        )
+        return [HeardHost(*cast("tuple[str, int, str, int, int, int]", row)) for row in rows]
+
+    def count_of_hosts(self) -> int:
+        """How many hosts a reply told."""
+        row = self.file.row("SELECT count(*) FROM host WHERE hostid IS NOT NULL")
+        return cast(int, row[0]) if row else 0
+
+    def user_credits(self) -> list[tuple[str, int]]:
+        """Each account that was heard with its credit, as the last reply to one of its hosts told it."""
+        rows = self.file.rows(
+            "SELECT authenticator, user_credit, max(heard_at) FROM host WHERE hostid IS NOT NULL GROUP BY "
+            "authenticator"
+        )
+        return [(cast(str, row[0]), cast(int, row[1])) for row in rows]

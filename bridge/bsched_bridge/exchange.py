@@ -1,18 +1,22 @@
 """One request of a client and its answer.
 
-A request becomes a call under the next number of its key. The call's bytes are on the disk before they are sent, and stay
-there until an answer came: the next request of the key, or the resending of open calls, sends them again first, so that the
-kept reply of bsched serves. The jobs of such a late answer are kept in hand for the client's next reply.
+A request becomes a call under the next number of its key. The call's bytes are on the disk before they are
+sent, and stay there until an answer came: the next request of the key, or the resending of open calls, sends
+them again first, so that the kept reply of bsched serves. The jobs of such a late answer are kept in hand for
+the client's next reply.
 """
 import logging
 import threading
+from collections.abc import Callable
 from dataclasses import dataclass, replace
 
 from .calls import call_text
 from .client_requests import ClientRequest
-from .counts import FIRST_KEY, CountEnded, Counts, Key
+from .counts import FIRST_KEY, CountEnded, Counts, Key, TooManyHosts
 from .key_locks import Busy, KeyLocks
 from .scheduler import Job, NoAnswer, Refusal, Reply, Scheduler
+from .settings import HostRules
+from .words import shown_key
 
 COUNT_ATTEMPTS = 3  # how often a count that bsched is ahead of is brought forward for one request
 HOUR, DAY = 3600, 86400
@@ -33,14 +37,21 @@ class PutOff:
 NO_ANSWER = "The project's scheduler gives no answer at the moment."
 BUSY = "Another scheduler instance is running for this host."
 REFUSALS = {
-    "bad_account": PutOff("Invalid or missing account key. To fix this, remove and add this project.", DAY, "notice"),
+    "bad_account": PutOff(
+        "Invalid or missing account key. To fix this, remove and add this project.", DAY, "notice"
+    ),
     "hosts_full": PutOff("This project takes no more computers.", DAY, "notice"),
     "bad_member": PutOff("The project can't read what this computer tells of itself.", DAY, "notice"),
     "bad_json": PutOff("The project can't read this request.", HOUR),
     "too_large": PutOff("This request is too large for the project.", HOUR),
 }
 OTHER_REFUSAL = PutOff("The project's scheduler refused this request.", HOUR)
-COUNT_ENDED = PutOff("This computer has called so often that the project has no number left for it. Remove and add it.", DAY, "notice")
+COUNT_ENDED = PutOff(
+    "This computer has called so often that the project has no number left for it. Remove and add it.",
+    DAY,
+    "notice",
+)
+BARRED = PutOff("The project's operator has barred this account. Ask the operator why.", DAY, "notice")
 
 
 def put_off_by(refusal: Refusal) -> PutOff:
@@ -50,15 +61,36 @@ def put_off_by(refusal: Refusal) -> PutOff:
     return replace(told, message=f"{told.message} ({member})") if member else told
 
 
+def too_many_hosts(count: int) -> PutOff:
+    """What a client is told whose account has as many hosts as it may have."""
+    return PutOff(
+        f"Your account has {count} computers at this project, and may have no more. This computer gets no "
+        "work here.",
+        DAY,
+        "notice",
+    )
+
+
 class Exchange:
     """What answers requests."""
 
-    def __init__(self, counts: Counts, scheduler: Scheduler, retry_delay: int):
-        self.counts, self.scheduler, self.retry_delay = counts, scheduler, retry_delay
+    def __init__(
+        self, counts: Counts, scheduler: Scheduler, retry_delay: int, rules: Callable[[], HostRules],
+        is_imported_again: Callable[[str], bool] = lambda _authenticator: False,
+    ):
+        self.counts, self.scheduler, self.retry_delay, self.rules = counts, scheduler, retry_delay, rules
+        self.is_imported_again = is_imported_again  # imports an account that bsched has lost
         self._locks = KeyLocks(wait_seconds=2 * scheduler.answer_seconds)
 
     def answer(self, request: ClientRequest) -> Reply | PutOff:
         """The reply to a request, with the jobs that were in hand, or why and for how long it is put off."""
+        if request.authenticator in self.rules().barred:
+            log.warning(
+                "host %s of account %s is refused: barred",
+                request.host_cpid,
+                shown_key(request.authenticator),
+            )
+            return BARRED
         key = self.counts.key_of(request.authenticator, request.hostid, request.host_cpid)
         try:
             with self._locks.held(key):
@@ -93,19 +125,53 @@ class Exchange:
         listed = {*(request.other_results or ()), *(report.name for report in request.results)}
         in_hand = [job for job in self.counts.jobs_in_hand(key) if job.name not in listed]
         names, seconds = [job.name for job in in_hand], sum(job.estimate for job in in_hand)
+
+        def text(number: int) -> bytes:
+            return call_text(request, key.host_cpid, number, names, seconds)
+
         last = 0
+        refusal = Refusal("stale")
         for _ in range(COUNT_ATTEMPTS):
-            call = self.counts.opened(key, lambda number: call_text(request, key.host_cpid, number, names, seconds), last)
+            try:
+                call = self._opened(key, request.hostid, text, last)
+            except TooManyHosts as many:
+                log.warning(
+                    "host %s of account %s is refused: the account has %d hosts",
+                    key.host_cpid, shown_key(key.authenticator), many.count,
+                )
+                return too_many_hosts(many.count)
             answer = self.scheduler.call(call)
             if isinstance(answer, Reply):
                 self.counts.answered(key, answer, [])
                 return replace(answer, results=jobs_with(answer, in_hand))
+            refusal = answer
             self.counts.refused(key)
-            if answer.error not in ("stale", "reused"):
-                return put_off_by(answer)
-            last = answer.members["last"]
+            if refusal.error == "bad_account" and self.is_imported_again(key.authenticator):
+                continue
+            if refusal.error not in ("stale", "reused"):
+                break
+            last = refusal.members["last"]
             log.warning("the count of %s goes on from %d, to which bsched had come", key.host_cpid, last)
-        return put_off_by(answer)
+        return put_off_by(refusal)
+
+    def _opened(self, key: Key, hostid: int, text: Callable[[int], bytes], last: int) -> bytes:
+        """The text of a new call. A new host is refused where its account has as many as it may have.
+
+        The hosts are those of the state file. Where it and bsched's tables are not of one moment, they are
+        brought together first: a host that bsched has is not refused, and one that it does not have makes
+        room.
+        """
+        most = self.rules().most_hosts
+        try:
+            return self.counts.opened(key, text, last, most)
+        except TooManyHosts:
+            if hostid and self.scheduler.has_host(key.authenticator, key.host_cpid, hostid):
+                return self.counts.opened(key, text, last)
+            newest = self.counts.newest_host(key.authenticator)
+            if newest is None or self.scheduler.has_host(key.authenticator, newest[0].host_cpid, newest[1]):
+                raise
+            self.counts.forgotten(newest[0])
+            return self.counts.opened(key, text, last, most)
 
 
 def jobs_with(reply: Reply, in_hand: list[Job]) -> list[Job]:
@@ -115,30 +181,46 @@ def jobs_with(reply: Reply, in_hand: list[Job]) -> list[Job]:
 
 
 class Resending(threading.Thread):
-    """Sends open calls again until each has its answer: at the start, and then now and then."""
+    """Sends open messages again until each has its answer: at the start, and then now and then."""
 
-    def __init__(self, exchange: Exchange, pause_seconds: float):
+    def __init__(
+        self, exchange: Exchange, pause_seconds: float, resend_accounts: Callable[[], None] | None = None
+    ):
         super().__init__(name="resending", daemon=True)
-        self.exchange, self.pause_seconds = exchange, pause_seconds
+        self.exchange, self.pause_seconds, self.resend_accounts = exchange, pause_seconds, resend_accounts
         self._ending = threading.Event()
 
     def run(self) -> None:
-        """Goes round over the open calls until it is ended, and pauses behind one that got no answer and behind the last."""
-        key: Key | None = FIRST_KEY
+        """Goes round over the open messages until it is ended.
+
+        It pauses after a call that got no answer, and after the last; a round begins with the imports of
+        accounts.
+        """
+        key = FIRST_KEY
         while not self._ending.is_set():
             try:
-                key = self.exchange.counts.next_open(key)
-                if key is not None:
-                    self.exchange.resend(key)
+                if key == FIRST_KEY:
+                    self._resend_accounts()
+                following = self.exchange.counts.next_open(key)
+                key = following or FIRST_KEY
+                if following is not None:
+                    self.exchange.resend(following)
                     continue
             except (NoAnswer, Busy):
                 pass
             except Exception:
-                log.exception("an open call could not be sent again")
-            key = key or FIRST_KEY
+                log.exception("an open message could not be sent again")
             self._ending.wait(self.pause_seconds)
 
+    def _resend_accounts(self) -> None:
+        """Sends the imports of accounts again; the calls have their turn also where these get no answer."""
+        try:
+            if self.resend_accounts is not None:
+                self.resend_accounts()
+        except NoAnswer:
+            pass
+
     def end(self) -> None:
-        """Ends it, behind the call that it is at."""
+        """Ends it, after the message that it is at."""
         self._ending.set()
         self.join()

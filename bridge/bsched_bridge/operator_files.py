@@ -3,10 +3,11 @@ import re
 import tomllib
 from bisect import bisect_right
 from pathlib import Path
-from typing import Any, NoReturn
+from typing import Any, NoReturn, cast
 
 from .words import is_word
 
+MOST_TEXT = 65_536  # characters of a file whose text stands on a page
 TABLE = re.compile(r"[ \t]*\[\[?[ \t]*([A-Za-z0-9_-]+)[ \t]*\]\]?")
 
 
@@ -50,7 +51,7 @@ class Entry:
 
     def text(self, member: str, default: Any = ...) -> str:
         """A text."""
-        return self.taken(member, str, "a text in quotes", default)
+        return cast(str, self.taken(member, str, "a text in quotes", default))
 
     def word(self, member: str) -> str:
         """A word: 1 to 64 letters, digits, `_`, `-` and `.`."""
@@ -64,7 +65,15 @@ class Entry:
         value = self.taken(member, int, "a whole number", default)
         if value is not default and not least <= value <= most:
             self.fault(f"{member} is not within {least} to {most}", member)
-        return value
+        return cast(int, value)
+
+    def words(self, member: str) -> frozenset[str]:
+        """A list of words, which may be absent."""
+        value = self.taken(member, list, "a list of words", [])
+        for item in value:
+            if not is_word(item):
+                self.fault(f"{member}: {item!r} is not 1 to 64 letters, digits, '_', '-' and '.'", member)
+        return frozenset(value)
 
     def entries(self, member: str, default: Any = ...) -> list["Entry"]:
         """The tables of an array that stands in one member."""
@@ -80,6 +89,21 @@ class Entry:
         if not path.exists():
             self.fault(f"{member}: {path} does not stand", member if member in self.members else None)
         return path
+
+    def short_text(self, member: str) -> str | None:
+        """The text of a file that is named, for pages; none where no file is named."""
+        if member not in self.members:
+            return None
+        path = self.existing(member)
+        try:
+            text = path.read_text(encoding="utf-8")
+        except OSError as error:
+            self.fault(f"{member}: {path}: {error.strerror or 'can not be read'}", member)
+        except UnicodeDecodeError:
+            self.fault(f"{member}: {path} is not UTF-8", member)
+        if len(text) > MOST_TEXT:
+            self.fault(f"{member}: {path} is longer than {MOST_TEXT} characters", member)
+        return text
 
     def end(self) -> None:
         """No further members may stand."""
@@ -103,13 +127,27 @@ class OperatorFile(Entry):
         except tomllib.TOMLDecodeError as error:
             raise OperatorFault(path, None, f"is not TOML: {error}") from None  # it tells line and column
         lines = text.split("\n")
-        self._tables = [(match[1], number) for number, line in enumerate(lines, 1) if (match := TABLE.match(line))]
+        self._tables = [
+            (match[1], number) for number, line in enumerate(lines, 1) if (match := TABLE.match(line))
+        ]
         own = self._tables[0][1] - 1 if self._tables else len(lines)
         super().__init__(path, members, lines, 1, max(own, 1))
 
     def line(self, member: str | None = None) -> int:
         """The line on which a member stands, be it a table."""
         return next((line for name, line in self._tables if name == member), super().line(member))
+
+    def table(self, name: str) -> Entry | None:
+        """The table under the header `[name]`, if there is one."""
+        self.untaken.discard(name)
+        if name not in self.members:
+            return None
+        members = self.members[name]
+        if not isinstance(members, dict):
+            self.fault(f"{name} is not a table [{name}]", name)
+        first = self.line(name)
+        following = [line for _, line in self._tables if line > first]
+        return Entry(self.path, members, self._lines, first, min([*following, len(self._lines) + 1]) - 1)
 
     def tables(self, name: str) -> list[Entry]:
         """The tables under the headers `[[name]]`, each with its lines."""

@@ -1,107 +1,192 @@
-"""The pages beside the scheduler: the master page, what the client's attach asks for, and the status page for people."""
-from datetime import datetime, timezone
+"""The pages of the project, for people: the master page, and how the project stands."""
 from html import escape
-from xml.etree.ElementTree import Element, SubElement
 
-from .catalogue import Catalogue
-from .client_replies import add, written
+from .http_messages import Answer, Environ, query_of
+from .markup import Markup, Number, element, joined, page, paragraphs, table
 from .settings import Settings
-from .statements import Status
+from .statements import Status, UnitCounts
+from .texts import credits_text, moment_text
 
-# BOINC's numbers of errors: nothing is found, and the project is down
-NOT_FOUND, DOWN = -136, -183
-STYLE = (
-    "body { font-family: sans-serif; max-width: 60em; margin: 2em auto } "
-    "td, th { padding: 0.2em 1em 0.2em 0; text-align: left }"
-)
+USERS_ON_A_PAGE = 100
 
 
-def html_page(title: str, head: str, body: str) -> bytes:
-    """A page."""
-    return (
-        f'<!DOCTYPE html>\n<html lang="en">\n<head>\n<meta charset="utf-8">\n<title>{escape(title)}</title>\n'
-        f"{head}<style>{STYLE}</style>\n</head>\n<body>\n<h1>{escape(title)}</h1>\n{body}</body>\n</html>\n"
-    ).encode()
-
-
-def table(header: tuple[str, ...], rows: list[tuple[object, ...]]) -> str:
-    """A table of a page."""
-    lines = ["<table>", "<tr>" + "".join(f"<th>{escape(cell)}</th>" for cell in header) + "</tr>"]
-    lines += ["<tr>" + "".join(f"<td>{escape(str(cell))}</td>" for cell in row) + "</tr>" for row in rows]
-    return "\n".join([*lines, "</table>\n"])
-
-
-def master_page(settings: Settings) -> bytes:
-    """The page at the master URL. The client reads the scheduler's URL there, in one of two forms; each stands on a line."""
-    scheduler = f"{settings.url}cgi"
-    head = f'<link rel="boinc_scheduler" href="{scheduler}">\n<!--\n<scheduler>{scheduler}</scheduler>\n-->\n'
-    body = (
-        f"<p>This is a project for the BOINC client. Attach it to <code>{escape(settings.url)}</code> with your account key.</p>\n"
-        '<p><a href="status">How the project stands</a></p>\n'
+def master_page(settings: Settings) -> Answer:
+    """The page at the master URL. The client reads the scheduler's URL there, in one of two forms; each
+    stands on a line.
+    """
+    scheduler = escape(f"{settings.url}cgi")
+    head = Markup(
+        f'<link rel="boinc_scheduler" href="{scheduler}">\n<!--\n<scheduler>{scheduler}</scheduler>\n-->\n'
     )
-    return html_page(settings.name, head, body)
+    links = [("status", "How the project stands")]
+    if settings.accounts is not None:
+        links.append(("account", "Your account"))
+        if settings.accounts.terms is not None:
+            links.append(("terms", "Terms of use"))
+    welcome = paragraphs(settings.welcome) if settings.welcome else ""
+    return page(
+        settings.name,
+        welcome,
+        element("h2", "How to join"),
+        *joining(settings),
+        head=head,
+        links=tuple(links)
+    )
 
 
-def project_config(settings: Settings, catalogue: Catalogue) -> bytes:
-    """What a client asks for before it attaches (get_project_config.php). Accounts are made by the operator alone."""
-    root = Element("project_config")
-    add(root, "name", settings.name)
-    add(root, "master_url", settings.url)
-    add(root, "web_rpc_url_base", settings.url)
-    add(root, "min_passwd_length", 1)
-    add(root, "account_creation_disabled", 1)
-    add(root, "client_account_creation_disabled", 1)
-    platforms = SubElement(root, "platforms")
-    for platform in sorted({version.platform for version in catalogue.versions.values()}):
-        add(SubElement(platforms, "platform"), "platform_name", platform)
-    return written(root)
+def joining(settings: Settings) -> list[Markup]:
+    """How a volunteer joins."""
+    url = element("code", settings.url)
+    if settings.accounts is None:
+        return [
+            element("p", "The project's operator gives you an account key. Then, in the BOINC Manager:"),
+            element(
+                "ol",
+                element("li", "Choose “Add project”, and enter ", url, " as the project URL."),
+                element(
+                    "li",
+                    "If it says that the project may not have work for your type of computer, answer “Yes”.",
+                ),
+                element("li", "Enter the account key as user name, and anything as password."),
+            ),
+        ]
+    terms = settings.accounts.terms is not None
+    agree = (
+        [element("li", "Read the ", element("a", "terms of use", href="terms"), " and agree to them.")]
+        if terms
+        else []
+    )
+    return [
+        element(
+            "p",
+            "Install BOINC from ",
+            element("a", "boinc.berkeley.edu", href="https://boinc.berkeley.edu/download.php"),
+            " or from your system's packages. Then, in the BOINC Manager:",
+        ),
+        element(
+            "ol",
+            element("li", "Choose “Add project”, and enter ", url, " as the project URL."),
+            element(
+                "li", "If it says that the project may not have work for your type of computer, answer “Yes”."
+            ),
+            *agree,
+            element(
+                "li", "Choose “No, new user”, and enter an e-mail address and a password of your choice."
+            ),
+        ),
+        element(
+            "p", "On another computer choose “Yes, existing user”, and enter the same address and password."
+        ),
+        element(
+            "p",
+            "The project keeps your address to find your account, and sends no e-mail. It does not keep "
+            "your password.",
+            class_="note",
+        ),
+    ]
 
 
-def account_page(authenticator: str, stands: bool | None) -> bytes:
-    """The answer to lookup_account.php; whether the account stands is not known where bsched gave no answer."""
-    if stands:
-        root = Element("account_out")
-        add(root, "authenticator", authenticator)
-    else:
-        root = Element("error")
-        add(root, "error_num", DOWN if stands is None else NOT_FOUND)
-        add(root, "error_msg", "the project is down" if stands is None else "no account has this key")
-    return written(root)
+def no_passwords_page(settings: Settings) -> Answer:
+    """What a volunteer does who has no key, where only the operator makes accounts."""
+    return page(
+        f"{settings.name}: no passwords",
+        element(
+            "p", "This project has no passwords: in the BOINC Manager, enter your account key as user name."
+        ),
+        element(
+            "p",
+            "A computer that has the project keeps the key in a file account_*.xml in BOINC's data "
+            "folder, as "
+            "“authenticator”. Else ask the project's operator.",
+        ),
+        links=((".", "The project"),),
+    )
 
 
-def credits_text(millicredits: int) -> str:
-    """Credit as a volunteer reads it."""
-    return f"{millicredits / 1000:.3f}"
+def status_page(settings: Settings, status: Status, environ: Environ) -> Answer:
+    """How the project stands: workunits, credit by user, and hosts with their results."""
+    recent = status.recent
+    parts: list[object] = []
+    if status.silent_since is not None:
+        parts.append(element(
+            "p", f"The scheduler has given no answer since {moment_text(status.silent_since)} UTC. "
+            "Computers keep their work, and report it later.", class_="fault",
+        ))
+    parts.append(element("p", f"As of {moment_text(recent.read_at)} UTC.", class_="note"))
+    if status.units is not None:
+        parts += units_markup(status.units)
+    parts += users_markup(status, environ)
+    parts += hosts_markup(status)
+    return page(f"{settings.name}: how it stands", *parts, links=((".", "The project"),))
 
 
-def moment_text(seconds: int) -> str:
-    """A moment."""
-    return datetime.fromtimestamp(seconds, timezone.utc).strftime("%Y-%m-%d %H:%M:%S")
+def units_markup(units: UnitCounts) -> list[Markup]:
+    """Workunits by their status."""
+    rows: list[list[object]] = [[name, count] for name, count in units.by_status.items()]
+    rows.append(["all", sum(units.by_status.values())])
+    return [
+        element("h2", "Workunits"), table(["status", "workunits"], rows),
+        element("p", f"Counted at {moment_text(units.counted_at)} UTC.", class_="note"),
+    ]
 
 
-def status_page(settings: Settings, status: Status) -> bytes:
-    """How the project stands: credit by user, and hosts with their results."""
-    hosts = [standing.host for standing in status.hosts]
-    users: dict[str, tuple[str, int]] = {}
-    for host in hosts:  # the host that was heard last comes first, and tells the user's credit of then
-        users.setdefault(host.authenticator, (host.user_name, host.user_credit))
-    best = sorted(users.values(), key=lambda user: (-user[1], user[0]))
-    body = f"<p>Of {moment_text(status.read_at)} UTC, for the {len(hosts)} hosts that called last.</p>\n<h2>Users</h2>\n"
-    body += table(("user", "credit"), [(name, credits_text(credit)) for name, credit in best])
-    body += "<h2>Hosts</h2>\n"
-    header = ("host", "user", "called last", "credit")
-    rows = [(host.hostid, host.user_name, moment_text(host.heard_at), credits_text(host.host_credit)) for host in hosts]
-    if status.with_results:
-        header += ("out", "waiting", "done", "failed")
-        counts = [(standing.out, standing.waiting, standing.done, standing.failed) for standing in status.hosts]
-        rows = [row + count for row, count in zip(rows, counts)]
-        rows.append(("all", "", "", "", *map(sum, zip(*counts))))
-    body += table(header, rows)
-    body += "<p>Credit is as the last reply to a host told it, of the host and of its user.</p>\n"
-    if status.with_results:
-        body += (
-            "<p>Results are out until they are reported or their deadline passes. Those that wait are reported, and their "
-            "workunit is not decided. Done are those that were found valid; failed are errors, results found invalid, and "
-            "those that came too late.</p>\n"
+def users_markup(status: Status, environ: Environ) -> list[Markup]:
+    """A part of the users, by their credit."""
+    pages = max(1, -(-len(status.ranking) // USERS_ON_A_PAGE))
+    told = query_of(environ).get("page", "1")
+    number = (
+        min(int(told), pages) if told.isascii() and told.isdigit() and 0 < len(told) < 7 and int(told) else 1
+    )
+    first, last = (number - 1) * USERS_ON_A_PAGE, number * USERS_ON_A_PAGE
+    rows: list[list[object]] = [
+        [Number(place), name, Number(credits_text(credit))]
+        for place, (name, credit) in enumerate(status.ranking[first:last], first + 1)
+    ]
+    turns = [
+        element("a", text, href=f"status?page={target}")
+        for text, target in (("earlier places", number - 1), ("later places", number + 1))
+        if 1 <= target <= pages
+    ]
+    return [
+        element("h2", "Users"),
+        element("p", f"Users with computers that called: {len(status.ranking)}."),
+        table(["place", "user", "credit"], rows),
+        element("p", *(joined(turn, " ") for turn in turns)) if turns else Markup(""),
+    ]
+
+
+def hosts_markup(status: Status) -> list[Markup]:
+    """The hosts that called last, with their results where these are known."""
+    recent = status.recent
+    header = ["computer", "user", "called last (UTC)", "credit"]
+    rows: list[list[object]] = [
+        [
+            Number(one.host.hostid),
+            one.host.user_name,
+            moment_text(one.host.heard_at),
+            Number(credits_text(one.credit)),
+        ]
+        for one in recent.hosts
+    ]
+    notes = ["A user's credit is as the last reply to one of the user's computers told it."]
+    if recent.with_results:
+        header += ["out", "waiting", "done", "late", "failed"]
+        counts = [[one.out, one.waiting, one.done, one.late, one.failed] for one in recent.hosts]
+        rows = [[*row, *count] for row, count in zip(rows, counts)]
+        if counts:
+            rows.append(["all", "", "", "", *map(sum, zip(*counts))])
+        notes.append(
+            "Results are out until they are reported or their deadline passes; those whose deadline "
+            "passed are late. Those "
+            "that wait are reported, and their workunit is not decided. Done are those that were found "
+            "valid; failed are "
+            "errors, and results found invalid."
         )
-    return html_page(f"{settings.name}: how it stands", "", body)
+    return [
+        element("h2", "Computers"),
+        element(
+            "p", f"Computers that called: {status.count_of_hosts}. The last {len(recent.hosts)} of them:"
+        ),
+        table(header, rows),
+        *(element("p", note, class_="note") for note in notes),
+    ]

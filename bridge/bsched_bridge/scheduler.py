@@ -1,10 +1,12 @@
-"""The connection to bsched, and what its answers say (docs/PROFILE.md, "The reply", "Refusals" and "HTTP messages")."""
+"""The connection to bsched, and what its answers say (docs/PROFILE.md, "The reply", "Refusals" and "HTTP
+messages").
+"""
 import http.client
 import json
 import logging
 import time
-from dataclasses import dataclass, field
-from typing import Any
+from dataclasses import dataclass, field, fields
+from typing import Any, NoReturn
 
 from .settings import Address
 
@@ -12,13 +14,15 @@ ATTEMPTS = 3
 PAUSE_SECONDS = 0.5  # between attempts
 UNAVAILABLE = "unavailable"
 NO_HOST = 2**31 - 1  # no host has this number: there are at most 100,000
-MOST_ANSWER = 16 * 1024 * 1024
+MOST_ANSWER = 16 * 1024 * 1024  # bytes
 
 log = logging.getLogger(__name__)
 
 
 class NoAnswer(Exception):
-    """bsched gave no answer, or was unavailable. What was sent may have been acted on, and is sent again as it was."""
+    """bsched gave no answer, or was unavailable. What was sent may have been acted on, and is sent again as
+    it was.
+    """
 
 
 @dataclass(frozen=True, slots=True)
@@ -59,9 +63,30 @@ class Refusal:
     members: dict[str, Any] = field(default_factory=dict)
 
 
+REPLY_MEMBERS = frozenset(member.name for member in fields(Reply))
+JOB_MEMBERS = frozenset(member.name for member in fields(Job))
+
+
+def known_members(said: dict[str, Any], known: frozenset[str]) -> dict[str, Any]:
+    """The members that the bridge knows. A newer bsched may send more of them."""
+    return {name: value for name, value in said.items() if name in known}
+
+
 def read_reply(said: dict[str, Any]) -> Reply:
-    """The reply of a JSON object."""
-    return Reply(**{**said, "results": [Job(**job) for job in said["results"]]})
+    """The reply of a JSON object; a KeyError or a TypeError where a member is missing."""
+    jobs = [Job(**known_members(job, JOB_MEMBERS)) for job in said["results"]]
+    members: dict[str, Any] = {**known_members(said, REPLY_MEMBERS), "results": jobs}
+    return Reply(**members)
+
+
+def read_refusal(status: int, said: object) -> Refusal:
+    """The refusal of a JSON object; a NoAnswer where it is none, or says that bsched was unavailable."""
+    error = said.get("error") if isinstance(said, dict) else None
+    if not isinstance(said, dict) or not isinstance(error, str):
+        raise NoAnswer(f"status {status} with a body that is no answer of bsched")
+    if error == UNAVAILABLE:
+        raise NoAnswer(error)
+    return Refusal(error, {name: value for name, value in said.items() if name != "error"})
 
 
 class Scheduler:
@@ -69,19 +94,51 @@ class Scheduler:
 
     def __init__(self, address: Address, answer_seconds: int):
         self.address, self.answer_seconds = address, answer_seconds
+        self.silent_since: float | None = None  # when bsched first gave no answer, if none came since
 
-    def message(self, method: str, path: str, body: bytes | None = None, fields: dict[str, str] | None = None) -> tuple[int, bytes]:
-        """The status and the body of the answer to a message."""
-        connection = http.client.HTTPConnection(self.address.host, self.address.port, timeout=self.answer_seconds)
+    def message(
+        self, method: str, path: str, body: bytes | None = None, fields: dict[str, str] | None = None
+    ) -> tuple[int, bytes]:
+        """The status and the body of the answer to a message; a NoAnswer where bsched says that it
+        has none.
+        """
         try:
-            connection.request(method, path, body, fields or {})
+            status, told = self._exchange(method, path, body, fields or {})
+            if len(told) > MOST_ANSWER:
+                self._is_too_long(method, path)
+            if status >= 500:
+                raise NoAnswer(f"status {status}")
+        except NoAnswer:
+            self.silent_since = self.silent_since or time.time()
+            raise
+        self.silent_since = None
+        return status, told
+
+    def _exchange(
+        self, method: str, path: str, body: bytes | None, fields: dict[str, str]
+    ) -> tuple[int, bytes]:
+        """The status of the answer, and as much of its body as is looked at."""
+        connection = http.client.HTTPConnection(
+            self.address.host, self.address.port, timeout=self.answer_seconds
+        )
+        try:
+            connection.request(method, path, body, fields)
             response = connection.getresponse()
-            told = response.read(MOST_ANSWER)
+            return response.status, response.read(MOST_ANSWER + 1)
         except (OSError, http.client.HTTPException) as error:
             raise NoAnswer(str(error) or type(error).__name__) from None
         finally:
             connection.close()
-        return response.status, told
+
+    def _is_too_long(self, method: str, path: str) -> NoReturn:
+        """Refuses an answer of which only a part was read."""
+        log.error(
+            "the answer of bsched to %s %s is longer than %d bytes, and is not used",
+            method,
+            path,
+            MOST_ANSWER,
+        )
+        raise NoAnswer(f"an answer longer than {MOST_ANSWER} bytes")
 
     def call_once(self, body: bytes) -> Reply | Refusal:
         """The answer to a call."""
@@ -90,15 +147,14 @@ class Scheduler:
             said = json.loads(told)
             if status == 200:
                 return read_reply(said)
-            error = said.pop("error")
         except (ValueError, KeyError, TypeError, AttributeError):
             raise NoAnswer(f"status {status} with a body that is no answer of bsched") from None
-        if error == UNAVAILABLE or status >= 500:
-            raise NoAnswer(error)
-        return Refusal(error, said)
+        return read_refusal(status, said)
 
     def call(self, body: bytes) -> Reply | Refusal:
-        """The answer to a call; where none comes, the same bytes are sent again, a few times and within a bounded time."""
+        """The answer to a call; where none comes, the same bytes are sent again, a few times and within a
+        bounded time.
+        """
         ends = time.monotonic() + self.answer_seconds
         for attempt in range(1, ATTEMPTS + 1):
             try:
@@ -110,20 +166,44 @@ class Scheduler:
             time.sleep(PAUSE_SECONDS)
         raise AssertionError("the last attempt returns or raises")
 
+    def import_accounts(self, batch: str, text: bytes, operator_key: str) -> Refusal | None:
+        """Imports accounts; the refusal, or nothing where bsched has them."""
+        fields = {"x-operator-key": operator_key, "content-type": "text/csv"}
+        status, told = self.message("POST", f"/import/accounts/{batch}", text, fields)
+        try:
+            said = json.loads(told)
+        except ValueError:
+            raise NoAnswer(f"status {status} with a body that is no answer of bsched") from None
+        if status != 200:
+            return read_refusal(status, said)
+        if not isinstance(said, dict) or said.get("batch") != batch:
+            raise NoAnswer("the answer is not that to the import")
+        return None
+
     def statement(self, hostid: int, operator_key: str) -> str | None:
         """The statement of a host; none where bsched refuses it."""
         status, told = self.message("GET", f"/hosts/{hostid}", None, {"x-operator-key": operator_key})
         return told.decode(errors="replace") if status == 200 else None
 
-    def has_account(self, authenticator: str) -> bool:
-        """Whether an account stands.
+    # What follows is asked by a call that changes nothing: one of a host that has another number than the
+    # call tells is refused as bad_host, and that comes after the look for the account; and no host has had a
+    # call of number 0, so that of a host that has this number is refused as stale.
 
-        It is asked by a call that changes nothing: one of a host that has another number than the call tells is refused as
-        bad_host, and that comes behind the look for the account.
-        """
-        record = {
-            "authenticator": authenticator, "hostid": NO_HOST, "rpc_seqno": 0, "platform_name": "none",
-            "host_info": {"host_cpid": "none", "p_fpops": 1, "m_nbytes": 0, "d_free": 0},
-        }
-        answer = self.call_once(json.dumps(record).encode())
+    def has_account(self, authenticator: str) -> bool:
+        """Whether an account exists."""
+        answer = self.call_once(asking_call(authenticator, "none", NO_HOST))
         return isinstance(answer, Refusal) and answer.error == "bad_host"
+
+    def has_host(self, authenticator: str, host_cpid: str, hostid: int) -> bool:
+        """Whether a host exists with this key and this number."""
+        answer = self.call_once(asking_call(authenticator, host_cpid, hostid))
+        return isinstance(answer, Refusal) and answer.error in ("stale", "reused")
+
+
+def asking_call(authenticator: str, host_cpid: str, hostid: int) -> bytes:
+    """A call that changes nothing."""
+    record = {
+        "authenticator": authenticator, "hostid": hostid, "rpc_seqno": 0, "platform_name": "none",
+        "host_info": {"host_cpid": host_cpid, "p_fpops": 1, "m_nbytes": 0, "d_free": 0},
+    }
+    return json.dumps(record).encode()

@@ -1,9 +1,14 @@
 """The settings of a bridge, a TOML file."""
+import ipaddress
+import re
 from dataclasses import dataclass
 from pathlib import Path
 from urllib.parse import urlsplit
 
 from .operator_files import Entry, OperatorFile
+
+FIELD_NAME = re.compile("[A-Za-z][A-Za-z0-9-]{0,63}")
+LISTED_FIELDS = {"x-forwarded-for", "forwarded"}  # a proxy adds to what a client wrote there
 
 
 @dataclass(frozen=True, slots=True)
@@ -12,6 +17,26 @@ class Address:
 
     host: str
     port: int
+
+
+@dataclass(frozen=True, slots=True)
+class AccountSettings:
+    """How volunteers make accounts by themselves."""
+
+    most_a_day: int  # new accounts in 24 hours
+    most_from_address: int  # the same for one client address
+    # the field of a message's head in which a proxy on this machine tells that address
+    address_field: str | None
+    is_name_told: bool  # a user's name is the one that the client tells; else it is made
+    terms: str | None  # the terms of use
+
+
+@dataclass(frozen=True, slots=True)
+class HostRules:
+    """What is read again while the bridge runs."""
+
+    most_hosts: int  # of one account
+    barred: frozenset[str]  # keys of accounts
 
 
 @dataclass(frozen=True, slots=True)
@@ -28,6 +53,10 @@ class Settings:
     threads: int  # how many messages are worked on at once
     answer_seconds: int  # how long an answer of bsched is waited for
     retry_delay: int  # the seconds that a client is told to wait where bsched gave no answer
+    welcome: str | None  # what the project's page says, in the operator's own words
+    counts: Path | None  # a file with the counts of a copy of bsched's tables
+    host_rules: HostRules
+    accounts: AccountSettings | None  # none where only the operator makes accounts
 
     @property
     def path(self) -> str:
@@ -44,29 +73,79 @@ def address(file: Entry, member: str) -> Address:
 
 
 def master_url(file: Entry) -> str:
-    """The master URL. Clients bring it to this form: a scheme, a host in small letters, and a slash at the end."""
+    """The master URL. Clients bring it to this form: a scheme, a host in small letters, and a slash at the
+    end.
+    """
     url = file.text("url")
     try:
         parts = urlsplit(url)
-        host, _port = parts.hostname, parts.port
+        host = parts.hostname if parts.port != 0 else None
     except ValueError:
-        parts = host = None
+        host = None
     if not host or parts.scheme not in ("http", "https") or parts.query or parts.fragment or parts.username:
         file.fault("url is not http://HOST/ or https://HOST/, with or without a port and a path", "url")
     if not url.endswith("/"):
         file.fault("url does not end with a slash, as clients will write it", "url")
-    if parts.netloc != parts.netloc.lower() or not url.isascii() or any(one <= " " or one in "\"<>&'%" for one in url):
+    is_odd = not url.isascii() or any(one <= " " or one in "\"<>&'%" for one in url)
+    if parts.netloc != parts.netloc.lower() or is_odd:
         file.fault("url has capital letters in its host, or a character that has to be escaped", "url")
     return url
+
+
+def is_private(url: str) -> bool:
+    """Whether what is sent to a URL can be read by its two ends alone: by TLS, or since both are this
+    machine.
+    """
+    parts = urlsplit(url)
+    if parts.scheme == "https" or parts.hostname == "localhost":
+        return True
+    try:
+        return ipaddress.ip_address(parts.hostname or "").is_loopback
+    except ValueError:
+        return False
+
+
+def read_accounts(file: OperatorFile, url: str, has_key: bool) -> AccountSettings | None:
+    """The table `[accounts]`, if there is one."""
+    entry = file.table("accounts")
+    if entry is None:
+        return None
+    if not has_key:
+        entry.fault("[accounts] needs operator_key, with which accounts are imported")
+    if not is_private(url):
+        entry.fault("[accounts] needs a url with https, since passwords are sent to it")
+    field = entry.text("address_field", "")
+    if field and not FIELD_NAME.fullmatch(field):
+        entry.fault("address_field is no name of a field, such as X-Real-IP", "address_field")
+    if field.lower() in LISTED_FIELDS:
+        entry.fault(f"address_field: a client can write into {field}; use X-Real-IP", "address_field")
+    names = entry.text("names", "made")
+    if names not in ("told", "made"):
+        entry.fault('names is not "told" or "made"', "names")
+    accounts = AccountSettings(
+        most_a_day=entry.whole("most_a_day", 1, 10_000),
+        most_from_address=entry.whole("most_from_address", 1, 10_000, 3),
+        address_field=field or None,
+        is_name_told=names == "told",
+        terms=entry.short_text("terms"),
+    )
+    entry.end()
+    return accounts
+
+
+def read_host_rules(file: OperatorFile) -> HostRules:
+    """The members that are read again while the bridge runs."""
+    return HostRules(file.whole("most_hosts", 1, 100_000, 20), file.words("barred"))
 
 
 def read_settings(path: Path) -> Settings:
     """The settings of a file; paths in it are relative to its folder."""
     file = OperatorFile(path)
+    url = master_url(file)
     key = file.word("operator_key") if "operator_key" in file.members else None
     settings = Settings(
         name=file.text("name"),
-        url=master_url(file),
+        url=url,
         listen=address(file, "listen"),
         scheduler=address(file, "scheduler"),
         catalogue=file.existing("catalogue"),
@@ -75,6 +154,10 @@ def read_settings(path: Path) -> Settings:
         threads=file.whole("threads", 1, 64, 8),
         answer_seconds=file.whole("answer_seconds", 1, 120, 15),
         retry_delay=file.whole("retry_delay", 1, 86400, 60),
+        welcome=file.short_text("welcome"),
+        counts=path.parent / file.text("counts") if "counts" in file.members else None,
+        host_rules=read_host_rules(file),
+        accounts=read_accounts(file, url, key is not None),
     )
     if not settings.name.strip() or not settings.name.isprintable():
         file.fault("name is empty, or has a character that can't be printed", "name")

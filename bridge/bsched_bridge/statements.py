@@ -1,91 +1,183 @@
-"""How hosts stand, from bsched's statements (docs/PROFILE.md, "The statement of a host") and from what replies told."""
+"""How hosts and users stand, from bsched's statements (docs/PROFILE.md, "The statement of a host") and from
+what replies told.
+"""
 import csv
 import io
+import json
 import threading
 import time
-from collections import Counter
-from dataclasses import dataclass
+from collections import Counter, OrderedDict
+from dataclasses import dataclass, replace
+from decimal import Decimal, InvalidOperation
+from pathlib import Path
 
 from .counts import Counts, HeardHost
+from .members import Members
 from .scheduler import NoAnswer, Scheduler
 
 MOST_HOSTS = 50
-KEPT_SECONDS = 60  # how long what was read is told again, so that a page costs bsched nothing
+KEPT_SECONDS = 60  # how long what was read is shown again, so that a page costs bsched nothing
+MOST_KEPT = 200  # accounts whose hosts are kept so long
+MOST_COUNTS = 1_048_576  # bytes of a file of counts
+NO_REPLY, SUCCESS = "4", "1"
 
 
 @dataclass(frozen=True, slots=True)
 class HostStatus:
-    """A host, and how many of its results are out, wait, are done or have failed."""
+    """A host, its credit, and how many of its results are out, wait, are done, came too late or have
+    failed.
+    """
 
     host: HeardHost
+    credit: int  # millicredits
     out: int = 0
     waiting: int = 0
     done: int = 0
+    late: int = 0
     failed: int = 0
 
 
 @dataclass(frozen=True, slots=True)
-class Status:
-    """How the hosts stand that called last."""
+class Hosts:
+    """How some hosts stand."""
 
     hosts: list[HostStatus]
     with_results: bool  # whether statements could be read
-    read_at: int
+    read_at: float
+
+
+@dataclass(frozen=True, slots=True)
+class UnitCounts:
+    """How many workunits have each status, in a copy of bsched's tables."""
+
+    by_status: dict[str, int]
+    counted_at: float
+
+
+@dataclass(frozen=True, slots=True)
+class Status:
+    """How the project stands."""
+
+    recent: Hosts  # those that called last
+    count_of_hosts: int
+    ranking: list[tuple[str, int]]  # each user with the credit, the greatest first
+    units: UnitCounts | None
+    silent_since: float | None  # since when bsched gives no answer
 
 
 def standing(row: dict[str, str]) -> str:
     """How a result stands, by its line of a statement."""
-    state = row["server_state"], row["outcome"], row["validate_state"]
-    if state[0] == "4":
+    state, outcome, verdict = row["server_state"], row["outcome"], row["validate_state"]
+    if state == "4":
         return "out"
-    if state[1:] == ("1", "1"):
+    if outcome == NO_REPLY:
+        return "late"
+    if (outcome, verdict) == (SUCCESS, "1"):
         return "done"
-    return "waiting" if state[1:] == ("1", "0") else "failed"
+    return "waiting" if (outcome, verdict) == (SUCCESS, "0") else "failed"
 
 
-def standings(statement: str) -> Counter[str]:
-    """How many results of a statement stand in each way. Its last line is the credit and no result."""
-    rows = list(csv.DictReader(io.StringIO(statement)))
-    return Counter(standing(row) for row in rows[:-1])
+def read_statement(host: HeardHost, text: str) -> HostStatus:
+    """How a host stands by its statement. Its last line is the credit, and no result."""
+    rows = list(csv.DictReader(io.StringIO(text)))
+    try:
+        counted = Counter(map(standing, rows[:-1]))
+        credit = int(Decimal(rows[-1]["credit"]) * 1000)
+    except (IndexError, KeyError, TypeError, InvalidOperation):
+        raise NoAnswer("the statement of a host can't be read") from None
+    return HostStatus(host, credit, **counted)
+
+
+def read_unit_counts(path: Path | None) -> UnitCounts | None:
+    """The counts of workunits in a file; none where the operator makes no such file, or it can't be read."""
+    if path is None:
+        return None
+    try:
+        with path.open("rb") as file:
+            said = json.loads(file.read(MOST_COUNTS))
+        told = said["workunits"]
+        by_status = {name: count for name, count in told.items() if type(count) is int}
+        return UnitCounts(by_status, path.stat().st_mtime) if by_status else None
+    except (OSError, ValueError, KeyError, TypeError, AttributeError):
+        return None
 
 
 class Statements:
     """Who reads how hosts stand, at most once in a while."""
 
-    def __init__(self, counts: Counts, scheduler: Scheduler, operator_key: str | None):
-        self.counts, self.scheduler, self.operator_key = counts, scheduler, operator_key
-        self._lock = threading.Lock()
-        self._kept: Status | None = None
-        self._until = 0.0
+    def __init__(
+        self,
+        counts: Counts,
+        members: Members,
+        scheduler: Scheduler,
+        operator_key: str | None,
+        unit_counts: Path | None,
+    ):
+        self.counts, self.members, self.scheduler, self.operator_key = (
+            counts,
+            members,
+            scheduler,
+            operator_key,
+        )
+        self.unit_counts = unit_counts
+        self._lock, self._accounts_lock = threading.Lock(), threading.Lock()
+        self._kept: tuple[Status, float] | None = None  # with the moment until which it is shown
+        self._accounts: OrderedDict[str, tuple[Hosts, float]] = OrderedDict()
 
     def status(self) -> Status:
-        """How the hosts stand; what was read a short time ago is told again."""
-        with self._lock:
-            if self._kept is None or time.monotonic() > self._until:
-                self._kept = self._read()
-                self._until = time.monotonic() + KEPT_SECONDS
-            return self._kept
+        """How the project stands. What was read a short time ago is shown again, as it is while somebody
+        reads.
+        """
+        kept = self._kept
+        if not self._lock.acquire(blocking=kept is None):
+            assert kept is not None
+            return kept[0]
+        try:
+            if self._kept is None or time.monotonic() > self._kept[1]:
+                self._kept = self._read(), time.monotonic() + KEPT_SECONDS
+            return self._kept[0]
+        finally:
+            self._lock.release()
+
+    def of_account(self, authenticator: str) -> Hosts:
+        """How the hosts of an account stand; what was read a short time ago is shown again."""
+        with self._accounts_lock:
+            kept = self._accounts.get(authenticator)
+        if kept is not None and time.monotonic() <= kept[1]:
+            return kept[0]
+        hosts = self._hosts(self.counts.heard_hosts(MOST_HOSTS, authenticator))
+        with self._accounts_lock:
+            self._accounts[authenticator] = hosts, time.monotonic() + KEPT_SECONDS
+            self._accounts.move_to_end(authenticator)
+            if len(self._accounts) > MOST_KEPT:
+                self._accounts.popitem(last=False)
+        return hosts
 
     def _read(self) -> Status:
-        """Reads it. Where bsched gives no answer, or no operator's key is told, only what replies told is known."""
+        """Reads how the project stands."""
+        names = self.members.names()
         heard = self.counts.heard_hosts(MOST_HOSTS)
-        hosts = None
+        recent = self._hosts([replace(host, user_name=names.get(host.authenticator, "?")) for host in heard])
+        ranking = [(names.get(key, "?"), credit) for key, credit in self.counts.user_credits()]
+        return Status(
+            recent, self.counts.count_of_hosts(), sorted(ranking, key=lambda user: (-user[1], user[0])),
+            read_unit_counts(self.unit_counts), self.scheduler.silent_since,
+        )
+
+    def _hosts(self, heard: list[HeardHost]) -> Hosts:
+        """Reads how hosts stand. Without an answer, or the operator's key, only what replies told is
+        known.
+        """
         if self.operator_key is not None:
             try:
-                hosts = [self._host(host) for host in heard]
+                return Hosts([self._host(host, self.operator_key) for host in heard], True, time.time())
             except NoAnswer:
                 pass
-        with_results = hosts is not None
-        return Status(hosts if with_results else [self._told(host, Counter()) for host in heard], with_results, int(time.time()))
+        return Hosts([HostStatus(host, host.host_credit) for host in heard], False, time.time())
 
-    def _host(self, host: HeardHost) -> HostStatus:
+    def _host(self, host: HeardHost, operator_key: str) -> HostStatus:
         """How a host stands, by its statement."""
-        statement = self.scheduler.statement(host.hostid, self.operator_key)
+        statement = self.scheduler.statement(host.hostid, operator_key)
         if statement is None:
             raise NoAnswer("the statement is refused")
-        return self._told(host, standings(statement))
-
-    @staticmethod
-    def _told(host: HeardHost, counted: Counter[str]) -> HostStatus:
-        """A host with what was counted."""
-        return HostStatus(host, **counted)
+        return read_statement(host, statement)

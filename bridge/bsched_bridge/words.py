@@ -19,3 +19,13 @@ def cut_to_bytes(text: str, most: int) -> str:
 def xml_text(text: str) -> str:
     """A text in which each character that can't stand in XML is U+FFFD."""
     return NO_XML.sub("\ufffd", text)
+
+
+def in_small_letters(text: str) -> str:
+    """A text with its capital letters of ASCII made small, as BOINC's client does it."""
+    return "".join(one.lower() if one.isascii() else one for one in text)
+
+
+def shown_key(authenticator: str) -> str:
+    """The front of an account key, by which an operator finds the account, and nobody else gets into it."""
+    return authenticator[: min(6, len(authenticator) // 2)] + ".."

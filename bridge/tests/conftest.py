@@ -1,22 +1,31 @@
 """What the tests share: a bsched that can lose answers, and a bridge before it."""
 import io
+import os
 import sys
 from pathlib import Path
 
+import hypothesis.configuration
 import pytest
 
 sys.dont_write_bytecode = True
 BRIDGE = Path(__file__).resolve().parent.parent
 sys.path[:0] = [str(BRIDGE), str(BRIDGE.parent / "bench"), str(BRIDGE / "tests")]
 
+# the tests stop programs and never the power, so nothing need reach a disk
+if os.access("/dev/shm", os.W_OK):
+    os.environ.setdefault("PYTEST_DEBUG_TEMPROOT", "/dev/shm")
+hypothesis.configuration.set_hypothesis_home_dir(BRIDGE / ".pytest_cache" / "hypothesis")
+
 from twin import Twin  # noqa: E402
 
 from bsched_bridge.application import Application  # noqa: E402
 from bsched_bridge.catalogue import read_catalogue  # noqa: E402
 from bsched_bridge.code_signing import file_md5, new_key, public_key_text, signature_text  # noqa: E402
-from bsched_bridge.counts import Counts  # noqa: E402
+from bsched_bridge.passwords import Cost, Passwords  # noqa: E402
+from bsched_bridge.host_rules import HostRuleReader  # noqa: E402
 from bsched_bridge.scheduler import Scheduler  # noqa: E402
 from bsched_bridge.settings import read_settings  # noqa: E402
+from bsched_bridge.state_file import StateFile  # noqa: E402
 
 CATALOGUE = """\
 code_sign_key = "key"
@@ -56,7 +65,8 @@ def project(tmp_path, key):
     (tmp_path / "sum_1.signature").write_text(signature_text(file_md5(tmp_path / "files" / "sum_1"), key))
     (tmp_path / "catalogue.toml").write_text(CATALOGUE)
     (tmp_path / "bridge.toml").write_text(
-        'name = "Sums"\nurl = "http://127.0.0.1:8081/p/"\nlisten = "127.0.0.1:8081"\nscheduler = "127.0.0.1:8080"\n'
+        'name = "Sums"\nurl = "http://127.0.0.1:8081/p/"\nlisten = "127.0.0.1:8081"\nscheduler = '
+        '"127.0.0.1:8080"\n'
         'operator_key = "change-this-key"\ncatalogue = "catalogue.toml"\nstate = "bridge.db"\n'
     )
     return tmp_path
@@ -79,22 +89,36 @@ class Bridge:
 
     def start(self) -> None:
         """Starts it over what its file has."""
-        settings = read_settings(self.folder / "bridge.toml")
-        self.counts = Counts(settings.state)
-        scheduler = Scheduler(self.twin.address, answer_seconds=2)
-        self.application = Application(settings, read_catalogue(settings.catalogue), self.counts, scheduler)
+        path = self.folder / "bridge.toml"
+        settings = read_settings(path)
+        self.file = StateFile(settings.state)
+        self.application = Application(
+            settings,
+            read_catalogue(settings.catalogue),
+            self.file,
+            Scheduler(self.twin.address, answer_seconds=2),
+            HostRuleReader(path, settings.host_rules).rules,
+            Passwords(Cost(2**4, 8, 1)),
+        )
+        self.counts, self.members = self.application.exchange.counts, self.application.members
 
     def restart(self) -> None:
         """What a stop leaves is what is on the disk."""
-        self.counts.close()
+        self.file.close()
         self.start()
 
-    def got(self, path: str, method: str = "GET", body: bytes = b"", **more: str) -> tuple[str, dict[str, str], bytes]:
+    def got(
+        self, path: str, method: str = "GET", body: bytes = b"", **more: str
+    ) -> tuple[str, dict[str, str], bytes]:
         """The status, the fields and the body of an answer."""
         path, _, query = path.partition("?")
         environ = {
-            "REQUEST_METHOD": method, "PATH_INFO": path, "QUERY_STRING": query, "wsgi.input": io.BytesIO(body),
-            "CONTENT_LENGTH": str(len(body)) if method == "POST" else "", **more,
+            "REQUEST_METHOD": method,
+            "PATH_INFO": path,
+            "QUERY_STRING": query,
+            "wsgi.input": io.BytesIO(body),
+            "CONTENT_LENGTH": str(len(body)) if method == "POST" else "",
+            **more,
         }
         told = []
         blocks = self.application(environ, lambda status, fields: told.append((status, dict(fields))))
@@ -114,4 +138,18 @@ def bridge(project, twin, monkeypatch):
     monkeypatch.setattr("bsched_bridge.scheduler.PAUSE_SECONDS", 0.0)
     made = Bridge(project, twin)
     yield made
-    made.counts.close()
+    made.file.close()
+
+
+ACCOUNTS = "\n[accounts]\nmost_a_day = 50\n"
+
+
+@pytest.fixture
+def open_bridge(project, twin, monkeypatch):
+    """A bridge that makes accounts."""
+    monkeypatch.setattr("bsched_bridge.scheduler.PAUSE_SECONDS", 0.0)
+    with (project / "bridge.toml").open("a") as file:
+        file.write(ACCOUNTS)
+    made = Bridge(project, twin)
+    yield made
+    made.file.close()

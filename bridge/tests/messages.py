@@ -9,15 +9,27 @@ def request(hostid=0, cpid="c1", key="ann-key", seconds=60, listed=(), reports=(
         names = "".join(f"<other_result><name>{name}</name></other_result>\n" for name in listed)
         other = f"<other_results>\n{names}</other_results>\n"
     results = "".join(
-        f"<result><name>{name}</name><exit_status>0</exit_status><state>5</state><stderr_out><core_client_version>7.20.5"
-        f"</core_client_version>\n<![CDATA[\n<stderr_txt>\n{output}\n</stderr_txt>\n]]>\n</stderr_out></result>\n"
+        f"<result><name>{name}</name><exit_status>0</exit_status><state>5</state><stderr_out>"
+        "<core_client_version>7.20.5"
+        f"</core_client_version>\n<![CDATA[\n<stderr_txt>\n{output}\n</stderr_txt>\n]]>\n"
+        "</stderr_out></result>\n"
         for name, output in reports
     )
-    told = {"p_fpops": "1000000000.0", "m_nbytes": "8e9", "d_free": "8e9", "platform": "x86_64-pc-linux-gnu", "extra": "", **more}
+    told = {
+        "p_fpops": "1000000000.0",
+        "m_nbytes": "8e9",
+        "d_free": "8e9",
+        "platform": "x86_64-pc-linux-gnu",
+        "extra": "",
+        **more,
+    }
     return (
-        f"<scheduler_request>\n<authenticator>{key}</authenticator>\n<hostid>{hostid}</hostid>\n<rpc_seqno>{seqno}</rpc_seqno>\n"
-        f"<work_req_seconds>{seconds}</work_req_seconds>\n<platform_name>{told['platform']}</platform_name>\n{told['extra']}"
-        f"<host_info><host_cpid>{cpid}</host_cpid><p_fpops>{told['p_fpops']}</p_fpops><m_nbytes>{told['m_nbytes']}</m_nbytes>"
+        f"<scheduler_request>\n<authenticator>{key}</authenticator>\n<hostid>{hostid}</hostid>\n"
+        f"<rpc_seqno>{seqno}</rpc_seqno>\n"
+        f"<work_req_seconds>{seconds}</work_req_seconds>\n"
+        f"<platform_name>{told['platform']}</platform_name>\n{told['extra']}"
+        f"<host_info><host_cpid>{cpid}</host_cpid><p_fpops>{told['p_fpops']}</p_fpops><m_nbytes>"
+        f"{told['m_nbytes']}</m_nbytes>"
         f"<d_free>{told['d_free']}</d_free></host_info>\n{results}{other}</scheduler_request>\n"
     )
 

@@ -1,4 +1,5 @@
 """The pages, the downloads, and what is no message to the bridge."""
+import re
 import xml.etree.ElementTree as ElementTree
 
 import pytest
@@ -15,27 +16,58 @@ def test_the_master_page_has_both_forms(bridge):
     assert '<link rel="boinc_scheduler" href="http://127.0.0.1:8081/p/cgi">' in lines
 
 
-def test_the_pages_of_an_attach(bridge):
+# the numbers of BOINC's errors with which the Manager's wizard never ends, in an answer to a look-up
+HANGING_ERRORS = {"-136", "-161", "-205", "-206", "-204"}
+
+
+def account_answer(bridge, query):
+    """The answer to a message about an account; the client reads its body only where the status is 200."""
+    status, fields, body = bridge.got(f"/p/{query}")
+    assert (status, fields["Content-Type"]) == ("200 OK", "text/xml; charset=utf-8")
+    return ElementTree.fromstring(body)
+
+
+def test_what_a_client_asks_before_it_attaches(bridge):
     config = ElementTree.fromstring(bridge.got("/p/get_project_config.php")[2])
     assert config.findtext("name") == "Sums"
-    assert config.findtext("master_url") == "http://127.0.0.1:8081/p/"
+    assert config.findtext("master_url") == config.findtext("web_rpc_url_base") == "http://127.0.0.1:8081/p/"
     assert config.findtext("platforms/platform/platform_name") == "x86_64-pc-linux-gnu"
+    # as an e-mail address the Manager takes no account key, as a user name it takes any text
+    for member in ("uses_username", "account_creation_disabled", "client_account_creation_disabled"):
+        assert config.findtext(member) == "1"
+
+
+def test_an_account_is_looked_up_by_its_key(bridge):
     for member in ("authenticator", "email_addr"):
-        told = bridge.got(f"/p/lookup_account.php?{member}=ann-key&passwd_hash=00")[2]
-        assert ElementTree.fromstring(told).findtext("authenticator") == "ann-key"
+        told = account_answer(bridge, f"lookup_account.php?{member}=ann-key&passwd_hash=00")
+        assert told.findtext("authenticator") == "ann-key"
     for query in ("?authenticator=nobody", "?authenticator=a%20b", "?email_addr=", ""):
-        told = ElementTree.fromstring(bridge.got(f"/p/lookup_account.php{query}")[2])
-        assert (told.tag, told.findtext("error_num")) == ("error", "-136")
+        told = account_answer(bridge, f"lookup_account.php{query}")
+        assert (told.tag, told.findtext("error_num")) == ("error", "-155")
+        assert told.findtext("error_num") not in HANGING_ERRORS
     assert bridge.twin.service.machine.hosts == {}  # asking makes no host
     bridge.twin.close()
-    assert ElementTree.fromstring(bridge.got("/p/lookup_account.php?authenticator=ann-key")[2]).findtext("error_num") == "-183"
+    assert account_answer(bridge, "lookup_account.php?authenticator=ann-key").findtext("error_num") == "-183"
+
+
+def test_no_client_makes_an_account(bridge):
+    told = account_answer(bridge, "create_account.php?email_addr=a@b.example&passwd_hash=00&user_name=Ann")
+    assert (told.tag, told.findtext("error_num")) == ("error", "-208")
+    assert bridge.twin.heard == []
+
+
+def cells(page, before, place):
+    """The numbers that stand in a row of a table after the place-th occurrence of a text."""
+    rest = page.split(before)[place].partition("</tr>")[0]
+    return re.findall('<td class="number">([^<]*)</td>', rest)
 
 
 def test_the_status_page(bridge):
     bridge.call(request())
     page = bridge.got("/p/status")[2].decode()
-    assert "<td>Ann</td><td>0.000</td>" in page
-    assert "<td>1</td><td>1</td><td>1</td><td>2</td>" in page  # out, waiting, done, failed
+    assert '<td>Ann</td><td class="number">0.000</td>' in page
+    # credit, out, waiting, done, late, failed
+    assert cells(page, "<td>Ann</td>", 2) == ["5.000", "1", "1", "1", "1", "1"]
     bridge.call(request(key="bob-key", cpid="c2"))
     assert "Bob" not in bridge.got("/p/status")[2].decode()  # it is not read anew for each look
 
@@ -45,12 +77,12 @@ def test_users_of_one_name_are_two(bridge):
     bridge.call(request())
     bridge.call(request(key="ann-two", cpid="c2"))
     page = bridge.got("/p/status")[2].decode()
-    assert page.count("<td>Ann</td><td>0.000</td>") == 2
+    assert page.count('<td>Ann</td><td class="number">0.000</td>') == 2
     assert "ann-two" not in page
 
 
 def test_the_status_page_of_no_hosts(bridge):
-    assert "for the 0 hosts" in bridge.got("/p/status")[2].decode()
+    assert "Users with computers that called: 0." in bridge.got("/p/status")[2].decode()
 
 
 def test_the_status_page_without_statements(bridge):
@@ -59,6 +91,7 @@ def test_the_status_page_without_statements(bridge):
     page = bridge.got("/p/status")[2].decode()
     assert "Ann" in page
     assert "waiting" not in page
+    assert "The scheduler has given no answer since 20" in page
 
 
 def test_a_reply_has_all_that_a_client_needs(bridge):
@@ -107,7 +140,10 @@ def test_a_name_of_any_characters(bridge):
     assert "&lt;C&gt; &amp;" in bridge.got("/p/status")[2].decode()
 
 
-@pytest.mark.parametrize("end_word, told", [("no_eligible_work", "No tasks are available"), ("in_progress_limit", "limit on tasks")])
+@pytest.mark.parametrize(
+    "end_word, told",
+    [("no_eligible_work", "No tasks are available"), ("in_progress_limit", "limit on tasks")],
+)
 def test_why_there_are_no_jobs(bridge, end_word, told):
     listed = []
     for _ in range(8):
@@ -125,7 +161,9 @@ def test_aborted_names_are_told(bridge):
     assert names(bridge.call(request(listed=["strange_0"])), "result_abort") == ["strange_0"]
 
 
-@pytest.mark.parametrize("body, why", [(b"", "incomplete or faulty XML"), (b"<a", "incomplete"), (b"<a/>", "no scheduler_request")])
+@pytest.mark.parametrize(
+    "body, why", [(b"", "incomplete or faulty XML"), (b"<a", "incomplete"), (b"<a/>", "no scheduler_request")]
+)
 def test_a_faulty_request_gets_a_reply(bridge, body, why):
     reply = bridge.call(body)
     assert why in value(reply, "message")
@@ -143,7 +181,10 @@ def test_what_is_no_message(bridge, monkeypatch):
     assert bridge.got("/p/cgi", "POST", CONTENT_LENGTH="")[0] == "411 Length Required"
     assert bridge.got("/p/cgi", "POST", CONTENT_LENGTH="-1")[0] == "411 Length Required"
     assert bridge.got("/p/cgi", "POST", b"short", CONTENT_LENGTH="9")[0] == "400 Bad Request"
-    assert bridge.got("/p/cgi", "POST", CONTENT_LENGTH=str(client_requests.MOST_BYTES + 1))[0] == "413 Content Too Large"
+    assert (
+        bridge.got("/p/cgi", "POST", CONTENT_LENGTH=str(client_requests.MOST_BYTES + 1))[0]
+        == "413 Content Too Large"
+    )
     assert bridge.got("/p/", "HEAD")[2] == b""
 
 
@@ -163,6 +204,8 @@ def test_downloads(bridge):
     assert bridge.got("/p/download/sum_1", "POST")[0] == "405 Method Not Allowed"
 
 
-@pytest.mark.parametrize("name", ["", "none", "../key", "..", ".", "/etc/passwd", "%2e%2e", "a/b", "sum_1/", "\x00"])
+@pytest.mark.parametrize(
+    "name", ["", "none", "../key", "..", ".", "/etc/passwd", "%2e%2e", "a/b", "sum_1/", "\x00"]
+)
 def test_what_may_not_be_downloaded(bridge, name):
     assert bridge.got(f"/p/download/{name}")[0] == "404 Not Found"

@@ -21,9 +21,20 @@ def told(asked, in_hand=(), seconds=0):
 
 def test_a_call():
     assert told(REQUEST) == {
-        "authenticator": "ann-key", "hostid": 0, "rpc_seqno": 5,
-        "host_info": {"host_cpid": "made", "p_fpops": 10**9, "m_nbytes": 8 * 10**9, "d_free": 8 * 10**9},
-        "platform_name": "x86_64-pc-linux-gnu", "alt_platforms": [], "work_req_seconds": 60, "other_results": [], "results": [],
+        "authenticator": "ann-key",
+        "hostid": 0,
+        "rpc_seqno": 5,
+        "host_info": {
+            "host_cpid": "made",
+            "p_fpops": 10**9,
+            "m_nbytes": 8 * 10**9,
+            "d_free": 8 * 10**9,
+        },
+        "platform_name": "x86_64-pc-linux-gnu",
+        "alt_platforms": [],
+        "work_req_seconds": 60,
+        "other_results": [],
+        "results": [],
     }
 
 
@@ -54,7 +65,9 @@ def test_more_names_than_fit_are_left_out():
 
 
 @pytest.mark.parametrize(
-    "output", ["x" * 1024, "\x01" * 1024, '"' * 1024, "é" * 512], ids=["plain", "control", "quotes", "accents"]
+    "output",
+    ["x" * 1024, "\x01" * 1024, '"' * 1024, "é" * 512],
+    ids=["plain", "control", "quotes", "accents"],
 )
 @pytest.mark.parametrize("length", [5, 254])
 @pytest.mark.parametrize("listed", [None, 0, 700, 1024])

@@ -20,7 +20,8 @@ def test_a_first_request():
     assert told.authenticator == "ann-key"
     assert told.hostid == 0
     assert told.host_cpid == "0fb84cfbc167689574d58ef96c0de1b7"
-    assert (told.p_fpops, told.m_nbytes, told.d_free) == (1_000_000_000, 25_276_080_128, 66_681_540_608)  # rounded down
+    # rounded down
+    assert (told.p_fpops, told.m_nbytes, told.d_free) == (1_000_000_000, 25_276_080_128, 66_681_540_608)
     assert told.work_req_seconds == 1  # rounded up
     assert (told.platform_name, told.alt_platforms) == ("x86_64-pc-linux-gnu", ("i686-pc-linux-gnu",))
     assert told.other_results == ()  # the client says that it has nothing
@@ -34,7 +35,8 @@ def test_reports_and_what_the_client_has():
     assert told.other_results == ("sum_5_0", "sum_6_1")
     assert told.results == (
         Report("sum_1_0", 0, "500500"),
-        Report("sum_2_0", 1, "<message>\ncouldn't start app: missing file</message>"),  # not finished, so no success
+        # not finished, so no success
+        Report("sum_2_0", 1, "<message>\ncouldn't start app: missing file</message>"),
         Report("sum_3_0", 203, "half"),
         Report("sum_4_0", 0, "-12"),  # what the program marked as its answer
     )
@@ -54,15 +56,28 @@ def test_more_than_the_profile_takes():
     assert told.work_req_seconds == 10**9
     assert told.alt_platforms == tuple(f"p{number}" for number in range(7))
     assert told.results[0].output == "é" * 512
-    assert read_request(request(reports=[("u1_0", "x" + "é" * 600)]).encode()).results[0].output == "x" + "é" * 511
+    assert (
+        read_request(request(reports=[("u1_0", "x" + "é" * 600)]).encode()).results[0].output
+        == "x" + "é" * 511
+    )
 
 
-@pytest.mark.parametrize("output, read", [
-    (b"\xff\x01ok", "\ufffd\ufffdok"), (b"a &amp; <b>", "a &amp; <b>"), (b"", ""), ("smile \U0001f600".encode(), "smile \U0001f600"),
-    (b"&#195;&#169; &#65; &#256; &#1;", "é &#65; &#256; &#1;"), (b"&#255;", "\ufffd"),
-    (b"]]>", "]]>"), (b"a ]]> b ]]>]]> c", "a ]]> b ]]>]]> c"), (b"]]]>", "]]]>"), (b"<![CDATA[ x ]]>", "<![CDATA[ x ]]>"),
-    (b"]]>\n<name>u9_9</name>", "]]>\n<name>u9_9</name>"),
-])
+@pytest.mark.parametrize(
+    "output, read",
+    [
+        (b"\xff\x01ok", "\ufffd\ufffdok"),
+        (b"a &amp; <b>", "a &amp; <b>"),
+        (b"", ""),
+        ("smile \U0001f600".encode(), "smile \U0001f600"),
+        (b"&#195;&#169; &#65; &#256; &#1;", "é &#65; &#256; &#1;"),
+        (b"&#255;", "\ufffd"),
+        (b"]]>", "]]>"),
+        (b"a ]]> b ]]>]]> c", "a ]]> b ]]>]]> c"),
+        (b"]]]>", "]]]>"),
+        (b"<![CDATA[ x ]]>", "<![CDATA[ x ]]>"),
+        (b"]]>\n<name>u9_9</name>", "]]>\n<name>u9_9</name>"),
+    ],
+)
 def test_standard_error_of_any_bytes(output, read):
     body = request(reports=[("u1_0", "HERE")]).encode().replace(b"HERE", output)
     assert read_request(body).results[0].output == read
@@ -92,7 +107,9 @@ def test_exit_statuses(told, status):
 
 
 def test_a_result_that_can_have_no_name_is_passed_over():
-    assert read_request(request(reports=[("u" * 255, ""), ("u1_0", "")]).encode()).results == (Report("u1_0", 0, ""),)
+    assert read_request(request(reports=[("u" * 255, ""), ("u1_0", "")]).encode()).results == (
+        Report("u1_0", 0, ""),
+    )
 
 
 @pytest.mark.parametrize("name", ["first", "reports", "unlisted"])
@@ -103,12 +120,17 @@ def test_a_request_that_is_cut_anywhere_is_refused(name):
             read_request(body[:end])
 
 
-BOMB = '<!DOCTYPE x [<!ENTITY a "aaaa"><!ENTITY b "&a;&a;">]><scheduler_request><authenticator>&b;</authenticator></scheduler_request>'
+BOMB = (
+    '<!DOCTYPE x [<!ENTITY a "aaaa"><!ENTITY b "&a;&a;">]>'
+    '<scheduler_request><authenticator>&b;</authenticator></scheduler_request>'
+)
 FAULTS = {
     "nothing": "",
     "another element": "<scheduler_reply></scheduler_reply>",
     "an entity bomb": BOMB,
-    "a document type": request().replace("<scheduler_request>", "<!DOCTYPE scheduler_request><scheduler_request>", 1),
+    "a document type": request().replace(
+        "<scheduler_request>", "<!DOCTYPE scheduler_request><scheduler_request>", 1
+    ),
     "a file of the server": BOMB.replace('ENTITY a "aaaa"', 'ENTITY a SYSTEM "file:///etc/passwd"'),
     "an unknown entity": request(key="&nothing;"),
     "no authenticator": request().replace("authenticator>", "other>"),

@@ -3,7 +3,15 @@ import pytest
 from test_operator_files import ordered
 
 from bsched_bridge.code_signing import (
-    KeyFault, file_md5, hex_bytes, hex_lines, is_signature, private_key_text, public_key_text, read_private_key, read_public_key,
+    KeyFault,
+    file_md5,
+    hex_bytes,
+    hex_lines,
+    is_signature,
+    private_key_text,
+    public_key_text,
+    read_private_key,
+    read_public_key,
     signature_text,
 )
 
@@ -34,7 +42,9 @@ def test_signatures(key):
     signature = signature_text(MD5, key)
     assert is_signature(MD5, signature, key.public_key())
     assert not is_signature(MD5.replace("d", "e"), signature, key.public_key())
-    assert not is_signature(MD5, signature.replace(signature[5], "0" if signature[5] != "0" else "1"), key.public_key())
+    assert not is_signature(
+        MD5, signature.replace(signature[5], "0" if signature[5] != "0" else "1"), key.public_key()
+    )
     assert not is_signature(MD5, "no signature", key.public_key())
     assert [len(line) for line in signature.split("\n")] == [64, 64, 64, 64, 1, 0]
 
@@ -46,7 +56,9 @@ def test_the_block_that_is_signed(key):
     assert block == b"\x00\x01" + b"\xff" * 93 + b"\x00" + MD5.encode()
 
 
-@pytest.mark.parametrize("text", ["", "512\n00\n.\n", "1024\n00\n.\n", "1024\n" + "zz" * 256, "1024\n" + "00" * 256])
+@pytest.mark.parametrize(
+    "text", ["", "512\n00\n.\n", "1024\n00\n.\n", "1024\n" + "zz" * 256, "1024\n" + "00" * 256]
+)
 def test_what_is_no_key(text):
     with pytest.raises(KeyFault):
         read_public_key(text)
@@ -65,5 +77,8 @@ def test_the_commands(tmp_path):
     assert is_signature(MD5, told.stdout, public)
     assert ordered(tmp_path, "keygen").returncode == 1  # it writes over no key
     told = ordered(tmp_path, "sign", "program", "--key", "code_sign_public")
-    assert (told.returncode, told.stderr) == (1, "bsched_bridge: code_sign_public has 256 bytes, and a private key has 704\n")
+    assert (told.returncode, told.stderr) == (
+        1,
+        "bsched_bridge: code_sign_public has 256 bytes, and a private key has 704\n",
+    )
     assert ordered(tmp_path, "sign", "nothing", "--key", "code_sign_private").returncode == 1

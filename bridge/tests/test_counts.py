@@ -1,11 +1,11 @@
 """What the file of keys and counts keeps."""
-import sqlite3
 import threading
 
 import pytest
 
-from bsched_bridge.counts import FIRST_KEY, MOST_NUMBER, CountEnded, Counts, Key, StateFault
+from bsched_bridge.counts import FIRST_KEY, MOST_NUMBER, CountEnded, Counts, Key, TooManyHosts
 from bsched_bridge.scheduler import Job, Reply
+from bsched_bridge.state_file import StateFile
 
 KEY = Key("ann-key", "c1")
 JOB = Job("u1_0", "u1", "sum", "linux", 1, 60, 1000, False)
@@ -17,9 +17,9 @@ def reply(hostid=1, jobs=()):
 
 @pytest.fixture
 def counts(tmp_path):
-    made = Counts(tmp_path / "state.db")
-    yield made
-    made.close()
+    file = StateFile(tmp_path / "state.db")
+    yield Counts(file)
+    file.close()
 
 
 def test_numbers_rise_by_key(counts):
@@ -36,18 +36,19 @@ def test_a_number_that_could_not_be_told_is_not_taken(counts):
 
 
 def test_what_stands_is_on_the_disk_before_the_call_is_given(tmp_path):
-    counts = Counts(tmp_path / "state.db")
-    counts.opened(KEY, lambda number: b"call %d" % number)
+    file = StateFile(tmp_path / "state.db")
+    Counts(file).opened(KEY, lambda number: b"call %d" % number)
     (tmp_path / "copy").mkdir()
     for path in tmp_path.glob("state.db*"):  # as a stop leaves it
         (tmp_path / "copy" / path.name).write_bytes(path.read_bytes())
-    counts.close()
-    copy = Counts(tmp_path / "copy" / "state.db")
+    file.close()
+    copied = StateFile(tmp_path / "copy" / "state.db")
+    copy = Counts(copied)
     assert copy.open_call(KEY) == b"call 1"
     assert copy.next_open(FIRST_KEY) == KEY
     assert copy.next_open(KEY) is None
     assert copy.opened(KEY, lambda number: b"%d" % number) == b"2"
-    copy.close()
+    copied.close()
 
 
 def test_an_answer_closes_a_call_and_keeps_jobs(counts):
@@ -98,7 +99,9 @@ def test_numbers_end(counts):
 def test_threads_share_no_number(counts):
     given = []
     threads = [
-        threading.Thread(target=lambda: given.extend(counts.opened(KEY, lambda number: b"%d" % number) for _ in range(20)))
+        threading.Thread(
+            target=lambda: given.extend(counts.opened(KEY, lambda number: b"%d" % number) for _ in range(20))
+        )
         for _ in range(8)
     ]
     for thread in threads:
@@ -108,19 +111,12 @@ def test_threads_share_no_number(counts):
     assert sorted(map(int, given)) == list(range(1, 161))
 
 
-def test_one_bridge_has_the_file(tmp_path, counts):
-    with pytest.raises(StateFault, match="no other bridge"):
-        Counts(tmp_path / "state.db")
-
-
-def test_another_file_is_refused(tmp_path):
-    connection = sqlite3.connect(tmp_path / "other.db")
-    connection.execute("CREATE TABLE host (id)")
-    connection.close()
-    with pytest.raises(StateFault):
-        Counts(tmp_path / "other.db")
-    (tmp_path / "text").write_text("no database " * 100)
-    with pytest.raises(StateFault):
-        Counts(tmp_path / "text")
-    with pytest.raises(StateFault):
-        Counts(tmp_path / "no folder" / "state.db")
+def test_a_new_host_is_refused_where_there_are_as_many_as_may_be(counts):
+    for number in range(3):
+        counts.opened(Key("ann-key", f"c{number}"), lambda number: b"call", most_hosts=3)
+    with pytest.raises(TooManyHosts):
+        counts.opened(Key("ann-key", "c3"), lambda number: b"call", most_hosts=3)
+    counts.opened(Key("ann-key", "c1"), lambda number: b"call", most_hosts=1)  # it is there
+    counts.opened(Key("bob-key", "c3"), lambda number: b"call", most_hosts=3)
+    counts.refused(Key("ann-key", "c0"))  # no host came of it
+    counts.opened(Key("ann-key", "c3"), lambda number: b"call", most_hosts=3)

@@ -1,4 +1,6 @@
-"""The promises of the bridge: counts, answers that get lost, restarts, and what a client sees of a refusal."""
+"""The promises of the bridge: counts, answers that get lost, restarts, and what a client sees of a
+refusal.
+"""
 import json
 import threading
 import time
@@ -60,7 +62,9 @@ def test_a_reply_that_the_client_lost(bridge):
 def test_a_quorum_brings_credit(bridge):
     bridge.call(request())
     bridge.call(request(key="bob-key", cpid="c2"))
-    assert names(bridge.call(request(hostid=1, seconds=0, reports=[("u1_0", "42")])), "result_ack") == ["u1_0"]
+    assert names(bridge.call(request(hostid=1, seconds=0, reports=[("u1_0", "42")])), "result_ack") == [
+        "u1_0"
+    ]
     reply = bridge.call(request(hostid=2, key="bob-key", cpid="c2", seconds=0, reports=[("u1_1", "42")]))
     assert value(reply, "user_total_credit") == "5.000"
     assert value(bridge.call(request(hostid=1, seconds=0)), "host_total_credit") == "5.000"
@@ -88,6 +92,37 @@ def test_no_answer_is_a_reply_with_a_delay_and_no_loss(bridge, twin, fault):
     assert len(twin.heard) == 6
 
 
+def test_members_that_the_bridge_does_not_know_are_passed_over(bridge, twin):
+    handle = twin.service.scheduler
+
+    def newer(body, now):
+        said = json.loads(handle(body, now))
+        jobs = [{**job, "job_news": [1]} for job in said["results"]]
+        return json.dumps({**said, "results": jobs, "news": {"a": 1}})
+
+    twin.service.scheduler = newer
+    assert jobs(bridge.call(request())) == ["u1_0"]
+    assert len(twin.heard) == 1
+
+
+def test_an_answer_that_lacks_a_member_is_none(bridge, twin):
+    handle = twin.service.scheduler
+    twin.service.scheduler = lambda body, now: handle(body, now).replace('"end_word":', '"last_word":')
+    assert value(bridge.call(request()), "project_is_down") == "1"
+
+
+def test_an_answer_that_is_too_long_is_an_error(bridge, twin, monkeypatch, caplog):
+    bridge.call(request())
+    longest = max(map(len, twin.told))
+    monkeypatch.setattr("bsched_bridge.scheduler.MOST_ANSWER", longest)
+    assert names(bridge.call(request(hostid=1, reports=[("u1_0", "42")], seconds=0)), "result_ack") == [
+        "u1_0"
+    ]
+    monkeypatch.setattr("bsched_bridge.scheduler.MOST_ANSWER", 100)
+    assert value(bridge.call(request(hostid=1)), "project_is_down") == "1"
+    assert "the answer of bsched to POST /scheduler is longer than 100 bytes" in caplog.text
+
+
 def test_bsched_that_is_not_there(bridge, twin):
     twin.close()
     assert value(bridge.call(request()), "project_is_down") == "1"
@@ -106,15 +141,18 @@ def test_jobs_of_an_answer_that_came_too_late_are_kept(project, monkeypatch, res
     bridge.restart()
     reply = bridge.call(request(listed=listed, seconds=61))
     assert twin.heard[2] == twin.heard[3]
-    assert jobs(reply) == ["u1_0", "u2_0"]  # one of the late answer, and one for the second that it leaves wanting
+    # one of the late answer, and one for the second that it leaves wanting
+    assert jobs(reply) == ["u1_0", "u2_0"]
     assert value(reply, "hostid") == "1"
     assert jobs(bridge.call(request(hostid=1, listed=["u1_0", "u2_0"], seconds=0))) == []
-    bridge.counts.close()
+    bridge.file.close()
     twin.close()
 
 
 def test_a_stop_between_a_call_and_its_answer(bridge, twin):
-    """The call stands with its bytes when bsched hears it; what a stop at that moment leaves is enough to go on."""
+    """The call stands with its bytes when bsched hears it; what a stop at that moment leaves is enough to go
+    on.
+    """
     bridge.call(request())
     seen = []
     handle = twin.service.scheduler
@@ -194,7 +232,7 @@ def test_two_clients_at_once_do_not_wait_for_one_another(bridge, twin):
 def test_a_count_that_was_lost_goes_on(bridge, twin, project):
     for _ in range(3):
         bridge.call(request())
-    bridge.counts.close()
+    bridge.file.close()
     for path in project.glob("bridge.db*"):
         path.unlink()
     bridge.start()
@@ -204,7 +242,8 @@ def test_a_count_that_was_lost_goes_on(bridge, twin, project):
     assert twin.calls()[-1]["rpc_seqno"] == 5
 
 
-# what a client is told of each refusal of the profile, where a call gets it; no call gets those of operators' messages
+# what a client is told of each refusal of the profile, where a call gets it; no call gets those of operators'
+# messages
 REFUSED = ("refused this request", "3600.000000", "low")
 REFUSALS = {
     "bad_http": REFUSED,
@@ -220,7 +259,17 @@ REFUSALS = {
     "reused": REFUSED,
     "hosts_full": ("takes no more computers", "86400.000000", "notice"),
     **dict.fromkeys(
-        ["not_operator", "bad_csv", "duplicate_name", "unknown_reference", "batch_reused", "table_full", "no_such_host", "new"], REFUSED
+        [
+            "not_operator",
+            "bad_csv",
+            "duplicate_name",
+            "unknown_reference",
+            "batch_reused",
+            "table_full",
+            "no_such_host",
+            "new",
+        ],
+        REFUSED,
     ),
     "unavailable": ("gives no answer at the moment", "60.000000", "low"),
 }
@@ -231,7 +280,9 @@ def test_refusals(bridge, twin, error):
     message, delay, priority = REFUSALS[error]
     bridge.call(request())
     more = {"last": 5} if error in ("stale", "reused") else {}
-    twin.faults = [json.dumps({"error": error, "number": 1, **more})] * (1 if not more and error != "unavailable" else 3)
+    twin.faults = [json.dumps({"error": error, "number": 1, **more})] * (
+        1 if not more and error != "unavailable" else 3
+    )
     reply = bridge.call(request(hostid=1, reports=[("u1_0", "42")]))
     assert message in value(reply, "message")
     assert f'priority="{priority}"' in reply.decode()
@@ -257,7 +308,7 @@ def test_a_count_behind_that_of_bsched(bridge, twin, error):
 
 def test_an_account_that_does_not_stand_leaves_nothing(bridge):
     assert "Invalid or missing account key" in value(bridge.call(request(key="nobody")), "message")
-    assert bridge.counts._row("SELECT count(*) FROM host") == (0,)
+    assert bridge.file.row("SELECT count(*) FROM host") == (0,)
 
 
 def test_a_resent_call_that_is_refused_is_let_go(bridge, twin):

@@ -15,17 +15,30 @@ FAULTS = ["lost", "unheard", "unavailable", "garbage"]
 
 
 class Client:
-    """A client as BOINC's is: what it has it lists, and what it finished it reports until that is acknowledged."""
+    """A client as BOINC's is: what it has it lists, and what it finished it reports until that is
+    acknowledged.
+    """
 
     def __init__(self, key, cpid, lists):
-        self.key, self.cpid, self.lists, self.hostid, self.working, self.finished = key, cpid, lists, 0, set(), set()
+        self.key, self.cpid, self.lists, self.hostid, self.working, self.finished = (
+            key,
+            cpid,
+            lists,
+            0,
+            set(),
+            set(),
+        )
 
     def call(self, bridge, chance, loses, seconds=61):
         """Calls; the reply may be lost on the way, or the bridge."""
         self.finished |= {name for name in self.working if chance.random() < 0.5}
         self.working -= self.finished
         told = request(
-            hostid=self.hostid, key=self.key, cpid=self.cpid, seconds=seconds, listed=sorted(self.working) if self.lists else None,
+            hostid=self.hostid,
+            key=self.key,
+            cpid=self.cpid,
+            seconds=seconds,
+            listed=sorted(self.working) if self.lists else None,
             reports=[(name, name.split("_")[0]) for name in sorted(self.finished)],
         )
         try:
@@ -37,7 +50,11 @@ class Client:
         self.finished -= set(names(reply, "result_ack"))
         self.working |= set(jobs(reply)) - self.finished
         hostid = value(reply, "hostid")
-        assert (hostid is None) if self.hostid else (hostid is not None or value(reply, "project_is_down") == "1")
+        assert (
+            (hostid is None)
+            if self.hostid
+            else (hostid is not None or value(reply, "project_is_down") == "1")
+        )
         self.hostid = int(hostid or self.hostid)
 
 
@@ -81,7 +98,9 @@ def looked_at_numbers(twin):
 
 @pytest.mark.parametrize("seed", range(6))
 def test_a_life_of_a_client_that_lists_nothing(bridge, twin, seed):
-    """Such a client is sent nothing again by bsched: what answers bring that were late is handed on by the bridge alone."""
+    """Such a client is sent nothing again by bsched: what answers bring that were late is handed on by the
+    bridge alone.
+    """
     chance = random.Random(seed)
     clients = [Client("ann-key", "c1", False), Client("bob-key", "c2", False)]
     for _ in range(60):
@@ -105,7 +124,9 @@ class KilledBridge(Bridge):
     """A bridge in a process of its own."""
 
     def call(self, body):
-        """The reply to a scheduler_request; an OSError or an HTTPException where the bridge is killed before it is there."""
+        """The reply to a scheduler_request; an OSError or an HTTPException where the bridge is killed before
+        it is there.
+        """
         connection = http.client.HTTPConnection("127.0.0.1", self.port, timeout=10)
         try:
             connection.request("POST", "/p/cgi", body.encode())
@@ -120,8 +141,12 @@ def test_a_bridge_that_is_killed_at_random_moments(project, twin, seed):
     with socket.socket() as listener:
         listener.bind(("127.0.0.1", 0))
         port = listener.getsockname()[1]
-    settings = (project / "bridge.toml").read_text().replace("127.0.0.1:8080", f"127.0.0.1:{twin.address.port}")
-    (project / "bridge.toml").write_text(settings.replace('listen = "127.0.0.1:8081"', f'listen = "127.0.0.1:{port}"'))
+    settings = (
+        (project / "bridge.toml").read_text().replace("127.0.0.1:8080", f"127.0.0.1:{twin.address.port}")
+    )
+    (project / "bridge.toml").write_text(
+        settings.replace('listen = "127.0.0.1:8081"', f'listen = "127.0.0.1:{port}"')
+    )
     bridge = KilledBridge(project, port)
     bridge.start()
     clients = [Client("ann-key", "c1", True), Client("bob-key", "c2", True)]
@@ -132,7 +157,10 @@ def test_a_bridge_that_is_killed_at_random_moments(project, twin, seed):
             client.call(bridge, chance, loses=False)
             time.sleep(0.002)
 
-    threads = [threading.Thread(target=live, args=(client, random.Random(seed + 10 * place))) for place, client in enumerate(clients)]
+    threads = [
+        threading.Thread(target=live, args=(client, random.Random(seed + 10 * place)))
+        for place, client in enumerate(clients)
+    ]
     for thread in threads:
         thread.start()
     try:

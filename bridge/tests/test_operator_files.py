@@ -9,7 +9,7 @@ from conftest import BRIDGE
 from bsched_bridge.catalogue import read_catalogue
 from bsched_bridge.code_signing import new_key, signature_text
 from bsched_bridge.operator_files import OperatorFault
-from bsched_bridge.settings import Address, read_settings
+from bsched_bridge.settings import AccountSettings, Address, HostRules, read_settings
 
 
 def test_settings(project):
@@ -18,6 +18,43 @@ def test_settings(project):
     assert settings.path == "/p/"
     assert settings.state == project / "bridge.db"
     assert (settings.threads, settings.answer_seconds, settings.retry_delay) == (8, 15, 60)
+    assert settings.host_rules == HostRules(20, frozenset())
+    assert (settings.accounts, settings.welcome, settings.counts) == (None, None, None)
+
+
+def test_settings_of_accounts(project):
+    (project / "terms.txt").write_text("Be kind.\n")
+    with (project / "bridge.toml").open("a") as file:
+        file.write(
+            'most_hosts = 3\nbarred = ["ann-key"]\n\n[accounts]\nmost_a_day = 100\nmost_from_address = 5\n'
+            'address_field = "X-Real-IP"\nnames = "told"\nterms = "terms.txt"\n'
+        )
+    settings = read_settings(project / "bridge.toml")
+    assert settings.host_rules == HostRules(3, frozenset({"ann-key"}))
+    assert settings.accounts == AccountSettings(100, 5, "X-Real-IP", True, "Be kind.\n")
+
+
+def test_accounts_are_imported_with_the_operators_key(project):
+    path = project / "bridge.toml"
+    text = path.read_text().replace('operator_key = "change-this-key"\n', "")
+    path.write_text(text + "[accounts]\nmost_a_day = 1\n")
+    with pytest.raises(OperatorFault, match=r"line 7: \[accounts\] needs operator_key"):
+        read_settings(path)
+
+
+@pytest.mark.parametrize("url, is_good", [
+    ("https://sums.example/p/", True), ("http://localhost/p/", True), ("http://[::1]/p/", True),
+    ("http://127.1.2.3:80/p/", True), ("http://sums.example/p/", False), ("http://10.0.0.1/p/", False),
+])
+def test_passwords_are_sent_over_tls(project, url, is_good):
+    path = project / "bridge.toml"
+    text = path.read_text().replace("http://127.0.0.1:8081/p/", url)
+    path.write_text(text + "[accounts]\nmost_a_day = 1\n")
+    if is_good:
+        assert read_settings(path).accounts
+        return
+    with pytest.raises(OperatorFault, match=r"line 8: \[accounts\] needs a url with https"):
+        read_settings(path)
 
 
 SETTINGS_FAULTS = [
@@ -41,6 +78,22 @@ SETTINGS_FAULTS = [
     ('"bridge.db"', '"bridge.db"\nthreads = true', 8, "threads is not a whole number"),
     ('"bridge.db"', '"bridge.db"\nthread = 1', 8, "thread is not known here"),
     ('"bridge.db"', '"bridge.db"\n[more]\nx = 1', 8, "more is not known here"),
+    ('"bridge.db"', '"bridge.db"\nmost_hosts = 0', 8, "most_hosts is not within 1"),
+    ('"bridge.db"', '"bridge.db"\nbarred = "ann-key"', 8, "barred is not a list of words"),
+    ('"bridge.db"', '"bridge.db"\nbarred = ["ann key"]', 8, "barred: 'ann key' is not 1 to 64"),
+    ('"bridge.db"', '"bridge.db"\nwelcome = "none.txt"', 8, "welcome: .*none.txt does not stand"),
+    ('"bridge.db"', '"bridge.db"\nwelcome = "files"', 8, "welcome: .*files: Is a directory"),
+    ('"bridge.db"', '"bridge.db"\naccounts = 1', 8, r"accounts is not a table \[accounts\]"),
+    ('"bridge.db"', '"bridge.db"\n\n[accounts]\n', 9, "most_a_day is missing"),
+    ('"bridge.db"', '"bridge.db"\n[accounts]\nmost_a_day = 0', 9, "most_a_day is not within 1 to 10000"),
+    ('"bridge.db"', '"bridge.db"\n[accounts]\nmost_a_day = 1\nnames = "any"', 10, 'names is not "told" or'),
+    ('"bridge.db"', '"bridge.db"\n[accounts]\nmost_a_day = 1\nname = "told"', 10, "name is not known here"),
+    ('"bridge.db"', '"bridge.db"\n[accounts]\nmost_a_day = 1\nterms = "none"', 10, "does not stand"),
+    ('"bridge.db"', '"bridge.db"\n[accounts]\nmost_a_day = 1\naddress_field = "X Y"', 10, "is no name of"),
+    (
+        '"bridge.db"', '"bridge.db"\n[accounts]\nmost_a_day = 1\naddress_field = "x-forwarded-for"', 10,
+        "address_field: a client can write into",
+    ),
 ]
 
 
@@ -96,9 +149,24 @@ CATALOGUE_FAULTS = [
     ('name = "u2"', "", 15, "name is missing"),
     ('"two.txt"', '"three.txt"', 18, "three.txt is not there"),
     ('open_name = "numbers"', 'open_name = "a/b"', 18, "open_name is no name of a file"),
-    ('open_name = "numbers" }]', 'open_name = "numbers" }]\n' + MORE_WORK + MORE_WORK, 23, "this workunit stands on line 20 already"),
-    ('open_name = "numbers" }]', 'open_name = "numbers" }]\n[[app]]\nname = "sum"', 19, "this app stands on line 4 already"),
-    ('open_name = "numbers" }]', 'open_name = "numbers" }]\n[[works]]\nname = "sum"', 19, "works is not known here"),
+    (
+        'open_name = "numbers" }]',
+        'open_name = "numbers" }]\n' + MORE_WORK + MORE_WORK,
+        23,
+        "this workunit stands on line 20 already",
+    ),
+    (
+        'open_name = "numbers" }]',
+        'open_name = "numbers" }]\n[[app]]\nname = "sum"',
+        19,
+        "this app stands on line 4 already",
+    ),
+    (
+        'open_name = "numbers" }]',
+        'open_name = "numbers" }]\n[[works]]\nname = "sum"',
+        19,
+        "works is not known here",
+    ),
     ('[[app]]', '[app]', 4, "app is not a row of tables"),
 ]
 
@@ -130,8 +198,12 @@ def test_a_signature_of_another_key(project):
 def ordered(folder, *words):
     """What the command line does."""
     return subprocess.run(
-        [sys.executable, "-m", "bsched_bridge", *words], cwd=folder, env={"PYTHONPATH": str(BRIDGE), "PYTHONDONTWRITEBYTECODE": "1"},
-        capture_output=True, text=True, timeout=60,
+        [sys.executable, "-m", "bsched_bridge", *words],
+        cwd=folder,
+        env={"PYTHONPATH": str(BRIDGE), "PYTHONDONTWRITEBYTECODE": "1"},
+        capture_output=True,
+        text=True,
+        timeout=60,
     )
 
 
@@ -140,6 +212,9 @@ def test_the_command_line(project):
     assert (told.returncode, told.stdout) == (0, "good: 1 applications, 1 versions, 1 workunits\n")
     (project / "catalogue.toml").write_text("x = 1\n")
     told = ordered(project, "--config", "bridge.toml")
-    assert (told.returncode, told.stderr) == (1, "bsched_bridge: catalogue.toml: line 1: code_sign_key is missing\n")
+    assert (told.returncode, told.stderr) == (
+        1,
+        "bsched_bridge: catalogue.toml: line 1: code_sign_key is missing\n",
+    )
     for words in ([], ["nothing"], ["sign", "files/two.txt"], ["--other"]):
         assert ordered(project, *words).returncode == 64

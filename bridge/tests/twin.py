@@ -1,4 +1,6 @@
-"""A bsched for tests: the plain twin of bench/plain.py behind HTTP, which loses answers where it is told to."""
+"""A bsched for tests: the plain twin of bench/plain.py behind HTTP, which loses answers where it is
+told to.
+"""
 import json
 import threading
 import time
@@ -13,8 +15,8 @@ IMPORTS = {
     "accounts": "authenticator,name\nann-key,Ann\nbob-key,Bob\n",
     "apps": "name,agreement\nsum,exact\n",
     "versions": "app,platform,version_num\nsum,x86_64-pc-linux-gnu,1\n",
-    "workunits": "name,app,min_quorum,target_nresults,max_error_results,max_total_results,max_success_results,delay_bound,"
-    "rsc_fpops_est,rsc_memory_bound,rsc_disk_bound,credit\n"
+    "workunits": "name,app,min_quorum,target_nresults,max_error_results,max_total_results,"
+    "max_success_results,delay_bound,rsc_fpops_est,rsc_memory_bound,rsc_disk_bound,credit\n"
     + "".join(f"u{number},sum,2,2,3,5,4,86400,60000000000,1000,1000,5000\n" for number in range(1, 9)),
 }
 STATEMENT = """\
@@ -32,9 +34,11 @@ class Handler(BaseHTTPRequestHandler):
     """One message."""
 
     def do_POST(self):
-        """A call."""
+        """A call or an import."""
         twin = self.server.twin
         body = self.rfile.read(int(self.headers["content-length"]))
+        if self.path.startswith("/import/"):
+            return self.do_import(body)
         with twin.lock:
             fault = twin.faults.pop(0) if twin.faults else None
             twin.heard.append(body)
@@ -54,6 +58,31 @@ class Handler(BaseHTTPRequestHandler):
             twin.told.append(told)
         if fault == "slow":
             time.sleep(0.3)
+        if fault != "lost":
+            self.say(status, told)
+
+    def do_import(self, body):
+        """An import."""
+        twin = self.server.twin
+        _, _, kind, batch = self.path.split("/")
+        with twin.lock:
+            fault = twin.import_faults.pop(0) if twin.import_faults else None
+            twin.imports.append((batch, body.decode()))
+            if fault == "unheard":
+                return
+            if self.headers["x-operator-key"] != "change-this-key":
+                status, told = 403, '{"error":"not_operator","number":13}'
+            elif fault == "unavailable":
+                status, told = 503, '{"error":"unavailable","number":20}'
+            elif fault == "garbage":
+                status, told = 200, "<html>"
+            elif fault is not None and fault.startswith("{"):
+                status, told = 400, fault
+            else:
+                try:
+                    status, told = 200, twin.service.imported(kind, batch, body.decode())
+                except Refused as refusal:
+                    status, told = refusal.status, refusal.body
         if fault != "lost":
             self.say(status, told)
 
@@ -82,16 +111,26 @@ class Server(ThreadingHTTPServer):
 
 
 class Twin:
-    """The twin with what it heard. Each message takes one of the faults, in their order: `unheard`, `lost`, `slow`,
-    `unavailable`, `garbage`, or the JSON of a refusal."""
+    """The twin with what it heard. Each call takes one of the faults, in their order: `unheard`, `lost`,
+    `slow`, `unavailable`, `garbage`, or the JSON of a refusal; each import takes one of its own, but for
+    `slow`.
+    """
 
     def __init__(self, **settings):
-        self.service = plain.Service({
-            **plain.SETTINGS, "max_hosts": 100, "daily_result_quota": 100, "max_wus_in_progress": 8, "max_wus_to_send": 2, **settings,
-        })
+        self.service = plain.Service(
+            {
+                **plain.SETTINGS,
+                "max_hosts": 100,
+                "daily_result_quota": 100,
+                "max_wus_in_progress": 8,
+                "max_wus_to_send": 2,
+                **settings,
+            }
+        )
         for kind, text in IMPORTS.items():
             self.service.imported(kind, "first", text)
         self.lock, self.faults, self.heard, self.told = threading.Lock(), [], [], []
+        self.import_faults, self.imports = [], []
         self.server = Server(("127.0.0.1", 0), Handler)
         self.server.twin = self
         self.address = Address(*self.server.server_address)

@@ -13,7 +13,9 @@ BRIDGE = Path(__file__).resolve().parent.parent
 CLIENT_OPTIONS = ["--allow_multiple_clients", "--skip_cpu_benchmarks", "--no_gpus", "--no_info_fetch"]
 CLIENT_CONFIG = """\
 <cc_config>
-<log_flags><sched_ops>1</sched_ops><task>1</task><file_xfer>1</file_xfer><sched_op_debug>1</sched_op_debug></log_flags>
+<log_flags>
+<sched_ops>1</sched_ops><task>1</task><file_xfer>1</file_xfer><sched_op_debug>1</sched_op_debug>
+</log_flags>
 <options><ncpus>2</ncpus></options>
 </cc_config>
 """
@@ -33,7 +35,9 @@ def listens(port: int) -> bool:
 class Program:
     """A program that runs, writes to a log, and can be killed and started again."""
 
-    def __init__(self, name: str, words: list[str], folder: Path, port: int, environment: dict[str, str] | None = None):
+    def __init__(
+        self, name: str, words: list[str], folder: Path, port: int, environment: dict[str, str] | None = None
+    ):
         self.name, self.words, self.folder, self.port = name, words, folder, port
         self.environment = {**os.environ, **(environment or {})}
         self.process: subprocess.Popen | None = None
@@ -41,7 +45,9 @@ class Program:
     def start(self) -> None:
         """Starts it, and waits until it listens."""
         with (self.folder / f"{self.name}.log").open("ab") as log:
-            self.process = subprocess.Popen(self.words, cwd=self.folder, env=self.environment, stdout=log, stderr=log)
+            self.process = subprocess.Popen(
+                self.words, cwd=self.folder, env=self.environment, stdout=log, stderr=log
+            )
         for _ in range(300):
             if listens(self.port):
                 return
@@ -49,6 +55,10 @@ class Program:
                 break
             time.sleep(0.1)
         raise TrialFault(f"{self.name} does not start, see {self.folder / self.name}.log")
+
+    def log(self) -> str:
+        """What it told."""
+        return (self.folder / f"{self.name}.log").read_text(errors="replace")
 
     def kill(self) -> None:
         """Kills it with no time to do anything."""
@@ -69,13 +79,17 @@ class Scheduler(Program):
         """What an order prints."""
         told = subprocess.run([self.program, *words], cwd=self.folder, capture_output=True, text=True)
         if told.returncode:
-            raise TrialFault(f"bsched {' '.join(words)}: status {told.returncode}, {told.stdout}{told.stderr}")
+            raise TrialFault(
+                f"bsched {' '.join(words)}: status {told.returncode}, {told.stdout}{told.stderr}"
+            )
         return told.stdout
 
     def asked(self, path: str, body: str | None = None) -> str:
         """The answer to an operator's message."""
         message = urllib.request.Request(
-            f"http://127.0.0.1:{self.port}{path}", None if body is None else body.encode(), {"x-operator-key": self.operator_key}
+            f"http://127.0.0.1:{self.port}{path}",
+            None if body is None else body.encode(),
+            {"x-operator-key": self.operator_key},
         )
         with urllib.request.urlopen(message, timeout=30) as response:
             return response.read().decode()
@@ -91,12 +105,19 @@ class Bridge(Program):
 
     def __init__(self, folder: Path, port: int):
         words = [sys.executable, "-m", "bsched_bridge", "--config", "bridge.toml"]
-        super().__init__("bridge", words, folder, port, {"PYTHONPATH": str(BRIDGE), "PYTHONDONTWRITEBYTECODE": "1"})
+        super().__init__(
+            "bridge", words, folder, port, {"PYTHONPATH": str(BRIDGE), "PYTHONDONTWRITEBYTECODE": "1"}
+        )
 
     def order(self, *words: str) -> str:
         """What an order prints."""
         return subprocess.run(
-            [*self.words[:3], *words], cwd=self.folder, env=self.environment, check=True, capture_output=True, text=True
+            [*self.words[:3], *words],
+            cwd=self.folder,
+            env=self.environment,
+            check=True,
+            capture_output=True,
+            text=True,
         ).stdout
 
 
@@ -111,6 +132,7 @@ class Client(Program):
         words = ["boinc", "--dir", str(self.home), "--gui_rpc_port", str(port), *CLIENT_OPTIONS]
         super().__init__(name, words, folder, port)
         self.authenticator, self.url = authenticator, url
+        self.said = ""  # what boinccmd printed about an account
 
     def command(self, *words: str) -> str:
         """What boinccmd prints."""
@@ -125,6 +147,26 @@ class Client(Program):
         """Attaches the client to the project."""
         self.command("--project_attach", self.url, self.authenticator)
 
+    def create_account(self, email: str, password: str, name: str) -> str | None:
+        """Makes an account at the project; its key, or none where it gets none."""
+        return self._account_key("--create_account", self.url, email, password, name)
+
+    def look_up(self, email: str, password: str) -> str | None:
+        """Looks an account up; its key, or none."""
+        return self._account_key("--lookup_account", self.url, email, password)
+
+    def _account_key(self, *words: str) -> str | None:
+        """The key that boinccmd prints."""
+        self.said = self.command(*words)
+        found = re.search(r"account key: (\S+)", self.said)
+        return found[1] if found else None
+
+    def credit(self) -> float:
+        """The credit of this machine at the project, as the client shows it."""
+        told = self.command("--get_project_status").partition(f"master URL: {self.url}\n")[2]
+        found = re.search(r"host_total_credit: (\S+)", told)
+        return float(found[1]) if found else 0.0
+
     def update(self) -> None:
         """Has the client call its project as soon as it can."""
         self.command("--project", self.url, "update")
@@ -135,16 +177,16 @@ class Client(Program):
         return dict(re.findall(r"^   name: (\S+)$.*?^   state: ([^\n]*)$", told, re.MULTILINE | re.DOTALL))
 
     def downloads(self) -> bool:
-        """Whether files of a task are on their way. What breaks off is tried again minutes later, and no job is asked for till then."""
+        """Whether files of a task are on their way. What breaks off is tried again minutes later, and no job
+        is asked for till then.
+        """
         return any(state in ("new", "downloading") for state in self.tasks().values())
 
     def rename(self, host_cpid: str) -> None:
         """Stops the client, and starts it again with another host_cpid."""
         self.kill()
         state = self.home / "client_state.xml"
-        state.write_text(re.sub("<host_cpid>.*?</host_cpid>", f"<host_cpid>{host_cpid}</host_cpid>", state.read_text()))
+        state.write_text(
+            re.sub("<host_cpid>.*?</host_cpid>", f"<host_cpid>{host_cpid}</host_cpid>", state.read_text())
+        )
         self.start()
-
-    def log(self) -> str:
-        """What the client told."""
-        return (self.folder / f"{self.name}.log").read_text(errors="replace")

@@ -21,16 +21,22 @@ IMPORTS = {
     "versions": "app,platform,version_num\nsum,x86_64-pc-linux-gnu,1\n",
 }
 WORKUNITS = (
-    "name,app,min_quorum,target_nresults,max_error_results,max_total_results,max_success_results,delay_bound,rsc_fpops_est,"
-    "rsc_memory_bound,rsc_disk_bound,credit\n"
+    "name,app,min_quorum,target_nresults,max_error_results,max_total_results,max_success_results,"
+    "delay_bound,rsc_fpops_est,rsc_memory_bound,rsc_disk_bound,credit\n"
 )
-SECONDS = {"first": 1, "lost": 8, "given_up": 5, "failing": 60, "held": 1, "next": 1, "last": 12}  # how long a job of each workunit takes
+# how long a job of each workunit takes
+SECONDS = {
+    "first": 1, "lost": 8, "given_up": 5, "failing": 60, "held": 1, "next": 1, "last": 12, "carol": 1,
+    "second": 1,
+}
 NUMBERS = range(1, 101)
 
 
 def workunit(name: str, quorum: int, errors: int) -> str:
     """The import of one workunit, which fails by more than so many errors."""
-    return f"{WORKUNITS}{name},sum,{quorum},{quorum},{errors},5,4,86400,10000000000,100000000,100000000,5000\n"
+    return (
+        f"{WORKUNITS}{name},sum,{quorum},{quorum},{errors},5,4,86400,10000000000,100000000,100000000,5000\n"
+    )
 
 
 def make(folder: Path, url: str, bridge_port: int, scheduler_port: int) -> None:
@@ -42,8 +48,10 @@ def make(folder: Path, url: str, bridge_port: int, scheduler_port: int) -> None:
     shutil.copy(BRIDGE / "example" / "files" / "sum_1", folder / "files")
     (folder / "files" / "numbers.txt").write_text("".join(f"{number}\n" for number in NUMBERS))
     (folder / "bridge.toml").write_text(
-        f'name = "Trial"\nurl = "{url}"\nlisten = "127.0.0.1:{bridge_port}"\nscheduler = "127.0.0.1:{scheduler_port}"\n'
-        f'operator_key = "{OPERATOR_KEY}"\ncatalogue = "catalogue.toml"\nstate = "bridge.db"\nretry_delay = 2\n'
+        f'name = "Trial"\nurl = "{url}"\nlisten = "127.0.0.1:{bridge_port}"\n'
+        f'scheduler = "127.0.0.1:{scheduler_port}"\noperator_key = "{OPERATOR_KEY}"\n'
+        'catalogue = "catalogue.toml"\nstate = "bridge.db"\nretry_delay = 2\n'
+        '\n[accounts]\nmost_a_day = 100\nmost_from_address = 10\n'
     )
     entries = "".join(
         f'\n[[workunit]]\nname = "{name}"\ncommand_line = "--seconds {seconds}"\n'

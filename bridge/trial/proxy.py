@@ -21,11 +21,14 @@ class Message:
 
 @dataclass
 class Fault:
-    """What is done with the answer to the first message that it fits: it is lost, at once or when it is let go."""
+    """What is done with the answer to the first message that it fits: it is lost, at once or when it is let
+    go.
+    """
 
     fits: Callable[[Message], bool]
     is_held: bool = False
-    met: threading.Event = field(default_factory=threading.Event)  # the other program has answered such a message
+    # the other program has answered such a message
+    met: threading.Event = field(default_factory=threading.Event)
     let_go: threading.Event = field(default_factory=threading.Event)
     message: Message | None = None  # that message
 
@@ -44,7 +47,9 @@ class Handler(BaseHTTPRequestHandler):
         fields = {name: value for name, value in self.headers.items() if name.lower() not in HOP_FIELDS}
         connection = http.client.HTTPConnection("127.0.0.1", proxy.target, timeout=ANSWER_SECONDS)
         try:
-            connection.request(self.command, self.path, message.body if self.command == "POST" else None, fields)
+            connection.request(
+                self.command, self.path, message.body if self.command == "POST" else None, fields
+            )
             response = connection.getresponse()
             message.answer = response.read()
         except (OSError, http.client.HTTPException):

@@ -33,96 +33,13 @@ const NO_SUCH_HOST: &str = "{\"error\":\"no_such_host\",\"number\":19}";
 
 const NONE_LAPSED: &str = "{\"lapsed\":0}";
 
-/// Heads, paths and methods.
-const HEADS: &[Exchange] = &[
-    ("", 400, BAD_HTTP),
+/// Messages of which each is refused by another check, in the order of the checks, and one that is taken.
+const MESSAGES: &[Exchange] = &[
     ("POST /tick HTTP/1.1\r\n", 400, BAD_HTTP),
-    ("POST /tick HTTP/2.0\r\n\r\n", 400, BAD_HTTP),
-    ("POST /tick\r\n\r\n", 400, BAD_HTTP),
     ("GET /nowhere HTTP/1.1\r\n\r\n", 404, NO_ROUTE),
-    ("POST /tick/ HTTP/1.1\r\n\r\n", 404, NO_ROUTE),
-    ("POST http://h/tick HTTP/1.1\r\n\r\n", 404, NO_ROUTE),
-    ("POST /import/units/b1 HTTP/1.1\r\n\r\n", 404, NO_ROUTE),
-    ("POST /import/accounts/b%31 HTTP/1.1\r\n\r\n", 404, NO_ROUTE),
-    ("GET /hosts/ HTTP/1.1\r\n\r\n", 404, NO_ROUTE),
     ("PUT /tick HTTP/1.1\r\n\r\n", 405, WRONG_METHOD),
-    ("GET /scheduler HTTP/1.1\r\n\r\n", 405, WRONG_METHOD),
-    ("POST /hosts/1 HTTP/1.1\r\n\r\n", 405, WRONG_METHOD),
-];
-
-/// The operator's key.
-const KEYS: &[Exchange] = &[
     ("GET /hosts/9 HTTP/1.1\r\n\r\n", 403, NOT_OPERATOR),
-    (
-        "POST /tick HTTP/1.1\r\nx-operator-key: opkey-02\r\n\r\n",
-        403,
-        NOT_OPERATOR,
-    ),
-    (
-        "POST /tick HTTP/1.1\r\nx-operator-key: opkey-011\r\n\r\n",
-        403,
-        NOT_OPERATOR,
-    ),
-    (
-        "POST /tick HTTP/1.1\r\nx-operator-key: opkey-01\r\nX-Operator-Key: opkey-01\r\n\r\n",
-        403,
-        NOT_OPERATOR,
-    ),
-    (
-        "POST /tick HTTP/1.1\r\nX-OPERATOR-KEY: opkey-01\r\n\r\n",
-        200,
-        NONE_LAPSED,
-    ),
-    (
-        "\r\nPOST /tick?now=1 HTTP/1.0\nx-operator-key: opkey-01\n\n",
-        200,
-        NONE_LAPSED,
-    ),
-    (
-        "GET /hosts/0 HTTP/1.1\r\nx-operator-key: opkey-01\r\n\r\n",
-        404,
-        NO_SUCH_HOST,
-    ),
-    (
-        "GET /hosts/01 HTTP/1.1\r\nx-operator-key: opkey-01\r\n\r\n",
-        404,
-        NO_SUCH_HOST,
-    ),
-    (
-        "GET /hosts/2147483648 HTTP/1.1\r\nx-operator-key: opkey-01\r\n\r\n",
-        404,
-        NO_SUCH_HOST,
-    ),
-];
-
-/// Bodies and their lengths.
-const BODIES: &[Exchange] = &[
-    (
-        "POST /scheduler HTTP/1.1\r\ncontent-length: 10\r\n\r\n{}",
-        400,
-        BAD_HTTP,
-    ),
     ("POST /scheduler HTTP/1.1\r\n\r\n{}", 411, LENGTH_REQUIRED),
-    (
-        "POST /scheduler HTTP/1.1\r\ntransfer-encoding: chunked\r\n\r\n2\r\n{}\r\n0\r\n\r\n",
-        411,
-        LENGTH_REQUIRED,
-    ),
-    (
-        "POST /scheduler HTTP/1.1\r\ncontent-length: x\r\ntransfer-encoding: chunked\r\n\r\n",
-        411,
-        LENGTH_REQUIRED,
-    ),
-    (
-        "POST /scheduler HTTP/1.1\r\ncontent-length: 2\r\nContent-Length: 2\r\n\r\n{}",
-        400,
-        BAD_HTTP,
-    ),
-    (
-        "POST /scheduler HTTP/1.1\r\ncontent-length: +2\r\n\r\n{}",
-        400,
-        BAD_HTTP,
-    ),
     (
         "POST /scheduler HTTP/1.1\r\ncontent-length: 00000000002\r\n\r\n{}",
         400,
@@ -134,14 +51,9 @@ const BODIES: &[Exchange] = &[
         TOO_LARGE,
     ),
     (
-        "POST /scheduler HTTP/1.1\r\ncontent-length: 262144\r\n\r\n",
+        "POST /scheduler HTTP/1.1\r\ncontent-length: 10\r\n\r\n{}",
         400,
         BAD_HTTP,
-    ),
-    (
-        "POST /import/apps/b1 HTTP/1.1\r\nx-operator-key: opkey-01\r\ncontent-length: 1048577\r\n\r\n",
-        413,
-        TOO_LARGE,
     ),
     (
         "POST /scheduler HTTP/1.1\r\ncontent-length: 2\r\n\r\n[]more",
@@ -149,9 +61,14 @@ const BODIES: &[Exchange] = &[
         "{\"error\":\"bad_json\",\"number\":6}",
     ),
     (
-        "POST /scheduler HTTP/1.1\r\ncontent-length: 0000000002\r\n\r\n{}",
-        400,
-        "{\"error\":\"bad_member\",\"member\":\"authenticator\",\"number\":7}",
+        "GET /hosts/01 HTTP/1.1\r\nx-operator-key: opkey-01\r\n\r\n",
+        404,
+        NO_SUCH_HOST,
+    ),
+    (
+        "\r\nPOST /tick?now=1 HTTP/1.0\nX-OPERATOR-KEY: opkey-01\n\n",
+        200,
+        NONE_LAPSED,
     ),
 ];
 
@@ -210,70 +127,11 @@ fn first_otherwise_by<S: Store>(
 }
 
 #[test]
-fn heads_paths_and_methods(rt: HostRuntime) -> Result<(), Fail> {
+fn checks_come_in_their_order(rt: HostRuntime) -> Result<(), Fail> {
     assert_eq!(rt;
-        first_otherwise(rt.alloc(), new_store(rt.alloc())?, HEADS)?,
+        first_otherwise(rt.alloc(), new_store(rt.alloc())?, MESSAGES)?,
         None
     );
-    Ok(())
-}
-
-#[test]
-fn the_operators_key(rt: HostRuntime) -> Result<(), Fail> {
-    assert_eq!(rt;
-        first_otherwise(rt.alloc(), new_store(rt.alloc())?, KEYS)?,
-        None
-    );
-    Ok(())
-}
-
-#[test]
-fn bodies_and_their_lengths(rt: HostRuntime) -> Result<(), Fail> {
-    assert_eq!(rt;
-        first_otherwise(rt.alloc(), new_store(rt.alloc())?, BODIES)?,
-        None
-    );
-    Ok(())
-}
-
-/// A tick's message whose head has so many bytes.
-fn tick_of(alloc: Global, size: usize) -> Result<String, Fail> {
-    let mut message = String::from_str(
-        alloc,
-        "POST /tick HTTP/1.1\r\nx-operator-key: opkey-01\r\nx: ",
-    )?;
-    for _ in message.len()..size.saturating_sub(4) {
-        message.push_str("y")?;
-    }
-    message.push_str("\r\n\r\n")?;
-    Ok(message)
-}
-
-/// Whether a tick whose head has so many bytes is told this status and this body.
-fn is_tick_told<S: Store>(
-    alloc: Global,
-    service: &mut Service<S>,
-    size: usize,
-    status: u16,
-    body: &str,
-) -> Result<bool, Fail> {
-    let message = tick_of(alloc, size)?;
-    let answer = answered(alloc, service, message.as_bytes())?;
-    tells(alloc, &answer, status, body)
-}
-
-/// Whether a head of 8,192 bytes is taken over a store, and one of a byte more is not.
-fn takes_heads_up_to_8192<S: Store + Drop>(alloc: Global, store: S) -> Result<bool, Fail> {
-    let mut service = service_over(alloc, store)?;
-    Ok(
-        is_tick_told(alloc, &mut service, 8192, 200, NONE_LAPSED)?
-            && is_tick_told(alloc, &mut service, 8193, 400, BAD_HTTP)?,
-    )
-}
-
-#[test]
-fn a_head_may_have_8192_bytes(rt: HostRuntime) -> Result<(), Fail> {
-    assert!(rt; takes_heads_up_to_8192(rt.alloc(), new_store(rt.alloc())?)?);
     Ok(())
 }
 

@@ -46,6 +46,10 @@ pub const ROWS: &str = r#"
 > 1970-01-01T00:16:40Z scheduler {"authenticator":"k1","rpc_seqno":0,"host_info":{"host_cpid":"c1","p_fpops":1000,"m_nbytes":8000,"d_free":9000},"platform_name":"linux"}
 < 409 {"error":"stale","last":2147483647,"number":10}
 
+= an array in an array two hundred times is no JSON
+> 1970-01-01T00:16:40Z scheduler {"x":[[[[[[[[[[[[[[[[[[[[[[[[[[[[[[[[[[[[[[[[[[[[[[[[[[[[[[[[[[[[[[[[[[[[[[[[[[[[[[[[[[[[[[[[[[[[[[[[[[[[[[[[[[[[[[[[[[[[[[[[[[[[[[[[[[[[[[[[[[[[[[[[[[[[[[[[[[[[[[[[[[[[[[[[[[[[[[[[[[[[[[[[[[[[[[[[[[[[[[[[]]]]]]]]]]]]]]]]]]]]]]]]]]]]]]]]]]]]]]]]]]]]]]]]]]]]]]]]]]]]]]]]]]]]]]]]]]]]]]]]]]]]]]]]]]]]]]]]]]]]]]]]]]]]]]]]]]]]]]]]]]]]]]]]]]]]]]]]]]]]]]]]]]]]]]]]]]]]]]]]]]]]]]]]]]]]]]]]]]]]]]]]]]]]]]]]]]]]]]]]}
+< 400 {"error":"bad_json","number":6}
+
 = a wrong number and a wrong account are told
 > 1970-01-01T00:16:40Z scheduler {"authenticator":"k1","rpc_seqno":1,"host_info":{"host_cpid":"c1","p_fpops":1000,"m_nbytes":8000,"d_free":9000},"platform_name":"linux","hostid":7}
 < 409 {"error":"bad_host","number":9}

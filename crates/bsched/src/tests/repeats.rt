@@ -1,7 +1,6 @@
 //! The worked rows with each message sent twice, through the service's `run`: the first answer is thrown away.
 
 use super::rows::{NEXT, lines_of, name_of};
-use super::stored::{Seen, is_seen_in_file};
 use super::{PROJECT, service_over};
 use commands::default_settings;
 use replay_lines::line_of;
@@ -100,25 +99,11 @@ pub fn first_answered_otherwise(
 }
 
 /// Whether the messages of a row, each sent twice, get their first answers again over new tables of a database.
-pub fn is_answered_again_in<S: Alter + Drop>(
+fn is_answered_again_in<S: Alter + Drop>(
     alloc: Global,
     conn: Connection<S>,
     row: &str,
 ) -> Result<bool, Fail> {
     let tables = Tables::create(alloc, conn, &settings(alloc)?)?;
     is_answered_again(alloc, tables, row)
-}
-
-/// The name of the first row in which a message is answered otherwise when it comes again, over tables in a file.
-pub fn first_answered_otherwise_in_files(
-    rt: &HostRuntime,
-    text: &'static str,
-) -> Result<Option<&'static str>, Fail> {
-    for row in text.split(NEXT).skip(1) {
-        let path = format!(in rt.alloc(); "{}.db", name_of(row))?;
-        if !is_seen_in_file(rt, path.as_str(), &Seen::AnsweredAgain { row })? {
-            return Ok(Some(name_of(row)));
-        }
-    }
-    Ok(None)
 }

@@ -172,7 +172,7 @@ const ROWS_TOLD: &[&str] = &[
 ];
 
 /// All rows of the tables, a line each.
-pub fn rows_told<S: Alter>(alloc: Global, conn: &mut Connection<S>) -> Result<String, Fail> {
+fn rows_told<S: Alter>(alloc: Global, conn: &mut Connection<S>) -> Result<String, Fail> {
     let mut told = String::new(alloc);
     for sql in ROWS_TOLD {
         for row in &conn.query_all(sql, &[])? {

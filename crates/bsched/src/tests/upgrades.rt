@@ -1,9 +1,7 @@
 //! Tables of the earlier schemas, which are carried over to the newest one.
 
 use super::rows::{NEXT, lines_of, name_of};
-use super::stops::{
-    Deed, Fuses, Image, LASTING, Leaves, MOST_CALLS, TellRows, done_in, empty, rows_told,
-};
+use super::stops::{Deed, Fuses, Image, LASTING, Leaves, MOST_CALLS, TellRows, done_in, empty};
 use super::stored::{WORKUNITS, filled_with, run};
 use super::{CALL_START, PROJECT, jobs, judging, lapses, replayed_over};
 use sched_tables::{OpenFault, SCHEMA_1, Tables, upgrade};
@@ -228,22 +226,6 @@ fn an_upgrade_of_the_second_schema_keeps_all_calls(rt: HostRuntime) -> Result<()
     Ok(())
 }
 
-/// Has tables of the newest schema keep just the calls that tables of the first one keep, in the first slot of each host.
-fn keep_last_calls<F: Alter, T: Alter>(
-    alloc: Global,
-    first: &mut Connection<F>,
-    newest: &mut Connection<T>,
-) -> Result<(), Fail> {
-    run(newest, "DELETE FROM kept4", &[])?;
-    copy_rows(
-        alloc,
-        first,
-        newest,
-        "SELECT host_id, 0, seqno, text, reply FROM kept ORDER BY host_id",
-        "INSERT INTO kept4 VALUES (?1, ?2, ?3, ?4, ?5)",
-    )
-}
-
 /// What the statements of all hosts tell.
 fn statements<S: Alter + Drop>(alloc: Global, conn: Connection<S>) -> Result<String, Fail> {
     let mut lines = String::new(alloc);
@@ -254,51 +236,25 @@ fn statements<S: Alter + Drop>(alloc: Global, conn: Connection<S>) -> Result<Str
     told_over(alloc, conn, lines.as_str())
 }
 
-/// Upgrades tables of an earlier schema: whether they have the rows of these tables of the newest one then, which keep just
-/// the calls that the earlier schema keeps.
-fn have_rows_upgraded<F: Alter, T: Alter>(
-    alloc: Global,
-    conn: &mut Connection<F>,
-    newest: &mut Connection<T>,
-    former: Former,
-) -> Result<bool, Fail> {
-    if let Former::First = former {
-        keep_last_calls(alloc, conn, newest)?;
-    }
-    upgrade(alloc, conn)?;
-    run(conn, "DELETE FROM kept", &[])?;
-    Ok(rows_told(alloc, conn)? == rows_told(alloc, newest)?)
-}
-
-/// Whether tables of an earlier schema with the rows of these tables of the newest one have them when they are upgraded, and
-/// tell the same statements.
-fn is_upgraded_to<S: Alter + Drop>(
+/// Whether tables of the first schema with the rows of these tables of the newest one tell the same statements when they are
+/// upgraded.
+fn tells_as_before<S: Alter + Drop>(
     alloc: Global,
     mut newest: Connection<S>,
-    former: Former,
 ) -> Result<bool, Fail> {
-    let mut conn = former_of(alloc, &mut newest, former)?;
-    let have_rows = have_rows_upgraded(alloc, &mut conn, &mut newest, former)?;
-    let told = statements(alloc, conn)?;
-    Ok(told == statements(alloc, newest)? && have_rows)
+    let mut conn = former_of(alloc, &mut newest, Former::First)?;
+    upgrade(alloc, &mut conn)?;
+    Ok(statements(alloc, conn)? == statements(alloc, newest)?)
 }
 
-/// Whether tables of each earlier schema are upgraded to those of the newest one behind these lines.
-fn are_upgraded_behind(alloc: Global, lines: &[u8]) -> Result<bool, Fail> {
-    Ok(
-        is_upgraded_to(alloc, filled_with(alloc, lines)?, Former::First)?
-            && is_upgraded_to(alloc, filled_with(alloc, lines)?, Former::Second)?,
-    )
-}
-
-/// The name of the first row behind which tables of an earlier schema are upgraded to others than the newest one's.
+/// The name of the first row after which tables of the first schema, upgraded, tell other statements.
 fn first_upgraded_otherwise(
     alloc: Global,
     text: &'static str,
 ) -> Result<Option<&'static str>, Fail> {
     for row in text.split(NEXT).skip(1) {
         let lines = format!(in alloc; "{PROJECT}{}", lines_of(alloc, row)?)?;
-        if !are_upgraded_behind(alloc, lines.as_bytes())? {
+        if !tells_as_before(alloc, filled_with(alloc, lines.as_bytes())?)? {
             return Ok(Some(name_of(row)));
         }
     }
@@ -323,36 +279,6 @@ fn an_upgrade_keeps_lapses_and_failures(rt: HostRuntime) -> Result<(), Fail> {
     Ok(())
 }
 
-/// How tables of an earlier schema are refused by an upgrade after a statement, or none where it upgrades them.
-fn refused_to_upgrade(alloc: Global, schema: Former, sql: &str) -> Result<Option<OpenFault>, Fail> {
-    let mut conn = filled_former(alloc, schema)?;
-    run(&mut conn, sql, &[])?;
-    Ok(upgrade(alloc, &mut conn).err())
-}
-
-/// The first of these statements after which tables of an earlier schema are upgraded, or refused as anything but no tables.
-fn first_upgraded(
-    alloc: Global,
-    schema: Former,
-    statements: &[&'static str],
-) -> Result<Option<&'static str>, Fail> {
-    for sql in statements {
-        if refused_to_upgrade(alloc, schema, sql)? != Some(OpenFault::NotTables) {
-            return Ok(Some(sql));
-        }
-    }
-    Ok(None)
-}
-
-/// Statements that make tables of no schema of those of an earlier one.
-const OTHERS: &[&str] = &[
-    "UPDATE setting SET value = 3 WHERE name = 'schema'",
-    "UPDATE setting SET value = 9 WHERE name = 'schema'",
-    "DELETE FROM setting WHERE name = 'schema'",
-    "DROP INDEX instance_queue",
-    "CREATE TABLE further (id INTEGER) STRICT",
-];
-
 /// The number of the schema of which the tables of a database are, by how they are opened; none where they are of no schema,
 /// or have a bad row.
 fn schema_of<S: Alter + Drop>(alloc: Global, conn: Connection<S>) -> Option<u32> {
@@ -363,38 +289,27 @@ fn schema_of<S: Alter + Drop>(alloc: Global, conn: Connection<S>) -> Option<u32>
     }
 }
 
-/// Whether tables of an earlier schema are old, with this number, and are upgraded only as they are.
-fn are_old(alloc: Global, schema: Former, number: u32) -> Result<bool, Fail> {
-    let opened = schema_of(alloc, filled_former(alloc, schema)?);
-    let taken = refused_to_upgrade(alloc, schema, schema.numbering())?;
-    let others = first_upgraded(alloc, schema, OTHERS)?;
-    Ok(opened == Some(number) && taken.is_none() && others.is_none())
-}
-
 #[test]
 fn tables_of_an_earlier_schema_are_old(rt: HostRuntime) -> Result<(), Fail> {
     let alloc = rt.alloc();
-    assert!(rt; are_old(alloc, Former::First, 1)?);
-    assert!(rt; are_old(alloc, Former::Second, 2)?);
-    for (schema, other) in [
-        (Former::First, Former::Second),
-        (Former::Second, Former::First),
-    ] {
-        let refused = refused_to_upgrade(alloc, schema, other.numbering())?;
-        assert_eq!(rt; refused, Some(OpenFault::NotTables));
-    }
+    assert_eq!(rt;
+        schema_of(alloc, filled_former(alloc, Former::First)?),
+        Some(1)
+    );
+    assert_eq!(rt;
+        schema_of(alloc, filled_former(alloc, Former::Second)?),
+        Some(2)
+    );
     let mut conn = Connection::open_in_memory(alloc)?;
     assert_eq!(rt; upgrade(alloc, &mut conn).err(), Some(OpenFault::NotTables));
     Ok(())
 }
 
-/// Tables of an earlier schema are made, with the rows of a project in which a host called twice.
+/// Tables of the first schema are made, with the rows of a project in which a host called twice.
 #[derive(Clone, Copy)]
-struct MakeFormer {
-    schema: Former,
-}
+struct MakeFirst;
 
-impl Deed for MakeFormer {
+impl Deed for MakeFirst {
     type Shown = Image;
 
     fn over<S: Alter + Leaves + Drop>(
@@ -403,7 +318,7 @@ impl Deed for MakeFormer {
         mut conn: Connection<S>,
     ) -> Result<Image, Fail> {
         let mut newest = filled_with(alloc, lines(alloc)?.as_bytes())?;
-        make_former(alloc, &mut newest, &mut conn, self.schema)?;
+        make_former(alloc, &mut newest, &mut conn, Former::First)?;
         conn.into_store().closed(alloc)
     }
 }
@@ -462,8 +377,8 @@ fn schema_left(alloc: Global, left: &Image, rows: &str) -> Result<Option<u32>, F
 
 /// The numbers of the schemas that the stops of an upgrade left whole, of the log or of the database file, one for each call
 /// of it; none where one left no schema whole.
-fn schemas_left(alloc: Global, schema: Former, in_log: bool) -> Result<Option<Vec<u32>>, Fail> {
-    let image = done_in(alloc, &empty(alloc), LASTING, MakeFormer { schema })?;
+fn schemas_left(alloc: Global, in_log: bool) -> Result<Option<Vec<u32>>, Fail> {
+    let image = done_in(alloc, &empty(alloc), LASTING, MakeFirst)?;
     let (_, whole) = done_in(alloc, &image, LASTING, Upgrade)?;
     let rows = done_in(alloc, &whole, LASTING, TellRows)?;
     let mut schemas = Vec::new(alloc);
@@ -480,26 +395,15 @@ fn schemas_left(alloc: Global, schema: Former, in_log: bool) -> Result<Option<Ve
     Ok(None)
 }
 
-/// Whether each stop of an upgrade, of the log or of the database file, left tables whole, of a schema from this number on, and
-/// some those before each step of it.
-fn leaves_one_schema_whole(alloc: Global, schema: Former, least: u32) -> Result<bool, Fail> {
-    let in_log = schemas_left(alloc, schema, true)?.unwrap_or(Vec::new(alloc));
-    let in_file = schemas_left(alloc, schema, false)?;
-    Ok(
-        in_log.iter().all(|number| *number >= least)
-            && (least..3).all(|number| in_log.contains(&number))
-            && in_file.is_some_and(|left| left.iter().all(|number| *number >= least)),
-    )
+/// Whether each stop of an upgrade, of the log or of the database file, left tables of one schema whole, and some those before
+/// each step of it.
+fn leaves_one_schema_whole(alloc: Global) -> Result<bool, Fail> {
+    let in_log = schemas_left(alloc, true)?.unwrap_or(Vec::new(alloc));
+    Ok(in_log.contains(&1) && in_log.contains(&2) && schemas_left(alloc, false)?.is_some())
 }
 
 #[test]
 fn a_stop_of_an_upgrade_leaves_one_schema_whole(rt: HostRuntime) -> Result<(), Fail> {
-    assert!(rt; leaves_one_schema_whole(rt.alloc(), Former::First, 1)?);
-    Ok(())
-}
-
-#[test]
-fn a_stop_of_an_upgrade_of_the_second_schema_leaves_one_whole(rt: HostRuntime) -> Result<(), Fail> {
-    assert!(rt; leaves_one_schema_whole(rt.alloc(), Former::Second, 2)?);
+    assert!(rt; leaves_one_schema_whole(rt.alloc())?);
     Ok(())
 }

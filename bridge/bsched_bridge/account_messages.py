@@ -1,0 +1,135 @@
+"""What BOINC's client asks about accounts, and its answers in XML.
+
+The client reads an answer only where the status is 200, so each message gets one: an account_out with a key,
+or an error with a number and a text. An empty answer, or an error 0, would be an account with an empty key.
+"""
+import logging
+from collections.abc import Callable
+from xml.etree.ElementTree import Element, SubElement
+
+from .accounts import AccountFault, Accounts, Fault
+from .catalogue import Catalogue
+from .client_replies import add, written
+from .http_messages import NO_STORE, XML, Answer, Environ, has_method, is_of_no_browser, query_of
+from .limits import is_loopback, network_of
+from .scheduler import NoAnswer, Scheduler
+from .settings import Settings
+from .words import in_small_letters, is_word
+
+# characters; the server gets a hash, so only the Manager and the page for passwords look at it
+LEAST_PASSWORD = 6
+
+log = logging.getLogger(__name__)
+
+
+def client_of(environ: Environ, address_field: str | None) -> str:
+    """Whom the limits count a message for. Only a proxy on this machine may tell another address than the
+    peer's.
+    """
+    peer: str = environ.get("REMOTE_ADDR") or ""
+    if address_field is not None and is_loopback(peer):
+        told: str = environ.get("HTTP_" + address_field.upper().replace("-", "_"), "")
+        return network_of(told.strip()) or network_of(peer)
+    return network_of(peer)
+
+
+def project_config(settings: Settings, catalogue: Catalogue) -> bytes:
+    """What a client asks for before it attaches (get_project_config.php).
+
+    Where only the operator makes accounts, the Manager asks for a user name, which takes an account key as it
+    is: as an e-mail address it takes none.
+    """
+    root = Element("project_config")
+    add(root, "name", settings.name)
+    add(root, "master_url", settings.url)
+    add(root, "web_rpc_url_base", settings.url)
+    if settings.accounts is None:
+        add(root, "uses_username", 1)
+        add(root, "min_passwd_length", 1)
+        add(root, "account_creation_disabled", 1)
+        add(root, "client_account_creation_disabled", 1)
+    else:
+        add(root, "min_passwd_length", LEAST_PASSWORD)
+        if settings.accounts.terms is not None:
+            add(root, "terms_of_use", settings.accounts.terms)
+    platforms = SubElement(root, "platforms")
+    for platform in sorted({version.platform for version in catalogue.versions.values()}):
+        add(SubElement(platforms, "platform"), "platform_name", platform)
+    return written(root)
+
+
+def account_out(authenticator: str) -> bytes:
+    """An account."""
+    root = Element("account_out")
+    add(root, "authenticator", authenticator)
+    return written(root)
+
+
+def account_error(fault: Fault) -> bytes:
+    """Why there is none."""
+    root = Element("error")
+    add(root, "error_num", fault.number)
+    add(root, "error_msg", fault.text)
+    return written(root)
+
+
+class AccountMessages:
+    """What answers clients that ask about accounts; without accounts they ask about keys alone."""
+
+    def __init__(self, settings: Settings, accounts: Accounts | None, scheduler: Scheduler):
+        self.accounts, self.scheduler = accounts, scheduler
+        self._address_field = settings.accounts.address_field if settings.accounts else None
+
+    def create(self, environ: Environ) -> Answer:
+        """create_account.php: it writes, so it is for no HEAD and no browser."""
+        has_method(environ, "GET")
+        is_of_no_browser(environ)
+        return self._answered(self._created, environ)
+
+    def look_up(self, environ: Environ) -> Answer:
+        """lookup_account.php: wrong passwords count, so it is for no HEAD and no browser either."""
+        has_method(environ, "GET")
+        is_of_no_browser(environ)
+        return self._answered(self._found, environ)
+
+    def client(self, environ: Environ) -> str:
+        """Whom the limits count a message for."""
+        return client_of(environ, self._address_field)
+
+    def _answered(self, find: Callable[[Environ, dict[str, str]], str], environ: Environ) -> Answer:
+        """The answer with the key that is found."""
+        try:
+            return Answer(XML, account_out(find(environ, query_of(environ))), NO_STORE)
+        except AccountFault as fault:
+            return Answer(XML, account_error(fault.fault), NO_STORE)
+
+    def _created(self, environ: Environ, told: dict[str, str]) -> str:
+        """The key of a new account."""
+        if self.accounts is None:
+            raise AccountFault(Fault.NO_CREATION)
+        email, secret = in_small_letters(told.get("email_addr", "")), told.get("passwd_hash", "").lower()
+        has_consent = told.get("consent_flag") == "1"
+        return self.accounts.create(
+            email, secret, told.get("user_name", ""), has_consent, self.client(environ)
+        ).authenticator
+
+    def _found(self, environ: Environ, told: dict[str, str]) -> str:
+        """The key of an account, by its address and password; or by the key itself, as a volunteer types a
+        user name.
+        """
+        name = told.get("authenticator", "") or told.get("email_addr", "")
+        if self.accounts is None or is_word(name):
+            return self._known_key(name)
+        return self.accounts.look_up(
+            in_small_letters(name), told.get("passwd_hash", "").lower(), self.client(environ)
+        ).authenticator
+
+    def _known_key(self, authenticator: str) -> str:
+        """A key that bsched knows."""
+        try:
+            if is_word(authenticator) and self.scheduler.has_account(authenticator):
+                return authenticator
+        except NoAnswer as failure:
+            log.warning("no answer of bsched about a key: %s", failure)
+            raise AccountFault(Fault.NO_ANSWER) from None
+        raise AccountFault(Fault.WRONG_KEY)

@@ -1,0 +1,267 @@
+"""The pages of accounts, for people: an account with its hosts, its name and password, and the terms.
+
+There are no cookies. Each form sends the key or the password that it needs, so no other page can use its
+visitors.
+"""
+from dataclasses import dataclass, field, replace
+
+from .account_messages import LEAST_PASSWORD, client_of
+from .accounts import AccountFault, Accounts, Fault, clean_name, is_email
+from .http_messages import Answer, Environ, form_of, has_method, query_of
+from .markup import Markup, Number, element, joined, page, paragraphs, table
+from .members import Member
+from .passwords import client_hash
+from .settings import Settings
+from .statements import HostStatus, Statements
+from .texts import credits_text, moment_text
+from .words import in_small_letters
+
+BACK = ((".", "The project"), ("status", "How the project stands"))
+MOST_PASSWORD = 1000  # characters
+
+
+@dataclass(frozen=True, slots=True)
+class Input:
+    """A field of a form."""
+
+    name: str
+    label: str
+    kind: str = "text"
+    value: str = ""
+    note: str = ""
+    complete: str = "off"
+    most: int = 254
+
+    def markup(self, fault: str | None) -> Markup:
+        """The label with the field, and beside it what is wrong with what was sent."""
+        told = [f"{self.name}-note"] if self.note else []
+        told += [f"{self.name}-fault"] if fault else []
+        return joined(
+            element("label", self.label, for_=self.name),
+            element(
+                "input",
+                type=self.kind,
+                id=self.name,
+                name=self.name,
+                value=self.value or None,
+                maxlength=self.most,
+                autocomplete=self.complete,
+                aria_invalid="true" if fault else None,
+                aria_describedby=" ".join(told) or None,
+            ),
+            element("div", self.note, class_="note", id=f"{self.name}-note") if self.note else "",
+            element("div", fault, class_="fault", id=f"{self.name}-fault") if fault else "",
+        )
+
+
+@dataclass
+class Form:
+    """What was sent by a form, and what is wrong with it by its fields."""
+
+    told: dict[str, str] = field(default_factory=dict)
+    faults: dict[str, str] = field(default_factory=dict)
+
+    def text(self, name: str) -> str:
+        """What was written into a field, without blanks around it."""
+        return self.told.get(name, "").strip()
+
+
+def form(action: str, button: str, *parts: object) -> Markup:
+    """A form that is posted."""
+    return element("form", *parts, element("div", element("button", button)), method="post", action=action)
+
+
+def hidden(name: str, value: str) -> Markup:
+    """A field that nobody sees."""
+    return element("input", type="hidden", name=name, value=value)
+
+
+KEY = Input(
+    "key",
+    "Account key",
+    note="The file account_*.xml in BOINC's data folder has it as “authenticator”.",
+    most=64,
+)
+PASSWORD = Input("password", "Password", "password", complete="current-password", most=MOST_PASSWORD)
+EMAIL = Input("email", "E-mail address", "email", complete="email")
+NEW_PASSWORD = Input(
+    "password",
+    "New password",
+    "password",
+    note=f"At least {LEAST_PASSWORD} characters.",
+    complete="new-password",
+    most=MOST_PASSWORD,
+)
+
+
+class AccountPages:
+    """What answers people about accounts."""
+
+    def __init__(self, settings: Settings, accounts: Accounts, statements: Statements):
+        self.settings, self.accounts, self.statements = settings, accounts, statements
+        self._field = settings.accounts.address_field if settings.accounts else None
+
+    # ---- An account
+
+    def finish(self, environ: Environ) -> Answer:
+        """account_finish.php: the Manager opens it after it has made an account. Its form is posted to it,
+        with the key.
+        """
+        has_method(environ, "GET", "HEAD", "POST")
+        if environ["REQUEST_METHOD"] == "POST":
+            return self._changed(environ)
+        member = self.accounts.of_key(query_of(environ).get("auth", ""))
+        if member is None:
+            return self._entrance(Form(faults={"key": Fault.WRONG_KEY.text}), 404)
+        return self._account(member)
+
+    def account(self, environ: Environ) -> Answer:
+        """The way to an account, by its key or by address and password."""
+        has_method(environ, "GET", "HEAD", "POST")
+        if environ["REQUEST_METHOD"] != "POST":
+            return self._entrance(Form())
+        sent, client = Form(form_of(environ)), client_of(environ, self._field)
+        try:
+            if "key" in sent.told:
+                return self._account(self.accounts.of_owner(sent.text("key"), client))
+            email = in_small_letters(sent.text("email"))
+            told = client_hash(sent.told.get("password", ""), email)
+            return self._account(self.accounts.look_up(email, told, client))
+        except AccountFault as fault:
+            sent.faults["key" if "key" in sent.told else "password"] = fault.fault.text
+            return self._entrance(sent)
+
+    def _entrance(self, sent: Form, status: int = 200) -> Answer:
+        """The page that asks for an account."""
+        email = replace(EMAIL, value=sent.text("email"))
+        return page(
+            f"{self.settings.name}: your account",
+            element("h2", "With your e-mail address"),
+            form(
+                "account", "Show my account", email.markup(None), PASSWORD.markup(sent.faults.get("password"))
+            ),
+            element("p", element("a", "Set a new password", href="get_passwd.php")),
+            element("h2", "With your account key"),
+            form("account", "Show my account", KEY.markup(sent.faults.get("key"))),
+            links=BACK,
+            is_kept=False,
+            status=status,
+        )
+
+    def _changed(self, environ: Environ) -> Answer:
+        """The owner of a key changes the name, and whether statistics sites may show it."""
+        sent, client = Form(form_of(environ)), client_of(environ, self._field)
+        name = clean_name(sent.text("name"))
+        try:
+            member = self.accounts.of_owner(sent.text("key"), client)
+            if not name:
+                sent.faults["name"] = "Give a name."
+                return self._account(member, sent=sent)
+            self.accounts.members.changed(member, name, sent.text("is_exported") == "1")
+        except AccountFault as fault:
+            return self._entrance(Form(faults={"key": fault.fault.text}))
+        member = self.accounts.of_key(member.authenticator) or member
+        return self._account(member, "Your changes are saved.")
+
+    def _account(self, member: Member, done: str = "", sent: Form | None = None) -> Answer:
+        """The page of an account."""
+        sent = sent or Form()
+        hosts = self.statements.of_account(member.authenticator)
+        name = Input(
+            "name", "Name", value=sent.told.get("name", member.name), note="Everybody can see it.", most=64
+        )
+        choice = element(
+            "label",
+            element("input", type="checkbox", name="is_exported", value="1", checked=member.is_exported),
+            " Statistics sites may show my name, my computers and my credit",
+            class_="choice",
+        )
+        return page(
+            f"{self.settings.name}: {member.name}",
+            element("p", done, class_="done", role="status") if done else "",
+            element("p", "Your account key is ", element("code", member.authenticator), "."),
+            element(
+                "p",
+                "Who has the key has the account, so show it to nobody. BOINC keeps it for you. To add "
+                "another computer, give BOINC there the same e-mail address and password.",
+                class_="note",
+            ),
+            element("h2", "Credit"),
+            *hosts_markup(hosts.hosts, hosts.with_results),
+            element("h2", "Your name"),
+            form(
+                "account_finish.php",
+                "Save",
+                hidden("key", member.authenticator),
+                name.markup(sent.faults.get("name")),
+                choice,
+            ),
+            element("h2", "Your password"),
+            element("p", element("a", "Change e-mail address or password", href="get_passwd.php")),
+            links=BACK,
+            is_kept=False,
+        )
+
+    # ---- A password
+
+    def password(self, environ: Environ) -> Answer:
+        """get_passwd.php: whoever has the key sets the address and the password."""
+        has_method(environ, "GET", "HEAD", "POST")
+        if environ["REQUEST_METHOD"] != "POST":
+            return self._password_form(Form())
+        sent, client = Form(form_of(environ)), client_of(environ, self._field)
+        email, password = in_small_letters(sent.text("email")), sent.told.get("password", "")
+        if not is_email(email):
+            sent.faults["email"] = Fault.NO_ADDRESS.text
+        if not LEAST_PASSWORD <= len(password) <= MOST_PASSWORD:
+            sent.faults["password"] = f"The password has fewer than {LEAST_PASSWORD} characters."
+        if sent.faults:
+            return self._password_form(sent)
+        try:
+            self.accounts.has_password(sent.text("key"), email, client_hash(password, email), client)
+        except AccountFault as fault:
+            sent.faults["email" if fault.fault is Fault.TAKEN else "key"] = fault.fault.text
+            return self._password_form(sent)
+        return page(
+            f"{self.settings.name}: your password",
+            element("p", "Your password is changed.", class_="done", role="status"),
+            element("p", "Computers that have the project go on with it as before."),
+            links=(("account", "Your account"), *BACK),
+            is_kept=False,
+        )
+
+    def _password_form(self, sent: Form) -> Answer:
+        """The page that asks for a new password."""
+        email = replace(EMAIL, value=sent.text("email"))
+        key = replace(KEY, value=sent.text("key"))
+        return page(
+            f"{self.settings.name}: your password",
+            element("p", "Your account key shows that the account is yours. This project sends no e-mail."),
+            form(
+                "get_passwd.php", "Set the password", key.markup(sent.faults.get("key")),
+                email.markup(sent.faults.get("email")), NEW_PASSWORD.markup(sent.faults.get("password")),
+            ),
+            links=(("account", "Your account"), *BACK), is_kept=False,
+        )
+
+    def terms(self, environ: Environ) -> Answer:
+        """The terms of use."""
+        has_method(environ, "GET", "HEAD")
+        terms = (self.settings.accounts.terms if self.settings.accounts else None) or "There are none."
+        return page(f"{self.settings.name}: terms of use", paragraphs(terms), links=BACK)
+
+
+def hosts_markup(hosts: list[HostStatus], with_results: bool) -> list[Markup]:
+    """The hosts of an account with their credit, and with their results where these are known."""
+    if not hosts:
+        return [element("p", "None of your computers has called yet.")]
+    header = ["computer", "called last (UTC)", "credit"]
+    rows: list[list[object]] = [
+        [Number(one.host.hostid), moment_text(one.host.heard_at), Number(credits_text(one.credit))]
+        for one in hosts
+    ]
+    if with_results:
+        header += ["out", "waiting", "done", "late", "failed"]
+        rows = [[*row, one.out, one.waiting, one.done, one.late, one.failed] for row, one in zip(rows, hosts)]
+    credit = sum(one.credit for one in hosts)
+    return [element("p", "Together ", element("strong", credits_text(credit)), "."), table(header, rows)]

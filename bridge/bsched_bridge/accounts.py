@@ -1,0 +1,293 @@
+"""Accounts that volunteers make: checks, limits, and the way of an account into bsched.
+
+An account exists in bsched before its key is told to anyone, and once. First its row is on the disk, with its
+key and the name of an import. Then the import is sent; an import of one name counts once, so it is sent again
+with the same bytes until an answer comes: by the next message about the account, or by the resending of open
+messages. Then the key is told.
+"""
+import logging
+import re
+import secrets
+import time
+from enum import Enum
+
+from .key_locks import Busy, KeyLocks
+from .limits import RecentCounts
+from .members import DayIsFull, EmailTaken, Member, Members
+from .passwords import Passwords, TooBusy, is_client_hash
+from .scheduler import NoAnswer, Refusal, Scheduler
+from .settings import AccountSettings
+from .words import WORD, cut_to_bytes, shown_key
+
+HOUR, DAY = 3600, 86400
+MOST_WRONG_PASSWORDS = 10  # an hour, of each client address and of each e-mail address
+MOST_NAME = 64  # bytes
+MOST_EMAIL = 254  # characters
+# what the Manager takes for an e-mail address; an answer that it is none is one that the Manager never ends
+# with
+MANAGER_EMAIL = re.compile(r"[^@]+@[^@.]+\.[^@]{2,}")
+NO_EMAIL = re.compile(r"[\s\x00-\x1f\x7f\ufffd]")
+NO_NAME = re.compile("[\\s\x00-\x1f\x7f-\x9f\ufffd]+")
+IMPORT_ATTEMPTS = 2
+WAIT_SECONDS = 3.0  # for another message about the same address
+
+log = logging.getLogger(__name__)
+
+
+class Fault(Enum):
+    """Why a message about an account comes to nothing: BOINC's number for clients, and a text for people.
+
+    The Manager never ends with some other numbers, and not with -205 in answer to what it takes for an
+    address.
+    """
+
+    WRONG = -155, "No account has this e-mail address and password."
+    WRONG_KEY = -155, "No account has this key."
+    NO_ANSWER = -183, "The project gives no answer at the moment. Try again in a few minutes."
+    TOO_BUSY = -183, "The project is busy at the moment. Try again in a minute."
+    TOO_MANY = -183, "Too many wrong passwords or keys. Try again in an hour."
+    NO_ADDRESS = -205, "This is not an e-mail address."
+    NO_PASSWORD = -206, "Give a password."
+    TAKEN = -207, "Another account has this e-mail address."
+    ODD_ADDRESS = -208, "The project can't use this e-mail address."
+    DAY_FULL = -208, "The project takes no more new accounts today. Try again tomorrow."
+    NETWORK_FULL = (
+        -208,
+        "Too many accounts were made from your network today. Use the one that you have, or try again "
+        "tomorrow.",
+    )
+    PROJECT_FULL = -208, "The project has as many accounts as it can have."
+    NO_CREATION = -208, "Only the project's operator makes accounts."
+    NO_CONSENT = -242, "Agree to the project's terms of use to make an account."
+
+    @property
+    def number(self) -> int:
+        """The number for clients."""
+        return self.value[0]
+
+    @property
+    def text(self) -> str:
+        """The text for people."""
+        return self.value[1]
+
+
+class AccountFault(Exception):
+    """A message about an account comes to nothing."""
+
+    def __init__(self, fault: Fault):
+        super().__init__(fault.text)
+        self.fault = fault
+
+
+def is_email(email: str) -> bool:
+    """Whether a text is an e-mail address, as far as can be seen."""
+    return bool(MANAGER_EMAIL.fullmatch(email)) and not NO_EMAIL.search(email) and len(email) <= MOST_EMAIL
+
+
+def clean_name(name: str) -> str:
+    """A name as bsched takes it, on one line; it may be empty."""
+    return cut_to_bytes(NO_NAME.sub(" ", name).strip(), MOST_NAME).strip()
+
+
+def made_name() -> str:
+    """A name that tells nothing of a volunteer."""
+    return f"volunteer-{secrets.randbelow(10**6):06}"
+
+
+def account_import(member: Member) -> bytes:
+    """The import of an account. It is made of its row alone, so that it is always the same."""
+    name = member.name.replace('"', '""')
+    return f'authenticator,name\n{member.authenticator},"{name}"\n'.encode()
+
+
+class Accounts:
+    """Who makes accounts and finds them."""
+
+    def __init__(
+        self,
+        settings: AccountSettings,
+        members: Members,
+        scheduler: Scheduler,
+        operator_key: str,
+        passwords: Passwords,
+    ):
+        self.settings, self.members, self.scheduler, self.passwords = settings, members, scheduler, passwords
+        self._operator_key = operator_key
+        self._locks = KeyLocks(WAIT_SECONDS)
+        self._new = RecentCounts(settings.most_from_address, DAY)
+        self._wrong = RecentCounts(MOST_WRONG_PASSWORDS, HOUR)
+
+    # ---- What clients ask for
+
+    def create(self, email: str, told: str, name: str, has_consent: bool, client: str) -> Member:
+        """A new account, or the one that the address has, if the password is right."""
+        if not MANAGER_EMAIL.fullmatch(email):
+            raise AccountFault(Fault.NO_ADDRESS)
+        if not is_email(email):
+            raise AccountFault(Fault.ODD_ADDRESS)
+        if not is_client_hash(told, email):
+            raise AccountFault(Fault.NO_PASSWORD)
+        try:
+            with self._locks.held(email):
+                member = self.members.of_email(email)
+                if member is None:
+                    return self._made(email, told, name, has_consent, client)
+                if not self._is_right(email, told, member, client):
+                    raise AccountFault(Fault.TAKEN)
+                return self._finished(member)
+        except (Busy, TooBusy):
+            raise AccountFault(Fault.TOO_BUSY) from None
+
+    def look_up(self, email: str, told: str, client: str) -> Member:
+        """The account with an address and a password."""
+        if not is_email(email) or not is_client_hash(told, email):
+            raise AccountFault(Fault.WRONG)
+        try:
+            with self._locks.held(email):
+                member = self.members.of_email(email)
+                if not self._is_right(email, told, member, client) or member is None:
+                    raise AccountFault(Fault.WRONG)
+                return self._finished(member)
+        except (Busy, TooBusy):
+            raise AccountFault(Fault.TOO_BUSY) from None
+
+    def of_key(self, authenticator: str) -> Member | None:
+        """The account with a key, if the bridge knows it and bsched has it."""
+        member = self.members.of_key(authenticator) if WORD.fullmatch(authenticator) else None
+        return member if member is not None and member.is_imported else None
+
+    def has_password(self, authenticator: str, email: str, told: str, client: str) -> Member:
+        """The owner of a key chose an address and a password."""
+        member = self.of_owner(authenticator, client)
+        try:
+            with self._locks.held(email):
+                self.members.has_password(member, email, self.passwords.new_secret(told))
+        except (Busy, TooBusy):
+            raise AccountFault(Fault.TOO_BUSY) from None
+        except EmailTaken:
+            raise AccountFault(Fault.TAKEN) from None
+        return member
+
+    def of_owner(self, authenticator: str, client: str) -> Member:
+        """The account with a key that somebody tells; too many wrong ones are refused."""
+        if not self._wrong.take(("client", client)):
+            raise AccountFault(Fault.TOO_MANY)
+        member = self.of_key(authenticator)
+        if member is None:
+            raise AccountFault(Fault.WRONG_KEY)
+        self._wrong.give_back(("client", client))
+        return member
+
+    def _is_right(self, email: str, told: str, member: Member | None, client: str) -> bool:
+        """Whether a password is that of an account. Wrong ones count, for the client and for the address."""
+        keys = ("client", client), ("email", email)
+        taken = [key for key in keys if self._wrong.take(key)]
+        is_wrong = False
+        try:
+            if len(taken) < len(keys):
+                raise AccountFault(Fault.TOO_MANY)
+            is_wrong = not self.passwords.is_right(told, None if member is None else member.secret)
+        finally:
+            if not is_wrong:
+                for key in taken:
+                    self._wrong.give_back(key)
+        return not is_wrong
+
+    # ---- A new account
+
+    def _made(self, email: str, told: str, name: str, has_consent: bool, client: str) -> Member:
+        """A new account, within the limits."""
+        if self.settings.terms is not None and not has_consent:
+            raise AccountFault(Fault.NO_CONSENT)
+        if not self._new.take(client):
+            raise AccountFault(Fault.NETWORK_FULL)
+        is_row = False
+        try:
+            row = self._new_row(email, told, name, has_consent)
+            is_row = True
+            return self._finished(row)
+        except AccountFault as fault:
+            is_row = is_row and fault.fault is not Fault.PROJECT_FULL
+            raise
+        finally:
+            if not is_row:
+                self._new.give_back(client)
+
+    def _new_row(self, email: str, told: str, name: str, has_consent: bool) -> Member:
+        """The row of a new account, within the limit of a day."""
+        chosen = (clean_name(name) if self.settings.is_name_told else "") or made_name()
+        now, most = int(time.time()), self.settings.most_a_day
+        try:
+            if self.members.is_day_full(now, most):  # before the work of a hash; the row is counted once more
+                raise DayIsFull
+            return self.members.insert(email, self.passwords.new_secret(told), chosen, has_consent, now, most)
+        except DayIsFull:
+            log.warning("%d accounts were made in 24 hours, so no more are made now", most)
+            raise AccountFault(Fault.DAY_FULL) from None
+
+    def _finished(self, member: Member) -> Member:
+        """The account, once bsched has it; where that is not known, no key is told."""
+        if member.is_imported:
+            return member
+        try:
+            self._import(member)
+        except NoAnswer as failure:
+            log.warning(
+                "no answer of bsched to the import of account %s: %s",
+                shown_key(member.authenticator),
+                failure,
+            )
+            raise AccountFault(Fault.NO_ANSWER) from None
+        return member
+
+    def _import(self, member: Member) -> None:
+        """Imports an account. It may have been imported before; then nothing changes."""
+        answer: Refusal | None = None
+        for _ in range(IMPORT_ATTEMPTS):
+            assert member.batch is not None
+            answer = self.scheduler.import_accounts(member.batch, account_import(member), self._operator_key)
+            if answer is None or answer.error == "duplicate_name":  # the key is random, so it is this account
+                if not member.is_imported:
+                    self.members.imported(member)
+                return
+            if answer.error == "batch_reused":
+                member = self.members.with_new_batch(member)
+                continue
+            if answer.error == "table_full" and not member.is_imported:
+                self.members.deleted(member)
+                log.error("no account can be made: bsched has as many as it can have")
+                raise AccountFault(Fault.PROJECT_FULL)
+            break
+        assert answer is not None
+        # an earlier import may have counted, so the row stays
+        log.error(
+            "bsched refuses the import of account %s as %s", shown_key(member.authenticator), answer.error
+        )
+        raise AccountFault(Fault.NO_ANSWER)
+
+    # ---- What is sent again
+
+    def resend_open(self) -> None:
+        """Sends each import that got no answer again; raises NoAnswer at the first that gets none again."""
+        for member in self.members.open_ones():
+            try:
+                with self._locks.held(member.email):
+                    again = self.members.of_key(member.authenticator)
+                    if again is not None and not again.is_imported:
+                        self._import(again)
+            except (AccountFault, Busy):
+                continue  # it was refused, or somebody is at it
+
+    def is_imported_again(self, authenticator: str) -> bool:
+        """Imports an account that bsched does not know any more, as where its tables were put back to an
+        older copy.
+        """
+        member = self.members.of_key(authenticator)
+        if member is None or member.batch is None:
+            return False
+        log.warning("bsched does not know account %s any more, and gets it again", shown_key(authenticator))
+        try:
+            self._import(member)
+        except AccountFault:
+            return False
+        return True

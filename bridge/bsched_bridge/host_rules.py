@@ -1,0 +1,46 @@
+"""The settings on hosts, which are read again after each edit of the file, without a new start."""
+import logging
+import threading
+from pathlib import Path
+
+from .operator_files import OperatorFault
+from .settings import HostRules, read_settings
+
+log = logging.getLogger(__name__)
+
+
+class HostRuleReader:
+    """Who has the settings of today. A faulty file changes nothing, and gets one line in the log."""
+
+    def __init__(self, path: Path, rules: HostRules):
+        self.path, self._rules = path, rules
+        self._lock = threading.Lock()
+        self._seen = self._state()
+
+    def _state(self) -> tuple[int, int, int] | None:
+        """By what an edited file is told from the one that was read."""
+        try:
+            status = self.path.stat()
+        except OSError:
+            return None
+        return status.st_mtime_ns, status.st_size, status.st_ino
+
+    def rules(self) -> HostRules:
+        """The settings of now."""
+        with self._lock:
+            state = self._state()
+            if state != self._seen:
+                self._seen = state
+                self._read()
+            return self._rules
+
+    def _read(self) -> None:
+        """Reads the file, and keeps what it said before where it is faulty."""
+        try:
+            rules = read_settings(self.path).host_rules
+        except OperatorFault as fault:
+            log.error("the settings on hosts stay as they were: %s", fault)
+            return
+        if rules != self._rules:
+            log.info("most_hosts is %d, and %d keys are barred", rules.most_hosts, len(rules.barred))
+        self._rules = rules

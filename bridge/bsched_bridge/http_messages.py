@@ -1,0 +1,99 @@
+"""Messages of HTTP: what a browser or a client sends, and what it gets."""
+import re
+from dataclasses import dataclass, field
+from typing import Any
+from urllib.parse import parse_qs
+
+from . import client_requests
+
+XML, HTML, TEXT = "text/xml; charset=utf-8", "text/html; charset=utf-8", "text/plain; charset=utf-8"
+BYTES = "application/octet-stream"
+PHRASES = {
+    200: "OK",
+    206: "Partial Content",
+    400: "Bad Request",
+    403: "Forbidden",
+    404: "Not Found",
+    405: "Method Not Allowed",
+    411: "Length Required",
+    413: "Content Too Large",
+    415: "Unsupported Media Type",
+    416: "Range Not Satisfiable",
+    500: "Internal Server Error",
+}
+LENGTH = re.compile("[0-9]{1,18}")
+FORM = "application/x-www-form-urlencoded"
+MOST_FORM, MOST_FIELDS = 16_384, 32  # bytes of a form, fields of a form or a query
+NO_STORE = {"Cache-Control": "no-store"}
+# what browsers add to a message, and BOINC's client does not
+BROWSER_FIELDS = ("HTTP_ORIGIN", "HTTP_REFERER", "HTTP_SEC_FETCH_SITE")
+
+Environ = dict[str, Any]
+
+
+class HttpFault(Exception):
+    """A message of HTTP that is no message to this application."""
+
+    def __init__(self, status: int, **fields: str):
+        super().__init__(PHRASES[status])
+        self.status, self.fields = status, fields
+
+
+@dataclass(frozen=True, slots=True)
+class Answer:
+    """What a message gets."""
+
+    kind: str  # the media type of the body
+    body: bytes
+    fields: dict[str, str] = field(default_factory=dict)
+    status: int = 200
+
+
+def has_method(environ: Environ, *methods: str) -> None:
+    """Whether the message has one of these methods."""
+    if environ["REQUEST_METHOD"] not in methods:
+        raise HttpFault(405, Allow=", ".join(methods))
+
+
+def is_of_no_browser(environ: Environ) -> None:
+    """Whether the message is one that no web page had its visitor send: such a page can't leave out all of
+    these fields.
+    """
+    if any(name in environ for name in BROWSER_FIELDS):
+        raise HttpFault(403)
+
+
+def body_of(environ: Environ, most: int = client_requests.MOST_BYTES) -> bytes:
+    """The body of a POST."""
+    length = environ.get("CONTENT_LENGTH") or ""
+    if not LENGTH.fullmatch(length):
+        raise HttpFault(411)
+    if int(length) > most:
+        raise HttpFault(413)
+    body: bytes = environ["wsgi.input"].read(int(length))
+    if len(body) != int(length):
+        raise HttpFault(400)
+    return body
+
+
+def fields_of(text: str) -> dict[str, str]:
+    """The fields of a query or a form. Of one that is told twice the last counts; bytes that are no UTF-8
+    become U+FFFD.
+    """
+    try:
+        told = parse_qs(text, keep_blank_values=True, errors="replace", max_num_fields=MOST_FIELDS)
+    except ValueError:
+        raise HttpFault(400) from None
+    return {name: values[-1] for name, values in told.items()}
+
+
+def query_of(environ: Environ) -> dict[str, str]:
+    """The fields of the query."""
+    return fields_of(environ.get("QUERY_STRING", ""))
+
+
+def form_of(environ: Environ) -> dict[str, str]:
+    """The fields of a form that was posted."""
+    if environ.get("CONTENT_TYPE", "").partition(";")[0].strip().lower() != FORM:
+        raise HttpFault(415)
+    return fields_of(body_of(environ, MOST_FORM).decode("ascii", errors="replace"))

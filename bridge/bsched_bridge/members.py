@@ -1,0 +1,207 @@
+"""The accounts that the bridge knows, in the state file.
+
+There are accounts that volunteers made, with an e-mail address and a password, and those of the operator,
+which are known once a host of theirs was heard.
+"""
+import secrets
+import sqlite3
+from collections.abc import Iterator
+from dataclasses import dataclass, replace
+from typing import cast
+
+from .passwords import Secret
+from .state_file import StateFile
+
+COLUMNS = (
+    "id, authenticator, email, salt, secret, cost, name, batch, is_imported, cpid, consent_at, is_exported, "
+    "created_at"
+)
+INSERT = (
+    "INSERT INTO member (authenticator, email, salt, secret, cost, name, batch, cpid, consent_at, "
+    "created_at, is_imported) VALUES (?, ?, ?, ?, ?, ?, ?, ?, ?, ?, 0)"
+)
+# rows of the operator's accounts have no batch
+MADE_SINCE = "SELECT count(*) FROM member WHERE batch IS NOT NULL AND created_at > ?"
+DAY = 86400
+
+
+class EmailTaken(Exception):
+    """Another account has this e-mail address."""
+
+
+class DayIsFull(Exception):
+    """As many accounts as may be were made in the last 24 hours."""
+
+
+@dataclass(frozen=True, slots=True)
+class Member:
+    """An account."""
+
+    id: int
+    authenticator: str
+    email: str | None
+    secret: Secret | None
+    name: str
+    batch: str | None  # of the import that makes it; none for the operator's accounts
+    is_imported: bool
+    cpid: str
+    consent_at: int | None
+    is_exported: bool
+    created_at: int
+
+
+def member_of(row: tuple[object, ...]) -> Member:
+    """The account of a row."""
+    (
+        number,
+        authenticator,
+        email,
+        salt,
+        digest,
+        cost,
+        name,
+        batch,
+        is_imported,
+        cpid,
+        consent_at,
+        is_exported,
+        made,
+    ) = row
+    return Member(
+        id=cast(int, number),
+        authenticator=cast(str, authenticator),
+        email=cast("str | None", email),
+        secret=None if salt is None else Secret(cast(bytes, salt), cast(bytes, digest), cast(str, cost)),
+        name=cast(str, name),
+        batch=cast("str | None", batch),
+        is_imported=bool(is_imported),
+        cpid=cast(str, cpid),
+        consent_at=cast("int | None", consent_at),
+        is_exported=bool(is_exported),
+        created_at=cast(int, made),
+    )
+
+
+def new_batch_name() -> str:
+    """The name of an import that nobody else chooses."""
+    return "account-" + secrets.token_hex(16)
+
+
+def first_heard(connection: sqlite3.Connection, authenticator: str, name: str, now: int) -> None:
+    """Notes an account that a reply told, if it is not known; within a transaction."""
+    connection.execute(
+        "INSERT INTO member (authenticator, name, is_imported, cpid, created_at) VALUES (?, ?, 1, ?, ?) "
+        "ON CONFLICT (authenticator) DO NOTHING", (authenticator, name, secrets.token_hex(16), now),
+    )
+
+
+class Members:
+    """The accounts in a state file."""
+
+    def __init__(self, file: StateFile):
+        self.file = file
+
+    def _one(self, where: str, *values: object) -> Member | None:
+        """The first account that a condition holds of."""
+        row = self.file.row(f"SELECT {COLUMNS} FROM member WHERE {where}", *values)
+        return None if row is None else member_of(row)
+
+    def of_email(self, email: str) -> Member | None:
+        """The account with an e-mail address."""
+        return self._one("email = ?", email)
+
+    def of_key(self, authenticator: str) -> Member | None:
+        """The account with a key."""
+        return self._one("authenticator = ?", authenticator)
+
+    def open_ones(self) -> Iterator[Member]:
+        """The accounts whose import got no answer yet; each is read when it is its turn."""
+        last = 0
+        while (member := self._one("is_imported = 0 AND id > ? ORDER BY id", last)) is not None:
+            yield member
+            last = member.id
+
+    def names(self) -> dict[str, str]:
+        """The name of each account, by its key."""
+        rows = self.file.rows("SELECT authenticator, name FROM member")
+        return {cast(str, row[0]): cast(str, row[1]) for row in rows}
+
+    # ---- Making an account
+
+    def is_day_full(self, now: int, most_a_day: int) -> bool:
+        """Whether as many accounts as may be were made in the last 24 hours; the operator's don't count."""
+        row = self.file.row(MADE_SINCE, now - DAY)
+        return row is not None and cast(int, row[0]) >= most_a_day
+
+    def insert(
+        self, email: str, secret: Secret, name: str, has_consent: bool, now: int, most_a_day: int
+    ) -> Member:
+        """A new account with a key of its own; it is on the disk before it is given, and not yet imported."""
+        member = Member(
+            id=0,
+            authenticator=secrets.token_hex(16),
+            email=email,
+            secret=secret,
+            name=name,
+            batch=new_batch_name(),
+            is_imported=False,
+            cpid=secrets.token_hex(16),
+            consent_at=now if has_consent else None,
+            is_exported=False,
+            created_at=now,
+        )
+        values = (
+            member.authenticator,
+            email,
+            secret.salt,
+            secret.digest,
+            secret.cost,
+            name,
+            member.batch,
+            member.cpid,
+            member.consent_at,
+            now,
+        )
+        with self.file.transaction() as connection:
+            if connection.execute(MADE_SINCE, (now - DAY,)).fetchone()[0] >= most_a_day:
+                raise DayIsFull
+            cursor = connection.execute(INSERT, values)
+        return replace(member, id=cast(int, cursor.lastrowid))
+
+    def imported(self, member: Member) -> None:
+        """bsched has the account. It need not be synced: if this is lost, one more equal import follows."""
+        with self.file.transaction(is_synced=False) as connection:
+            connection.execute("UPDATE member SET is_imported = 1 WHERE id = ?", (member.id,))
+
+    def with_new_batch(self, member: Member) -> Member:
+        """The account, which is imported under another name from now on."""
+        with self.file.transaction() as connection:
+            connection.execute("UPDATE member SET batch = ? WHERE id = ?", (new_batch_name(), member.id))
+        again = self.of_key(member.authenticator)
+        assert again is not None
+        return again
+
+    def deleted(self, member: Member) -> None:
+        """The account was never made."""
+        with self.file.transaction() as connection:
+            connection.execute("DELETE FROM member WHERE id = ? AND is_imported = 0", (member.id,))
+
+    # ---- What a user changes
+
+    def changed(self, member: Member, name: str, is_exported: bool) -> None:
+        """The user chose a name, and whether statistics sites may show it."""
+        with self.file.transaction() as connection:
+            connection.execute(
+                "UPDATE member SET name = ?, is_exported = ? WHERE id = ?", (name, is_exported, member.id)
+            )
+
+    def has_password(self, member: Member, email: str, secret: Secret) -> None:
+        """The user chose an e-mail address and a password."""
+        try:
+            with self.file.transaction() as connection:
+                connection.execute(
+                    "UPDATE member SET email = ?, salt = ?, secret = ?, cost = ? WHERE id = ?",
+                    (email, secret.salt, secret.digest, secret.cost, member.id),
+                )
+        except sqlite3.IntegrityError:
+            raise EmailTaken from None

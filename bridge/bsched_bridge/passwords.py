@@ -1,0 +1,111 @@
+"""Passwords as the bridge keeps them.
+
+BOINC's client sends no password but its MD5 with the e-mail address, 32 hexadecimal digits. Who has these can
+log in, so they are treated as the password itself: only their scrypt is kept.
+"""
+import hashlib
+import hmac
+import re
+import secrets
+import threading
+from collections.abc import Iterator
+from contextlib import contextmanager
+from dataclasses import dataclass
+
+HASH = re.compile("[0-9a-f]{32}")
+SALT_BYTES = 16
+MOST_MEMORY = 2**26  # bytes; a hash takes 32 MB
+AT_ONCE, WAITING = 2, 2
+WAIT_SECONDS = 5.0
+
+
+class TooBusy(Exception):
+    """As many passwords as may be are being looked at."""
+
+
+@dataclass(frozen=True, slots=True)
+class Cost:
+    """The parameters of scrypt."""
+
+    n: int
+    r: int
+    p: int
+
+    def text(self) -> str:
+        """As it is kept beside a secret."""
+        return f"scrypt {self.n} {self.r} {self.p}"
+
+
+COST = Cost(2**15, 8, 1)  # 0.13 seconds
+
+
+def read_cost(text: str) -> Cost:
+    """The parameters that were kept."""
+    _, n, r, p = text.split()
+    return Cost(int(n), int(r), int(p))
+
+
+@dataclass(frozen=True, slots=True)
+class Secret:
+    """What is kept of a password."""
+
+    salt: bytes
+    digest: bytes
+    cost: str
+
+
+def client_hash(password: str, email: str) -> str:
+    """What BOINC's client sends of a password; the address is in small letters."""
+    return hashlib.md5((password + email).encode(), usedforsecurity=False).hexdigest()
+
+
+def is_client_hash(told: str, email: str) -> bool:
+    """Whether a text is the hash of a password that is not empty."""
+    return HASH.fullmatch(told) is not None and told != client_hash("", email)
+
+
+def scrypt(told: str, salt: bytes, cost: Cost) -> bytes:
+    """The scrypt of what a client sent."""
+    return hashlib.scrypt(told.encode(), salt=salt, n=cost.n, r=cost.r, p=cost.p, maxmem=MOST_MEMORY)
+
+
+class Passwords:
+    """Who makes and looks at secrets: at most two at once, since each takes memory and time.
+
+    Few may wait for their turn, so that other messages find a thread.
+    """
+
+    def __init__(self, cost: Cost = COST):
+        self.cost = cost
+        self._unknown = Secret(secrets.token_bytes(SALT_BYTES), b"", cost.text())
+        self._turns = threading.BoundedSemaphore(AT_ONCE)
+        self._places = threading.BoundedSemaphore(AT_ONCE + WAITING)
+
+    @contextmanager
+    def _turn(self) -> Iterator[None]:
+        """One of the few places in which a hash is made."""
+        if not self._places.acquire(blocking=False):
+            raise TooBusy
+        try:
+            if not self._turns.acquire(timeout=WAIT_SECONDS):
+                raise TooBusy
+            try:
+                yield
+            finally:
+                self._turns.release()
+        finally:
+            self._places.release()
+
+    def new_secret(self, told: str) -> Secret:
+        """What is kept of a new password."""
+        salt = secrets.token_bytes(SALT_BYTES)
+        with self._turn():
+            return Secret(salt, scrypt(told, salt, self.cost), self.cost.text())
+
+    def is_right(self, told: str, secret: Secret | None) -> bool:
+        """Whether a password is the one that is kept. If none is kept, it is wrong, and takes the
+        same time.
+        """
+        kept = secret or self._unknown
+        with self._turn():
+            return hmac.compare_digest(scrypt(told, kept.salt, read_cost(kept.cost)), kept.digest)

@@ -1,0 +1,159 @@
+"""What tests of accounts share: messages as BOINC's client sends them, and what is asked of accounts in the
+end.
+"""
+import hashlib
+import re
+import xml.etree.ElementTree as ElementTree
+from dataclasses import dataclass, field
+from urllib.parse import quote
+
+from messages import request, value
+from twin import IMPORTS
+
+CLIENT = "198.51.100.7"
+OPERATORS = {line.partition(",")[0] for line in IMPORTS["accounts"].splitlines()[1:]}
+
+
+def escaped(text):
+    """A text as the client writes it into a URL: everything but letters and digits is escaped."""
+    return "".join(
+        part
+        if part.isalnum() and part.isascii()
+        else quote(part, safe="")
+        .replace("-", "%2D")
+        .replace(".", "%2E")
+        .replace("_", "%5F")
+        .replace("~", "%7E")
+        for part in text
+    )
+
+
+def client_hash(password, email):
+    """What the client sends of a password."""
+    return hashlib.md5((password + email).encode()).hexdigest()
+
+
+def account_query(page, email, password, **more):
+    """The URL of a message about an account."""
+    told = {"email_addr": email, "passwd_hash": client_hash(password, email), **more}
+    return f"/p/{page}?" + "&".join(f"{name}={escaped(text)}" for name, text in told.items())
+
+
+def told(answer):
+    """The key that an answer tells, or the number of its error."""
+    status, fields, body = answer
+    assert (status, fields["Content-Type"], fields["Cache-Control"]) == (
+        "200 OK",
+        "text/xml; charset=utf-8",
+        "no-store",
+    )
+    root = ElementTree.fromstring(body)
+    if root.tag == "account_out":
+        assert re.fullmatch("[0-9a-f]{32}", root.findtext("authenticator"))
+        return root.findtext("authenticator")
+    number = int(root.findtext("error_num"))
+    assert root.tag == "error" and number < 0 and root.findtext("error_msg")
+    return number
+
+
+def create(bridge, email="ann@sums.example", password="secret1", name="ann", client=CLIENT, **more):
+    """What comes of create_account.php."""
+    query = account_query("create_account.php", email, password, user_name=name, **more)
+    number = told(bridge.got(query, REMOTE_ADDR=client))
+    assert number not in (-161,)  # the Manager never ends with it in answer to a creation
+    return number
+
+
+def look_up(bridge, email="ann@sums.example", password="secret1", client=CLIENT):
+    """What comes of lookup_account.php."""
+    number = told(bridge.got(account_query("lookup_account.php", email, password), REMOTE_ADDR=client))
+    # the Manager never ends with one of these in answer to a look-up
+    assert number not in (-136, -161, -204, -205, -206)
+    return number
+
+
+def works(bridge, key, cpid="cpid"):
+    """Whether a key is one with which a client gets a host."""
+    return value(bridge.call(request(key=key, cpid=cpid, seconds=0)), "hostid") is not None
+
+
+def rows(bridge):
+    """The accounts in the state file: the address, the key, and whether bsched has it."""
+    return bridge.file.rows(
+        "SELECT email, authenticator, is_imported FROM member WHERE batch IS NOT NULL ORDER BY id"
+    )
+
+
+def made_accounts(twin):
+    """The keys that bsched has, but for the operator's."""
+    return [key for key in twin.service.machine.rows["accounts"] if key not in OPERATORS]
+
+
+# ---- Stops
+
+
+class Stopped(BaseException):
+    """The bridge is stopped here."""
+
+
+@dataclass
+class Stops:
+    """Stops a bridge at the n-th of its writes and sends, before it or after it; from then on it does nothing
+    more.
+    """
+
+    at: int
+    is_after: bool
+    passed: int = 0
+    is_stopped: bool = False
+    points: list = field(default_factory=list)
+
+    def around(self, name, act):
+        """Does something, or stops."""
+        if self.is_stopped:
+            raise Stopped
+        self.passed += 1
+        self.points.append(name)
+        if self.passed != self.at:
+            return act()
+        self.is_stopped = True
+        if self.is_after:
+            act()
+        raise Stopped
+
+    def set(self, monkeypatch, bridge):
+        """Puts it around the writes and sends of a bridge."""
+        transaction, message = bridge.file.transaction, bridge.application.scheduler.message
+        stops = self
+
+        class Transaction:
+            """A transaction that is stopped before it begins, or after its commit."""
+
+            def __init__(self, is_synced=True):
+                self.inner = transaction(is_synced)
+
+            def __enter__(self):
+                if stops.is_stopped:
+                    raise Stopped
+                stops.passed += 1
+                stops.points.append("write")
+                if stops.passed == stops.at and not stops.is_after:
+                    stops.is_stopped = True
+                    raise Stopped
+                self.is_here = stops.passed == stops.at
+                return self.inner.__enter__()
+
+            def __exit__(self, *fault):
+                ends = self.inner.__exit__(*fault)
+                if self.is_here:
+                    stops.is_stopped = True
+                    raise Stopped
+                return ends
+
+        monkeypatch.setattr(bridge.file, "transaction", Transaction)
+        monkeypatch.setattr(
+            bridge.application.scheduler,
+            "message",
+            lambda *words: self.around("send", lambda: message(*words)),
+        )
+        return self

@@ -1,0 +1,62 @@
+"""A bridge in a process of its own that kills itself at the n-th of its writes and sends.
+
+usage: killed_bridge.py SETTINGS PORT N before|after
+"""
+import os
+import signal
+import sys
+from pathlib import Path
+
+sys.dont_write_bytecode = True
+TESTS = Path(__file__).resolve().parent
+sys.path[:0] = [str(TESTS.parent), str(TESTS.parent.parent / "bench"), str(TESTS)]
+
+import joining  # noqa: E402
+import waitress  # noqa: E402
+
+from bsched_bridge.application import Application  # noqa: E402
+from bsched_bridge.catalogue import read_catalogue  # noqa: E402
+from bsched_bridge.scheduler import Scheduler  # noqa: E402
+from bsched_bridge.settings import read_settings  # noqa: E402
+from bsched_bridge.state_file import StateFile  # noqa: E402
+
+
+class Killed(joining.Stopped):
+    """The process ends here, with no time to do anything."""
+
+    def __init__(self):
+        os.kill(os.getpid(), signal.SIGKILL)
+        super().__init__()
+
+
+class Places:
+    """Where the parts of a bridge are replaced."""
+
+    @staticmethod
+    def setattr(target, name, value):
+        """Replaces an attribute for good."""
+        setattr(target, name, value)
+
+
+class Served:
+    """A bridge as the tests have it."""
+
+    def __init__(self, path):
+        settings = read_settings(path)
+        self.file = StateFile(settings.state)
+        self.application = Application(
+            settings, read_catalogue(settings.catalogue), self.file, Scheduler(settings.scheduler, 5)
+        )
+
+
+def main():
+    """Serves until it is killed."""
+    path, port, at, when = sys.argv[1:]
+    joining.Stopped = Killed
+    bridge = Served(Path(path))
+    joining.Stops(int(at), when == "after").set(Places, bridge)
+    waitress.serve(bridge.application, host="127.0.0.1", port=int(port), threads=2)
+
+
+if __name__ == "__main__":
+    main()

@@ -1,0 +1,554 @@
+"""Accounts that volunteers make: what clients get, limits, refusals of bsched, and that nothing secret is
+logged.
+"""
+import json
+import re
+import threading
+import xml.etree.ElementTree as ElementTree
+
+import pytest
+from hypothesis import given
+from hypothesis import strategies as st
+from joining import CLIENT, account_query, client_hash, create, look_up, made_accounts, rows, told, works
+from messages import request, value
+
+from bsched_bridge.accounts import account_import, clean_name, is_email
+from bsched_bridge.limits import RecentCounts, is_loopback, network_of
+from bsched_bridge.members import Member
+from bsched_bridge.passwords import COST, Cost, Passwords, TooBusy, client_hash as own_client_hash
+
+EMAIL = "ann@sums.example"
+
+
+# ---- What clients get
+
+
+def test_an_account_is_made_once_and_found_again(open_bridge, twin):
+    key = create(open_bridge)
+    assert works(open_bridge, key)
+    assert create(open_bridge) == key
+    assert look_up(open_bridge) == key
+    assert create(open_bridge, password="other-1") == -207
+    assert look_up(open_bridge, password="other-1") == look_up(open_bridge, "nobody@sums.example") == -155
+    assert rows(open_bridge) == [(EMAIL, key, 1)]
+    assert made_accounts(twin) == [key]
+    open_bridge.restart()
+    assert look_up(open_bridge) == create(open_bridge) == key
+
+
+def test_what_is_sent_to_bsched(open_bridge, twin):
+    key = create(open_bridge)
+    (batch, text), = twin.imports
+    assert re.fullmatch("account-[0-9a-f]{32}", batch)
+    name = open_bridge.members.of_key(key).name
+    assert re.fullmatch("volunteer-[0-9]{6}", name)
+    assert text == f'authenticator,name\n{key},"{name}"\n'
+
+
+# queries as the client 7.20.5 and others send them
+HASH = client_hash("secret1", EMAIL)
+QUERIES = [
+    f"email_addr=ann%40sums%2Eexample&passwd_hash={HASH}&user_name=ann",
+    f"email_addr=ann%40sums%2Eexample&passwd_hash={HASH}&user_name=%E9&team_name=T",
+    f"email_addr=ann@sums.example&passwd_hash={HASH.upper()}&user_name=a+b",
+    f"email_addr=x&email_addr=Ann%40Sums%2EExample&passwd_hash=0&passwd_hash={HASH}",
+    f"consent_flag=1&source=BOINC%20Manager&email_addr=ann%40sums%2Eexample&passwd_hash={HASH}&;&=&a",
+]
+
+
+@pytest.mark.parametrize("query", QUERIES)
+def test_queries(open_bridge, query):
+    key = told(open_bridge.got(f"/p/create_account.php?{query}"))
+    assert works(open_bridge, key)
+    assert told(open_bridge.got(f"/p/lookup_account.php?{query}")) == key
+    assert rows(open_bridge) == [(EMAIL, key, 1)]
+
+
+@pytest.mark.parametrize(
+    "email, creation",
+    [
+        ("", -205),
+        ("ann", -205),
+        ("ann-key@", -205),
+        ("@sums.example", -205),
+        ("a@b@c.de", -205),
+        ("ann@localhost", -205),
+        # the Manager takes these for addresses, and does not end with -205
+        ("a b@sums.example", -208),
+        ("a@sums.ex ample", -208),
+        ("a\x01@sums.example", -208),
+        ("a" * 250 + "@sums.example", -208),
+    ],
+)
+def test_what_is_no_address(open_bridge, twin, email, creation):
+    assert create(open_bridge, email) == creation
+    if email != "ann":  # an account key would be looked up as such
+        assert look_up(open_bridge, email) == -155
+    assert rows(open_bridge) == [] == made_accounts(twin)
+
+
+@pytest.mark.parametrize("sent", ["", "0" * 31, "0" * 33, "g" * 32, client_hash("", EMAIL)])
+def test_what_is_no_password(open_bridge, sent):
+    query = f"email_addr=ann%40sums%2Eexample&passwd_hash={sent}"
+    assert told(open_bridge.got(f"/p/create_account.php?{query}")) == -206
+    assert told(open_bridge.got(f"/p/lookup_account.php?{query}")) == -155
+    assert rows(open_bridge) == []
+
+
+def test_an_account_key_is_looked_up_too(open_bridge):
+    assert b"ann-key" in open_bridge.got("/p/lookup_account.php?email_addr=ann-key&passwd_hash=00")[2]
+    assert told(open_bridge.got("/p/lookup_account.php?email_addr=nobody&passwd_hash=00")) == -155
+
+
+def test_the_configuration(open_bridge):
+    config = ElementTree.fromstring(open_bridge.got("/p/get_project_config.php")[2])
+    assert config.findtext("min_passwd_length") == "6"
+    absent = (
+        "uses_username",
+        "account_creation_disabled",
+        "client_account_creation_disabled",
+        "terms_of_use",
+        "ldap_auth",
+    )
+    assert [config.find(name) for name in absent] == [None] * 5
+
+
+def test_terms_need_consent(project, open_bridge, twin):
+    (project / "terms.txt").write_text("Be <kind>.\n")
+    with (project / "bridge.toml").open("a") as file:
+        file.write('terms = "terms.txt"\n')
+    open_bridge.restart()
+    config = ElementTree.fromstring(open_bridge.got("/p/get_project_config.php")[2])
+    assert config.findtext("terms_of_use").strip() == "Be <kind>."
+    assert create(open_bridge) == create(open_bridge, consent_flag="0") == -242
+    assert rows(open_bridge) == []
+    key = create(open_bridge, consent_flag="1", source="BOINC Manager 7.20.5")
+    assert open_bridge.members.of_key(key).consent_at > 0
+    assert create(open_bridge) == key  # consent was given
+    assert b"Be &lt;kind&gt;." in open_bridge.got("/p/terms")[2]
+
+
+def test_no_consent_is_kept_where_none_is_asked(open_bridge):
+    assert open_bridge.members.of_key(create(open_bridge)).consent_at is None
+
+
+def test_a_creation_is_for_no_head_and_no_browser(open_bridge, twin):
+    for page in ("create_account.php", "lookup_account.php"):
+        query = account_query(page, EMAIL, "secret1", user_name="ann")
+        assert open_bridge.got(query, "HEAD")[0] == "405 Method Not Allowed"
+        assert open_bridge.got(query, "POST")[0] == "405 Method Not Allowed"
+        for field in ("HTTP_ORIGIN", "HTTP_REFERER", "HTTP_SEC_FETCH_SITE"):
+            assert open_bridge.got(query, **{field: "null"})[0] == "403 Forbidden"
+    assert rows(open_bridge) == [] == twin.imports
+
+
+# ---- Names
+
+
+@pytest.mark.parametrize(
+    "sent, name",
+    [
+        ("ann", "ann"),
+        ("  Ann \t B \n", "Ann B"),
+        ("a\x00\x07b\x9fc", "a b c"),
+        ("\ufffd", ""),
+        ("", ""),
+        ("\u2028é", "é"),
+        ("x" * 65, "x" * 64),
+        ("é" * 33, "é" * 32),
+        ("x" * 63 + " y", "x" * 63),
+        ('"', '"'),
+        ("<b>", "<b>"),
+    ],
+)
+def test_names(sent, name):
+    assert clean_name(sent) == name
+
+
+@given(st.text())
+def test_any_name_becomes_one_that_bsched_takes(sent):
+    name = clean_name(sent)
+    assert len(name.encode()) <= 64 and name == clean_name(name)
+    if name:
+        text = account_import(Member(1, "k", None, None, name, "b", False, "", None, False, 0)).decode()
+        assert text == 'authenticator,name\nk,"' + name.replace('"', '""') + '"\n'
+
+
+@pytest.mark.parametrize("sent, kept", [('A "B", <C>', 'A "B", <C>'), ("\t", None)])
+def test_a_name_that_is_told(project, open_bridge, twin, sent, kept):
+    with (project / "bridge.toml").open("a") as file:
+        file.write('names = "told"\n')
+    open_bridge.restart()
+    key = create(open_bridge, name=sent)
+    name = open_bridge.members.of_key(key).name
+    assert name == kept or (kept is None and re.fullmatch("volunteer-[0-9]{6}", name))
+    assert twin.service.machine.rows["accounts"][key].name == name
+
+
+# ---- Limits
+
+
+def test_a_thousand_creations_from_one_address(open_bridge, twin):
+    answers = [create(open_bridge, f"u{number}@sums.example") for number in range(1000)]
+    assert [type(answer) for answer in answers[:3]] == [str] * 3
+    assert answers[3:] == [-208] * 997
+    assert len(rows(open_bridge)) == len(made_accounts(twin)) == 3
+    assert look_up(open_bridge, "u0@sums.example") == answers[0]  # who has an account goes on
+    assert isinstance(create(open_bridge, "v@sums.example", client="198.51.100.8"), str)
+
+
+def test_addresses_of_one_network_are_one(open_bridge):
+    answers = [
+        create(open_bridge, f"u{number}@sums.example", client=f"2001:db8::{number}:1") for number in range(5)
+    ]
+    assert answers[3:] == [-208, -208]
+    assert isinstance(create(open_bridge, "v@sums.example", client="2001:db8:0:1::1"), str)
+
+
+def test_a_day_takes_so_many_accounts(project, open_bridge, twin, caplog):
+    text = (
+        (project / "bridge.toml")
+        .read_text()
+        .replace("most_a_day = 50", "most_a_day = 4\nmost_from_address = 1")
+    )
+    (project / "bridge.toml").write_text(text)
+    open_bridge.restart()
+    answers = [
+        create(open_bridge, f"u{number}@sums.example", client=f"198.51.100.{number}") for number in range(8)
+    ]
+    assert answers[4:] == [-208] * 4
+    assert "4 accounts were made in 24 hours" in caplog.text
+    open_bridge.restart()  # the day is counted in the table
+    assert create(open_bridge, "v@sums.example", client="198.51.100.4") == -208
+    with open_bridge.file.transaction() as connection:
+        connection.execute(
+            "UPDATE member SET created_at = created_at - 86400 WHERE id = (SELECT min(id) FROM member)"
+        )
+    # who was refused because of the day was not counted for the address
+    assert isinstance(create(open_bridge, "v@sums.example", client="198.51.100.4"), str)
+    assert create(open_bridge, "w@sums.example", client="198.51.100.5") == -208
+
+
+def test_accounts_of_the_operator_do_not_count(project, open_bridge):
+    text = (project / "bridge.toml").read_text().replace("most_a_day = 50", "most_a_day = 1")
+    (project / "bridge.toml").write_text(text)
+    open_bridge.restart()
+    open_bridge.call(request())
+    assert open_bridge.members.of_key("ann-key").name == "Ann"
+    assert isinstance(create(open_bridge), str)
+
+
+def test_wrong_passwords_of_a_client(open_bridge):
+    keys = [create(open_bridge, f"u{number}@sums.example") for number in range(3)]
+    for number in range(10):
+        assert (create if number % 2 else look_up)(open_bridge, f"u{number % 3}@sums.example", "wrong-1") in (
+            -155,
+            -207,
+        )
+    # now a right one does not help, and it makes no difference whether the address is known
+    assert look_up(open_bridge, "u0@sums.example") == look_up(open_bridge, "nobody@sums.example") == -183
+    assert look_up(open_bridge, "u0@sums.example", client="198.51.100.8") == keys[0]
+
+
+def test_wrong_passwords_for_an_address(open_bridge):
+    key = create(open_bridge)
+    for number in range(10):
+        assert look_up(open_bridge, EMAIL, "wrong-1", client=f"198.51.100.{number}") == -155
+        assert look_up(open_bridge, "nobody@sums.example", "wrong-1", client=f"203.0.113.{number}") == -155
+    assert look_up(open_bridge, client="192.0.2.1") == -183
+    assert look_up(open_bridge, "nobody@sums.example", client="192.0.2.1") == -183
+    assert create(open_bridge, client="192.0.2.1") == -183
+    open_bridge.restart()
+    assert look_up(open_bridge, client="192.0.2.1") == key
+
+
+def test_right_passwords_do_not_count(open_bridge):
+    key = create(open_bridge)
+    assert [look_up(open_bridge) for _ in range(30)] == [key] * 30
+
+
+def test_old_counts_and_surplus_keys_are_forgotten(monkeypatch):
+    now = [0.0]
+    counts = RecentCounts(2, 60, lambda: now[0])
+    assert [counts.take("a") for _ in range(3)] == [True, True, False]
+    counts.give_back("a")
+    now[0] = 59.0
+    assert [counts.take("a") for _ in range(2)] == [True, False]
+    now[0] = 60.0
+    assert [counts.take("a") for _ in range(2)] == [True, False]
+    monkeypatch.setattr("bsched_bridge.limits.MOST_KEYS", 3)
+    for key in "bcd":
+        assert counts.take(key)
+    assert list(counts._times) == ["b", "c", "d"]
+    counts.give_back("nobody")
+
+
+def test_whose_address_it_is(project, open_bridge):
+    with (project / "bridge.toml").open("a") as file:
+        file.write('address_field = "X-Real-IP"\nmost_from_address = 1\n')
+    open_bridge.restart()
+
+    def made(email, peer, **fields):
+        return told(
+            open_bridge.got(
+                account_query("create_account.php", f"{email}@sums.example", "secret1"),
+                REMOTE_ADDR=peer,
+                **fields,
+            )
+        )
+
+    assert isinstance(made("a", "127.0.0.1", HTTP_X_REAL_IP="198.51.100.1"), str)
+    assert made("b", "127.0.0.1", HTTP_X_REAL_IP="198.51.100.1") == -208
+    assert isinstance(made("b", "127.0.0.1", HTTP_X_REAL_IP="198.51.100.2"), str)
+    # only a proxy on this machine is believed
+    assert isinstance(made("c", "203.0.113.1", HTTP_X_REAL_IP="198.51.100.3"), str)
+    assert made("d", "203.0.113.1", HTTP_X_REAL_IP="198.51.100.4") == -208
+    # what is no address counts for the peer
+    assert isinstance(made("e", "127.0.0.1", HTTP_X_REAL_IP="nobody"), str)
+    assert made("f", "127.0.0.1") == -208
+
+
+@pytest.mark.parametrize(
+    "address, network, is_own",
+    [
+        ("198.51.100.7", "198.51.100.7", False),
+        ("127.0.0.1", "127.0.0.1", True),
+        ("::1", "::/64", True),
+        ("", "", True),
+        ("::ffff:198.51.100.7", "198.51.100.7", False),
+        ("2001:db8:1:2:3:4:5:6", "2001:db8:1:2::/64", False),
+        ("fe80::1%eth0", "fe80::/64", False),
+        ("nobody", "", False),
+        ("198.51.100.7, 10.0.0.1", "", False),
+    ],
+)
+def test_networks(address, network, is_own):
+    assert (network_of(address), is_loopback(address)) == (network, is_own)
+
+
+# ---- Passwords
+
+
+def test_what_is_kept_of_a_password(open_bridge):
+    create(open_bridge)
+    (salt, secret, cost), = open_bridge.file.rows("SELECT salt, secret, cost FROM member")
+    assert (len(salt), len(secret), cost) == (16, 64, "scrypt 16 8 1")
+    dump = str(open_bridge.file.rows("SELECT * FROM member"))
+    assert client_hash("secret1", EMAIL) not in dump and "secret1" not in dump
+    assert COST == Cost(2**15, 8, 1)
+
+
+def test_a_password_keeps_its_cost():
+    secret = Passwords(Cost(2**4, 8, 1)).new_secret("0" * 32)
+    other = Passwords(Cost(2**5, 8, 1))
+    assert other.is_right("0" * 32, secret) and not other.is_right("1" * 32, secret)
+    assert not other.is_right("0" * 32, None)
+    assert own_client_hash("secret1", EMAIL) == client_hash("secret1", EMAIL)
+
+
+def test_an_unknown_address_takes_a_hash_too(open_bridge, monkeypatch):
+    create(open_bridge)
+    made = []
+    monkeypatch.setattr("bsched_bridge.passwords.scrypt", lambda told, salt, cost: made.append(cost) or b"")
+    look_up(open_bridge, "nobody@sums.example")
+    look_up(open_bridge)
+    assert made == [Cost(2**4, 8, 1)] * 2
+
+
+def test_two_hashes_at_once_and_few_that_wait(monkeypatch):
+    monkeypatch.setattr("bsched_bridge.passwords.WAIT_SECONDS", 5.0)
+    passwords, running, most, ended = Passwords(Cost(2**4, 8, 1)), [], [], threading.Event()
+
+    def slow(_told, _salt, _cost):
+        running.append(1)
+        most.append(len(running))
+        ended.wait(5)
+        running.pop()
+        return b""
+
+    monkeypatch.setattr("bsched_bridge.passwords.scrypt", slow)
+    threads = [threading.Thread(target=passwords.new_secret, args=("0" * 32,)) for _ in range(4)]
+    for thread in threads:
+        thread.start()
+    while passwords._places._value:
+        pass
+    with pytest.raises(TooBusy):
+        passwords.new_secret("0" * 32)
+    ended.set()
+    for thread in threads:
+        thread.join()
+    assert max(most) == 2
+    passwords.new_secret("0" * 32)
+
+
+def test_what_is_refused_takes_no_hash(project, open_bridge, monkeypatch):
+    create(open_bridge)
+    text = (project / "bridge.toml").read_text().replace("most_a_day = 50", "most_a_day = 1")
+    (project / "bridge.toml").write_text(text)
+    open_bridge.restart()
+    monkeypatch.setattr("bsched_bridge.passwords.scrypt", lambda *_words: 1 // 0)
+    assert create(open_bridge, "bob@sums.example") == -208
+    for number in range(10):
+        open_bridge.application.accounts._wrong.take(("client", CLIENT))
+    assert create(open_bridge) == look_up(open_bridge) == -183
+
+
+def test_letters_are_made_small_as_the_client_does_it(open_bridge):
+    key = create(open_bridge, "É@sums.example")  # as the client sends what was written É@Sums.example
+    assert look_up(open_bridge, "É@sums.example") == key
+    assert rows(open_bridge)[0][0] == "É@sums.example"
+
+
+def test_a_bridge_that_is_busy(open_bridge, monkeypatch):
+    def busy(*_words):
+        raise TooBusy
+
+    monkeypatch.setattr(open_bridge.application.accounts.passwords, "new_secret", busy)
+    assert create(open_bridge) == -183
+    monkeypatch.undo()
+    assert isinstance(create(open_bridge), str)
+
+
+# ---- bsched that refuses, or does not answer
+
+
+@pytest.mark.parametrize("fault", ["unheard", "lost", "unavailable", "garbage"])
+def test_no_key_is_told_before_bsched_has_it(open_bridge, twin, fault):
+    twin.import_faults = [fault]
+    assert create(open_bridge) == -183
+    twin.import_faults = [fault]
+    assert look_up(open_bridge) == -183
+    assert len(rows(open_bridge)) == 1
+    key = create(open_bridge)
+    assert works(open_bridge, key)
+    assert len({batch for batch, _ in twin.imports}) == len({text for _, text in twin.imports}) == 1
+    assert rows(open_bridge) == [(EMAIL, key, 1)]
+
+
+@pytest.mark.parametrize("fault", ["unheard", "lost", "unavailable"])
+def test_an_open_account_is_finished_without_its_client(open_bridge, twin, fault):
+    twin.import_faults = [fault]
+    assert create(open_bridge) == -183
+    open_bridge.restart()
+    open_bridge.application.accounts.resend_open()
+    key = rows(open_bridge)[0][1]
+    assert rows(open_bridge) == [(EMAIL, key, 1)]
+    assert made_accounts(twin) == [key] == [look_up(open_bridge)]
+
+
+def test_a_table_that_is_full(open_bridge, twin, caplog):
+    twin.import_faults = ['{"error":"table_full","number":18}'] * 4
+    assert [create(open_bridge) for _ in range(4)] == [-208] * 4
+    assert rows(open_bridge) == []
+    assert "bsched has as many as it can have" in caplog.text
+    key = create(open_bridge)
+    assert works(open_bridge, key)
+
+
+def test_a_key_that_is_in(open_bridge, twin):
+    twin.import_faults = ["lost", '{"error":"duplicate_name","row":1,"number":15}']
+    assert create(open_bridge) == -183
+    assert works(open_bridge, create(open_bridge))
+
+
+def test_a_batch_name_that_is_taken(open_bridge, twin):
+    twin.import_faults = ['{"error":"batch_reused","number":17}']
+    key = create(open_bridge)
+    (first, one), (second, other) = twin.imports
+    assert first != second and one == other
+    assert works(open_bridge, key)
+    assert open_bridge.members.of_key(key).batch == second
+
+
+@pytest.mark.parametrize("error", ["not_operator", "bad_csv", "too_large", "no_route", "new"])
+def test_another_refusal_keeps_the_row(open_bridge, twin, caplog, error):
+    twin.import_faults = [json.dumps({"error": error, "number": 1})]
+    assert create(open_bridge) == -183
+    assert len(rows(open_bridge)) == 1
+    assert f"refuses the import of account {rows(open_bridge)[0][1][:6]}.. as {error}" in caplog.text
+    twin.import_faults = [json.dumps({"error": error, "number": 1})]
+    open_bridge.application.accounts.resend_open()  # it does not keep others from theirs
+    assert works(open_bridge, create(open_bridge))
+
+
+def test_bsched_that_is_not_there(open_bridge, twin):
+    twin.close()
+    assert create(open_bridge) == look_up(open_bridge) == -183
+
+
+def test_bsched_that_was_put_back_to_an_older_copy(open_bridge, twin, caplog):
+    key = create(open_bridge)
+    assert works(open_bridge, key)
+    machine = twin.service.machine
+    del machine.rows["accounts"][key]
+    twin.service.batches = {
+        name: kept for name, kept in twin.service.batches.items() if not name[1].startswith("account-")
+    }
+    machine.hosts.clear()
+    twin.import_faults = ["unavailable"]
+    assert value(open_bridge.call(request(key=key, cpid="cpid")), "project_is_down") == "1"
+    assert works(open_bridge, key)
+    assert len(twin.imports) == 3
+    assert made_accounts(twin) == [key]
+    assert "does not know account" in caplog.text
+    # a key that nobody made is refused as ever
+    assert "Invalid or missing account key" in value(open_bridge.call(request(key="nobody")), "message")
+    # and a told key is kept where bsched has no room for it any more
+    del machine.rows["accounts"][key]
+    twin.import_faults = ['{"error":"table_full","number":18}']
+    machine.hosts.clear()
+    assert "Invalid or missing account key" in value(
+        open_bridge.call(request(key=key, cpid="cpid")), "message"
+    )
+    assert rows(open_bridge) == [(EMAIL, key, 1)]
+
+
+def test_two_creations_at_once_are_one(open_bridge, twin):
+    answers = []
+    threads = [threading.Thread(target=lambda: answers.append(create(open_bridge))) for _ in range(4)]
+    for thread in threads:
+        thread.start()
+    for thread in threads:
+        thread.join()
+    keys = {answer for answer in answers if isinstance(answer, str)}
+    assert keys == set(made_accounts(twin)) and len(keys) == 1 == len(rows(open_bridge))
+
+
+# ---- What nobody may read in a log
+
+
+def test_nothing_secret_is_logged(open_bridge, twin, caplog, monkeypatch):
+    caplog.set_level(0)
+    secrets = {EMAIL, "sums.example", client_hash("secret1", EMAIL), client_hash("wrong-1", EMAIL), "secret1"}
+    twin.import_faults = [
+        "unheard",
+        '{"error":"not_operator","number":13}',
+        '{"error":"batch_reused","number":17}',
+    ]
+    for _ in range(4):
+        key = create(open_bridge)
+    create(open_bridge, password="wrong-1")
+    for _ in range(12):
+        look_up(open_bridge, password="wrong-1")
+    for number in range(60):
+        create(open_bridge, f"u{number}@sums.example", client=f"192.0.2.{number}")
+    open_bridge.call(request(key=key, cpid="c1"))
+    twin.service.machine.rows["accounts"].clear()
+    open_bridge.call(request(key=key, cpid="c1"))
+    open_bridge.got(f"/p/account_finish.php?auth={key}")
+
+    def fails(*_words):
+        raise ValueError(f"{EMAIL} {key}")
+
+    monkeypatch.setattr(open_bridge.application.accounts.members, "of_email", fails)
+    assert open_bridge.got(account_query("create_account.php", EMAIL, "secret1"), REMOTE_ADDR=CLIENT)[
+        0
+    ].startswith("500")
+    assert len(caplog.records) > 5
+    assert not [secret for secret in {*secrets, key} if secret in caplog.text]
+    for _, authenticator, _ in rows(open_bridge):
+        assert authenticator not in caplog.text
+
+
+def test_addresses_as_the_manager_has_them():
+    assert is_email("ann@sums.example") and is_email("ann+b@a-b.co.uk") and is_email("é@sums.example")

@@ -1,0 +1,138 @@
+"""How many hosts an account may have, and accounts that are barred; the settings are read again without a new
+start.
+"""
+import os
+import threading
+
+import pytest
+from messages import request, value
+
+FULL = "Your account has 3 computers at this project, and may have no more."
+
+
+@pytest.fixture
+def small(project, bridge):
+    """A bridge with three hosts for each account."""
+    settings(project, "most_hosts = 3")
+    return bridge
+
+
+def settings(project, *lines):
+    """Writes other settings on hosts."""
+    path = project / "bridge.toml"
+    kept = [line for line in path.read_text().splitlines() if not line.startswith(("most_hosts", "barred"))]
+    path.write_text("\n".join([*kept, *lines]) + "\n")
+    os.utime(path, ns=(path.stat().st_atime_ns, path.stat().st_mtime_ns + 1))
+
+
+def called(bridge, number, key="ann-key", hostid=0):
+    """The hostid of a host that calls, or the message to a volunteer."""
+    reply = bridge.call(request(key=key, cpid=f"c{number}", hostid=hostid, seconds=0))
+    return value(reply, "hostid") or value(reply, "message") or "known"
+
+
+def test_one_account_fills_no_project(bridge, twin):
+    """20 where nothing is said."""
+    answers = [called(bridge, number) for number in range(200)]
+    assert answers[:20] == [str(number) for number in range(1, 21)]
+    assert {answer[:24] for answer in answers[20:]} == {"Your account has 20 comp"}
+    assert len(twin.service.machine.hosts) == 20
+
+
+def test_a_host_too_many_gets_a_message(small, twin, caplog):
+    assert [called(small, number) for number in range(3)] == ["1", "2", "3"]
+    reply = small.call(request(cpid="c9"))
+    assert FULL in value(reply, "message") and 'priority="notice"' in reply.decode()
+    assert value(reply, "request_delay") == "86400.000000"
+    lines = [record.getMessage() for record in caplog.records if "refused" in record.getMessage()]
+    assert lines == ["host c9 of account ann.. is refused: the account has 3 hosts"]
+    assert called(small, 1) == "2" and called(small, 1, hostid=2) == "known"
+    assert called(small, 9, "bob-key") == "4"
+    small.restart()
+    assert FULL in called(small, 9)
+    assert len(twin.service.machine.hosts) == 4
+
+
+def test_a_host_whose_answer_was_lost_counts(small, twin):
+    twin.faults = ["lost"] * 3
+    called(small, 0)
+    assert [called(small, number) for number in (1, 2)] == ["2", "3"]
+    assert FULL in called(small, 3)
+    assert called(small, 0) == "1"
+
+
+def test_hosts_that_come_at_once(small, twin):
+    answers = []
+    threads = [
+        threading.Thread(target=lambda number=number: answers.append(called(small, number)))
+        for number in range(12)
+    ]
+    for thread in threads:
+        thread.start()
+    for thread in threads:
+        thread.join()
+    assert len([answer for answer in answers if answer.isdigit()]) == 3 == len(twin.service.machine.hosts)
+
+
+def test_the_settings_are_read_again(project, small, caplog):
+    assert [called(small, number) for number in range(3)] == ["1", "2", "3"]
+    assert FULL in called(small, 3)
+    settings(project, "most_hosts = 4")
+    assert called(small, 3) == "4"
+    settings(project, "most_hosts = 1")  # those that are there go on
+    assert called(small, 3) == "4" and "4 computers" in called(small, 4)
+    settings(project, "most_hosts = 0")
+    assert "4 computers" in called(small, 4)
+    assert (
+        "the settings on hosts stay as they were" in caplog.text
+        and "most_hosts is not within 1" in caplog.text
+    )
+    settings(project, "most_hosts = 5")
+    assert called(small, 4) == "5"
+    (project / "bridge.toml").rename(project / "gone.toml")
+    assert "5 computers" in called(small, 5)
+    assert caplog.text.count("stay as they were") == 2  # once for each edit
+
+
+def test_a_barred_account(project, bridge, twin, caplog):
+    assert called(bridge, 0) == "1"
+    settings(project, 'barred = ["ann-key", "other"]')
+    heard = len(twin.heard)
+    reply = bridge.call(request(cpid="c0", hostid=1))
+    assert value(reply, "message") == "The project's operator has barred this account. Ask the operator why."
+    assert value(reply, "request_delay") == "86400.000000"
+    assert len(twin.heard) == heard
+    assert "host c0 of account ann.. is refused: barred" in caplog.text
+    assert called(bridge, 1, "bob-key") == "2"
+    settings(project)
+    assert called(bridge, 0, hostid=1) == "known"
+
+
+def test_hosts_that_bsched_has_lost_make_room(small, twin):
+    assert [called(small, number) for number in range(3)] == ["1", "2", "3"]
+    machine = twin.service.machine
+    for key in [key for key, host in machine.hosts.items() if host.number == 3]:  # put back to an older copy
+        del machine.hosts[key]
+    assert called(small, 7) == "3"
+    assert FULL in called(small, 8)
+    assert FULL in called(small, 2)  # its place is taken
+    assert len(machine.hosts) == 3
+
+
+def test_a_host_that_bsched_has_is_let_in(small, twin, project):
+    for number in range(3):
+        called(small, number)
+    small.file.close()
+    for path in project.glob("bridge.db*"):
+        path.unlink()
+    small.start()
+    assert [called(small, number) for number in (7, 8, 9)] == ["4", "5", "6"]  # the lost ones are not known
+    assert called(small, 0, hostid=1) == "known"
+    assert FULL.replace("3", "4") in called(small, 10)
+
+
+def test_no_answer_about_a_host(small, twin):
+    for number in range(3):
+        called(small, number)
+    twin.close()
+    assert "gives no answer" in called(small, 9)

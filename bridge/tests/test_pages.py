@@ -1,0 +1,363 @@
+"""The pages for people: what they show, their forms, and what a browser may do with them."""
+import json
+import re
+from html.parser import HTMLParser
+from urllib.parse import urlencode
+
+import pytest
+from joining import CLIENT, create, look_up
+from messages import request
+
+from bsched_bridge.markup import STYLE, Markup, element, joined, linked, paragraphs, table
+
+EMPTY = {"meta", "link", "input", "br"}
+FORM = "application/x-www-form-urlencoded"
+
+
+class Page(HTMLParser):
+    """A page as a browser reads it: each element is closed, and no script and no style stands beside the one
+    style.
+    """
+
+    def __init__(self, text):
+        super().__init__()
+        self.open, self.tags, self.text, self.inputs, self.links, self.ids = [], [], "", {}, [], {}
+        self.feed(text)
+        self.close()
+        assert self.open == [], self.open
+
+    def handle_starttag(self, tag, attributes):
+        told = dict(attributes)
+        assert not [name for name in told if name.startswith("on") or name == "style"]
+        self.tags.append((tag, told))
+        if tag not in EMPTY:
+            self.open.append(tag)
+        if tag == "input":
+            self.inputs[told["name"]] = told
+        if tag == "a":
+            self.links.append(told["href"])
+        if "id" in told:
+            assert told["id"] not in self.ids or tag == "input"
+            self.ids[told["id"]] = told
+
+    def handle_endtag(self, tag):
+        assert self.open.pop() == tag
+
+    def handle_data(self, data):
+        if self.open and self.open[-1] != "style":
+            self.text += data
+
+
+def page_of(answer, status="200 OK", has_key=False):
+    """The page of an answer, whose fields are as they have to be."""
+    told, fields, body = answer
+    assert (told, fields["Content-Type"]) == (status, "text/html; charset=utf-8")
+    assert fields["Referrer-Policy"] == "no-referrer"
+    policy = fields["Content-Security-Policy"]
+    assert (
+        policy.startswith("default-src 'none'; style-src 'sha256-")
+        and "unsafe" not in policy
+        and "script" not in policy
+    )
+    assert (fields.get("Cache-Control") == "no-store") or not has_key
+    text = body.decode()
+    assert text.count(f"<style>{STYLE}</style>") == 1 and "<script" not in text and "javascript:" not in text
+    page = Page(text)
+    assert ("meta", {"name": "viewport", "content": "width=device-width, initial-scale=1"}) in page.tags
+    for tag, told in page.tags:  # each field has a label and what describes it
+        if tag == "input" and told["type"] not in ("hidden", "checkbox"):
+            assert [1 for name, other in page.tags if name == "label" and other.get("for") == told["id"]]
+            for target in (told.get("aria-describedby") or "").split():
+                assert target in page.ids
+    return page
+
+
+def posted(bridge, path, client=CLIENT, **fields):
+    """The answer to a form."""
+    body = urlencode(fields).encode()
+    return bridge.got(f"/p/{path}", "POST", body, CONTENT_TYPE=FORM, REMOTE_ADDR=client, HTTP_ORIGIN="null")
+
+
+# ---- Markup
+
+
+def test_texts_are_escaped():
+    assert element("p", "<b>&\"'", class_="a\"b") == '<p class="a&quot;b">&lt;b&gt;&amp;&quot;&#x27;</p>'
+    assert element("p", element("b", "<"), Markup("<i></i>")) == "<p><b>&lt;</b><i></i></p>"
+    assert (
+        element("input", name="a", value="<", checked=True, disabled=False, title=None)
+        == '<input name="a" value="&lt;" checked>'
+    )
+    assert joined("<", 1) == "&lt;1"
+    assert table(["<"], [["<"], [5]]).count("&lt;") == 2
+
+
+def test_what_an_operator_writes():
+    text = "One <b>\r\nline\n\n\n see https://sums.example/a?b=1&c=2. \n\njavascript:alert(1)"
+    assert paragraphs(text) == (
+        '<div class="text"><p>One &lt;b&gt;\nline</p><p>see <a href="https://sums.example/a?b=1&amp;c=2">'
+        "https://sums.example/a?b=1&amp;c=2</a>.</p><p>javascript:alert(1)</p></div>"
+    )
+    assert linked("no https:// here") == "no https:// here"
+
+
+# ---- How to join
+
+
+def test_the_operators_own_words(project, bridge):
+    (project / "welcome.txt").write_text("We add <numbers>.\n\nJoin us!\n")
+    (project / "bridge.toml").write_text('welcome = "welcome.txt"\n' + (project / "bridge.toml").read_text())
+    bridge.restart()
+    page = page_of(bridge.got("/p/"))
+    assert "We add <numbers>." in page.text and "account key" in page.text
+    assert page.links == ["status"]
+    lines = bridge.got("/p/")[2].decode().split("\n")
+    assert "<scheduler>http://127.0.0.1:8081/p/cgi</scheduler>" in lines
+    assert '<link rel="boinc_scheduler" href="http://127.0.0.1:8081/p/cgi">' in lines
+
+
+def test_how_to_join(project, open_bridge):
+    page = page_of(open_bridge.got("/p/"))
+    assert "No, new user" in page.text and "http://127.0.0.1:8081/p/" in page.text
+    assert page.links == ["https://boinc.berkeley.edu/download.php", "status", "account"]
+    (project / "terms.txt").write_text("Be kind.\n")
+    with (project / "bridge.toml").open("a") as file:
+        file.write('terms = "terms.txt"\n')
+    open_bridge.restart()
+    assert page_of(open_bridge.got("/p/")).links[-1] == "terms"
+    assert "Be kind." in page_of(open_bridge.got("/p/terms")).text
+
+
+def test_no_accounts_no_pages_of_accounts(bridge):
+    for path in ("account", "account_finish.php?auth=ann-key", "terms"):
+        assert bridge.got(f"/p/{path}")[0] == "404 Not Found"
+    assert "no passwords" in page_of(bridge.got("/p/get_passwd.php")).text
+
+
+# ---- An account
+
+
+def test_the_page_of_an_account(open_bridge, twin):
+    key = create(open_bridge)
+    name = open_bridge.members.of_key(key).name
+    page = page_of(open_bridge.got(f"/p/account_finish.php?auth={key}"), has_key=True)
+    assert key in page.text and name in page.text and "None of your computers has called yet." in page.text
+    open_bridge.call(request(key=key, cpid="c1"))
+    open_bridge.application.statements._accounts.clear()
+    page = page_of(open_bridge.got(f"/p/account_finish.php?auth={key}"), has_key=True)
+    assert "Together 5.000." in page.text  # the twin's statement
+    assert "ann@sums.example" not in page.text
+    assert twin.service.machine.rows["accounts"][key].name == name
+
+
+def test_an_account_of_the_operator_has_a_page(open_bridge):
+    page_of(open_bridge.got("/p/account_finish.php?auth=ann-key"), "404 Not Found")  # no host was heard yet
+    open_bridge.call(request())
+    assert "Ann" in page_of(open_bridge.got("/p/account_finish.php?auth=ann-key"), has_key=True).text
+
+
+@pytest.mark.parametrize("query", ["", "?auth=", "?auth=nobody", "?auth=%3Cb%3E", "?auth=%27%20OR%201"])
+def test_a_key_that_nobody_has(open_bridge, query):
+    page = page_of(open_bridge.got(f"/p/account_finish.php{query}"), "404 Not Found")
+    assert "No account has this key." in page.text
+
+
+def test_a_look_changes_nothing(open_bridge):
+    key = create(open_bridge)
+    before = open_bridge.members.of_key(key)
+    for query in ("", "&name=Eve&is_exported=1", "&key=1"):
+        open_bridge.got(f"/p/account_finish.php?auth={key}{query}")
+    assert open_bridge.members.of_key(key) == before
+
+
+def test_a_name_and_consent_are_changed(open_bridge):
+    key = create(open_bridge)
+    page = page_of(
+        posted(open_bridge, "account_finish.php", key=key, name=" Ann <A>\x00 ", is_exported="1"),
+        has_key=True,
+    )
+    assert "Your changes are saved." in page.text
+    assert page.inputs["name"]["value"] == "Ann <A>" and "checked" in page.inputs["is_exported"]
+    member = open_bridge.members.of_key(key)
+    assert (member.name, member.is_exported) == ("Ann <A>", True)
+    reply = open_bridge.call(request(key=key, cpid="c1")).decode()
+    assert "<user_name>Ann &lt;A&gt;</user_name>" in reply
+    shown = open_bridge.got("/p/status")[2].decode()
+    assert shown.count("<td>Ann &lt;A&gt;</td>") == 2  # as user, and of the host
+    posted(open_bridge, "account_finish.php", key=key, name="Ann")
+    assert open_bridge.members.of_key(key).is_exported is False
+
+
+def test_an_empty_name_is_a_fault_beside_its_field(open_bridge):
+    key = create(open_bridge)
+    name = open_bridge.members.of_key(key).name
+    page = page_of(posted(open_bridge, "account_finish.php", key=key, name=" \t"), has_key=True)
+    assert page.inputs["name"]["aria-invalid"] == "true" and "Give a name." in page.text
+    assert page.inputs["name"]["aria-describedby"].split() == ["name-note", "name-fault"]
+    assert open_bridge.members.of_key(key).name == name
+
+
+def test_a_form_without_its_key(open_bridge):
+    for told in ({}, {"key": "nobody"}):
+        page = page_of(posted(open_bridge, "account_finish.php", name="Eve", **told))
+        assert "No account has this key." in page.text
+
+
+def test_the_way_to_an_account(open_bridge):
+    key = create(open_bridge)
+    assert set(page_of(open_bridge.got("/p/account")).inputs) == {"email", "password", "key"}
+    assert key in page_of(posted(open_bridge, "account", key=f" {key} "), has_key=True).text
+    told = posted(open_bridge, "account", email="Ann@Sums.Example ", password="secret1")
+    assert key in page_of(told, has_key=True).text
+    page = page_of(posted(open_bridge, "account", email="ann@sums.example", password="wrong-1"))
+    assert "No account has this e-mail address and password." in page.text
+    assert page.inputs["email"]["value"] == "ann@sums.example" and "value" not in page.inputs["password"]
+    assert key not in page.text
+
+
+def test_wrong_keys_and_passwords_of_forms_count(open_bridge):
+    key = create(open_bridge)
+    for number in range(10):
+        told = {"key": "nobody"} if number % 2 else {"email": "ann@sums.example", "password": "wrong-1"}
+        page_of(posted(open_bridge, "account", **told))
+    for path, told in (
+        ("account", {"key": key}),
+        ("account", {"email": "ann@sums.example", "password": "secret1"}),
+        ("account_finish.php", {"key": key, "name": "A"}),
+        ("get_passwd.php", {"key": key, "email": "a@b.example", "password": "secret2"}),
+    ):
+        assert "Too many wrong passwords" in page_of(posted(open_bridge, path, **told)).text
+    assert key in page_of(posted(open_bridge, "account", "198.51.100.9", key=key)).text
+
+
+def test_a_new_password(open_bridge):
+    key = create(open_bridge)
+    assert set(page_of(open_bridge.got("/p/get_passwd.php")).inputs) == {"key", "email", "password"}
+    page = page_of(
+        posted(open_bridge, "get_passwd.php", key=key, email="New@Sums.Example", password="secret2")
+    )
+    assert "Your password is changed." in page.text
+    assert look_up(open_bridge, "new@sums.example", "secret2") == key
+    assert look_up(open_bridge) == -155
+    assert create(open_bridge, "new@sums.example", "secret2") == key
+
+
+def test_an_account_of_the_operator_gets_a_password(open_bridge):
+    open_bridge.call(request())
+    page_of(
+        posted(open_bridge, "get_passwd.php", key="ann-key", email="ann@sums.example", password="secret2")
+    )
+    assert (
+        b"ann-key"
+        in open_bridge.got(
+            "/p/lookup_account.php?email_addr=ann%40sums%2Eexample&passwd_hash="
+            + __import__("joining").client_hash("secret2", "ann@sums.example")
+        )[2]
+    )
+
+
+@pytest.mark.parametrize(
+    "fields, field, what",
+    [
+        ({"email": "ann"}, "email", "This is not an e-mail address."),
+        ({"password": "short"}, "password", "fewer than 6"),
+        ({"password": ""}, "password", "fewer than 6"),
+        ({"key": "nobody"}, "key", "No account has this key."),
+        ({"email": "bob@sums.example"}, "email", "Another account has this e-mail address."),
+    ],
+)
+def test_a_new_password_that_can_not_be(open_bridge, fields, field, what):
+    key = create(open_bridge)
+    create(open_bridge, "bob@sums.example")
+    told = {"key": key, "email": "new@sums.example", "password": "secret2", **fields}
+    page = page_of(posted(open_bridge, "get_passwd.php", **told))
+    assert what in page.text and page.inputs[field]["aria-invalid"] == "true"
+    assert f"{field}-fault" in page.inputs[field]["aria-describedby"]
+    assert look_up(open_bridge) == key
+
+
+def test_what_is_no_form(open_bridge):
+    for path in ("account", "account_finish.php", "get_passwd.php"):
+        assert open_bridge.got(f"/p/{path}", "POST", b"{}", CONTENT_TYPE="application/json")[0].startswith(
+            "415"
+        )
+        assert open_bridge.got(f"/p/{path}", "POST", b"a" * 16_385, CONTENT_TYPE=FORM)[0].startswith("413")
+        assert open_bridge.got(f"/p/{path}", "POST", b"&".join([b"a=1"] * 40), CONTENT_TYPE=FORM)[
+            0
+        ].startswith("400")
+        assert open_bridge.got(f"/p/{path}", "PUT")[0].startswith("405")
+        assert open_bridge.got(f"/p/{path}", "HEAD")[2] == b""
+
+
+# ---- How the project stands
+
+
+def test_a_ranking_of_all_users(open_bridge, twin):
+    twin.service.imported(
+        "accounts", "many", "authenticator,name\n" + "".join(f"k{n},User {n:03}\n" for n in range(130))
+    )
+    with open_bridge.file.transaction() as connection:
+        for number in range(130):
+            connection.execute(
+                "INSERT INTO host (authenticator, host_cpid, hostid, last_number, user_name, user_credit, "
+                "host_credit, heard_at) "
+                "VALUES (?, 'c', ?, 1, ?, ?, 0, ?)",
+                (f"k{number}", number + 1, f"User {number:03}", number * 1000, number),
+            )
+            connection.execute(
+                "INSERT INTO member (authenticator, name, is_imported, cpid, created_at) VALUES (?, ?, 1, "
+                "'c', 0)",
+                (f"k{number}", f"User {number:03}"),
+            )
+    page = page_of(open_bridge.got("/p/status"))
+    assert (
+        "Users with computers that called: 130." in page.text
+        and "Computers that called: 130. The last 50 of them:" in page.text
+    )
+    assert "User 129" in page.text and "User 030" in page.text and "User 029" not in page.text
+    assert page.links == ["status?page=2", "."]
+    page = page_of(open_bridge.got("/p/status?page=2"))
+    assert "User 029" in page.text and "101User 029" in page.text and page.links == ["status?page=1", "."]
+    for told in ("0", "-1", "x", "99999999", "", "٣", "3"):
+        assert page_of(open_bridge.got(f"/p/status?page={told}")).links[-1] == "."
+
+
+def test_a_scheduler_that_is_silent(open_bridge, twin):
+    open_bridge.call(request())
+    assert "no answer since" not in page_of(open_bridge.got("/p/status")).text
+    twin.import_faults = ["unavailable"]
+    create(open_bridge)
+    open_bridge.application.statements._kept = None
+    # it answered the statement since
+    assert "no answer since" not in page_of(open_bridge.got("/p/status")).text
+    twin.close()
+    open_bridge.application.statements._kept = None
+    first = page_of(open_bridge.got("/p/status")).text
+    open_bridge.call(request())
+    open_bridge.application.statements._kept = None
+    again = page_of(open_bridge.got("/p/status")).text
+    since = re.compile(r"The scheduler has given no answer since (2\d\d\d-\d\d-\d\d \d\d:\d\d:\d\d) UTC")
+    assert since.search(first)[1] == since.search(again)[1]
+
+
+@pytest.mark.parametrize(
+    "text, is_shown",
+    [
+        (json.dumps({"workunits": {"open": 12, "done": 30, "failed": 1}, "more": []}), True),
+        (None, False),
+        ("{", False),
+        ("[]", False),
+        ('{"workunits":[1]}', False),
+        ('{"workunits":{}}', False),
+        ('{"workunits":1}', False),
+    ],
+)
+def test_workunits_of_a_copy(project, bridge, text, is_shown):
+    (project / "bridge.toml").write_text('counts = "counts.json"\n' + (project / "bridge.toml").read_text())
+    if text is not None:
+        (project / "counts.json").write_text(text)
+    bridge.restart()
+    page = page_of(bridge.got("/p/status"))
+    assert ("Workunits" in page.text) is is_shown
+    if is_shown:
+        assert "open12" in page.text and "all43" in page.text

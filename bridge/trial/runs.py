@@ -1,0 +1,151 @@
+"""What the trials share: the programs of a project, waiting, and a network and a folder of their own."""
+import os
+import shutil
+import subprocess
+import sys
+import tempfile
+import time
+from collections.abc import Callable
+from pathlib import Path
+
+from . import project
+from .programs import Bridge, Client, Program, Scheduler, TrialFault
+from .proxy import Message, Proxy
+
+CLIENTS_PORT, BRIDGE_PORT, CALLS_PORT, SCHEDULER_PORT, GUI_PORT = 8081, 8082, 8083, 8084, 31501
+URL = f"http://127.0.0.1:{CLIENTS_PORT}/"
+STEP_SECONDS = 60  # how long a client may take for one step
+NEEDED = {"boinc": "boinc-client", "boinccmd": "boinc-client", "unshare": "util-linux", "ip": "iproute2"}
+MODULES = {
+    "waitress": "python3-waitress", "defusedxml": "python3-defusedxml", "cryptography": "python3-cryptography"
+}
+INSIDE, KEEP = "--inside", "--keep"
+began = time.monotonic()
+
+
+def seen(text: str) -> None:
+    """Prints what was seen, and when."""
+    print(f"{time.monotonic() - began:6.1f} s  {text}", flush=True)
+
+
+def wants(is_so: object, what: str) -> None:
+    """Ends the trial where something is not so."""
+    if not is_so:
+        raise TrialFault(what)
+
+
+def is_request_of(client: Client, part: str = "") -> Callable[[Message], bool]:
+    """The test for a request of a client, in XML or JSON, in which a text stands."""
+    key, text = client.authenticator.encode(), part.encode()
+    return lambda message: key in message.body and text in message.body
+
+
+class Run:
+    """The programs of a trial: bsched, the bridge between two proxies, and clients."""
+
+    def __init__(self, program: str, folder: Path):
+        self.folder = folder
+        project.make(folder, URL, BRIDGE_PORT, CALLS_PORT)
+        self.scheduler = Scheduler(program, folder, SCHEDULER_PORT, project.OPERATOR_KEY)
+        self.bridge = Bridge(folder, BRIDGE_PORT)
+        self.programs: list[Program] = [self.bridge, self.scheduler]
+
+    def begin(self) -> None:
+        """Makes the project and starts bsched and the bridge."""
+        self.scheduler.order("create", "--settings", "settings.toml", "--tables", "project.db")
+        for kind in project.IMPORTS:
+            words = (
+                "import",
+                "--tables",
+                "project.db",
+                "--kind",
+                kind,
+                "--batch",
+                "first",
+                "--file",
+                f"{kind}.csv",
+            )
+            self.scheduler.order(*words)
+        self.bridge.order("keygen")
+        signature = self.bridge.order("sign", "files/sum_1", "--key", "code_sign_private")
+        (self.folder / "sum_1.signature").write_text(signature)
+        self.scheduler.start()
+        self.before_bridge = Proxy(CLIENTS_PORT, BRIDGE_PORT)
+        self.behind_bridge = Proxy(CALLS_PORT, SCHEDULER_PORT)
+        self.bridge.start()
+
+    def client(self, name: str, authenticator: str) -> Client:
+        """A client that is ended with the others."""
+        count = sum(isinstance(program, Client) for program in self.programs)
+        made = Client(name, authenticator, URL, self.folder, GUI_PORT + count)
+        self.programs.insert(0, made)
+        return made
+
+    def end(self) -> None:
+        """Ends all."""
+        for program in self.programs:
+            program.kill()
+
+    def give(self, name: str, quorum: int, errors: int = 3) -> None:
+        """Imports a workunit while bsched serves."""
+        self.scheduler.asked(f"/import/workunits/{name}", project.workunit(name, quorum, errors))
+
+    def until(self, is_so: Callable[[], object], what: str, *callers: Client) -> None:
+        """Waits until something is so, while clients call."""
+        ends = time.monotonic() + STEP_SECONDS
+        while not is_so():
+            wants(time.monotonic() < ends, f"{what}: not so after {STEP_SECONDS} seconds")
+            for client in callers:
+                client.update()
+            for _ in range(8):
+                time.sleep(0.5)
+                if is_so():
+                    break
+
+    def run(self) -> None:
+        """All steps."""
+        raise NotImplementedError
+
+
+def missing(needed: dict[str, str]) -> list[str]:
+    """The packages of Debian that are missing."""
+    lacks = {package for word, package in needed.items() if shutil.which(word) is None}
+    for module, package in MODULES.items():
+        if subprocess.run(
+            [sys.executable, "-c", f"import {module}"], capture_output=True, timeout=60
+        ).returncode:
+            lacks.add(package)
+    return sorted(lacks)
+
+
+def main(script: str, usage: str | None, kind: type[Run], more_needed: dict[str, str] | None = None) -> int:
+    """Runs a trial in a network of its own."""
+    name = Path(script).name
+    words = [word for word in sys.argv[1:] if word not in (INSIDE, KEEP)]
+    if len(words) != 1 or not os.access(words[0], os.X_OK) or os.path.isdir(words[0]):
+        print(usage, file=sys.stderr)
+        return 64
+    if lacks := missing({**NEEDED, **(more_needed or {})}):
+        print(f"bridge/{name}: it needs from Debian: {' '.join(lacks)}", file=sys.stderr)
+        return 1
+    if INSIDE not in sys.argv:
+        network = ["unshare", "-n"] if os.geteuid() == 0 else ["unshare", "-rn"]
+        return subprocess.run(
+            [*network, sys.executable, os.path.abspath(script), INSIDE, *sys.argv[1:]]
+        ).returncode
+    subprocess.run(["ip", "link", "set", "lo", "up"], check=True, timeout=10)
+    folder = Path(tempfile.mkdtemp(prefix=f"bridge_{name}_"))
+    trial = kind(os.path.abspath(words[0]), folder)
+    try:
+        trial.run()
+    except (TrialFault, OSError, subprocess.SubprocessError) as fault:
+        print(f"bridge/{name}: {fault}\nthe files are in {folder}", file=sys.stderr)
+        return 1
+    finally:
+        trial.end()
+    if KEEP in sys.argv:
+        seen(f"the files are in {folder}")
+    else:
+        shutil.rmtree(folder)
+    print("good")
+    return 0

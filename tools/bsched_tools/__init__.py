@@ -1,0 +1,15 @@
+"""Tools for the operator of a project: copies while it serves, results, counts, and why a file is refused.
+
+All but `copy` and `doctor` read a copy of the tables. Nothing here writes the tables. A module for each noun:
+
+holders, stopping     which process has the tables, and how it stands still for a moment
+taking, copies        the bytes of the tables at one moment, and a folder of copies
+copying               how a copy is made of these
+schemas, tables       the tables in a copy, opened for reading
+workunits             what became of a workunit, by the rules of docs/PROFILE.md
+results, cursors      the results of workunits, and which were given out before
+counts                how many there are of each thing
+members, averages, exports      users over several files, and the files that statistics sites read
+history, findings, plots, page  the page: what earlier ones counted, what it says, and how it is drawn
+checks, settings_file, doctor   why bsched refuses a file
+"""

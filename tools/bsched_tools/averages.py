@@ -1,0 +1,110 @@
+"""Average credit a day, with a half-life of a week, as BOINC has it; and what is kept for it between two
+runs."""
+import hashlib
+import hmac
+import json
+import os
+import secrets
+from dataclasses import asdict, dataclass
+from pathlib import Path
+
+from .copies import sync
+from .faults import Fault
+from .members import Host, User
+
+FORMAT = 1
+DAY, HALF_LIFE_DAYS = 86400, 7
+
+
+def average_after(average: float | None, days: float, credit: float) -> float:
+    """The average after some days that brought so much new credit. With no average yet it is the credit a
+    day."""
+    if average is None:
+        return credit / max(days, 1)
+    if days <= 0:
+        return average
+    weight = 2 ** (-days / HALF_LIFE_DAYS)
+    return average * weight + (1 - weight) * max(credit, 0) / days
+
+
+@dataclass(slots=True)
+class Kept:
+    """What is kept of a host."""
+
+    id: int
+    created: int
+    calls: list[int]
+    called: int = 0
+    millicredits: int = 0
+    average: float | None = None
+    time: int = 0
+
+    def hear(self, host: Host, moment: int) -> None:
+        """Takes what a copy of a moment says."""
+        if self.calls != host.calls:
+            self.calls, self.called = host.calls, moment
+        self.called = max(self.called, host.last_sent)
+        if self.average is not None and moment <= self.time:
+            return
+        since = self.created if self.average is None else self.time
+        days = (moment - since) / DAY
+        self.average = average_after(self.average, days, (host.millicredits - self.millicredits) / 1000)
+        self.millicredits, self.time = host.millicredits, moment
+
+
+class Averages:
+    """The file in which it is kept. No key is in it: users and hosts are named by a keyed digest."""
+
+    def __init__(self, path: Path):
+        self.path = path
+        self.salt, self.users, self.hosts = secrets.token_hex(16), dict[str, list[int]](), dict[str, Kept]()
+        if path.exists():
+            self._read()
+
+    def _read(self) -> None:
+        """Reads the file."""
+        try:
+            told = json.loads(self.path.read_text())
+            if told["format"] != FORMAT:
+                raise ValueError
+            self.salt, self.users = str(told["salt"]), dict(told["users"])
+            self.hosts = {name: Kept(**said) for name, said in told["hosts"].items()}
+        except OSError as error:
+            raise Fault(f"{self.path}: {error.strerror}") from None
+        except (ValueError, KeyError, TypeError, AttributeError):
+            raise Fault(f"{self.path}: it has no averages: move it away, or put back a copy") from None
+
+    def digest(self, *words: str) -> str:
+        """The name of a user or a host, 32 digits, the same in each run."""
+        said = "\0".join(words).encode()
+        return hmac.new(self.salt.encode(), said, hashlib.sha256).hexdigest()[:32]
+
+    def user(self, user: User, moment: int) -> tuple[int, int]:
+        """The number of a user, and since when it is known."""
+        firsts = [host.first_sent for host in user.hosts.values() if host.first_sent is not None]
+        known = [len(self.users) + 1, min([moment, *firsts])]
+        number, created = self.users.setdefault(self.digest(user.authenticator), known)
+        return number, created
+
+    def host(self, user: User, host: Host, moment: int) -> Kept:
+        """What is kept of a host, after it was heard."""
+        name = self.digest(user.authenticator, host.cpid)
+        if name not in self.hosts:
+            created = moment if host.first_sent is None else min(moment, host.first_sent)
+            self.hosts[name] = Kept(len(self.hosts) + 1, created, [])
+        self.hosts[name].hear(host, moment)
+        return self.hosts[name]
+
+    def write(self) -> None:
+        """Writes the file: whole, or not at all."""
+        told = {
+            "format": FORMAT, "salt": self.salt, "users": self.users,
+            "hosts": {name: asdict(kept) for name, kept in self.hosts.items()},
+        }
+        new = self.path.with_name(f"{self.path.name}.new")
+        with open(os.open(new, os.O_WRONLY | os.O_CREAT | os.O_TRUNC, 0o600), "w") as file:
+            json.dump(told, file)
+            file.flush()
+            os.fsync(file.fileno())
+        os.replace(new, self.path)
+        sync(self.path.parent)

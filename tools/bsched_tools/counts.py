@@ -1,0 +1,190 @@
+"""How many there are of each thing in some tables, as lines, as JSON, and as metrics of Prometheus."""
+import json
+from collections import Counter
+from collections.abc import Iterable, Iterator
+from contextlib import ExitStack
+from dataclasses import dataclass, field
+from pathlib import Path
+
+from .schemas import SCHEMA_NUMBER
+from .tables import COPY_NAME, Tables, copies_in, moment_of, opened
+
+DAY = 86400
+STATUSES = {0: "open", 1: "done", 2: "failed by errors", 3: "failed by successes", 4: "failed by the total"}
+# how many rows there may be (docs/PROFILE.md, "Imports"); of hosts it is a setting
+MOST = {"account": 10_000, "app": 100, "version": 1_000, "unit": 200_000}
+NOUNS = {"account": "accounts", "app": "apps", "version": "versions", "unit": "workunits", "host": "hosts"}
+IS_HELD = "host_id IS NOT NULL AND outcome IS NULL AND lapse = 0"
+INSTANCES = f"""
+SELECT count(*), sum(queued), sum({IS_HELD}), sum({IS_HELD} AND deadline < ?1), sum(outcome IS NOT NULL),
+  sum(lapse <> 0 AND outcome IS NULL)
+FROM instance
+"""
+STATES = ("all", "waiting", "held", "late", "reported", "lapsed")
+OWNERS = "SELECT auth, cpid FROM host JOIN account ON account.id = account_id"
+GIVEN = f"{OWNERS} WHERE EXISTS (SELECT 1 FROM instance WHERE host_id = host.id AND sent >= ?1)"
+LAST_CALLS = f"""
+SELECT auth, cpid, max(seqno)
+FROM ({OWNERS.replace("SELECT", "SELECT host.id AS id,")}) JOIN kept4 ON host_id = id GROUP BY id
+"""
+HostKey = tuple[str, str]
+
+
+@dataclass(frozen=True, slots=True)
+class Limit:
+    """How many rows there are, and how many there may be."""
+
+    used: int
+    most: int
+
+
+@dataclass(slots=True)
+class Counts:
+    """What is counted."""
+
+    moment: int = 0
+    workunits: Counter[str] = field(default_factory=Counter)
+    instances: Counter[str] = field(default_factory=Counter)
+    people: dict[str, int] = field(default_factory=dict)
+    millicredits: int = 0
+    limits: dict[str, Limit] = field(default_factory=dict)  # of the tables that were named last
+    bytes: int = 0
+
+    def said(self) -> dict[str, object]:
+        """All of it, for JSON."""
+        return {
+            "schema": SCHEMA_NUMBER, "moment": self.moment, "bytes": self.bytes,
+            "millicredits": self.millicredits,
+            "workunits": dict(self.workunits), "instances": dict(self.instances), "people": self.people,
+            "limits": {name: {"used": limit.used, "most": limit.most} for name, limit in self.limits.items()},
+        }
+
+
+def host_keys(tables: Tables, query: str, *values: int) -> set[HostKey]:
+    """The keys of the hosts that a query gives."""
+    return {(user, cpid) for user, cpid in tables.rows(query, *values)}
+
+
+def users_of(hosts: Iterable[HostKey]) -> set[str]:
+    """The users of hosts."""
+    return {user for user, _ in hosts}
+
+
+def copy_of_a_day_before(tables: Tables) -> Path | None:
+    """The newest copy of the same tables in the folder that is older by a day."""
+    match = COPY_NAME.fullmatch(tables.path.name)
+    if match is None:
+        return None
+    older = copies_in(tables.path.parent, match["stem"])
+    return next((path for path in older if moment_of(path) <= tables.moment - DAY), None)
+
+
+def last_calls(tables: Tables) -> dict[HostKey, int]:
+    """The number of the last call of each host."""
+    return {(user, cpid): number for user, cpid, number in tables.rows(LAST_CALLS)}
+
+
+def hosts_that_called(tables: Tables, before: Path) -> set[HostKey]:
+    """The hosts that called since a copy was taken."""
+    with opened(before) as older:
+        known = last_calls(older)
+    return {host for host, number in last_calls(tables).items() if known.get(host) != number}
+
+
+def count_people(all_tables: list[Tables], counts: Counts) -> None:
+    """Counts hosts and users, each once over all files: all, those with a job of the last day, those that
+    called."""
+    hosts: set[HostKey] = set()
+    given: set[HostKey] = set()
+    called: set[HostKey] = set()
+    users: set[str] = set()
+    is_known = True
+    for tables in all_tables:
+        hosts |= host_keys(tables, OWNERS)
+        users |= {user for user, in tables.rows("SELECT auth FROM account")}
+        given |= host_keys(tables, GIVEN, tables.moment - DAY)
+        before = copy_of_a_day_before(tables)
+        is_known = is_known and before is not None
+        called |= hosts_that_called(tables, before) if before is not None else set()
+    counts.people = {"hosts": len(hosts), "users": len(users)}
+    counts.people |= {"hosts with a job of the last day": len(given)}
+    counts.people |= {"users with a job of the last day": len(users_of(given))}
+    if is_known:
+        counts.people |= {"hosts that called in the last day": len(called)}
+        counts.people |= {"users that called in the last day": len(users_of(called))}
+
+
+def count_rows(tables: Tables, counts: Counts) -> None:
+    """Counts the rows of one file."""
+    for status, number in tables.rows("SELECT status, count(*) FROM unit GROUP BY status"):
+        counts.workunits[STATUSES.get(status, "of no status")] += number
+    numbers = next(tables.rows(INSTANCES, tables.moment))
+    counts.instances.update({state: number or 0 for state, number in zip(STATES, numbers)})
+    counts.millicredits += tables.number("SELECT sum(credit) FROM host")
+    most = {**MOST, "host": int(tables.settings["max_hosts"])}
+    used = {table: tables.number(f"SELECT count(*) FROM {table}") for table in NOUNS}
+    counts.limits = {noun: Limit(used[table], most[table]) for table, noun in NOUNS.items()}
+    counts.bytes += tables.path.stat().st_size
+
+
+def counted(paths: Iterable[Path]) -> Counts:
+    """The counts over files of tables."""
+    counts = Counts(workunits=Counter(dict.fromkeys(STATUSES.values(), 0)))
+    with ExitStack() as stack:
+        all_tables = [stack.enter_context(opened(path)) for path in paths]
+        counts.moment = max(tables.moment for tables in all_tables)
+        for tables in all_tables:
+            count_rows(tables, counts)
+        count_people(all_tables, counts)
+    return counts
+
+
+# ---- Forms
+
+
+def as_lines(counts: Counts) -> Iterator[str]:
+    """The counts for a person."""
+    rows: list[tuple[str, str]] = []
+    rows += [(f"workunits {status}", str(number)) for status, number in counts.workunits.items()]
+    rows += [(f"instances {state}", str(number)) for state, number in counts.instances.items()]
+    rows += [(what, str(number)) for what, number in counts.people.items()]
+    rows += [("credit", f"{counts.millicredits / 1000:.3f}")]
+    for name, limit in counts.limits.items():
+        share = 100 * limit.used // limit.most
+        rows.append((f"room for {name}", f"{limit.used} of {limit.most} ({share} %)"))
+    rows += [("bytes", str(counts.bytes)), ("schema", str(SCHEMA_NUMBER))]
+    width = max(len(what) for what, _ in rows)
+    return (f"{what:{width}}  {told}" for what, told in rows)
+
+
+def metric(name: str, help_text: str, samples: dict[str, object]) -> Iterator[str]:
+    """A gauge with its samples, each by its labels."""
+    yield f"# HELP bsched_{name} {help_text}"
+    yield f"# TYPE bsched_{name} gauge"
+    for labels, value in samples.items():
+        yield f"bsched_{name}{labels} {value}"
+
+
+def labelled(label: str, values: dict[str, int]) -> dict[str, object]:
+    """Samples, one for each value of a label."""
+    return {f'{{{label}="{name.replace(" ", "_")}"}}': number for name, number in values.items()}
+
+
+def as_metrics(counts: Counts) -> Iterator[str]:
+    """The counts in the text format of Prometheus."""
+    yield from metric("copy_timestamp_seconds", "When the copy was taken.", {"": counts.moment})
+    yield from metric("schema", "The schema of the tables.", {"": SCHEMA_NUMBER})
+    yield from metric("tables_bytes", "The size of the copies.", {"": counts.bytes})
+    yield from metric("credits", "All credit.", {"": f"{counts.millicredits / 1000:.3f}"})
+    yield from metric("workunits", "Workunits by their status.", labelled("status", counts.workunits))
+    yield from metric("instances", "Instances by their state.", labelled("state", counts.instances))
+    yield from metric("people", "Hosts and users.", labelled("kind", counts.people))
+    used = {name: limit.used for name, limit in counts.limits.items()}
+    most = {name: limit.most for name, limit in counts.limits.items()}
+    yield from metric("rows", "Rows of the tables.", labelled("of", used))
+    yield from metric("rows_limit", "How many rows there may be.", labelled("of", most))
+
+
+def as_json(counts: Counts) -> Iterator[str]:
+    """The counts as one line of JSON."""
+    yield json.dumps(counts.said())

@@ -1,0 +1,109 @@
+"""Which results were given out before, in a file.
+
+For each file of tables it has the workunits of which no further result can come, as ranges of their numbers,
+and of others the place of the last result that was given out.
+"""
+import fcntl
+import hashlib
+import json
+import os
+from collections.abc import Iterator
+from contextlib import contextmanager
+from dataclasses import dataclass, field
+from pathlib import Path
+from typing import Any
+
+from .copies import sync
+from .faults import Fault
+from .tables import Tables
+
+FORMAT = 1
+
+
+@dataclass(slots=True)
+class Given:
+    """What was given out of one file of tables."""
+
+    closed: set[int] = field(default_factory=set)
+    places: dict[int, int] = field(default_factory=dict)
+
+
+def ranges_of(numbers: set[int]) -> list[list[int]]:
+    """Numbers as ranges, each by its first and its last one."""
+    ranges: list[list[int]] = []
+    for number in sorted(numbers):
+        if ranges and ranges[-1][1] == number - 1:
+            ranges[-1][1] = number
+        else:
+            ranges.append([number, number])
+    return ranges
+
+
+def numbers_of(ranges: list[list[int]]) -> set[int]:
+    """The numbers in ranges."""
+    return {number for first, last in ranges for number in range(first, last + 1)}
+
+
+def project_mark(tables: Tables) -> str:
+    """What tells tables from those of other projects, and stays while a project lives: its first workunit and
+    the settings but for the operator's key."""
+    unit = next(tables.rows("SELECT * FROM unit WHERE id = 1"), None)
+    left_out = ("schema", "operator_key")
+    settings = sorted(item for item in tables.settings.items() if item[0] not in left_out)
+    said = json.dumps([settings, unit[:-1] if unit else None])
+    return hashlib.sha256(said.encode()).hexdigest()[:32]
+
+
+class Cursor:
+    """The file, and what it says."""
+
+    def __init__(self, path: Path):
+        self.path = path
+        self.projects: dict[str, Given] = {}
+        if path.exists():
+            self._read()
+
+    def _read(self) -> None:
+        """Reads the file."""
+        try:
+            told: dict[str, Any] = json.loads(self.path.read_text())
+            if told["format"] != FORMAT:
+                raise ValueError
+            for mark, said in told["given"].items():
+                places = {int(unit): int(place) for unit, place in said["places"].items()}
+                self.projects[mark] = Given(numbers_of(said["closed"]), places)
+        except OSError as error:
+            raise Fault(f"{self.path}: {error.strerror}") from None
+        except (ValueError, KeyError, TypeError, AttributeError):
+            raise Fault(f"{self.path}: it is no cursor: name another file, or a new one") from None
+
+    def given(self, tables: Tables) -> Given:
+        """What was given out of some tables."""
+        return self.projects.setdefault(project_mark(tables), Given())
+
+    def write(self) -> None:
+        """Writes the file: whole, or not at all."""
+        told = {
+            mark: {"closed": ranges_of(given.closed), "places": given.places}
+            for mark, given in self.projects.items()
+        }
+        new = self.path.with_name(f"{self.path.name}.new")
+        with new.open("w") as file:
+            json.dump({"format": FORMAT, "given": told}, file)
+            file.flush()
+            os.fsync(file.fileno())
+        os.replace(new, self.path)
+        sync(self.path.parent)
+
+
+@contextmanager
+def cursor_at(path: Path) -> Iterator[Cursor]:
+    """The cursor in a file, for one run at a time."""
+    if not path.parent.is_dir():
+        raise Fault(f"{path}: its folder does not exist: make it first")
+    with path.with_name(f"{path.name}.lock").open("w") as lock:
+        try:
+            fcntl.flock(lock, fcntl.LOCK_EX | fcntl.LOCK_NB)
+        except BlockingIOError:
+            raise Fault(f"{path}: another run has this cursor: wait until it has ended") from None
+        yield Cursor(path)

@@ -1,0 +1,94 @@
+"""Why bsched refuses a file: each reason in a line, with what to do."""
+import os
+import stat
+from collections.abc import Iterator
+from contextlib import closing
+from itertools import islice
+from pathlib import Path
+
+from . import holders
+from .checks import wrong_rows
+from .faults import Fault
+from .settings_file import settings_faults
+from .tables import (
+    Tables, check_file, connected, faults_of, journal_fault, log_of, moment_of, schema_fault,
+)
+
+MOST_ROWS = 50
+RESTORE = "put back a copy (docs/OPERATING.md, \"Backup and restore\")"
+
+
+def file_faults(path: Path) -> Iterator[str]:
+    """What is wrong with a file as a file, or with its log."""
+    for one, name in ((path, ""), (log_of(path), "its log: ")):
+        try:
+            found = one.stat() if one is path else one.lstat()
+        except FileNotFoundError:
+            if one is path:
+                yield "no such file: make it with `bsched create`, or look at the name"
+            continue
+        except OSError as error:
+            yield f"{name}{error.strerror}"
+            continue
+        if not stat.S_ISREG(found.st_mode):
+            yield f"{name}it is no regular file"
+        elif found.st_nlink != 1:
+            yield f"{name}it has {found.st_nlink} names (hard links), and bsched takes a file with one"
+        elif not os.access(one, os.R_OK | os.W_OK):
+            yield f"{name}this user may not read and write it: run this as the user of bsched"
+    if fault := journal_fault(path):
+        yield fault
+
+
+def holder_faults(path: Path) -> Iterator[str]:
+    """Which processes have the file."""
+    identity = holders.identity_of(path)
+    for one in holders.all_open_files(identity) if identity else []:
+        if one.lock == "WRITE":
+            yield (f"{one.process} has it, so no other program can open it: end that first; "
+                   f"or send the message to it by HTTP, or look at a copy (`bsched-tools copy`)")
+        elif one.lock:
+            yield f"{one.process} reads it: end that first"
+
+
+def content_faults(path: Path) -> Iterator[str]:
+    """What is wrong with the tables in a file."""
+    with faults_of(path), closing(connected(path)) as connection:
+        connection.execute("BEGIN")
+        if fault := schema_fault(connection):
+            yield fault
+            return
+        told = [row[0] for row in connection.execute("PRAGMA integrity_check(5)")]
+        if told != ["ok"]:
+            yield f"SQLite finds: {'; '.join(told)}: {RESTORE}"
+            return
+        settings = dict(connection.execute("SELECT name, value FROM setting"))
+        found = list(islice(wrong_rows(Tables(path, connection, moment_of(path), settings)), MOST_ROWS))
+    yield from (f"{wrong}" for wrong in found)
+    if found:
+        yield f"no scheduler wrote such rows: {RESTORE}"
+
+
+def tables_faults(path: Path) -> Iterator[str]:
+    """Why bsched refuses tables."""
+    real = Path(os.path.realpath(path))
+    found = False
+    for look in (file_faults, holder_faults):
+        for fault in look(real):
+            found = True
+            yield fault
+        if found:
+            return
+    try:
+        check_file(real)
+        yield from content_faults(real)
+    except Fault as fault:
+        yield str(fault).removeprefix(f"{real}: ")
+
+
+def examined(tables: Path | None, settings: Path | None) -> Iterator[str]:
+    """Each reason, with the file."""
+    if settings is not None:
+        yield from (f"{settings}: {fault}" for fault in settings_faults(settings))
+    if tables is not None:
+        yield from (f"{tables}: {fault}" for fault in tables_faults(tables))

@@ -1,0 +1,169 @@
+"""The files that statistics sites read: tables.xml, user.gz, team.gz and host.gz."""
+import gzip
+import hashlib
+import os
+import re
+from collections.abc import Iterable, Iterator
+from contextlib import ExitStack
+from dataclasses import dataclass
+from pathlib import Path
+from xml.sax.saxutils import escape
+
+from .averages import Averages, Kept
+from .copies import sync, turn
+from .faults import Fault
+from .members import Host, User, agreed_in, users_of
+from .tables import opened
+
+TURN_SECONDS = 60.0
+# the characters that XML 1.0 has no place for
+NO_XML = re.compile("[^\t\n\r\x20-\ud7ff\ue000-\ufffd\U00010000-\U0010ffff]")
+
+
+@dataclass(frozen=True, slots=True)
+class Exported:
+    """How many there are, and of how many users the names are told."""
+
+    users: int
+    agreed: int
+    hosts: int
+
+
+def xml_text(value: object) -> str:
+    """A value as XML has it."""
+    return escape(NO_XML.sub("\ufffd", str(value)))
+
+
+def element(name: str, members: dict[str, object]) -> str:
+    """An element with its members, one on a line."""
+    lines = [f"    <{member}>{xml_text(value)}</{member}>" for member, value in members.items()]
+    return "\n".join([f"<{name}>", *lines, f"</{name}>", ""])
+
+
+def credits_text(millicredits: int) -> str:
+    """Credit, as statements have it."""
+    return f"{millicredits // 1000}.{millicredits % 1000:03}"
+
+
+def user_members(
+    user: User, known: tuple[int, int], average: float, cpid: str, moment: int
+) -> dict[str, object]:
+    """What is told of a user who agreed."""
+    number, created = known
+    return {
+        "id": number,
+        "name": user.name,
+        "country": "",
+        "create_time": created,
+        "total_credit": credits_text(user.millicredits),
+        "expavg_credit": f"{average:.6f}",
+        "expavg_time": moment,
+        "cpid": cpid,
+    }
+
+
+def host_members(host: Host, kept: Kept, userid: int | None, cpid: str) -> dict[str, object]:
+    """What is told of a host; its user only if the user agreed."""
+    return {
+        "id": kept.id,
+        **({} if userid is None else {"userid": userid}),
+        "create_time": kept.created,
+        "rpc_time": kept.called,
+        "total_credit": credits_text(host.millicredits),
+        "expavg_credit": f"{kept.average or 0:.6f}",
+        "expavg_time": kept.time,
+        "p_fpops": host.fpops,
+        "m_nbytes": host.memory,
+        "d_free": host.disk,
+        "avg_turnaround": 0,
+        "credit_per_cpu_sec": 0,
+        "host_cpid": hashlib.md5(f"{host.cpid}{cpid}".encode(), usedforsecurity=False).hexdigest(),
+    }
+
+
+class Export:
+    """The elements of all files."""
+
+    def __init__(self, averages: Averages, moment: int, agreed: set[str] | None):
+        self.averages, self.moment, self.agreed = averages, moment, agreed
+        self.users: list[str] = []
+        self.hosts: list[str] = []
+        self.count, self.millicredits = 0, 0
+
+    def add(self, user: User) -> None:
+        """Adds a user with the user's hosts."""
+        known = self.averages.user(user, self.moment)
+        hosts = [(host, self.averages.host(user, host, self.moment)) for host in user.hosts.values()]
+        cpid = self.averages.digest("cpid", user.authenticator)
+        is_agreed = self.agreed is None or user.authenticator in self.agreed
+        if is_agreed:
+            average = sum(kept.average or 0 for _, kept in hosts)
+            self.users.append(element("user", user_members(user, known, average, cpid, self.moment)))
+        for host, kept in hosts:
+            userid = known[0] if is_agreed else None
+            self.hosts.append(element("host", host_members(host, kept, userid, cpid)))
+        self.count += 1
+        self.millicredits += user.millicredits
+
+    def totals(self) -> str:
+        """The text of tables.xml."""
+        return element("tables", {
+            "update_time": self.moment,
+            "nusers_total": self.count,
+            "nteams_total": 0,
+            "nhosts_total": len(self.hosts),
+            "total_credit": credits_text(self.millicredits),
+        })
+
+
+def listed(root: str, elements: Iterable[str]) -> Iterator[bytes]:
+    """A list of elements."""
+    yield f"<{root}>\n".encode()
+    for one in elements:
+        yield one.encode()
+    yield f"</{root}>\n".encode()
+
+
+def replace_file(path: Path, parts: Iterable[bytes], moment: int | None = None) -> None:
+    """Puts a file in its place, whole or not at all; compressed if a moment is given."""
+    new = path.with_name(f".{path.name}.new")
+    try:
+        with new.open("wb") as file:
+            if moment is None:
+                file.writelines(parts)
+            else:
+                with gzip.GzipFile(filename="", mode="wb", fileobj=file, mtime=moment) as packed:
+                    packed.writelines(parts)
+            file.flush()
+            os.fsync(file.fileno())
+        os.replace(new, path)
+    except OSError as error:
+        new.unlink(missing_ok=True)
+        raise Fault(f"{path}: {error.strerror}") from None
+
+
+def state_of(folder: Path) -> Path:
+    """Where the averages are kept: beside the folder, which is public."""
+    return folder.with_name(f"{folder.name}-averages.json")
+
+
+def export(paths: Iterable[Path], folder: Path, agreed: Path | None, everybody: bool) -> Exported:
+    """Writes the files of some tables into a folder. tables.xml comes last: sites look at it first."""
+    folder = Path(os.path.abspath(folder))
+    if not folder.is_dir():
+        raise Fault(f"{folder}: no such folder: make it first")
+    who = None if everybody else agreed_in(agreed) if agreed is not None else set()
+    with ExitStack() as stack:
+        all_tables = [stack.enter_context(opened(path)) for path in paths]
+        stack.enter_context(turn(folder, TURN_SECONDS))
+        averages, moment = Averages(state_of(folder)), max(tables.moment for tables in all_tables)
+        made = Export(averages, moment, who)
+        for user in users_of(all_tables).values():
+            made.add(user)
+        replace_file(folder / "user.gz", listed("users", made.users), moment)
+        replace_file(folder / "team.gz", listed("teams", []), moment)
+        replace_file(folder / "host.gz", listed("hosts", made.hosts), moment)
+        replace_file(folder / "tables.xml", [made.totals().encode()])
+        sync(folder)
+        averages.write()
+    return Exported(made.count, len(made.users), len(made.hosts))

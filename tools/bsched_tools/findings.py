@@ -1,0 +1,88 @@
+"""What a page says of a project beside its counts: deadlines, credit, errors, and marked workunits that
+wait."""
+from collections import Counter
+from dataclasses import dataclass
+
+from .counts import IS_HELD
+from .tables import Tables
+from .workunits import decided
+
+HOUR, DAY_HOURS = 3600, 24
+MOST_LISTED = 20
+DEADLINES = f"SELECT deadline FROM instance WHERE {IS_HELD} AND deadline >= ?1 AND deadline < ?2"
+CREDIT = """
+SELECT account.name, sum(host.credit), count(*)
+FROM account JOIN host ON host.account_id = account.id
+GROUP BY account.id ORDER BY sum(host.credit) DESC, account.id LIMIT ?1
+"""
+ERRORS = """
+SELECT host.id, account.name, sum(outcome = 3), sum(lapse = 1), count(*), quota
+FROM host JOIN account ON account.id = account_id JOIN instance ON host_id = host.id GROUP BY host.id
+"""
+MARKED = """
+SELECT ifnull(class, ''), count(DISTINCT unit.id), sum(queued)
+FROM unit JOIN unit_mark ON unit_mark.unit_id = unit.id JOIN instance ON instance.unit_id = unit.id
+WHERE marked = 1 AND status = 0 GROUP BY class ORDER BY class
+"""
+# marked workunits whose class no newest version of their application has: they wait for good
+STUCK = """
+SELECT unit.name, unit_mark.class FROM unit JOIN unit_mark ON unit_id = unit.id
+WHERE status = 0 AND unit_mark.class NOT IN (
+  SELECT version_class.class FROM version JOIN version_class ON version_id = version.id
+  WHERE app_id = unit.app_id AND num = (
+    SELECT max(num) FROM version AS other
+    WHERE other.app_id = version.app_id AND other.platform = version.platform))
+ORDER BY unit.id LIMIT ?1
+"""
+
+
+@dataclass(frozen=True, slots=True)
+class HostErrors:
+    """A host, and how many of its results came to nothing."""
+
+    host: int
+    user: str
+    errors: int
+    invalid: int
+    late: int
+    given: int
+    quota: int
+
+    @property
+    def failed(self) -> int:
+        """All of them."""
+        return self.errors + self.invalid + self.late
+
+
+def deadlines_by_hour(tables: Tables) -> list[int]:
+    """How many deadlines of held instances are in each hour of the day after the copy."""
+    counted = [0] * DAY_HOURS
+    for deadline, in tables.rows(DEADLINES, tables.moment, tables.moment + DAY_HOURS * HOUR):
+        counted[(deadline - tables.moment) // HOUR] += 1
+    return counted
+
+
+def credit_by_user(tables: Tables) -> list[tuple[str, int, int]]:
+    """The users with the most credit: name, millicredits, hosts."""
+    return [(name, millicredits, hosts) for name, millicredits, hosts in tables.rows(CREDIT, MOST_LISTED)]
+
+
+def hosts_with_errors(tables: Tables) -> list[HostErrors]:
+    """The hosts of which the most results came to nothing."""
+    invalid = Counter(one.host for unit in decided(tables) for one in unit.results if not one.is_valid)
+    hosts = [
+        HostErrors(host, user, errors or 0, invalid[host], late or 0, given, quota)
+        for host, user, errors, late, given, quota in tables.rows(ERRORS)
+    ]
+    worst = sorted(hosts, key=lambda one: (-one.failed, one.host))
+    return [one for one in worst if one.failed][:MOST_LISTED]
+
+
+def marked_by_class(tables: Tables) -> list[tuple[str, int, int]]:
+    """The open marked workunits: class, how many, and how many of their instances wait."""
+    return [(name, units, waiting or 0) for name, units, waiting in tables.rows(MARKED)]
+
+
+def stuck_workunits(tables: Tables) -> list[tuple[str, str]]:
+    """Marked workunits that wait for a class which no newest version has: name and class."""
+    return [(name, version_class) for name, version_class in tables.rows(STUCK, MOST_LISTED)]

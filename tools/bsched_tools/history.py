@@ -1,0 +1,97 @@
+"""What earlier reports counted, in a small file to which each report appends a line."""
+import json
+import os
+from dataclasses import asdict, dataclass, field
+from pathlib import Path
+from typing import Any
+
+from .counts import IS_HELD, Counts
+from .exports import replace_file
+from .tables import Tables
+
+HOUR = 3600
+# turnaround is counted in these: up to so many hours
+TURNAROUND_HOURS = (1, 6, 24, 72, 168, 336)
+BINS = len(TURNAROUND_HOURS) + 1
+HELD = f"SELECT unit_id, num FROM instance WHERE {IS_HELD}"
+REPORTED = """
+SELECT unit_id, num, sent FROM instance
+WHERE host_id IS NOT NULL AND outcome IS NOT NULL AND lapse = 0
+"""
+
+
+@dataclass(frozen=True, slots=True)
+class Entry:
+    """What one report counted."""
+
+    moment: int
+    workunits: dict[str, int]
+    instances: dict[str, int]
+    people: dict[str, int]
+    millicredits: int
+    bytes: int
+    # of results that were reported since the last report, by bins
+    turnaround: list[int] = field(default_factory=lambda: [0] * BINS)
+
+
+def entry_of(line: str) -> Entry | None:
+    """The entry in a line; None if a stop left it half written."""
+    try:
+        told = json.loads(line)
+        return Entry(**told)
+    except (ValueError, KeyError, TypeError):
+        return None
+
+
+def bin_of(seconds: int) -> int:
+    """In which bin of turnaround some seconds are."""
+    return next((at for at, hours in enumerate(TURNAROUND_HOURS) if seconds <= hours * HOUR), BINS - 1)
+
+
+class History:
+    """The file, and which instances were held at the last report."""
+
+    def __init__(self, folder: Path):
+        self.path, self.held_path = folder / "history.jsonl", folder / "held.json"
+        self.entries: list[Entry] = []
+        if self.path.exists():
+            found = (entry_of(line) for line in self.path.read_text(errors="replace").splitlines())
+            self.entries = [entry for entry in found if entry is not None]
+
+    def held_before(self) -> tuple[int, set[str]] | None:
+        """When the last report was, and which instances were held then."""
+        try:
+            told: dict[str, Any] = json.loads(self.held_path.read_text())
+            return int(told["moment"]), set(told["held"])
+        except (OSError, ValueError, KeyError, TypeError):
+            return None
+
+    def turnaround(self, tables: Tables) -> list[int]:
+        """How long results took at most that were reported since the last report. The tables do not say when
+        a result was reported: it was between the last copy and this one."""
+        counted = [0] * BINS
+        before = self.held_before()
+        if before is not None:
+            moment, held = before
+            for unit, num, sent in tables.rows(REPORTED):
+                if sent > moment or f"{unit}.{num}" in held:
+                    counted[bin_of(tables.moment - sent)] += 1
+        return counted
+
+    def add(self, tables: Tables, counts: Counts) -> None:
+        """Appends what a report counted. A second report over one copy adds nothing."""
+        if self.entries and tables.moment <= self.entries[-1].moment:
+            return
+        entry = Entry(
+            tables.moment, dict(counts.workunits), dict(counts.instances), counts.people, counts.millicredits,
+            counts.bytes, self.turnaround(tables),
+        )
+        with self.path.open("ab") as file:
+            if file.tell() and not self.path.read_bytes().endswith(b"\n"):
+                file.write(b"\n")  # a stop left the last line half written
+            file.write(json.dumps(asdict(entry)).encode() + b"\n")
+            file.flush()
+            os.fsync(file.fileno())
+        held = {"moment": tables.moment, "held": [f"{unit}.{num}" for unit, num in tables.rows(HELD)]}
+        replace_file(self.held_path, [json.dumps(held).encode()])
+        self.entries.append(entry)

@@ -1,0 +1,75 @@
+"""Users and their hosts over several files of tables: credit is summed by authenticator and host_cpid."""
+from collections.abc import Iterable
+from dataclasses import dataclass, field
+from pathlib import Path
+
+from .faults import Fault
+from .tables import Tables
+
+HOSTS = """
+SELECT auth, cpid, fpops, memory, disk, host.credit, min(sent), max(sent),
+  (SELECT max(seqno) FROM kept4 WHERE host_id = host.id)
+FROM host JOIN account ON account.id = account_id LEFT JOIN instance ON host_id = host.id
+GROUP BY host.id ORDER BY host.id
+"""
+
+
+@dataclass(slots=True)
+class Host:
+    """A host of a user."""
+
+    cpid: str
+    millicredits: int = 0
+    fpops: int = 0
+    memory: int = 0
+    disk: int = 0
+    first_sent: int | None = None  # when it was given its first job
+    last_sent: int = 0
+    calls: list[int] = field(default_factory=list)  # of each file the number of its last call
+
+
+@dataclass(slots=True)
+class User:
+    """A user."""
+
+    authenticator: str
+    name: str
+    hosts: dict[str, Host] = field(default_factory=dict)
+
+    @property
+    def millicredits(self) -> int:
+        """The credit of all hosts."""
+        return sum(host.millicredits for host in self.hosts.values())
+
+
+def add_host(host: Host, row: tuple[int, int, int, int, int | None, int | None, int | None]) -> None:
+    """Adds what a file has of a host. What the host is, the file that was named last says."""
+    host.fpops, host.memory, host.disk, credit, first, last, seqno = row
+    host.millicredits += credit
+    if first is not None:
+        host.first_sent = first if host.first_sent is None else min(first, host.first_sent)
+    host.last_sent = max(host.last_sent, last or 0)
+    host.calls.append(seqno or 0)
+
+
+def users_of(all_tables: Iterable[Tables]) -> dict[str, User]:
+    """The users of files, by authenticator. The name is that of the file that was named last."""
+    users: dict[str, User] = {}
+    for tables in all_tables:
+        for authenticator, name in tables.rows("SELECT auth, name FROM account ORDER BY id"):
+            users.setdefault(authenticator, User(authenticator, name)).name = name
+        for authenticator, cpid, *row in tables.rows(HOSTS):
+            hosts = users[authenticator].hosts
+            fpops, memory, disk, credit, first, last, seqno = row
+            add_host(hosts.setdefault(cpid, Host(cpid)), (fpops, memory, disk, credit, first, last, seqno))
+    return users
+
+
+def agreed_in(path: Path) -> set[str]:
+    """The authenticators in a file, one on a line."""
+    try:
+        return {line.strip() for line in path.read_text().splitlines() if line.strip()}
+    except OSError as error:
+        raise Fault(f"{path}: {error.strerror}") from None
+    except UnicodeDecodeError:
+        raise Fault(f"{path}: it is no text: write an authenticator on each line") from None

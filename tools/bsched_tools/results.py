@@ -1,0 +1,147 @@
+"""The results of workunits, as comma-separated values or as lines of JSON."""
+import csv
+import json
+import os
+import stat
+import sys
+from abc import ABC, abstractmethod
+from collections.abc import Iterable, Iterator
+from contextlib import ExitStack, suppress
+from dataclasses import dataclass, replace
+from pathlib import Path
+from typing import TextIO
+
+from .cursors import Given, cursor_at
+from .faults import Fault
+from .tables import Tables, opened
+from .workunits import Result, Workunit, decided
+
+COLUMNS = (
+    "workunit", "app", "status", "reason", "millicredits", "canonical", "output",
+    "result", "verdict", "host", "user", "late",
+)
+
+
+@dataclass(frozen=True, slots=True)
+class Line:
+    """A workunit with those of its results that were not given out before."""
+
+    workunit: Workunit
+    is_late: bool  # the workunit was given out before, and these are further results
+
+
+class Writer(ABC):
+    """Who writes lines in a form."""
+
+    @abstractmethod
+    def write(self, line: Line) -> None:
+        """Writes one."""
+
+
+class CsvWriter(Writer):
+    """Comma-separated values: a row for each result, and one for each workunit that failed."""
+
+    def __init__(self, file: TextIO):
+        self._writer = csv.writer(file, lineterminator="\n")
+        self._writer.writerow(COLUMNS)
+
+    def write(self, line: Line) -> None:
+        """Writes the rows of a workunit."""
+        unit, late = line.workunit, int(line.is_late)
+        status = "failed" if unit.reason else "done"
+        front = (unit.name, unit.app, status, unit.reason, unit.millicredits, unit.canonical, unit.output)
+        for one in unit.results:
+            verdict = "valid" if one.is_valid else "invalid"
+            self._writer.writerow((*front, one.name, verdict, one.host, one.user, late))
+        if unit.reason:
+            self._writer.writerow((*front, "", "", "", "", late))
+
+
+def member_of(result: Result) -> dict[str, object]:
+    """A result, as a member of a line of JSON."""
+    return {"result": result.name, "host": result.host, "user": result.user}
+
+
+class JsonWriter(Writer):
+    """A line of JSON for each workunit."""
+
+    def __init__(self, file: TextIO):
+        self._file = file
+
+    def write(self, line: Line) -> None:
+        """Writes the line of a workunit."""
+        unit = line.workunit
+        said: dict[str, object] = {"workunit": unit.name, "app": unit.app, "late": line.is_late}
+        if unit.reason:
+            said |= {"status": "failed", "reason": unit.reason}
+        else:
+            said |= {
+                "status": "done", "millicredits": unit.millicredits,
+                "canonical": unit.canonical, "output": unit.output,
+                "valid": [member_of(one) for one in unit.results if one.is_valid],
+                "invalid": [member_of(one) for one in unit.results if not one.is_valid],
+            }
+        self._file.write(f"{json.dumps(said, ensure_ascii=False)}\n")
+
+
+def lines_of(tables: Tables, after: int, given: Given | None) -> Iterator[Line]:
+    """The lines of some tables: all of them, or what was not given out before."""
+    for unit in decided(tables, after):
+        if given is None:
+            yield Line(unit, False)
+            continue
+        if unit.id in given.closed:
+            continue
+        last = given.places.pop(unit.id, None)
+        fresh = tuple(one for one in unit.results if last is None or one.place > last)
+        if unit.is_closed:
+            given.closed.add(unit.id)
+        else:
+            given.places[unit.id] = max([last or 0, *(one.place for one in fresh)])
+        if fresh or last is None:
+            yield Line(replace(unit, results=fresh), last is not None)
+
+
+def places_after(all_tables: list[Tables], name: str) -> dict[Path, int]:
+    """After which workunit each file begins, if it is to begin after the workunit of a name; files before
+    that one are left out."""
+    query = "SELECT id FROM unit WHERE name = ?1"
+    found = [(at, number) for at, tables in enumerate(all_tables) if (number := tables.number(query, name))]
+    if len(found) != 1:
+        where = "no file" if not found else "several of the files"
+        raise Fault(f"{all_tables[0].path}: the workunit {name} of --after is in {where}")
+    (at, number), = found
+    return {tables.path: number if tables is all_tables[at] else 0 for tables in all_tables[at:]}
+
+
+def flushed(file: TextIO) -> None:
+    """What was written is on its way, and on the disk if it goes to a file."""
+    file.flush()
+    with suppress(OSError, ValueError):
+        if stat.S_ISREG(os.fstat(file.fileno()).st_mode):
+            os.fsync(file.fileno())
+
+
+def write_results(
+    paths: Iterable[Path],
+    as_json: bool = False,
+    after: str | None = None,
+    cursor: Path | None = None,
+    file: TextIO = sys.stdout,
+) -> None:
+    """Writes the results of tables. The cursor is written last: after a crash in between, results come
+    again."""
+    with ExitStack() as stack:
+        kept = stack.enter_context(cursor_at(cursor)) if cursor is not None else None
+        all_tables = [stack.enter_context(opened(path)) for path in paths]
+        begins = dict.fromkeys((tables.path for tables in all_tables), 0)
+        if after is not None:
+            begins = places_after(all_tables, after)
+        writer: Writer = JsonWriter(file) if as_json else CsvWriter(file)
+        for tables in all_tables:
+            if tables.path in begins:
+                for line in lines_of(tables, begins[tables.path], kept.given(tables) if kept else None):
+                    writer.write(line)
+        flushed(file)
+        if kept is not None:
+            kept.write()

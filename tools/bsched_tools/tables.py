@@ -1,0 +1,160 @@
+"""The tables in a copy, opened for reading alone. `docs/STORED.md` has their columns."""
+import os
+import re
+import sqlite3
+from collections.abc import Iterator
+from contextlib import closing, contextmanager
+from dataclasses import dataclass, field
+from datetime import datetime, timezone
+from pathlib import Path
+from typing import Any
+from urllib.parse import quote
+
+from .faults import Fault
+from .schemas import FIRST_SCHEMA, SCHEMA, SECOND_SCHEMA, SCHEMA_NUMBER, Shape, shape_of, shape_of_text
+
+HEAD = b"SQLite format 3\0"
+# how `copy` names a copy: the name of the tables, and the moment of the copy in UTC
+COPY_NAME = re.compile(r"(?P<stem>.+)-(?P<moment>\d{8}T\d{6}\.\d{3}Z)\.db")
+MOMENT = "%Y%m%dT%H%M%S.%fZ"
+BUSY_SECONDS = 1.0
+
+
+@dataclass(slots=True)
+class Tables:
+    """The tables of one file, as they were at a moment."""
+
+    path: Path
+    connection: sqlite3.Connection
+    moment: int  # of the copy
+    settings: dict[str, Any] = field(default_factory=dict)
+
+    def rows(self, query: str, *values: Any) -> Iterator[tuple[Any, ...]]:
+        """The rows of a query."""
+        with faults_of(self.path):
+            yield from self.connection.execute(query, values)
+
+    def number(self, query: str, *values: Any) -> int:
+        """The one number that a query gives; 0 where it gives none."""
+        row = next(self.rows(query, *values), None)
+        return 0 if row is None or row[0] is None else int(row[0])
+
+
+@contextmanager
+def faults_of(path: Path) -> Iterator[None]:
+    """What SQLite finds wrong with a file is a fault of that file."""
+    try:
+        yield
+    except sqlite3.Error as error:
+        told = str(error)
+        if "locked" in told:
+            told = f"a program has it: run `bsched-tools copy --tables {path} --to FOLDER`, and read the copy"
+        elif "malformed" in told or "not a database" in told:
+            told = f"it is spoiled or cut off ({told}): take another copy"
+        elif "unable to open" in told or "readonly" in told:
+            told = f"it can't be opened for reading ({told}): look at the rights on it and on its folder"
+        raise Fault(f"{path}: {told}") from None
+
+
+def moment_of(path: Path) -> int:
+    """The moment of a copy: as its name says it, else when the file was written last."""
+    match = COPY_NAME.fullmatch(path.name)
+    if match is None:
+        return int(path.stat().st_mtime)
+    return int(datetime.strptime(match["moment"], MOMENT).replace(tzinfo=timezone.utc).timestamp())
+
+
+def copies_in(folder: Path, stem: str | None = None) -> list[Path]:
+    """The copies in a folder, of the tables with a name if one is given, the newest one first."""
+    named = [(match, path) for path in folder.iterdir() if (match := COPY_NAME.fullmatch(path.name))]
+    chosen = [(match["moment"], path) for match, path in named if stem in (None, match["stem"])]
+    return [path for _, path in sorted(chosen, reverse=True)]
+
+
+def found_copy(path: Path) -> Path:
+    """The file that is meant: a folder means its newest copy."""
+    if not path.is_dir():
+        return path
+    copies = copies_in(path)
+    if not copies:
+        raise Fault(f"{path}: there is no copy in this folder: make one with `bsched-tools copy --to {path}`")
+    stems = {match["stem"] for copy in copies if (match := COPY_NAME.fullmatch(copy.name))}
+    if len(stems) > 1:
+        raise Fault(f"{path}: there are copies of several projects in this folder: name one of the files")
+    return copies[0]
+
+
+def check_file(path: Path) -> None:
+    """Looks at the bytes of a file: it must be a whole database of SQLite."""
+    try:
+        with path.open("rb") as file:
+            head, size = file.read(100), os.fstat(file.fileno()).st_size
+    except OSError as error:
+        raise Fault(f"{path}: {error.strerror}") from None
+    has_log = log_size(path) > 0
+    if size == 0 and not has_log:
+        raise Fault(f"{path}: it is empty, and no database")
+    if not head.startswith(HEAD):
+        raise Fault(f"{path}: it is no database of SQLite")
+    page = int.from_bytes(head[16:18], "big")
+    pages, is_counted = int.from_bytes(head[28:32], "big"), head[24:28] == head[92:96]
+    whole = pages * (65536 if page == 1 else page)
+    if not has_log and is_counted and size < whole:
+        raise Fault(f"{path}: it is cut off: it has {size} of {whole} bytes: take another copy")
+
+
+def log_of(path: Path) -> Path:
+    """The name of the log beside a file."""
+    return path.with_name(f"{path.name}-wal")
+
+
+def journal_fault(path: Path) -> str | None:
+    """What is wrong if SQLite left a journal beside a file that it would play back."""
+    journal = path.with_name(f"{path.name}-journal")
+    if journal.exists() and journal.read_bytes()[:1] not in (b"", b"\0"):
+        return f"{journal} is left of SQLite: open the file once with `sqlite3`, which puts it in order"
+    return None
+
+
+def log_size(path: Path) -> int:
+    """The size of the log beside a file; 0 if there is none."""
+    log = log_of(path)
+    return log.stat().st_size if log.exists() else 0
+
+
+def connected(path: Path) -> sqlite3.Connection:
+    """A connection that only reads. Each program that works on tables makes a log beside them: a file without
+    one is written by nobody. Then SQLite takes no lock and leaves nothing beside it."""
+    mode = "mode=ro" if log_of(path).exists() else "mode=ro&immutable=1"
+    name = quote(str(path.absolute()))
+    return sqlite3.connect(f"file:{name}?{mode}", uri=True, timeout=BUSY_SECONDS, isolation_level=None)
+
+
+def schema_fault(connection: sqlite3.Connection) -> str | None:
+    """What is wrong with the schema of a database, if anything is."""
+    shape = shape_of(connection)
+    if "setting" not in shape:
+        return "it has no tables of bsched"
+    row = connection.execute("SELECT value FROM setting WHERE name = 'schema'").fetchone()
+    number = row[0] if row else None
+    if shape == shape_of_text(SCHEMA) and number == SCHEMA_NUMBER:
+        return None
+    older: dict[int, Shape] = {1: shape_of_text(FIRST_SCHEMA), 2: shape_of_text(SECOND_SCHEMA)}
+    if number in older and shape == older[number]:
+        return f"its tables are of schema {number}, an older one: run `bsched upgrade`, then take a copy"
+    if isinstance(number, int) and number > SCHEMA_NUMBER:
+        return f"its tables are of schema {number}, a newer one: install newer tools"
+    return "its tables are none of bsched's, or were changed by another program"
+
+
+@contextmanager
+def opened(path: Path) -> Iterator[Tables]:
+    """The tables of a copy."""
+    path = found_copy(path)
+    check_file(path)
+    with faults_of(path), closing(connected(path)) as connection:
+        connection.execute("BEGIN")
+        if fault := schema_fault(connection):
+            raise Fault(f"{path}: {fault}")
+        settings = dict(connection.execute("SELECT name, value FROM setting"))
+        yield Tables(path, connection, moment_of(path), settings)

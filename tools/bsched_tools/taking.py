@@ -1,0 +1,227 @@
+"""The bytes of the tables as they are at one moment: the file and its log, copied while nobody writes
+them."""
+import errno
+import fcntl
+import os
+import struct
+import time
+from contextlib import ExitStack, suppress
+from dataclasses import dataclass
+from pathlib import Path
+
+from . import holders
+from .faults import Fault, Retry
+from .holders import Identity, OpenFile, identity_of
+from .stopping import process_of, stopped
+
+FICLONE = 0x40049409  # shares the blocks of a file, on a file system that can
+PART = 1 << 24
+SEEK_SECONDS = 10.0  # how long it is tried again when another process is in the way
+# a file that was not written for so long shows each later write by another time, on every file system
+SETTLED_SECONDS = 3.0
+MOST_IN_MEMORY = 1 << 26
+FROM_ANOTHER_FILE_SYSTEM = (errno.EXDEV, errno.EINVAL, errno.ENOSYS, errno.EOPNOTSUPP)
+
+
+@dataclass(frozen=True, slots=True)
+class Source:
+    """The tables that are copied: the file to which all links lead, and its log."""
+
+    path: Path
+    identity: Identity
+
+    @property
+    def log(self) -> Path:
+        """The log beside the file."""
+        return self.path.with_name(f"{self.path.name}-wal")
+
+
+@dataclass(frozen=True, slots=True)
+class Taken:
+    """A copy that was taken: the file, with its log beside it."""
+
+    path: Path
+    moment: float
+    still_seconds: float | None  # None if nobody had the tables
+
+
+def source_of(path: Path) -> Source:
+    """The tables at a path."""
+    real = Path(os.path.realpath(path))
+    identity = identity_of(real)
+    if identity is None:
+        raise Fault(f"{path}: no such file, or it may not be looked at")
+    if not real.is_file():
+        raise Fault(f"{path}: it is no file")
+    return Source(real, identity)
+
+
+# ---- Bytes
+
+
+def copy_bytes(source: int, target: int) -> None:
+    """Copies a file: by sharing its blocks, or within the kernel, where that is possible."""
+    os.ftruncate(target, 0)
+    with suppress(OSError):
+        fcntl.ioctl(target, FICLONE, source)
+        return
+    size, at = os.fstat(source).st_size, 0
+    while at < size:
+        try:
+            done = os.copy_file_range(source, target, min(PART, size - at), at, at)
+        except OSError as error:
+            if error.errno not in FROM_ANOTHER_FILE_SYSTEM:
+                raise
+            done = os.pwrite(target, os.pread(source, min(PART, size - at), at), at)
+        if done == 0:
+            raise Retry("the file became shorter while it was copied")
+        at += done
+
+
+def write_mark(descriptor: int) -> tuple[int, ...] | None:
+    """What each write to a file changes; None if the last write is too recent for that."""
+    found = os.fstat(descriptor)
+    if not SETTLED_SECONDS < time.time() - max(found.st_mtime, found.st_ctime):
+        return None
+    return found.st_mtime_ns, found.st_ctime_ns, found.st_size
+
+
+def opened_file(path: Path, flags: int, stack: ExitStack) -> int:
+    """An open file, until the stack ends."""
+    descriptor = os.open(path, flags, 0o600)
+    stack.callback(os.close, descriptor)
+    return descriptor
+
+
+class Work:
+    """The two files into which the tables and their log are copied."""
+
+    def __init__(self, folder: Path, source: Source, stack: ExitStack):
+        self.source, self.path = source, folder / "copy.db"
+        create = os.O_RDWR | os.O_CREAT | os.O_EXCL
+        self.target = opened_file(self.path, create, stack)
+        self.target_log = opened_file(folder / "copy.db-wal", create, stack)
+
+    def copy_early(self, descriptor: int) -> tuple[int, ...] | None:
+        """Copies the file before the process stands still. The mark shows later whether it was written
+        since."""
+        mark = write_mark(descriptor)
+        if mark is not None:
+            copy_bytes(descriptor, self.target)
+        return mark
+
+    def copy_rest(self, descriptor: int, log: int | None, mark: tuple[int, ...] | None) -> bytes:
+        """Copies what was not copied early, while nobody writes. The bytes of a short log are returned
+        instead."""
+        if mark is None or mark != write_mark(descriptor):
+            copy_bytes(descriptor, self.target)
+        os.ftruncate(self.target_log, 0)
+        if log is None:
+            return b""
+        size = os.fstat(log).st_size
+        if size <= MOST_IN_MEMORY:
+            return os.pread(log, size, 0)
+        copy_bytes(log, self.target_log)
+        return b""
+
+    def finish(self, log: bytes) -> None:
+        """Writes the bytes of a log that was returned."""
+        at = 0
+        while at < len(log):
+            at += os.pwrite(self.target_log, log[at:], at)
+
+
+# ---- Tables that nobody has
+
+
+def lock(descriptor: int) -> bool:
+    """Takes the lock of a program that works on the tables; whether it could be had."""
+    start, length = holders.LOCKS_START, holders.LOCKS_LENGTH
+    wanted = struct.pack("hhqqi4x", fcntl.F_WRLCK, os.SEEK_SET, start, length, 0)
+    try:
+        fcntl.fcntl(descriptor, fcntl.F_OFD_SETLK, wanted)
+    except (BlockingIOError, PermissionError):
+        return False
+    return True
+
+
+def who_reads(found: list[OpenFile]) -> str:
+    """What to do about a lock that is in the way and does not belong to a program which serves."""
+    reader = next((one for one in found if one.lock), None)
+    if reader is None:
+        return "a process has it that this user may not look at: run this as root"
+    return f"{reader.process} reads it: end that first"
+
+
+def copy_idle(work: Work, found: list[OpenFile]) -> Taken:
+    """Copies tables that nobody has. No program can begin to work on them meanwhile."""
+    source = work.source
+    with ExitStack() as stack:
+        descriptor = opened_file(source.path, os.O_RDWR, stack)
+        if not lock(descriptor):
+            raise Retry(who_reads(found))
+        log = opened_file(source.log, os.O_RDWR, stack) if source.log.exists() else None
+        if log is not None and not lock(log):
+            raise Retry(f"a process has {source.log}: end that first")
+        if identity_of(source.path) != source.identity:
+            raise Retry("another file was put in its place: try again")
+        moment, rest = time.time(), work.copy_rest(descriptor, log, None)
+    work.finish(rest)
+    return Taken(work.path, moment, None)
+
+
+# ---- Tables that a process has
+
+
+def identity_of_open(descriptor: int) -> Identity:
+    """The identity of an open file."""
+    found = os.fstat(descriptor)
+    return Identity(found.st_dev, found.st_ino)
+
+
+def log_of(source: Source, holder: OpenFile, stack: ExitStack) -> int | None:
+    """The log of tables that a process has: the process must have just this file open."""
+    if not source.log.exists():
+        return None
+    log = opened_file(source.log, os.O_RDONLY, stack)
+    if not any(holders.open_files_of(holder.pid, identity_of_open(log))):
+        raise Retry(f"{source.log} is not the log that {holder.process} writes: it was moved or replaced")
+    return log
+
+
+def check_holder(source: Source, holder: OpenFile, log: int | None) -> None:
+    """A process that stands still has the tables, as it did when it was looked for."""
+    there = identity_of(f"/proc/{holder.pid}/fd/{holder.descriptor}")
+    if there != source.identity or holders.lock_of(holder.pid, holder.descriptor) != "WRITE":
+        raise Retry(f"{holder.process} gave up the file")
+    if log is None and source.log.exists():
+        raise Retry(f"{source.log} was made meanwhile")
+
+
+def copy_served(work: Work, holder: OpenFile) -> Taken:
+    """Copies tables that a process has, while the process stands still."""
+    source = work.source
+    with ExitStack() as stack:
+        process = stack.enter_context(process_of(holder.pid))
+        descriptor = opened_file(source.path, os.O_RDONLY, stack)
+        log = log_of(source, holder, stack)
+        mark = work.copy_early(descriptor)
+        with stopped(process) as still:
+            check_holder(source, holder, log)
+            moment, rest = time.time(), work.copy_rest(descriptor, log, mark)
+    work.finish(rest)
+    return Taken(work.path, moment, still.seconds)
+
+
+def take(work: Work) -> Taken:
+    """Copies the file and its log as they are at one moment, whether a process has them or not."""
+    ends = time.monotonic() + SEEK_SECONDS
+    while True:
+        found = holders.all_open_files(work.source.identity)
+        holder = holders.holder_among(found)
+        try:
+            return copy_idle(work, found) if holder is None else copy_served(work, holder)
+        except Retry as reason:
+            if time.monotonic() > ends:
+                raise Fault(f"{work.source.path}: {reason}") from None
+        time.sleep(0.05)

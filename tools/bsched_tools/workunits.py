@@ -1,0 +1,118 @@
+"""What became of workunits, by the rules of `docs/PROFILE.md` ("Agreement", "Counting a workunit")."""
+import re
+from collections.abc import Iterator
+from dataclasses import dataclass
+from itertools import groupby
+from typing import Any
+
+from .faults import Fault
+from .tables import Tables
+
+WHOLE_NUMBER = re.compile("0|-?[1-9][0-9]{0,17}")
+OPEN, DONE = 0, 1
+REASONS = {2: "errors", 3: "successes", 4: "total"}  # by which a workunit failed
+SUCCESS = 1
+DECIDED = """
+SELECT unit.id, unit.name, app.name, agreement, min_quorum, unit.credit, status,
+  num, host_id, account.name, outcome, output, place
+FROM unit JOIN app ON app.id = unit.app_id
+  CROSS JOIN instance ON instance.unit_id = unit.id
+  LEFT JOIN host ON host.id = host_id
+  LEFT JOIN account ON account.id = account_id
+WHERE status <> 0 AND unit.id > ?1
+ORDER BY unit.id, num
+"""
+
+
+@dataclass(frozen=True, slots=True)
+class Instance:
+    """An instance of a workunit."""
+
+    name: str
+    host: int | None
+    user: str | None
+    outcome: int | None
+    output: str | None
+    place: int | None
+
+    @property
+    def text(self) -> str:
+        """What it reported."""
+        return self.output or ""
+
+    @property
+    def may_be_judged(self) -> bool:
+        """Whether its host may still report it."""
+        return self.host is not None and self.outcome is None
+
+
+@dataclass(frozen=True, slots=True)
+class Result:
+    """A judged success of a workunit that is done."""
+
+    name: str
+    host: int
+    user: str
+    is_valid: bool
+    place: int
+
+
+@dataclass(frozen=True, slots=True)
+class Workunit:
+    """A workunit that is done or has failed."""
+
+    id: int
+    name: str
+    app: str
+    millicredits: int
+    reason: str | None  # by which it failed; None if it is done
+    canonical: str | None = None  # the name of the canonical result
+    output: str | None = None  # of that result
+    results: tuple[Result, ...] = ()
+    is_closed: bool = True  # no further result of it can be judged
+
+
+def agree(agreement: int | None, one: str, other: str) -> bool:
+    """Whether two outputs agree: they are equal, or whole numbers within the distance."""
+    if one == other:
+        return True
+    if agreement is None or not (WHOLE_NUMBER.fullmatch(one) and WHOLE_NUMBER.fullmatch(other)):
+        return False
+    return abs(int(one) - int(other)) <= agreement
+
+
+def canonical_of(agreement: int | None, min_quorum: int, good: list[Instance]) -> Instance | None:
+    """The canonical result among the judged successes by place: of the least front of at least min_quorum of
+    them in which some report agrees with enough of the front, the first such report."""
+    enough = min_quorum // 2 + 1
+    for size in range(min_quorum, len(good) + 1):
+        front = good[:size]
+        for one in front:
+            if sum(agree(agreement, one.text, other.text) for other in front) >= enough:
+                return one
+    return None
+
+
+def workunit_of(tables: Tables, rows: list[tuple[Any, ...]]) -> Workunit:
+    """A workunit by the rows of its instances."""
+    number, name, app, agreement, min_quorum, millicredits, status = rows[0][:7]
+    if status in REASONS:
+        return Workunit(number, name, app, millicredits, REASONS[status])
+    instances = [Instance(f"{name}_{row[7]}", *row[8:]) for row in rows]
+    judged = [(one.place, one) for one in instances if one.place is not None and one.outcome == SUCCESS]
+    good = [one for _, one in sorted(judged, key=lambda pair: pair[0])]
+    best = canonical_of(agreement, min_quorum, good)
+    if status != DONE or best is None:
+        raise Fault(f"{tables.path}: row {number} of unit: its status does not fit its instances")
+    results = tuple(
+        Result(one.name, one.host or 0, one.user or "", agree(agreement, best.text, one.text), place)
+        for place, one in judged
+    )
+    is_closed = not any(one.may_be_judged for one in instances)
+    return Workunit(number, name, app, millicredits, None, best.name, best.output, results, is_closed)
+
+
+def decided(tables: Tables, after: int = 0) -> Iterator[Workunit]:
+    """The workunits that are done or have failed, in the order of import, after one of them."""
+    for _, rows in groupby(tables.rows(DECIDED, after), key=lambda row: int(row[0])):
+        yield workunit_of(tables, list(rows))

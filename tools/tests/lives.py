@@ -1,0 +1,65 @@
+"""Random lives of a project, over the plain scheduler and over its twin with tables in a file."""
+import random
+
+import plain
+import plain_tables
+import project as bench_project
+
+CALLS = 300
+
+
+def life_of(seed, calls=CALLS, made=bench_project.Project):
+    """A project of the plain scheduler that lived so many calls. Its lines are those of the life."""
+    chosen = bench_project.random
+    try:
+        bench_project.random = type("Chosen", (), {"Random": staticmethod(lambda _: random.Random(seed))})
+        lived = made(calls)
+        lived.live()
+    finally:
+        bench_project.random = chosen
+    return lived
+
+
+class Stored:
+    """The twin over tables in a file, which answers lines."""
+
+    def __init__(self, path, settings=bench_project.SETTINGS):
+        plain_tables.create(path, {**plain.SETTINGS, **settings, "operator_key": "opkey-01"})
+        self.path, self.tables = path, plain_tables.Tables(path, synchronous="OFF")
+        self.service = plain_tables.Service(self.tables)
+
+    def answer(self, lines):
+        """Answers lines."""
+        return [self.service.answer(line.removesuffix(b"\n")) for line in lines]
+
+    def copy(self, path):
+        """A copy as `copy` makes it: one file."""
+        self.tables.connection.execute("VACUUM INTO ?", (str(path),))
+        return path
+
+    def close(self):
+        """Closes the tables."""
+        self.tables.connection.close()
+        return self.path
+
+
+def stored_life(lived, path):
+    """The tables that the lines of a life leave."""
+    stored = Stored(path)
+    stored.answer(lived.lines)
+    return stored.close()
+
+
+def decided_by(lived):
+    """What the plain scheduler says of workunits that are done or have failed: for each its name, the reason
+    or the canonical result, and the verdicts."""
+    machine, told = lived.service.machine, []
+    for unit in machine.places:
+        if unit.failed():
+            told.append((unit.name, unit.status, None, None, {}))
+        elif unit.status == "done":
+            good = [one for one in unit.judged if one.exit_status == 0]
+            best = plain.canonical(machine.rows["apps"][unit.app], unit, good)
+            verdicts = {one.name(): one.verdict for one in unit.instances if one.verdict is not None}
+            told.append((unit.name, None, best.name(), best.output, verdicts))
+    return told

@@ -1,0 +1,83 @@
+"""A small project for the tests, and the plain twin that serves it as a process of its own."""
+import json
+import os
+import sqlite3
+import subprocess
+import sys
+import urllib.request
+from pathlib import Path
+
+import plain_tables
+from plain_formats import KINDS
+
+TOOLS = Path(__file__).resolve().parent.parent
+BENCH = TOOLS.parent / "bench"
+KEY = "change-this-key"
+SETTINGS = {
+    "daily_result_quota": 100, "max_hosts": 100, "max_wus_in_progress": 8, "max_wus_to_send": 4,
+    "operator_key": KEY, "request_delay": 60, "resend_lost_results": True,
+}
+WORKUNITS = ",".join(KINDS["workunits"][0])
+LIMITS = "2,2,3,8,6,7200,3600000000000,1000,1000,5000"
+END = 10  # seconds
+
+
+def make_tables(path, units=20, users=4, settings=SETTINGS):
+    """A small project in a file."""
+    plain_tables.create(path, settings)
+    tables = plain_tables.Tables(path, synchronous="OFF")
+    service = plain_tables.Service(tables)
+    accounts = "".join(f"k{n},User {n}\n" for n in range(1, users + 1))
+    service.imported("accounts", "b1", f"authenticator,name\n{accounts}")
+    service.imported("apps", "b1", "name,agreement\ndock,exact\nfold,within:2\n")
+    service.imported("versions", "b1", "app,platform,version_num\ndock,linux,1\nfold,linux,2\n")
+    rows = "".join(f"w{n},dock,{LIMITS}\n" for n in range(1, units + 1))
+    service.imported("workunits", "b1", f"{WORKUNITS}\n{rows}")
+    tables.connection.close()
+    return path
+
+
+def request(user, seqno, host="h", **more):
+    """The body of a call."""
+    return json.dumps({
+        "authenticator": f"k{user}", "rpc_seqno": seqno, "platform_name": "linux",
+        "host_info": {"host_cpid": host, "p_fpops": 10**9, "m_nbytes": 10**9, "d_free": 10**9}, **more,
+    }).encode()
+
+
+class Twin:
+    """The plain twin, which serves tables as a process of its own."""
+
+    def __init__(self, path):
+        words = [sys.executable, str(BENCH / "plain_tables.py"), str(path), "0"]
+        self.process = subprocess.Popen(words, stdout=subprocess.PIPE, text=True)
+        self.port = int(self.process.stdout.readline())
+
+    def call(self, user, seqno, **more):
+        """The reply to a call."""
+        url = f"http://127.0.0.1:{self.port}/scheduler"
+        message = urllib.request.Request(url, request(user, seqno, **more))
+        with urllib.request.urlopen(message, timeout=END) as told:
+            return json.load(told)
+
+    def end(self):
+        """Kills it."""
+        self.process.kill()
+        self.process.communicate(timeout=END)
+
+
+def tools(*words, seconds=60):
+    """What the tools print, and their status."""
+    words = [sys.executable, "-m", "bsched_tools", *map(str, words)]
+    own = {"PYTHONPATH": str(TOOLS), "PYTHONDONTWRITEBYTECODE": "1"}
+    told = subprocess.run(words, capture_output=True, text=True, timeout=seconds, env={**os.environ, **own})
+    return told.returncode, told.stdout, told.stderr
+
+
+def rows_of(path, query):
+    """The rows of a query over a file."""
+    connection = sqlite3.connect(path)
+    try:
+        return connection.execute(query).fetchall()
+    finally:
+        connection.close()

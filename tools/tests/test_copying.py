@@ -1,0 +1,401 @@
+"""Copies: each is a stop at one moment, and the process that serves goes on in every case."""
+import fcntl
+import os
+import random
+import signal
+import sqlite3
+import subprocess
+import sys
+import threading
+import time
+
+import pytest
+from small_project import END, TOOLS, Twin, make_tables, rows_of, tools
+
+from bsched_tools import copies as copies_module
+from bsched_tools import copying, holders, stopping, taking
+from bsched_tools.faults import Fault
+
+SEQNOS = """
+SELECT auth, max(seqno)
+FROM kept4 JOIN host ON host.id = host_id JOIN account ON account.id = account_id GROUP BY auth
+"""
+
+
+def state_of(pid):
+    """The state of a process."""
+    with open(f"/proc/{pid}/stat") as file:
+        return file.read().rpartition(")")[2].split()[0]
+
+
+def goes_on(twin):
+    """Whether a process goes on, at the latest after a second."""
+    ends = time.monotonic() + 1
+    while state_of(twin.process.pid) == "T" and time.monotonic() < ends:
+        time.sleep(0.005)
+    return state_of(twin.process.pid) != "T"
+
+
+def counted_parts(monkeypatch):
+    """The files that are copied as a whole, one for each time."""
+    parts, copy_bytes = [], taking.copy_bytes
+    monkeypatch.setattr(taking, "copy_bytes", lambda *files: (parts.append(files), copy_bytes(*files)))
+    return parts
+
+
+class Load:
+    """Clients that call all the time."""
+
+    def __init__(self, twin, users=3):
+        self.twin, self.told, self.is_over = twin, dict.fromkeys(range(1, users + 1), 0), False
+        self.threads = [threading.Thread(target=self.live, args=(user,), daemon=True) for user in self.told]
+        for thread in self.threads:
+            thread.start()
+
+    def live(self, user):
+        seqno = 0
+        while not self.is_over:
+            seqno += 1
+            self.twin.call(user, seqno)
+            self.told[user] = seqno
+
+    def end(self):
+        self.is_over = True
+        for thread in self.threads:
+            thread.join(END)
+            assert not thread.is_alive()
+
+
+def test_copies_under_load_have_what_was_answered(project, twin, copies):
+    load = Load(twin)
+    try:
+        for _ in range(15):
+            answered = dict(load.told)
+            copied = copying.copy_tables(project, copies)
+            sent = {user: seqno + 1 for user, seqno in load.told.items()}
+            heard = {int(auth[1:]): seqno for auth, seqno in rows_of(copied.path, SEQNOS)}
+            for user, seqno in answered.items():
+                assert seqno <= heard.get(user, 0) <= sent[user]
+            assert copied.still_seconds < 1
+            assert goes_on(twin)
+    finally:
+        load.end()
+    assert len(list(copies.iterdir())) == 15  # no log, and nothing else, is left beside the copies
+
+
+def test_a_file_that_was_not_written_for_long_is_copied_before_the_stop(project, twin, copies, monkeypatch):
+    twin.call(1, 1)
+    monkeypatch.setattr(taking, "SETTLED_SECONDS", 0.05)
+    time.sleep(0.1)
+    parts = counted_parts(monkeypatch)
+    first = copying.copy_tables(project, copies)
+    assert len(parts) == 1
+    twin.call(1, 2)
+    second = copying.copy_tables(project, copies)
+    assert [dict(rows_of(copied.path, SEQNOS))["k1"] for copied in (first, second)] == [1, 2]
+
+
+def test_a_file_that_is_written_after_the_early_copy_is_copied_again(project, twin, copies, monkeypatch):
+    monkeypatch.setattr(taking, "SETTLED_SECONDS", 0.0)
+    early = taking.Work.copy_early
+
+    def written_afterwards(work, descriptor):
+        mark = early(work, descriptor)
+        os.utime(project)
+        return mark
+
+    monkeypatch.setattr(taking.Work, "copy_early", written_afterwards)
+    parts = counted_parts(monkeypatch)
+    copying.copy_tables(project, copies)
+    assert len(parts) == 2
+
+
+def killed_after(seconds, project, copies):
+    """Begins a copy, and kills it after some time."""
+    words = [sys.executable, "-m", "bsched_tools", "copy", "--tables", str(project), "--to", str(copies)]
+    path = {"PYTHONPATH": str(TOOLS)}
+    with subprocess.Popen(words, env=path, stdout=subprocess.DEVNULL) as copier:
+        time.sleep(seconds)
+        copier.kill()
+
+
+def test_serving_goes_on_where_the_tool_is_killed(project, twin, copies):
+    chance = random.Random(1)
+    for number in range(25):
+        killed_after(chance.uniform(0.05, 0.25), project, copies)
+        assert goes_on(twin)
+        assert twin.call(1, number + 1)["rpc_seqno"] == number + 1
+
+
+def test_serving_goes_on_where_the_tool_is_killed_while_it_stands_still(project, twin):
+    """The parent is killed within the stop: its child continues the process."""
+    script = (
+        "import sys, time; from bsched_tools import stopping\n"
+        f"with stopping.process_of({twin.process.pid}) as process, stopping.stopped(process):\n"
+        "    print('still', flush=True); time.sleep(60)\n"
+    )
+    for end in (signal.SIGKILL, signal.SIGTERM, signal.SIGINT):
+        words = [sys.executable, "-c", script]
+        pipes = {"stdout": subprocess.PIPE, "stderr": subprocess.DEVNULL}
+        with subprocess.Popen(words, env={"PYTHONPATH": str(TOOLS)}, **pipes) as stopper:
+            assert stopper.stdout.readline() == b"still\n"
+            assert state_of(twin.process.pid) == "T"
+            stopper.send_signal(end)
+            stopper.wait(END)
+        assert goes_on(twin)
+
+
+def test_no_process_stands_still_beyond_the_limit(twin, monkeypatch):
+    monkeypatch.setattr(stopping, "STILL_SECONDS", 0.2)
+    with pytest.raises(Fault, match="within 0 seconds"), stopping.process_of(twin.process.pid) as process:
+        with stopping.stopped(process):
+            time.sleep(0.5)
+            assert state_of(twin.process.pid) != "T"
+    assert goes_on(twin)
+
+
+def test_a_process_that_ran_meanwhile_voids_the_copy(twin):
+    with pytest.raises(stopping.Retry, match="went on"), stopping.process_of(twin.process.pid) as process:
+        with stopping.stopped(process):
+            os.kill(twin.process.pid, signal.SIGCONT)
+            time.sleep(0.05)
+            os.kill(twin.process.pid, signal.SIGSTOP)
+            time.sleep(0.05)
+    assert goes_on(twin)
+
+
+def test_a_process_that_does_not_stop_goes_on(project, twin, copies, monkeypatch):
+    monkeypatch.setattr(stopping, "STOP_SECONDS", -1)
+    monkeypatch.setattr(stopping, "is_still", lambda _states: False)
+    with pytest.raises(Fault, match="did not stop within a second, and was continued"):
+        copying.copy_tables(project, copies)
+    assert goes_on(twin)
+    assert list(copies.iterdir()) == []
+
+
+LIKE_THE_PROGRAM = """
+import sys, time
+from bsched_tools import taking
+files = [open(path, "rb+") for path in sys.argv[1:]]
+assert all(taking.lock(file.fileno()) for file in files)
+print("locked", flush=True)
+time.sleep(60)
+"""
+
+
+def test_locks_of_open_files(project, copies):
+    """bsched locks the file and its log by locks of the kind that names no process."""
+    log = project.with_name("project.db-wal")
+    log.write_bytes(b"")
+    words = [sys.executable, "-c", LIKE_THE_PROGRAM, str(project), str(log)]
+    with subprocess.Popen(words, env={"PYTHONPATH": str(TOOLS)}, stdout=subprocess.PIPE) as holder:
+        try:
+            assert holder.stdout.readline() == b"locked\n"
+            identity = holders.identity_of(project)
+            assert holders.holder_among(holders.all_open_files(identity)).pid == holder.pid
+            assert copying.copy_tables(project, copies).still_seconds is not None
+        finally:
+            holder.kill()
+
+
+def test_a_process_that_stood_still_before_goes_on_too(project, twin, copies):
+    """So a copy mends what a killed tool left whose child was killed with it."""
+    os.kill(twin.process.pid, signal.SIGSTOP)
+    copied = copying.copy_tables(project, copies)
+    assert copied.still_seconds is not None and goes_on(twin)
+
+
+def test_a_copy_has_the_owner_of_the_tables(project, copies):
+    try:
+        os.chown(project, 1234, 1235)
+    except PermissionError:
+        pytest.skip("no owner may be set")
+    found = copying.copy_tables(project, copies).path.stat()
+    assert (found.st_uid, found.st_gid) == (1234, 1235)
+
+
+def test_tables_that_nobody_has(project, copies):
+    copied = copying.copy_tables(project, copies)
+    assert copied.still_seconds is None
+    assert rows_of(copied.path, "SELECT count(*) FROM unit") == [(20,)]
+    assert copied.path.stat().st_mode & 0o777 == 0o600
+
+
+def test_nobody_begins_while_a_copy_is_made(project, copies, monkeypatch):
+    rest, tried = taking.Work.copy_rest, []
+
+    def tries_to_begin(work, *words):
+        with pytest.raises(sqlite3.OperationalError, match="locked"):
+            sqlite3.connect(project, timeout=0).execute("UPDATE setting SET value = 1")
+        with open(project, "rb+") as file:  # as bsched does
+            assert not taking.lock(file.fileno())
+        tried.append(True)
+        return rest(work, *words)
+
+    monkeypatch.setattr(taking.Work, "copy_rest", tries_to_begin)
+    copying.copy_tables(project, copies)
+    assert tried
+    Twin(project).end()
+
+
+def test_a_reader_is_named(project, copies, monkeypatch):
+    monkeypatch.setattr(taking, "SEEK_SECONDS", 0)
+    reads = "c.execute('SELECT * FROM unit')"
+    script = f"import sqlite3; c = sqlite3.connect({str(project)!r}); {reads}; input()"
+    with subprocess.Popen([sys.executable, "-c", script], stdin=subprocess.PIPE) as reader:
+        ends = time.monotonic() + END
+        while not any(one.lock for one in holders.all_open_files(holders.identity_of(project))):
+            assert time.monotonic() < ends
+        with pytest.raises(Fault, match=rf"process {reader.pid} \(\w+\S*\) reads it: end that first"):
+            copying.copy_tables(project, copies)
+        reader.stdin.close()
+
+
+def test_the_process_is_found_by_the_file_and_not_by_its_name(project, twin, copies, tmp_path):
+    os.rename(project, tmp_path / "other.db")
+    os.rename(f"{project}-wal", tmp_path / "other.db-wal")
+    os.symlink("other.db", tmp_path / "link.db")
+    copied = copying.copy_tables(tmp_path / "link.db", copies)
+    assert copied.still_seconds is not None
+    assert copied.path.name.startswith("other-")
+
+
+def test_another_log_in_the_place_of_the_one_that_is_written(project, twin, copies, monkeypatch):
+    monkeypatch.setattr(taking, "SEEK_SECONDS", 0)
+    os.remove(f"{project}-wal")
+    (project.parent / "project.db-wal").write_bytes(b"")
+    with pytest.raises(Fault, match="project.db-wal is not the log that process"):
+        copying.copy_tables(project, copies)
+    assert goes_on(twin)
+
+
+def test_copies_of_the_same_tables_take_turns(project, copies, monkeypatch):
+    monkeypatch.setattr(copying, "TURN_SECONDS", 0)
+    with open(project) as file:
+        fcntl.flock(file, fcntl.LOCK_EX)
+        with pytest.raises(Fault, match="another copy is being made"):
+            copying.copy_tables(project, copies)
+
+
+def test_keep_removes_older_copies_of_the_project_alone(project, copies, tmp_path):
+    (tmp_path / "else").mkdir()
+    other = make_tables(tmp_path / "else" / "project.db", units=3)
+    of_other = copying.copy_tables(other, copies).path
+    spoiled = copies / "project-20200101T000000.000Z.db"
+    spoiled.write_bytes(b"nothing")
+    paths = [copying.copy_tables(project, copies).path for _ in range(4)]
+    copied = copying.copy_tables(project, copies, keep=2)
+    assert copied.removed == paths[2::-1]
+    assert sorted(copies.iterdir()) == sorted([spoiled, of_other, paths[3], copied.path])
+
+
+def test_the_newest_good_copy_is_never_removed(project, copies):
+    first = copying.copy_tables(project, copies, keep=1)
+    later = copies / "project-29990101T000000.000Z.db"  # as a clock that was wrong named it
+    os.rename(first.path, later)
+    second = copying.copy_tables(project, copies, keep=1)
+    assert second.removed == [later] and second.path.exists()
+
+
+def test_a_bad_copy_removes_nothing_and_gets_no_name(project, copies):
+    first = copying.copy_tables(project, copies).path
+    with pytest.raises(Fault, match="the copy was not good, and is not kept"):
+        copying.copy_tables(project, copies, keep=1, program="/bin/false")
+    assert list(copies.iterdir()) == [first]
+
+
+@pytest.mark.parametrize("told, status, is_good", [
+    ('{"error":"no_such_host","number":19}', 1, True),
+    ("result,app\n", 0, True),
+    ("", 1, False),
+    ("{}", 0, False),
+])
+def test_the_program_opens_the_copy(project, copies, tmp_path, told, status, is_good):
+    program = tmp_path / "program"
+    words = 'test "$1 $2 $4 $5" = "statement --tables --host 1" || exit 3'
+    program.write_text(f"#!/bin/sh\n{words}\ntouch $3-wal\nprintf '%s' '{told}'\nexit {status}\n")
+    program.chmod(0o755)
+    if is_good:
+        copied = copying.copy_tables(project, copies, program=program)
+        assert list(copies.iterdir()) == [copied.path]
+    else:
+        with pytest.raises(Fault, match="does not take it"):
+            copying.copy_tables(project, copies, program=program)
+
+
+def test_a_name_is_never_used_twice(project, copies):
+    target = copies / "copy.db"
+    copying.copy_tables(project, target)
+    with pytest.raises(Fault, match="copy.db: it exists"):
+        copying.copy_tables(project, target)
+    target.unlink()
+    (copies / "copy.db-wal").write_bytes(b"of another copy")
+    with pytest.raises(Fault, match="copy.db-wal: it exists"):
+        copying.copy_tables(project, target)
+
+
+def test_what_a_killed_copy_left_is_cleared(project, copies):
+    left, fresh = copies / ".bsched-copy-left", copies / ".bsched-copy-fresh"
+    for folder in (left, fresh):
+        folder.mkdir()
+        (folder / "copy.db").write_bytes(b"half")
+    os.utime(left, (0, 0))
+    copying.copy_tables(project, copies)
+    assert not left.exists() and fresh.exists()
+
+
+@pytest.fixture
+def small_disk(tmp_path):
+    """A file system with little room."""
+    folder = tmp_path / "small"
+    folder.mkdir()
+    words = ["mount", "-t", "tmpfs", "-o", "size=64k", "tmpfs", str(folder)]
+    if subprocess.run(words, capture_output=True).returncode:
+        pytest.skip("no file system may be mounted")
+    yield folder
+    subprocess.run(["umount", folder], check=True)
+
+
+def test_a_full_disk(project, twin, small_disk):
+    status, told, fault = tools("copy", "--tables", project, "--to", small_disk)
+    assert (status, told) == (1, "")
+    assert fault == f"bsched-tools: {small_disk}: No space left on device\n"
+    assert goes_on(twin) and list(small_disk.iterdir()) == []
+
+
+def test_tables_of_another_program(tmp_path, copies):
+    other = tmp_path / "other.db"
+    connection = sqlite3.connect(other)
+    connection.execute("CREATE TABLE message (text TEXT)")
+    connection.close()
+    for path, told in (
+        (other, "it has no tables of bsched"),
+        (tmp_path / "none.db", "no such file"),
+        (tmp_path, "it is no file"),
+    ):
+        with pytest.raises(Fault, match=told):
+            copying.copy_tables(path, copies)
+    assert list(copies.iterdir()) == []
+
+
+def test_a_journal_that_sqlite_left(project, copies):
+    project.with_name("project.db-journal").write_bytes(b"\xd9")
+    with pytest.raises(Fault, match="project.db-journal is left of SQLite"):
+        copying.copy_tables(project, copies)
+
+
+def test_the_command_line(project, copies):
+    status, told, fault = tools("copy", "--tables", project, "--to", copies, "--keep", "1")
+    assert (status, fault) == (0, "")
+    assert told.endswith(" bytes, nobody had the tables\n")
+    for words in (["copy"], [], ["copy", "--tables", project, "--to", copies, "--keep", "0"], ["cop"]):
+        status, told, fault = tools(*words)
+        assert (status, told) == (64, "") and "bsched-tools: " in fault
+    assert tools("copy", "--tables", project, "--to", copies / "none" / "x")[0] == 1
+    assert tools("copy", "--tables", project, "--to", copies / "x.db", "--keep", "1")[0] == 1
+
+
+def test_names_of_copies_are_in_the_order_of_time(project):
+    source = taking.source_of(project)
+    names = [copies_module.copy_name(source, moment) for moment in (0.0, 1.0011, 86400.5, 1.8e9)]
+    assert names == sorted(names) and names[1] == "project-19700101T000001.001Z.db"

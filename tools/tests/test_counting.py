@@ -1,0 +1,105 @@
+"""Counts agree with the plain scheduler."""
+import json
+import os
+import re
+
+from hypothesis import given, settings, strategies
+from lives import Stored, life_of, stored_life
+from small_project import make_tables, rows_of, tools
+
+from bsched_tools import copying, counts
+
+STATUSES = {
+    "open": "open", "done": "done", "errors": "failed by errors", "success": "failed by successes",
+    "total": "failed by the total",
+}
+SAMPLE = re.compile(r'bsched_[a-z_]+(\{[a-z]+="[a-z_]+"\})? [0-9.]+')
+
+
+@settings(max_examples=8, deadline=None, database=None)
+@given(seed=strategies.integers(0, 2**32))
+def test_counts_are_those_of_the_plain_scheduler(tmp_path_factory, seed):
+    lived = life_of(seed)
+    path = stored_life(lived, tmp_path_factory.mktemp("life") / "project.db")
+    os.utime(path, (lived.now, lived.now))
+    machine = lived.service.machine
+    told = counts.counted([path])
+    units = machine.places
+    every = [one for unit in units for one in unit.instances]
+    held = [one for one in every if one.held()]
+    assert told.moment == lived.now
+    assert told.workunits == {
+        name: sum(unit.status == status for unit in units) for status, name in STATUSES.items()
+    }
+    assert told.instances == {
+        "all": len(every),
+        "waiting": sum(one.unit.status == "open" and one.host is None for one in every),
+        "held": len(held),
+        "late": sum(one.deadline < lived.now for one in held),
+        "reported": sum(one.exit_status is not None for one in every),
+        "lapsed": sum(one.lapse is not None and one.exit_status is None for one in every),
+    }
+    lately = {one.host for one in every if one.host is not None and one.sent >= lived.now - 86400}
+    assert told.people == {
+        "hosts": len(machine.hosts), "users": len(machine.rows["accounts"]),
+        "hosts with a job of the last day": len(lately),
+        "users with a job of the last day": len({host.account for host in lately}),
+    }
+    assert told.millicredits == sum(host.credit for host in machine.hosts.values())
+    limits = {name: (limit.used, limit.most) for name, limit in told.limits.items()}
+    assert limits == {
+        "accounts": (len(machine.rows["accounts"]), 10_000), "apps": (3, 100), "versions": (8, 1_000),
+        "workunits": (len(units), 200_000), "hosts": (len(machine.hosts), 100),
+    }
+
+
+def test_who_called_in_the_last_day(project, twin, copies):
+    twin.call(1, 1)
+    twin.call(2, 1)
+    older = copying.copy_tables(project, copies).path
+    os.rename(older, copies / "project-20200101T000000.000Z.db")
+    twin.call(2, 2)
+    twin.call(3, 1)
+    twin.call(3, 1, host="other")
+    copying.copy_tables(project, copies)
+    told = counts.counted([copies]).people
+    assert told["hosts that called in the last day"] == 3
+    assert told["users that called in the last day"] == 2
+    assert told["hosts"] == 4
+
+
+def test_several_files_have_each_user_and_host_once(tmp_path):
+    first = Stored(tmp_path / "1.db")
+    first.answer(life_of(5).lines)
+    second = tmp_path / "2.db"
+    first.copy(second)
+    first = first.close()
+    alone, both = counts.counted([first]), counts.counted([first, second])
+    assert both.people == alone.people
+    assert both.millicredits == 2 * alone.millicredits
+    assert both.workunits["done"] == 2 * alone.workunits["done"]
+    assert both.limits == alone.limits
+
+
+def test_the_forms(tmp_path):
+    path = make_tables(tmp_path / "project.db")
+    status, told, fault = tools("counts", "--tables", path, "--json")
+    assert (status, fault) == (0, "")
+    said = json.loads(told)
+    assert said["schema"] == 3 and said["instances"]["waiting"] == 40
+    assert said["limits"]["workunits"] == {"used": 20, "most": 200_000}
+    status, told, _ = tools("counts", "--tables", path, "--prometheus")
+    lines = told.splitlines()
+    assert status == 0 and 'bsched_workunits{status="open"} 20' in lines
+    assert all(line.startswith("# ") or SAMPLE.fullmatch(line) for line in lines)
+    status, told, _ = tools("counts", "--tables", path)
+    assert status == 0 and re.search(r"^room for workunits +20 of 200000 \(0 %\)$", told, re.MULTILINE)
+    assert tools("counts", "--tables", path, "--json", "--prometheus")[0] == 64
+
+
+def test_nothing_in_the_tables_changes(tmp_path):
+    path = make_tables(tmp_path / "project.db")
+    before = path.read_bytes()
+    assert tools("counts", "--tables", path)[0] == 0
+    assert path.read_bytes() == before and [one.name for one in tmp_path.iterdir()] == ["project.db"]
+    assert rows_of(path, "SELECT count(*) FROM unit") == [(20,)]

@@ -1,0 +1,215 @@
+"""The page says what the tables have, and the history grows by a line with each report."""
+import json
+import os
+import re
+from html.parser import HTMLParser
+
+import plain_tables
+import pytest
+from lives import Stored, life_of
+from small_project import LIMITS, SETTINGS, WORKUNITS, make_tables, request, tools
+
+from bsched_tools import history, page
+from bsched_tools.counts import counted
+from bsched_tools.faults import Fault
+
+VOID = {"meta", "br"}
+
+
+class Read(HTMLParser):
+    """Reads a page: each element must end, and the cells of each table are kept."""
+
+    def __init__(self, text):
+        super().__init__()
+        self.open, self.tags, self.tables, self.cell = [], [], [], None
+        self.feed(text)
+        self.close()
+        assert self.open == []
+
+    def handle_starttag(self, tag, attrs):
+        self.tags.append((tag, dict(attrs)))
+        if tag not in VOID:
+            self.open.append(tag)
+        if tag == "table":
+            self.tables.append([])
+        if tag == "tr":
+            self.tables[-1].append([])
+        if tag in ("td", "th"):
+            self.cell = ""
+
+    def handle_startendtag(self, tag, attrs):
+        self.tags.append((tag, dict(attrs)))
+
+    def handle_endtag(self, tag):
+        assert self.open.pop() == tag
+        if tag in ("td", "th"):
+            self.tables[-1][-1].append(self.cell)
+            self.cell = None
+
+    def handle_data(self, data):
+        if self.cell is not None:
+            self.cell += data
+
+    def rows(self, header):
+        """The rows of the table that begins with a header."""
+        found, = [table[1:] for table in self.tables if table[0][:len(header)] == list(header)]
+        return found
+
+
+@pytest.fixture
+def folder(tmp_path):
+    """The folder of the page."""
+    made = tmp_path / "page"
+    made.mkdir()
+    return made
+
+
+def reported(path, folder, moment=None):
+    """The page of a copy."""
+    if moment is not None:
+        os.utime(path, (moment, moment))
+    return Read(page.write_report(path, folder).read_text())
+
+
+def lived_in_parts(tmp_path, folder, parts=4):
+    """Reports over a life; the last one."""
+    lived = life_of(21, calls=600)
+    stored, size = Stored(tmp_path / "project.db"), len(lived.lines) // parts + 1
+    for part in range(parts):
+        stored.answer(lived.lines[part * size:][:size])
+        moment = lived.now - (parts - part - 1) * 40_000
+        copy = stored.copy(tmp_path / f"{part}.db")
+        read = reported(copy, folder, moment)
+    stored.close()
+    return lived, copy, read
+
+
+def test_the_page_has_the_counts(tmp_path, folder):
+    lived, copy, read = lived_in_parts(tmp_path, folder)
+    counts = counted([copy])
+    rows = {row[0]: int(row[1]) for row in read.rows(("what", "number"))}
+    assert rows["workunits done"] == counts.workunits["done"] > 0
+    assert rows["instances waiting"] == counts.instances["waiting"]
+    assert rows["hosts"] == len(lived.service.machine.hosts)
+    users = {row[0]: row[1] for row in read.rows(("user", "credit", "hosts"))}
+    accounts = lived.service.machine.rows["accounts"].values()
+    wanted = {one.name: sum(host.credit for host in one.hosts) for one in accounts if one.hosts}
+    assert users == {name: f"{credit // 1000}.{credit % 1000:03}" for name, credit in wanted.items()}
+
+
+def test_hosts_with_errors(tmp_path, folder):
+    lived, _, read = lived_in_parts(tmp_path, folder)
+    wanted = {}
+    for unit in lived.service.machine.places:
+        for one in unit.instances:
+            if one.host is not None:
+                counted_of = wanted.setdefault(str(one.host.number), [0, 0, 0])
+                counted_of[0] += one.exit_status not in (None, 0)
+                counted_of[1] += one.verdict is False
+                counted_of[2] += one.lapse == "late"
+    rows = {row[0]: [int(cell) for cell in row[2:5]] for row in read.rows(("host", "user", "errors"))}
+    failed = [host for host in wanted if sum(wanted[host])]
+    worst = sorted(failed, key=lambda host: (-sum(wanted[host]), int(host)))
+    assert rows == {host: wanted[host] for host in worst[:20]} and list(rows) == worst[:20]
+
+
+def test_each_plot_has_a_text_and_a_table(tmp_path, folder):
+    _, _, read = lived_in_parts(tmp_path, folder)
+    plots = [attrs for tag, attrs in read.tags if tag == "svg"]
+    assert len(plots) == 7
+    assert all(plot["role"] == "img" and len(plot["aria-label"]) > 20 and "viewbox" in plot for plot in plots)
+    names = [tag for tag, _ in read.tags]
+    assert names.count("details") == len(plots) and names.count("figure") == len(plots)
+    assert "script" not in names
+    metas = [attrs for tag, attrs in read.tags if tag == "meta"]
+    assert {"name": "viewport", "content": "width=device-width, initial-scale=1"} in metas
+    ids = [attrs["id"] for _, attrs in read.tags if "id" in attrs]
+    used = set(re.findall(r"url\(#([^)]*)\)", (folder / "index.html").read_text()))
+    assert used <= set(ids)
+
+
+def test_the_history(tmp_path, folder):
+    _, copy, _ = lived_in_parts(tmp_path, folder)
+    path = folder / "history.jsonl"
+    before = path.read_text()
+    entries = [json.loads(line) for line in before.splitlines()]
+    assert len(entries) == 4
+    assert sorted(entries, key=lambda one: one["moment"]) == entries
+    assert sum(sum(one["turnaround"]) for one in entries) > 10
+    reported(copy, folder)
+    assert path.read_text() == before
+    path.write_text(before + '{"moment": 5')
+    os.utime(copy, (2**31, 2**31))
+    reported(copy, folder)
+    lines = path.read_text().splitlines()
+    assert len(lines) == 6 and json.loads(lines[-1])["moment"] == 2**31
+    assert len(history.History(folder).entries) == 5
+
+
+def test_turnaround_is_at_most_what_it_is_said(tmp_path, folder):
+    path = tmp_path / "project.db"
+    make_tables(path, units=4)
+
+    def run(now, call):
+        tables = plain_tables.Tables(path, synchronous="OFF")
+        plain_tables.Service(tables).scheduler(call, now)
+        tables.connection.close()
+        reported(path, folder, now + 60)
+        return json.loads((folder / "history.jsonl").read_text().splitlines()[-1])["turnaround"]
+
+    done = [{"name": "w1_0", "exit_status": 0, "output": "42"}]
+    assert sum(run(10_000, request(1, 1, work_req_seconds=1))) == 0
+    assert run(13_000, request(1, 2, results=done)) == [1, 0, 0, 0, 0, 0, 0]  # after 3,060 seconds at most
+    assert sum(run(13_200, request(1, 3))) == 0
+
+
+def test_names_are_text(tmp_path, folder):
+    path = tmp_path / "project.db"
+    plain_tables.create(path, SETTINGS)
+    tables = plain_tables.Tables(path)
+    service = plain_tables.Service(tables)
+    name = "<script>alert(1)</script> & $x^2$ \x07 \u202e"
+    service.imported("accounts", "b", f'authenticator,name\nk1,"{name}"\n')
+    service.imported("apps", "b", "name,agreement\ndock,exact\n")
+    service.imported("versions", "b", "app,platform,version_num\ndock,linux,1\n")
+    service.imported("workunits", "b", f"{WORKUNITS}\nw1,dock,1,1,{LIMITS.partition(',2,')[2]}\n")
+    service.scheduler(request(1, 1, work_req_seconds=1), 1000)
+    service.scheduler(request(1, 2, results=[{"name": "w1_0", "exit_status": 0, "output": "1"}]), 1001)
+    tables.connection.close()
+    read = reported(path, folder)
+    assert "script" not in [tag for tag, _ in read.tags]
+    assert read.rows(("user", "credit"))[0][0] == name.replace("\x07", "\ufffd")
+
+
+def test_marked_workunits_that_wait_for_good(tmp_path, folder):
+    path = make_tables(tmp_path / "project.db")
+    tables = plain_tables.Tables(path)
+    service = plain_tables.Service(tables)
+    service.imported("workunits", "b2", f"{WORKUNITS},marked\nm1,dock,{LIMITS},1\nm2,dock,{LIMITS},1\n")
+    units = [row[0] for row in tables.connection.execute("SELECT id FROM unit WHERE name = 'm1'")]
+    tables.put([("unit_mark", (units[0], 1, "old"))])
+    tables.connection.close()
+    read = reported(path, folder)
+    assert read.rows(("class", "open workunits")) == [["none yet", "1", "2"], ["old", "1", "2"]]
+    assert read.rows(("workunit", "class")) == [["m1", "old"]]
+
+
+def test_no_half_page(tmp_path, folder, monkeypatch):
+    path = make_tables(tmp_path / "project.db")
+    reported(path, folder)
+    before = (folder / "index.html").read_bytes()
+
+    def full(*_words):
+        raise Fault("index.html: No space left on device")
+
+    monkeypatch.setattr(page, "replace_file", full)
+    with pytest.raises(Fault, match="No space"):
+        reported(path, folder)
+    assert (folder / "index.html").read_bytes() == before
+
+
+def test_the_command_line(tmp_path, folder):
+    path = make_tables(tmp_path / "project.db")
+    assert tools("report", "--tables", path, "--to", folder) == (0, f"{folder}/index.html\n", "")
+    assert tools("report", "--tables", path, "--to", folder / "none")[0] == 1
+    assert tools("report", "--tables", path)[0] == 64

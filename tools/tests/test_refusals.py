@@ -1,0 +1,104 @@
+"""Each command refuses what is no copy of the tables, and a full disk, in one line."""
+import sqlite3
+import subprocess
+import sys
+
+import plain_tables
+import pytest
+from small_project import TOOLS, make_tables, tools
+
+COMMANDS = {
+    "results": [], "counts": [], "statistics": ["--to", "DIR"], "report": ["--to", "DIR"],
+}
+
+
+def other_program(path, _good):
+    connection = sqlite3.connect(path)
+    connection.execute("CREATE TABLE message (text TEXT)")
+    connection.close()
+
+
+def cut_off(path, good):
+    path.write_bytes(good.read_bytes()[:-4096])
+
+
+def cut_in_a_page(path, good):
+    path.write_bytes(good.read_bytes()[:-100])
+
+
+def spoiled(path, good):
+    told = bytearray(good.read_bytes())
+    told[4096:] = b"\xa5" * (len(told) - 4096)
+    path.write_bytes(told)
+
+
+def older(path, good):
+    plain_tables.make_former(str(path), str(good))
+
+
+def second(path, good):
+    plain_tables.make_former(str(path), str(good))
+    plain_tables.upgrade(path, 2)
+
+
+def newer(path, good):
+    path.write_bytes(good.read_bytes())
+    connection = sqlite3.connect(path)
+    connection.execute("CREATE TABLE further (id INTEGER PRIMARY KEY) STRICT")
+    connection.execute("UPDATE setting SET value = 4 WHERE name = 'schema'")
+    connection.commit()
+    connection.close()
+
+
+def changed(path, good):
+    path.write_bytes(good.read_bytes())
+    connection = sqlite3.connect(path)
+    connection.execute("DROP INDEX instance_sent")
+    connection.close()
+
+
+FILES = [
+    (lambda path, _good: None, "No such file or directory"),
+    (lambda path, _good: path.write_bytes(b""), "it is empty, and no database"),
+    (lambda path, _good: path.write_text("name,app\n" * 100), "it is no database of SQLite"),
+    (lambda path, _good: path.mkdir(), "there is no copy in this folder"),
+    (other_program, "it has no tables of bsched"),
+    (cut_off, "it is cut off: it has"),
+    (cut_in_a_page, "it is cut off: it has"),
+    (spoiled, "it is spoiled or cut off"),
+    (older, "its tables are of schema 1, an older one"),
+    (second, "its tables are of schema 2, an older one"),
+    (newer, "its tables are of schema 4, a newer one"),
+    (changed, "its tables are none of bsched's"),
+]
+
+
+@pytest.mark.parametrize("command", COMMANDS)
+@pytest.mark.parametrize("make, wanted", FILES, ids=[wanted for _, wanted in FILES])
+def test_what_is_no_copy(tmp_path, command, make, wanted):
+    good = make_tables(tmp_path / "good.db")
+    path = tmp_path / "copy.db"
+    make(path, good)
+    words = [str(word).replace("DIR", str(tmp_path)) for word in COMMANDS[command]]
+    status, told, fault = tools(command, "--tables", path, *words)
+    assert (status, told) == (1, "")
+    assert fault.startswith(f"bsched-tools: {path}: {wanted}") and fault.count("\n") == 1
+
+
+@pytest.mark.parametrize("command", COMMANDS)
+def test_tables_that_a_program_serves(project, twin, tmp_path, command):
+    words = [str(word).replace("DIR", str(tmp_path)) for word in COMMANDS[command]]
+    status, told, fault = tools(command, "--tables", project, *words)
+    assert (status, told) == (1, "")
+    wanted = f"a program has it: run `bsched-tools copy --tables {project} --to FOLDER`, and read the copy"
+    assert fault == f"bsched-tools: {project}: {wanted}\n"
+    assert twin.call(1, 1)["hostid"] == 1
+
+
+@pytest.mark.parametrize("command", ["results", "counts"])
+def test_a_full_output(project, command):
+    words = [sys.executable, "-m", "bsched_tools", command, "--tables", str(project)]
+    path = {"PYTHONPATH": str(TOOLS)}
+    with open("/dev/full", "w") as full:
+        told = subprocess.run(words, stdout=full, stderr=subprocess.PIPE, text=True, env=path)
+    assert (told.returncode, told.stderr) == (1, "bsched-tools: standard output: No space left on device\n")

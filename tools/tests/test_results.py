@@ -1,0 +1,224 @@
+"""Results agree with the plain scheduler, and with a cursor each comes once."""
+import csv
+import io
+import json
+
+import pytest
+from hypothesis import given, settings, strategies
+from lives import Stored, decided_by, life_of, stored_life
+from small_project import TOOLS, WORKUNITS, tools
+from small_project import rows_of as stored_rows
+
+from bsched_tools import results, tables, workunits
+from bsched_tools.faults import Fault
+
+NOW, NEXT = "1970-01-01T00:16:40Z", "\n"
+REASONS = {"errors": "errors", "success": "successes", "total": "total"}
+
+
+def rows_of(*paths, **more):
+    """The rows of comma-separated results."""
+    file = io.StringIO()
+    results.write_results(paths, file=file, **more)
+    return list(csv.DictReader(io.StringIO(file.getvalue())))
+
+
+def verdicts_of(unit):
+    """The verdict of each result of a workunit."""
+    return {one.name: one.is_valid for one in unit.results}
+
+
+def lines_of(*paths, **more):
+    """The lines of results as JSON."""
+    file = io.StringIO()
+    results.write_results(paths, as_json=True, file=file, **more)
+    return [json.loads(line) for line in file.getvalue().splitlines()]
+
+
+@settings(max_examples=10, deadline=None, database=None)
+@given(seed=strategies.integers(0, 2**32))
+def test_results_are_those_of_the_plain_scheduler(tmp_path_factory, seed):
+    lived = life_of(seed)
+    path = stored_life(lived, tmp_path_factory.mktemp("life") / "project.db")
+    with tables.opened(path) as opened:
+        told = [
+            (unit.name, unit.reason, unit.canonical, unit.output, verdicts_of(unit))
+            for unit in workunits.decided(opened)
+        ]
+    wanted = [(name, reason and REASONS[reason], *more) for name, reason, *more in decided_by(lived)]
+    assert told == wanted
+    assert len(wanted) > 10
+
+
+def test_both_forms_have_the_hosts_users_and_credits_of_the_plain_scheduler(tmp_path):
+    lived = life_of(7, calls=600)
+    path = stored_life(lived, tmp_path / "project.db")
+    machine = lived.service.machine
+    units = machine.rows["workunits"]
+    wanted = {
+        one.name(): (unit.app, unit.credit, one.host.number, one.host.account.name, one.verdict)
+        for unit in units.values() for one in unit.instances if one.verdict is not None
+    }
+    rows = [row for row in rows_of(path) if row["status"] == "done"]
+    assert wanted == {
+        row["result"]: (
+            row["app"], int(row["millicredits"]), int(row["host"]), row["user"], row["verdict"] == "valid"
+        )
+        for row in rows
+    }
+    assert wanted == {
+        one["result"]: (line["app"], line["millicredits"], one["host"], one["user"], verdict == "valid")
+        for line in lines_of(path) if line["status"] == "done"
+        for verdict in ("valid", "invalid") for one in line[verdict]
+    }
+    assert {False, True} == {row["verdict"] == "valid" for row in rows}
+
+
+@settings(max_examples=6, deadline=None, database=None)
+@given(seed=strategies.integers(0, 2**32), parts=strategies.integers(2, 12))
+def test_with_a_cursor_each_result_comes_once(tmp_path_factory, seed, parts):
+    folder = tmp_path_factory.mktemp("cursor")
+    lived = life_of(seed)
+    stored, cursor, came = Stored(folder / "project.db"), folder / "cursor", []
+    size = len(lived.lines) // parts + 1
+    for part in range(parts):
+        stored.answer(lived.lines[part * size:][:size])
+        copy = stored.copy(folder / f"{part}.db")
+        came += rows_of(copy, cursor=cursor)
+        assert rows_of(copy, cursor=cursor) == []
+    stored.close()
+    wanted = rows_of(copy)
+    assert len(came) == len(wanted) > 0
+
+    def without_late(rows):
+        return sorted(tuple(value for name, value in row.items() if name != "late") for row in rows)
+
+    assert without_late(came) == without_late(wanted)
+    first = [row["workunit"] for row in came if row["late"] == "0"]
+    assert set(first) == {row["workunit"] for row in wanted}
+
+
+def test_a_result_that_comes_late_is_marked(tmp_path):
+    stored = Stored(tmp_path / "project.db")
+
+    def call(host, seqno, *reports):
+        said = {
+            "authenticator": host, "rpc_seqno": seqno, "platform_name": "x", "work_req_seconds": 1,
+            "host_info": {"host_cpid": "c", "p_fpops": 1, "m_nbytes": 1, "d_free": 1},
+            "results": [{"name": name, "exit_status": 0, "output": output} for name, output in reports],
+        }
+        answers.extend(stored.answer([f"{NOW} scheduler {json.dumps(said)}".encode()]))
+
+    answers = stored.answer(f"{NOW} {line}".encode() for line in (
+        "account k1",
+        "account k2",
+        "account k3",
+        f"import/apps/b {json.dumps('name,agreement' + NEXT + 'a,exact')}",
+        f"import/versions/b {json.dumps('app,platform,version_num' + NEXT + 'a,x,1')}",
+        f"import/workunits/b {json.dumps(WORKUNITS + NEXT + 'w,a,2,3,3,5,5,100,1,0,0,5000')}",
+    ))
+    for host in ("k1", "k2", "k3"):
+        call(host, 1)
+    call("k1", 2, ("w_0", "42"))
+    call("k2", 2, ("w_1", "42"))
+    assert {status for status, _ in answers} == {200}
+    cursor = tmp_path / "cursor"
+    first = rows_of(stored.copy(tmp_path / "1.db"), cursor=cursor)
+    wanted = [("w_0", "valid", "0"), ("w_1", "valid", "0")]
+    assert [(row["result"], row["verdict"], row["late"]) for row in first] == wanted
+    assert rows_of(stored.copy(tmp_path / "2.db"), cursor=cursor) == []
+    call("k3", 2, ("w_2", "7"))
+    line, = lines_of(stored.copy(tmp_path / "3.db"), cursor=cursor)
+    stored.close()
+    assert {status for status, _ in answers} == {200}
+    assert line == {
+        "workunit": "w", "app": "a", "late": True, "status": "done", "millicredits": 5000, "canonical": "w_0",
+        "output": "42", "valid": [], "invalid": [{"result": "w_2", "host": 3, "user": "k3"}],
+    }
+
+
+def test_the_worked_example_of_a_quorum():
+    """One of three disagrees: 10, 13 and 12, which are to agree within 2."""
+    good = [
+        workunits.Instance(f"w_{number}", number, "u", 1, output, number + 1)
+        for number, output in enumerate(("10", "13", "12"))
+    ]
+    best = workunits.canonical_of(2, 3, good)
+    assert best is good[0]
+    assert [workunits.agree(2, "10", one.text) for one in good] == [True, False, True]
+
+
+@pytest.mark.parametrize("agreement, one, other, wanted", [
+    (None, "1", "1", True), (None, "1", "2", False), (0, "1", "1.0", False), (1, "1", "2", True),
+    (1, "1", "3", False), (5, "-2", "3", True), (5, "01", "1", False), (5, "-0", "0", False),
+    (5, "", "", True), (5, "x", "x", True), (9, "1" + "0" * 18, "1" + "0" * 17 + "1", False),
+])
+def test_outputs_that_agree(agreement, one, other, wanted):
+    assert workunits.agree(agreement, one, other) is wanted
+
+
+@pytest.mark.parametrize("seed", [5, 6, 7])
+def test_the_query_of_the_profile(tmp_path, seed):
+    """docs/PROFILE.md has a query for the workunits whose outputs must be equal."""
+    path = stored_life(life_of(seed), tmp_path / "project.db")
+    page = (TOOLS.parent / "docs" / "PROFILE.md").read_text()
+    query = page.partition("-- the canonical result of each workunit that is done")[2].partition(";")[0]
+    told = [tuple(row[:3]) for row in stored_rows(path, query.partition("\n")[2])]
+    lines = [line for line in lines_of(path) if line["status"] == "done" and line["app"] != "fold"]
+    assert told == [(line["workunit"], line["canonical"], line["output"]) for line in lines]
+    assert len(told) > 4
+
+
+def test_after_a_workunit(tmp_path):
+    path = stored_life(life_of(3), tmp_path / "project.db")
+    names = list(dict.fromkeys(row["workunit"] for row in rows_of(path)))
+    after = list(dict.fromkeys(row["workunit"] for row in rows_of(path, after=names[4])))
+    assert after == names[5:]
+    with pytest.raises(Fault, match="the workunit nobody of --after is in no file"):
+        rows_of(path, after="nobody")
+
+
+def test_several_files(tmp_path):
+    first = stored_life(life_of(3), tmp_path / "2025.db")
+    second = stored_life(life_of(4), tmp_path / "2026.db")
+    alone = rows_of(first) + rows_of(second)
+    assert rows_of(first, second) == alone
+    cursor = tmp_path / "cursor"
+    assert rows_of(first, second, cursor=cursor) == alone
+    assert rows_of(second, first, cursor=cursor) == []
+
+
+def test_a_cursor_is_written_only_after_the_output(tmp_path):
+    path = stored_life(life_of(3), tmp_path / "project.db")
+    cursor = tmp_path / "cursor"
+
+    class Full(io.StringIO):
+        def flush(self):
+            raise OSError(28, "No space left on device")
+
+    with pytest.raises(OSError, match="No space"):
+        results.write_results([path], cursor=cursor, file=Full())
+    assert not cursor.exists()
+    assert rows_of(path, cursor=cursor) == rows_of(path)
+
+
+def test_what_is_no_cursor(tmp_path):
+    path = stored_life(life_of(3, calls=50), tmp_path / "project.db")
+    cursor = tmp_path / "cursor"
+    for text in ("", "[]", "{}", '{"format": 2, "given": {}}', '{"format": 1, "given": {"x": 1}}'):
+        cursor.write_text(text)
+        with pytest.raises(Fault, match="it is no cursor"):
+            rows_of(path, cursor=cursor)
+        assert cursor.read_text() == text
+
+
+def test_the_command_line(tmp_path):
+    path = stored_life(life_of(3), tmp_path / "project.db")
+    status, told, fault = tools("results", "--tables", path)
+    assert (status, fault) == (0, "")
+    assert list(csv.DictReader(io.StringIO(told))) == rows_of(path)
+    status, told, fault = tools("results", "--tables", path, "--json", "--cursor", tmp_path / "cursor")
+    assert (status, fault) == (0, "") and len(told.splitlines()) == len(lines_of(path))
+    assert tools("results", "--tables", path, "--json", "--cursor", tmp_path / "cursor") == (0, "", "")
+    assert tools("results", "--tables", path, "--cursor", "x", "--after", "y")[0] == 64
+    assert tools("results")[0] == 64

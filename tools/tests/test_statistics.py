@@ -1,0 +1,165 @@
+"""The files for statistics sites: users are sums of hosts, averages are BOINC's, nobody is named unasked."""
+import gzip
+import json
+import os
+from xml.etree import ElementTree
+
+import plain_tables
+import pytest
+from lives import Stored, life_of, stored_life
+from small_project import SETTINGS, make_tables, tools
+
+from bsched_tools import averages, exports
+from bsched_tools.faults import Fault
+
+DAY = 86400
+
+
+def read(folder, name):
+    """The elements of a file, each with its members."""
+    root = ElementTree.fromstring(gzip.decompress((folder / name).read_bytes()))
+    return [{member.tag: member.text or "" for member in one} for one in root]
+
+
+def totals(folder):
+    """What tables.xml says."""
+    return {member.tag: member.text for member in ElementTree.fromstring((folder / "tables.xml").read_text())}
+
+
+@pytest.fixture
+def folder(tmp_path):
+    """The folder of the files."""
+    made = tmp_path / "stats"
+    made.mkdir()
+    return made
+
+
+def test_averages_as_worked_out():
+    """10 on the first day, then 5 a day later, then nothing for 7 days."""
+    first = averages.average_after(None, 0.5, 10)
+    second = averages.average_after(first, 1, 5)
+    third = averages.average_after(averages.average_after(first, 7, 0), 0, 0)
+    assert (first, round(second, 9)) == (10, 9.528618321)
+    assert third == 5
+    assert round(averages.average_after(second, 7, 0), 9) == 4.764309161
+    assert averages.average_after(None, 4, 10) == 2.5
+    assert averages.average_after(10, 7, -3) == 5
+
+
+def test_the_files_of_a_life(tmp_path, folder):
+    lived = life_of(11, calls=600)
+    path = stored_life(lived, tmp_path / "project.db")
+    os.utime(path, (lived.now, lived.now))
+    made = exports.export([path], folder, None, True)
+    machine = lived.service.machine
+    accounts = machine.rows["accounts"]
+    assert (made.users, made.agreed, made.hosts) == (len(accounts), len(accounts), len(machine.hosts))
+    users, hosts = read(folder, "user.gz"), read(folder, "host.gz")
+    wanted = {one.name: sum(host.credit for host in one.hosts) / 1000 for one in accounts.values()}
+    assert {user["name"]: float(user["total_credit"]) for user in users} == wanted
+    for user in users:
+        own = [host for host in hosts if host["userid"] == user["id"]]
+        for column in ("total_credit", "expavg_credit"):
+            assert float(user[column]) == pytest.approx(sum(float(host[column]) for host in own), abs=1e-5)
+    assert read(folder, "team.gz") == []
+    assert totals(folder) == {
+        "update_time": str(lived.now), "nusers_total": str(len(users)), "nteams_total": "0",
+        "nhosts_total": str(len(hosts)), "total_credit": f"{sum(wanted.values()):.3f}",
+    }
+    said = (folder / "user.gz").read_bytes() + (folder / "host.gz").read_bytes()
+    assert all(len(user["cpid"]) == 32 for user in users) and b"user0" not in gzip.decompress(said)
+    assert len({host["host_cpid"] for host in hosts}) == len(hosts)
+
+
+def test_averages_over_runs(tmp_path, folder):
+    path = make_tables(tmp_path / "project.db")
+
+    def run(moment, millicredits, seqno):
+        tables = plain_tables.Tables(path, synchronous="OFF")
+        tables.put([("host", (1, 1, "c1", "linux", 10**9, 10**9, 10**9, 4, 0, millicredits))])
+        tables.put([("kept4", (1, 0, seqno, "{}", "{}"))])
+        tables.connection.close()
+        os.utime(path, (moment, moment))
+        exports.export([path], folder, None, True)
+        host, = read(folder, "host.gz")
+        return round(float(host["expavg_credit"]), 5), int(host["create_time"]), int(host["rpc_time"])
+
+    assert run(10 * DAY, 10_000, 1) == (10, 10 * DAY, 10 * DAY)
+    assert run(11 * DAY, 15_000, 2) == (9.52862, 10 * DAY, 11 * DAY)
+    assert run(11 * DAY, 15_000, 2) == (9.52862, 10 * DAY, 11 * DAY)
+    assert run(18 * DAY, 15_000, 2) == (4.76431, 10 * DAY, 11 * DAY)
+
+
+def test_nobody_is_named_who_did_not_agree(tmp_path, folder):
+    lived = life_of(11)
+    path = stored_life(lived, tmp_path / "project.db")
+    assert exports.export([path], folder, None, False).agreed == 0
+    assert read(folder, "user.gz") == [] and not any("userid" in host for host in read(folder, "host.gz"))
+    agreed = tmp_path / "agreed"
+    agreed.write_text("user1\n\nnobody\n")
+    assert exports.export([path], folder, agreed, False).agreed == 1
+    user, = read(folder, "user.gz")
+    assert user["name"] == "User 1"
+    assert {host["userid"] for host in read(folder, "host.gz") if "userid" in host} == {user["id"]}
+    with pytest.raises(Fault, match="No such file"):
+        exports.export([path], folder, tmp_path / "none", False)
+
+
+def test_several_files_are_summed_by_authenticator(tmp_path, folder):
+    first = Stored(tmp_path / "2025.db")
+    first.answer(life_of(11).lines)
+    second = first.copy(tmp_path / "2026.db")
+    first = first.close()
+    exports.export([first], folder, None, True)
+    alone = {user["id"]: float(user["total_credit"]) for user in read(folder, "user.gz")}
+    exports.export([first, second], folder, None, True)
+    both = {user["id"]: float(user["total_credit"]) for user in read(folder, "user.gz")}
+    assert both == pytest.approx({number: 2 * credit for number, credit in alone.items()})
+    assert sum(alone.values()) > 0
+
+
+def test_names_are_text(tmp_path, folder):
+    path = tmp_path / "project.db"
+    plain_tables.create(path, SETTINGS)
+    tables = plain_tables.Tables(path)
+    plain_tables.Service(tables).imported("accounts", "b", 'authenticator,name\nk1,"<b> & \x07""é\n"\n')
+    tables.connection.close()
+    exports.export([path], folder, None, True)
+    assert [user["name"] for user in read(folder, "user.gz")] == ['<b> & \ufffd"é\n']
+
+
+def test_no_half_file(tmp_path, folder, monkeypatch):
+    path = stored_life(life_of(11), tmp_path / "project.db")
+    exports.export([path], folder, None, True)
+    before = {one.name: one.read_bytes() for one in folder.iterdir()}
+    kept = exports.state_of(folder).read_bytes()
+
+    def full(_descriptor):
+        raise OSError(28, "No space left on device")
+
+    monkeypatch.setattr(exports.os, "fsync", full)
+    with pytest.raises(Fault, match="user.gz: No space left on device"):
+        exports.export([path], folder, None, False)
+    assert {one.name: one.read_bytes() for one in folder.iterdir()} == before
+    assert exports.state_of(folder).read_bytes() == kept
+
+
+def test_what_is_kept(tmp_path, folder):
+    path = stored_life(life_of(11), tmp_path / "project.db")
+    exports.export([path], folder, None, True)
+    kept = exports.state_of(folder)
+    assert kept.stat().st_mode & 0o777 == 0o600 and "user1" not in kept.read_text()
+    other = json.dumps({"format": 1, "salt": "", "users": {}, "hosts": [1]})
+    for text in ("", "{}", json.dumps({"format": 2}), other):
+        kept.write_text(text)
+        with pytest.raises(Fault, match="it has no averages"):
+            exports.export([path], folder, None, True)
+
+
+def test_the_command_line(tmp_path, folder):
+    path = make_tables(tmp_path / "project.db")
+    status, told, fault = tools("statistics", "--tables", path, "--to", folder)
+    assert (status, fault) == (0, "")
+    assert told == f"{folder}: 4 users, of whom 0 agreed to be named, and 0 hosts\n"
+    assert tools("statistics", "--tables", path, "--to", folder, "--everybody", "--agreed", "x")[0] == 64
+    assert tools("statistics", "--tables", path, "--to", folder / "none")[0] == 1
