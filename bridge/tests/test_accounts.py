@@ -410,6 +410,24 @@ def test_a_bridge_that_is_busy(open_bridge, monkeypatch):
     assert isinstance(create(open_bridge), str)
 
 
+def test_account_messages_leave_threads_for_calls(open_bridge):
+    """Half of the threads at most are at work for accounts; who comes then is told to try again, at once."""
+    answers = []
+    locks = open_bridge.application.accounts._locks
+    with locks.held(EMAIL):
+        threads = [threading.Thread(target=lambda: answers.append(create(open_bridge))) for _ in range(4)]
+        for thread in threads:
+            thread.start()
+        while open_bridge.application.accounts._places._value:
+            pass
+        assert create(open_bridge, "bob@sums.example") == look_up(open_bridge) == -183
+        assert answers == []
+        assert value(open_bridge.call(request()), "hostid") == "1"
+    for thread in threads:
+        thread.join()
+    assert len({answer for answer in answers if isinstance(answer, str)}) == 1
+
+
 # ---- bsched that refuses, or does not answer
 
 
