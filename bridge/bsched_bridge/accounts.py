@@ -8,7 +8,10 @@ messages. Then the key is told.
 import logging
 import re
 import secrets
+import threading
 import time
+from collections.abc import Iterator
+from contextlib import contextmanager
 from enum import Enum
 
 from .key_locks import Busy, KeyLocks
@@ -110,10 +113,12 @@ class Accounts:
         scheduler: Scheduler,
         operator_key: str,
         passwords: Passwords,
+        most_at_once: int,
     ):
         self.settings, self.members, self.scheduler, self.passwords = settings, members, scheduler, passwords
         self._operator_key = operator_key
         self._locks = KeyLocks(WAIT_SECONDS)
+        self._places = threading.BoundedSemaphore(most_at_once)
         self._new = RecentCounts(settings.most_from_address, DAY)
         self._wrong = RecentCounts(MOST_WRONG_PASSWORDS, HOUR)
 
@@ -127,29 +132,38 @@ class Accounts:
             raise AccountFault(Fault.ODD_ADDRESS)
         if not is_client_hash(told, email):
             raise AccountFault(Fault.NO_PASSWORD)
-        try:
-            with self._locks.held(email):
-                member = self.members.of_email(email)
-                if member is None:
-                    return self._made(email, told, name, has_consent, client)
-                if not self._is_right(email, told, member, client):
-                    raise AccountFault(Fault.TAKEN)
-                return self._finished(member)
-        except (Busy, TooBusy):
-            raise AccountFault(Fault.TOO_BUSY) from None
+        with self._at_work(email):
+            member = self.members.of_email(email)
+            if member is None:
+                return self._made(email, told, name, has_consent, client)
+            if not self._is_right(email, told, member, client):
+                raise AccountFault(Fault.TAKEN)
+            return self._finished(member)
 
     def look_up(self, email: str, told: str, client: str) -> Member:
         """The account with an address and a password."""
         if not is_email(email) or not is_client_hash(told, email):
             raise AccountFault(Fault.WRONG)
+        with self._at_work(email):
+            member = self.members.of_email(email)
+            if not self._is_right(email, told, member, client) or member is None:
+                raise AccountFault(Fault.WRONG)
+            return self._finished(member)
+
+    @contextmanager
+    def _at_work(self, email: str) -> Iterator[None]:
+        """Has an address to itself. Few messages may be at this at once, so that calls of clients find a
+        thread.
+        """
+        if not self._places.acquire(blocking=False):
+            raise AccountFault(Fault.TOO_BUSY)
         try:
             with self._locks.held(email):
-                member = self.members.of_email(email)
-                if not self._is_right(email, told, member, client) or member is None:
-                    raise AccountFault(Fault.WRONG)
-                return self._finished(member)
+                yield
         except (Busy, TooBusy):
             raise AccountFault(Fault.TOO_BUSY) from None
+        finally:
+            self._places.release()
 
     def of_key(self, authenticator: str) -> Member | None:
         """The account with a key, if the bridge knows it and bsched has it."""
@@ -159,13 +173,11 @@ class Accounts:
     def has_password(self, authenticator: str, email: str, told: str, client: str) -> Member:
         """The owner of a key chose an address and a password."""
         member = self.of_owner(authenticator, client)
-        try:
-            with self._locks.held(email):
+        with self._at_work(email):
+            try:
                 self.members.has_password(member, email, self.passwords.new_secret(told))
-        except (Busy, TooBusy):
-            raise AccountFault(Fault.TOO_BUSY) from None
-        except EmailTaken:
-            raise AccountFault(Fault.TAKEN) from None
+            except EmailTaken:
+                raise AccountFault(Fault.TAKEN) from None
         return member
 
     def of_owner(self, authenticator: str, client: str) -> Member:

@@ -53,7 +53,8 @@ class Application:
         self.accounts: Accounts | None = None
         if settings.accounts is not None and settings.operator_key is not None:
             self.accounts = Accounts(
-                settings.accounts, self.members, scheduler, settings.operator_key, passwords or Passwords()
+                settings.accounts, self.members, scheduler, settings.operator_key, passwords or Passwords(),
+                max(1, settings.threads // 2),
             )
         self.exchange = Exchange(
             counts, scheduler, settings.retry_delay, rules or (lambda: settings.host_rules),

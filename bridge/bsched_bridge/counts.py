@@ -198,10 +198,14 @@ class Counts:
 
     def heard_hosts(self, most: int, authenticator: str | None = None) -> list[HeardHost]:
         """The hosts that called last, of all accounts or of one, the latest first."""
-        rows = self.file.rows(
-            f"SELECT {HEARD} FROM host WHERE hostid IS NOT NULL AND (?1 IS NULL OR authenticator = ?1) "
-            "ORDER BY heard_at DESC, hostid DESC LIMIT ?2", authenticator, most,
+        query, order = (
+            f"SELECT {HEARD} FROM host WHERE hostid IS NOT NULL",
+            "ORDER BY heard_at DESC, hostid DESC LIMIT ?",
         )
+        if authenticator is None:
+            rows = self.file.rows(f"{query} {order}", most)
+        else:
+            rows = self.file.rows(f"{query} AND authenticator = ? {order}", authenticator, most)
         return [HeardHost(*cast("tuple[str, int, str, int, int, int]", row)) for row in rows]
 
     def count_of_hosts(self) -> int:

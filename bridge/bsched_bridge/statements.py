@@ -19,6 +19,7 @@ MOST_HOSTS = 50
 KEPT_SECONDS = 60  # how long what was read is shown again, so that a page costs bsched nothing
 MOST_KEPT = 200  # accounts whose hosts are kept so long
 MOST_COUNTS = 1_048_576  # bytes of a file of counts
+MOST_MOMENT = 250_000_000_000  # seconds; years have four digits
 NO_REPLY, SUCCESS = "4", "1"
 
 
@@ -97,7 +98,10 @@ def read_unit_counts(path: Path | None) -> UnitCounts | None:
             said = json.loads(file.read(MOST_COUNTS))
         told = said["workunits"]
         by_status = {name: count for name, count in told.items() if type(count) is int}
-        return UnitCounts(by_status, path.stat().st_mtime) if by_status else None
+        moment = said.get("moment")
+        is_known = type(moment) is int and 0 <= moment <= MOST_MOMENT
+        counted_at = moment if is_known else path.stat().st_mtime
+        return UnitCounts(by_status, counted_at) if by_status else None
     except (OSError, ValueError, KeyError, TypeError, AttributeError):
         return None
 

@@ -14,8 +14,9 @@ from messages import request, value
 
 from bsched_bridge.accounts import account_import, clean_name, is_email
 from bsched_bridge.limits import RecentCounts, is_loopback, network_of
-from bsched_bridge.members import Member
-from bsched_bridge.passwords import COST, Cost, Passwords, TooBusy, client_hash as own_client_hash
+from bsched_bridge.members import DayIsFull, Member
+from bsched_bridge.passwords import COST, Cost, Passwords, TooBusy
+from bsched_bridge.passwords import client_hash as own_client_hash
 
 EMAIL = "ann@sums.example"
 
@@ -409,10 +410,28 @@ def test_a_bridge_that_is_busy(open_bridge, monkeypatch):
     assert isinstance(create(open_bridge), str)
 
 
+def test_account_messages_leave_threads_for_calls(open_bridge):
+    """Half of the threads at most are at work for accounts; who comes then is told to try again, at once."""
+    answers = []
+    locks = open_bridge.application.accounts._locks
+    with locks.held(EMAIL):
+        threads = [threading.Thread(target=lambda: answers.append(create(open_bridge))) for _ in range(4)]
+        for thread in threads:
+            thread.start()
+        while open_bridge.application.accounts._places._value:
+            pass
+        assert create(open_bridge, "bob@sums.example") == look_up(open_bridge) == -183
+        assert answers == []
+        assert value(open_bridge.call(request()), "hostid") == "1"
+    for thread in threads:
+        thread.join()
+    assert len({answer for answer in answers if isinstance(answer, str)}) == 1
+
+
 # ---- bsched that refuses, or does not answer
 
 
-@pytest.mark.parametrize("fault", ["unheard", "lost", "unavailable", "garbage"])
+@pytest.mark.parametrize("fault", ["unheard", "lost", "unavailable", "garbage", "another"])
 def test_no_key_is_told_before_bsched_has_it(open_bridge, twin, fault):
     twin.import_faults = [fault]
     assert create(open_bridge) == -183
@@ -510,8 +529,19 @@ def test_two_creations_at_once_are_one(open_bridge, twin):
         thread.start()
     for thread in threads:
         thread.join()
+    assert len(answers) == 4
     keys = {answer for answer in answers if isinstance(answer, str)}
     assert keys == set(made_accounts(twin)) and len(keys) == 1 == len(rows(open_bridge))
+
+
+def test_the_day_is_counted_where_the_row_is_made(open_bridge):
+    """Creations that come at once look at the day before any of them has its row."""
+    members, secret = open_bridge.members, Passwords(Cost(2**4, 8, 1)).new_secret("0" * 32)
+    for number in range(2):
+        members.insert(f"u{number}@sums.example", secret, "N", False, 1000, 2)
+    with pytest.raises(DayIsFull):
+        members.insert("v@sums.example", secret, "N", False, 87_399, 2)
+    members.insert("v@sums.example", secret, "N", False, 87_400, 2)
 
 
 # ---- What nobody may read in a log

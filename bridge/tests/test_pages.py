@@ -343,7 +343,7 @@ def test_a_scheduler_that_is_silent(open_bridge, twin):
 @pytest.mark.parametrize(
     "text, is_shown",
     [
-        (json.dumps({"workunits": {"open": 12, "done": 30, "failed": 1}, "more": []}), True),
+        (json.dumps({"workunits": {"open": 12, "done": 30, "failed by errors": 1}, "moment": 86400}), True),
         (None, False),
         ("{", False),
         ("[]", False),
@@ -361,3 +361,4 @@ def test_workunits_of_a_copy(project, bridge, text, is_shown):
     assert ("Workunits" in page.text) is is_shown
     if is_shown:
         assert "open12" in page.text and "all43" in page.text
+        assert "Counted at 1970-01-02 00:00:00 UTC." in page.text

@@ -6,11 +6,25 @@ import pytest
 
 from bsched_bridge.counts import Counts, Key
 from bsched_bridge.members import Members
-from bsched_bridge.state_file import HOSTS, SCHEMA_VERSION, StateFault, StateFile
+from bsched_bridge.state_file import SCHEMA_VERSION, StateFault, StateFile
 
 # the tables of version 1, as a bridge of 2026-11-27 made them
-VERSION_1 = HOSTS + "PRAGMA application_id = 0x62736362;\nPRAGMA user_version = 1;\n"
-# authenticator, host_cpid, hostid, last_number, open_call, user_name, user_credit, host_credit, heard_at
+VERSION_1 = """
+CREATE TABLE host (
+  authenticator TEXT NOT NULL, host_cpid TEXT NOT NULL,  -- the key
+  hostid INTEGER,             -- bsched's number of the host, once a reply told it
+  last_number INTEGER NOT NULL,  -- the rpc_seqno of the last call
+  open_call BLOB,             -- its bytes, where no answer came yet
+  jobs_in_hand TEXT NOT NULL DEFAULT '[]',  -- as JSON, as replies have them
+  user_name TEXT, user_credit INTEGER, host_credit INTEGER, heard_at INTEGER,
+  PRIMARY KEY (authenticator, host_cpid)
+) STRICT;
+CREATE UNIQUE INDEX host_by_number ON host (authenticator, hostid);
+CREATE INDEX host_with_open_call ON host (authenticator, host_cpid) WHERE open_call IS NOT NULL;
+CREATE INDEX host_heard ON host (heard_at) WHERE hostid IS NOT NULL;
+PRAGMA application_id = 1651729250;
+PRAGMA user_version = 1;
+"""
 ROWS = [
     ("ann-key", "c1", 1, 7, None, "Ann", 5000, 5000, 200),
     ("ann-key", "c2", 3, 9, b"call 9", "Ann", 4000, 0, 100),
@@ -115,11 +129,10 @@ def test_an_upgrade_that_is_stopped_changes_nothing(tmp_path, monkeypatch):
 
 def test_a_new_file_and_an_upgraded_one_have_the_same_tables(tmp_path):
     old_file(tmp_path / "old.db")
-    schemas = []
+    shapes = []
     for name in ("old.db", "new.db"):
         file = StateFile(tmp_path / name)
-        schemas.append(
-            file.rows("SELECT name, sql FROM sqlite_schema WHERE name NOT LIKE 'sqlite_%' ORDER BY name")
-        )
+        kept = file.rows("SELECT type, name FROM sqlite_schema WHERE name NOT LIKE 'sqlite_%' ORDER BY name")
+        shapes.append([(kind, table, file.rows(f"PRAGMA table_xinfo({table})")) for kind, table in kept])
         file.close()
-    assert schemas[0] == schemas[1]
+    assert shapes[0] == shapes[1] and len(shapes[0]) == 7

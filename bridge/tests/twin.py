@@ -76,6 +76,8 @@ class Handler(BaseHTTPRequestHandler):
                 status, told = 503, '{"error":"unavailable","number":20}'
             elif fault == "garbage":
                 status, told = 200, "<html>"
+            elif fault == "another":
+                status, told = 200, '{"batch":"another","kind":"accounts","rows":1}'
             elif fault is not None and fault.startswith("{"):
                 status, told = 400, fault
             else:
@@ -111,9 +113,11 @@ class Server(ThreadingHTTPServer):
 
 
 class Twin:
-    """The twin with what it heard. Each call takes one of the faults, in their order: `unheard`, `lost`,
-    `slow`, `unavailable`, `garbage`, or the JSON of a refusal; each import takes one of its own, but for
-    `slow`.
+    """The twin with what it heard.
+
+    Each call takes one of the faults, in their order: `unheard`, `lost`, `slow`, `unavailable`, `garbage`, or
+    the JSON of a refusal. Each import takes one of its own: these without `slow`, or `another`, the answer to
+    another import.
     """
 
     def __init__(self, **settings):

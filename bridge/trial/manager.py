@@ -28,7 +28,16 @@ class Screen(Program):
 
     def __init__(self, folder: Path):
         words = ["Xvfb", DISPLAY, "-screen", "0", "1024x768x24", "-fbdir", str(folder)]
-        super().__init__("screen", [*words, "-listen", "tcp", "-ac"], folder, SCREEN_PORT)
+        super().__init__("screen", [*words, "-noreset", "-listen", "tcp", "-ac"], folder, SCREEN_PORT)
+
+    def kill(self) -> None:
+        """Ends it, with the time to remove its lock."""
+        if self.process is not None and self.process.poll() is None:
+            self.process.terminate()
+            try:
+                self.process.wait(10)
+            except subprocess.TimeoutExpired:
+                super().kill()
 
     def picture(self) -> tuple[int, int, bytes]:
         """What is on it: width, height, and four bytes for each point (the format of xwd)."""

@@ -13,7 +13,7 @@ use Rattle.pasts.specs.Laws.{IsOfFirstHeard, NewTablesStand, StandsCarried, Firs
 use Rattle.pasts.specs.Leaves.{Frame, frame_after}
 use Rattle.pasts.specs.Messages.{Said, Message}
 use Rattle.pasts.specs.Runs.{Turn, IsTurn, world_of, messages_of, kept_of, batch_of}
-use Rattle.pasts.specs.Stands.{Past, Tables, Same, Answers, StandsBy, Stands, Commits, ServesAs, then_heard, messages_in, told_by}
+use Rattle.pasts.specs.Stands.{Past, Tables, Same, Answers, StandsBy, Stands, Commits, ServesAs, Serves, then_heard, messages_in, told_by}
 use Rattle.pasts.specs.Told.{told}
 use Rattle.pasts.specs.declared.answer.Answer.{Answer}
 use Rattle.pasts.proofs.HostKeys.{host_of_key-place, host_count}
@@ -92,6 +92,14 @@ settings_stay w after c now answer step = ap (λ (f : Frame). f.settings) (step_
     cases (call.Rpc c r) = refl
     cases (call.Import new) = settings_with_rows w new
     cases call.Tick = refl
+
+served_settings_as : (o : Option Answer) (old new : Tables) (m : Message) (answer : Answer) → ServesAs o old m answer new → new.world.settings ≡ old.world.settings
+served_settings_as (Some told) old new m answer serves = ap (λ (w : World). w.settings) serves.1.world
+served_settings_as None old new m answer c = settings_stay old.world new.world c.call m.now c.answered c.step
+
+-- a message changes no settings
+pub served_settings : (old new : Tables) (m : Message) (answer : Answer) → Serves old m answer new → new.world.settings ≡ old.world.settings
+served_settings old new m answer serves = served_settings_as (told_by old m.said) old new m answer serves
 
 -- the turn that a commit makes
 abbrev pub turn_of : (old : Tables) (m : Message) (answer : Answer) (new : Tables) → Commits old m answer new → Turn

@@ -1,5 +1,5 @@
 -- A store in which nothing stands stands for no arrivals, and one that was upgraded for what it stood for.
-use Rattle.std.proofs.Common.{◌≡◌, ℕ, suc, List, [], ◌∷◌, ◌++◌, length, refl, sym, ap, subst, inl}
+use Rattle.std.proofs.Common.{◌≡◌, ℕ, suc, List, [], ◌∷◌, ◌++◌, length, refl, sym, ◌∙◌, ap, subst, inl}
 use Rattle.sched_book.specs.Limits.{AreSettingsInLimits}
 use Rattle.sched_book.specs.Sound.{Sound}
 use Rattle.sched_book.specs.declared.settings.Settings.{Settings}
@@ -18,11 +18,12 @@ use Rattle.sched_server.specs.Arrivals.{Answered, Tells, answered, StandsFor}
 use Rattle.sched_server.specs.Laws.{NewStoresStand, UpgradedStands}
 use Rattle.sched_server.proofs.Stopped.{left_stands}
 
-begun : (settings : Settings) (held : Held) → IsNew settings held → AreSettingsInLimits settings → (key : List ℕ) → StandsFor key held (new_marks this_era) []
-begun settings held new limits key = record {
+begun : (settings : Settings) (held : Held) → IsNew settings held → AreSettingsInLimits settings → StandsFor settings.operator_key held (new_marks this_era) []
+begun settings held new limits = record {
   past = [];
   tells = tt;
   in_era = new_pasts_are_in_era this_era;
+  keyed = ap (λ w. w.settings.operator_key) (sym new.world_is);
   stands = new_tables_stand settings (tables_by held)
       (record { world = new.world_is; calls = λ key. ap (λ v. calls_by_number v held.calls key) new.world_is; batches = new.batches_are });
   sound = record { world = subst Sound (sym new.world_is) (the_empty_world_is_sound settings limits); hosts = λ host beyond. new.calls_are host };
@@ -31,10 +32,10 @@ begun settings held new limits key = record {
 pub new_stores_stand : {S : Type 0} (store : Parts S)
     → ((s : S) → store.honest s → store.well_kept s → Sound (store.holds s).world → (h : Held) → store.may_leave s h → IsLeft (store.holds s) h)
     → NewStoresStand store
-new_stores_stand store settled s settings honest kept new limits key =
-    let stands = begun settings (store.holds s) new limits key in record {
+new_stores_stand store settled s settings honest kept new limits =
+    let stands = begun settings (store.holds s) new limits in record {
       held = λ _. (kept, stands);
-      left = λ h may. inl (left_stands key (store.holds s) h (new_marks this_era) [] (settled s honest kept stands.sound.world h may) stands);
+      left = λ h may. inl (left_stands settings.operator_key (store.holds s) h (new_marks this_era) [] (settled s honest kept stands.sound.world h may) stands);
     }
 
 -- a past has as many messages as were answered
@@ -50,6 +51,7 @@ upgraded_stands era key old new marks before left st =
       past = st.past;
       tells = st.tells;
       in_era = subst P (sym (as_many key (answered before) st.past st.tells)) (upgrades_lead_on era marks st.past st.in_era);
+      keyed = st.keyed ∙ ap (λ w. w.settings.operator_key) (sym left.world_is);
       stands = (st.stands.0, stands_same _ _ st.past st.stands.0 (left_same old new left) st.stands.1);
       sound = left_sound old new left st.sound;
     }

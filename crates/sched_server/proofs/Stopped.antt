@@ -1,5 +1,5 @@
 -- What a stop leaves of a store stands for what came, or for that and one message in doubt.
-use Rattle.std.proofs.Common.{ℕ, List, ◌∷◌, refl, inl, inr}
+use Rattle.std.proofs.Common.{ℕ, List, ◌∷◌, refl, sym, ◌∙◌, ap, inl, inr}
 use Rattle.http_responses.specs.declared.answer.Answer.{Answer}
 use Rattle.http_responses.specs.declared.answer.Answer.TheVariants as answer
 use Rattle.sched_book.specs.Sound.{Sound}
@@ -9,12 +9,13 @@ use Rattle.stores.specs.Held.{Held, IsLeft}
 use Rattle.stores.proofs.ReadsAct.{left_back}
 use Rattle.pasts.specs.Messages.{heard_now}
 use Rattle.pasts.specs.Stands.{then_heard}
-use Rattle.pasts.proofs.Carried.{stands_same, stands_is_carried}
+use Rattle.pasts.proofs.Carried.{stands_same, stands_is_carried, served_settings}
 use Rattle.pasts.proofs.Marks.{eras_go_on}
+use Rattle.message_engine.specs.Stores.{tables_by}
 use Rattle.message_engine.proofs.EntriesKept.{left_same, left_sound}
 use Rattle.sched_server.specs.Arrivals.{Came, StandsFor, StandsAtAStop, StoreStandsFor}
 use Rattle.sched_server.specs.Handled.{is_answered, HandledAs, IsHandled}
-use Rattle.sched_server.specs.Laws.{HandledStands, WhatIsLeftStands, ReopenedStands}
+use Rattle.sched_server.specs.Laws.{HandledStands, ReadsStand, WhatIsLeftStands, ReopenedStands}
 use Rattle.sched_server.specs.declared.arrival.Arrival.{Arrival}
 
 -- what is left as it was stands as it stood
@@ -23,6 +24,7 @@ left_stands key old new marks before left st = record {
   past = st.past;
   tells = st.tells;
   in_era = st.in_era;
+  keyed = st.keyed ∙ ap (λ w. w.settings.operator_key) (sym left.world_is);
   stands = (st.stands.0, stands_same _ _ st.past st.stands.0 (left_same old new left) st.stands.1);
   sound = left_sound old new left st.sound;
 }
@@ -36,6 +38,7 @@ handled_stands_for key bytes now old new answer.Unavailable same marks before st
       past = st.past;
       tells = st.tells;
       in_era = st.in_era;
+      keyed = st.keyed ∙ ap (λ w. w.settings.operator_key) (sym left.0.world);
       stands = (st.stands.0, stands_same _ _ st.past st.stands.0 left.0 st.stands.1);
       sound = left.1;
     }
@@ -44,6 +47,7 @@ handled_stands_for key bytes now old new (answer.Response response) done marks b
       past = then_heard st.past (heard_now now done.said) done.told;
       tells = (record { asked = done.asked; means = done.means; says = done.says; moment = refl; response = done.response }, st.tells);
       in_era = eras_go_on this_era marks st.past (heard_now now done.said) done.told st.in_era refl;
+      keyed = st.keyed ∙ ap (λ s. s.operator_key) (sym (served_settings (tables_by old) (tables_by new) (heard_now now done.said) done.told served.serves));
       stands = stands_is_carried _ _ (heard_now now done.said) done.told served.serves st.past st.stands;
       sound = served.sound;
     }
@@ -52,9 +56,25 @@ handled_stands_for key bytes now old new (answer.Response response) done marks b
 unavailable_later : (key : List ℕ) (h : Held) (arrival : Arrival) (marks : List ℕ) (before : List Came) → StandsAtAStop key h marks before
     → StandsAtAStop key h marks (record { arrival = arrival; answer = answer.Unavailable } ∷ before)
 unavailable_later key h arrival marks before (inl st) =
-    inl (record { past = st.past; tells = st.tells; in_era = st.in_era; stands = st.stands; sound = st.sound })
+    inl (record { past = st.past; tells = st.tells; in_era = st.in_era; keyed = st.keyed; stands = st.stands; sound = st.sound })
 unavailable_later key h arrival marks before (inr (doubted, doubt, r, st)) =
-    inr (doubted, (refl, inr doubt), r, record { past = st.past; tells = st.tells; in_era = st.in_era; stands = st.stands; sound = st.sound })
+    inr (doubted, (refl, inr doubt), r, record { past = st.past; tells = st.tells; in_era = st.in_era; keyed = st.keyed; stands = st.stands; sound = st.sound })
+
+-- a store that was only read stands for what it stood for
+pub reads_stand : {S : Type 0} (store : Parts S)
+    → ((old new : S) → store.reads old new → store.honest new → store.honest old)
+    → ((old new : S) → store.reads old new → store.honest new → store.well_kept old → store.well_kept new)
+    → ((old new : S) → store.reads old new → store.honest new → store.well_kept old → IsLeft (store.holds old) (store.holds new))
+    → ((old new : S) → store.reads old new → (h : Held) → store.may_leave new h → store.may_leave old h)
+    → ReadsStand store
+reads_stand store was_honest stays_kept stays_held stays_left old new reads key marks before st = record {
+  held = λ honest.
+      let stood = st.held (was_honest old new reads honest) in (
+        stays_kept old new reads honest stood.0,
+        left_stands key (store.holds old) (store.holds new) marks before (stays_held old new reads honest stood.0) stood.1,
+      );
+  left = λ h may. st.left h (stays_left old new reads h may);
+}
 
 module _ {S : Type 0} (store : Parts S)
     (settled : (s : S) → store.honest s → store.well_kept s → Sound (store.holds s).world → (h : Held) → store.may_leave s h → IsLeft (store.holds s) h) where
@@ -83,7 +103,7 @@ module _ {S : Type 0} (store : Parts S)
           record { now = now; bytes = bytes },
           (refl, inl refl),
           done.0,
-          record { past = there.past; tells = there.tells; in_era = there.in_era; stands = there.stands; sound = there.sound },
+          record { past = there.past; tells = there.tells; in_era = there.in_era; keyed = there.keyed; stands = there.stands; sound = there.sound },
         )
   ]
   left_behind key bytes now (answer.Response r) old new acts marks before st clean here h may =

@@ -49,11 +49,13 @@ Tells key (a ∷ before) (h ∷ past) = IsHeard key a h × Tells key before past
 Tells key [] (h ∷ past) = ⊥
 Tells key (a ∷ before) [] = ⊥
 
--- What is held in an era stands for what came, by the marks of the upgrades: for a past that says it and is in that era; and it is sound.
+-- What is held in an era stands for what came, by the marks of the upgrades: for a past that says it and is in that era; and it is sound. The
+-- operator's key is that of its settings.
 pub record StandsIn (era : ℕ) (key : List ℕ) (held : Held) (marks : List ℕ) (before : List Came) : Type 0 where
   pub past : Past
   pub tells : Tells key (answered before) past
   pub in_era : IsInEra era marks past
+  pub keyed : key ≡ held.world.settings.operator_key
   pub stands : Stands (tables_by held) past
   pub sound : IsSoundStore held
 

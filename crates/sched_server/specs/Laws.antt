@@ -23,11 +23,17 @@ use Rattle.message_engine.specs.Stores.{tables_by}
 use Rattle.sched_server.specs.Arrivals.{Came, answered, StandsFor, StandsIn, StoreStandsFor, HandledInTurn}
 use Rattle.sched_server.specs.Handled.{is_answered, Handles, HandledAs, IsHandled}
 
--- a store in which nothing stands stands for no arrivals, whatever the operator's key, by the marks of new tables
+-- a store in which nothing stands stands for no arrivals, by the marks of new tables
 abbrev pub NewStoresStand : {S : Type 0} → Parts S → Type 0
 NewStoresStand {S} store =
     (s : S) (settings : Settings) → store.honest s → store.well_kept s → IsNew settings (store.holds s) → AreSettingsInLimits settings
-    → (key : List ℕ) → StoreStandsFor store key (new_marks this_era) [] s
+    → StoreStandsFor store settings.operator_key (new_marks this_era) [] s
+
+-- a store that was only read stands for what it stood for, also where a fault has shut it
+abbrev pub ReadsStand : {S : Type 0} → Parts S → Type 0
+ReadsStand {S} store =
+    (old new : S) → store.reads old new → (key marks : List ℕ) (before : List Came) → StoreStandsFor store key marks before old
+    → StoreStandsFor store key marks before new
 
 -- a store that handled a message so stands for what came before and for that message
 abbrev pub HandledStands : {S : Type 0} → Parts S → Type 0

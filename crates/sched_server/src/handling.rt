@@ -1,6 +1,6 @@
 //! A message, from its bytes to those of its answer.
 
-ghost use Rattle.std.specs.Prelude.{◌≡◌, ℕ, ◌∷◌, true, Ok, IfOk, IfErr, List};
+ghost use Rattle.std.specs.Prelude.{◌≡◌, ℕ, ◌∷◌, true, false, Ok, IfOk, IfErr, List};
 ghost use Rattle.http_messages.specs.Deciding.{Asked};
 ghost use Rattle.http_messages.specs.Meaning.{Means, IsSettled, Awaits, Misses, message_seen};
 ghost use Rattle.http_responses.specs.Answers.{answer_bytes};
@@ -22,15 +22,18 @@ use stores::Store;
 use texts::Memory;
 
 impl<S: Store + Drop> Service<S> {
-    /// The service over a store, with the operator's key of its settings.
+    /// The service over a store, with the operator's key of its settings. It only reads the store, which stands for what it
+    /// stood for.
     ///
     /// # Errors
     ///
-    /// The store comes back, as it was, where memory is wanting.
+    /// The store comes back, as it was, if there is no memory.
     pub fn new(alloc: Global, mut store: S) -> Result<Service<S>, S>
         ensures store { IfOk result (λ service. S.reads store (store_of service)) }
         ensures key { IfOk result (λ service. Trusted S.Units store (store_of service) (
             key_of service ≡ (S.world store).settings.operator_key)) }
+        ensures stands { (key marks : List ℕ) (before : List Came) → StoreStandsFor S.Store key marks before store → IfOk result (λ service.
+            StoreStandsFor S.Store key marks before (store_of service) × (S.honest (store_of service) → key ≡ key_of service)) }
         ensures back { IfErr result (S.reads store) }
     {
         let Ok(settings) = store.settings(alloc) else {
@@ -73,14 +76,18 @@ impl<S> Service<S> {
 }
 
 impl<S: Store> Service<S> {
-    /// Whether no fault of the disk has shut the store. One that is shut answers nothing more, until it is opened again.
+    /// Whether the store is open. One that a fault of the disk has shut answers nothing more, until it is opened again. This
+    /// only reads the store, which stands for what it stood for.
     ///
     /// # Errors
     ///
-    /// [`Memory`] where that can't be found out.
+    /// [`Memory`] if that can't be found out.
     pub fn is_open(&mut self) -> Result<bool, Memory>
         ensures reads { S.reads (store_of self.old) (store_of self.new) }
         ensures open { S.clean (store_of self.new) → result ≡ Ok true → S.honest (store_of self.new) }
+        ensures shut { S.clean (store_of self.new) → result ≡ Ok false → ¬ S.honest (store_of self.new) }
+        ensures stands { (key marks : List ℕ) (before : List Came) → StoreStandsFor S.Store key marks before (store_of self.old)
+            → StoreStandsFor S.Store key marks before (store_of self.new) }
         ensures key { key_of self.new ≡ key_of self.old }
     {
         self.store.is_open()

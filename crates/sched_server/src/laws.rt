@@ -5,11 +5,11 @@ ghost use Rattle.sched_machine.specs.Classes.{ClassesStay};
 ghost use Rattle.sched_machine.specs.Decisions.{CanonicalsStay, VerdictsStay, StatusesStay, CreditsStay, CreditsAddUp};
 ghost use Rattle.sched_machine.specs.Runs.{OwnersStay, ReportsStay, LapsesStay, OneForEachUser};
 ghost use Rattle.sched_server.specs.Classes.{OwnersAreOfClassesAtAMessage, OwnersAreOfClassesOverMessages, OwnersWereGiven};
-ghost use Rattle.sched_server.specs.Laws.{NewStoresStand, HandledStands, WhatIsLeftStands, ReopenedStands, UpgradedStands, FormerWorldsAreUnclassed, HoldsOfWhatStands, Lasts, DeadlinesMoveByResendsAlone, DeadlinesMoveByResendsOverMessages, NoHeldJobDropsFromSight};
+ghost use Rattle.sched_server.specs.Laws.{NewStoresStand, HandledStands, ReadsStand, WhatIsLeftStands, ReopenedStands, UpgradedStands, FormerWorldsAreUnclassed, HoldsOfWhatStands, Lasts, DeadlinesMoveByResendsAlone, DeadlinesMoveByResendsOverMessages, NoHeldJobDropsFromSight};
 
 use stores::Store;
 
-/// A new store, of which nothing was heard, stands for the empty past of bytes.
+/// A new store, of which nothing was heard, stands for the empty past of bytes, with the operator's key of its settings.
 pub fn new_stores_stand<S: Store>()
     ensures { NewStoresStand S.Store }
 {}
@@ -18,6 +18,12 @@ pub fn new_stores_stand<S: Store>()
 /// over a reader and a writer too, with the bytes that it read as the message, also where its answer is lost.
 pub fn handled_stands<S: Store>()
     ensures { HandledStands S.Store }
+{}
+
+/// A store that was only read stands for what it stood for, also where a fault has shut it. So does what a stop may leave of
+/// it.
+pub fn reads_stand<S: Store>()
+    ensures { ReadsStand S.Store }
 {}
 
 /// At rest, what a stop leaves of a store stands for all that came, as the store does: every answered message is in.

@@ -13,5 +13,6 @@ pub mod Stops
 pub mod Told
 pub mod ToldByRows
 pub mod Upgraded
+pub mod UpgradedTexts
 pub mod TextsKept
 mod Memory

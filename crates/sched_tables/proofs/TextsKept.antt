@@ -12,7 +12,7 @@ use Rattle.table_reading.specs.Reading.{AreUtf8}
 use Rattle.table_rows.specs.Utf8.{HasUtf8, HaveUtf8}
 
 -- what is said of the columns of a row that may stand is said of the row
-of_columns : (o : Option StoredRow) → IfSome (option_map columns_of o) HasUtf8 → IfSome o (λ r. HasUtf8 (columns_of r))
+pub of_columns : (o : Option StoredRow) → IfSome (option_map columns_of o) HasUtf8 → IfSome o (λ r. HasUtf8 (columns_of r))
 of_columns None texts = tt
 of_columns (Some r) texts = texts
 
@@ -23,7 +23,8 @@ as_columns (Some r) texts = texts
 pub texts_of : (db : Database) (contents : Contents) → Hold db contents → AreUtf8 db.trees → HaveTexts contents
 texts_of db contents holds utf8 key = of_columns (contents key) (subst (λ (o : Option Row). IfSome o HasUtf8) (holds.rows key) (utf8 key))
 
-utf8_of : (db : Database) (contents : Contents) → Hold db contents → HaveTexts contents → AreUtf8 db.trees
+-- and back
+pub utf8_of : (db : Database) (contents : Contents) → Hold db contents → HaveTexts contents → AreUtf8 db.trees
 utf8_of db contents holds texts key = subst (λ (o : Option Row). IfSome o HasUtf8) (sym (holds.rows key)) (as_columns (contents key) (texts key))
 
 put_texts : (rows : List StoredRow) (contents : Contents) → HaveTexts contents → HaveUtf8 rows → HaveTexts (with_rows contents rows)

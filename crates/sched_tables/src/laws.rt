@@ -2,7 +2,7 @@
 
 ghost use Rattle.sqlite.specs.Steps.{over_memory};
 ghost use Rattle.sched_tables.specs.Held.{NeverFails};
-ghost use Rattle.sched_tables.specs.Laws.{HeldCanBeOpened, OpenedAreTaken, ReopenedHolds, UpgradedHolds};
+ghost use Rattle.sched_tables.specs.Laws.{HeldCanBeOpened, OpenedAreTaken, ReopenedHolds, UpgradedCanBeOpened, UpgradedHolds};
 
 use sqlite::Alter;
 
@@ -26,6 +26,12 @@ pub fn upgraded_holds<S: Alter>()
 /// beside it.
 pub fn held_can_be_opened()
     ensures { HeldCanBeOpened }
+{}
+
+/// Tables of an earlier schema that hold a sound world, with calls and imports that may be kept beside it and with texts in
+/// UTF-8, can be opened once they are upgraded.
+pub fn upgraded_can_be_opened()
+    ensures { UpgradedCanBeOpened }
 {}
 
 /// Tables that can be opened again are taken by an opening: only memory or the disk refuses them.

@@ -46,8 +46,8 @@ impl<S: Alter> Store for Tables<S> {
     fn is_open(&mut self) -> Result<bool, Memory> {
         match test_open(&mut self.conn) {
             Ok(()) => Ok(true),
-            Err(Error::SqliteFailure(ErrorCode::OutOfMemory)) => Err(AllocError),
-            Err(_) => Ok(false),
+            Err(Error::SqliteFailure(ErrorCode::Closed)) => Ok(false),
+            Err(_) => Err(AllocError),
         }
     }
 

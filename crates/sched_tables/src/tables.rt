@@ -1,8 +1,11 @@
 //! The stored tables, with what is kept beside them.
 
 ghost use Rattle.std.specs.Prelude.{◌≡◌};
+ghost use Rattle.sqlite.specs.State.{HasCleanDisk};
 ghost use Rattle.sqlite.specs.Held.{state};
+ghost use Rattle.sqlite_trees.specs.Tree.{Trees};
 ghost use Rattle.sched_tables.specs.Held.{IsHonest};
+ghost use Rattle.sched_tables.specs.Reopening.{Reopens};
 ghost use Rattle.sched_tables.specs.Views.{state_of};
 
 use crate::remembered::Remembered;
@@ -27,10 +30,14 @@ pub struct Tables<S: Alter> {
 }
 
 impl<S: Alter> Tables<S> {
-    /// Hands the connection back, with its tables as they are.
+    /// Hands the connection back, with its tables as they are. A stop leaves of it what it could leave of them, and it can be
+    /// opened again if they could.
     pub fn into_connection(self) -> Connection<S>
         ensures same { ((state S.Store result).now ≡ (state_of S.Store self).now) × ((state S.Store result).committed ≡ (state_of S.Store self).committed) }
         ensures honest { IsHonest (state_of S.Store self) → IsHonest (state S.Store result) }
+        ensures clean { HasCleanDisk (state S.Store result) → HasCleanDisk (state_of S.Store self) }
+        ensures left { (trees : Trees) → (state S.Store result).may_leave trees → (state_of S.Store self).may_leave trees }
+        ensures reopens { Reopens (state_of S.Store self) → Reopens (state S.Store result) }
     {
         let Tables {
             alloc: _,

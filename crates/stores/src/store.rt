@@ -1,6 +1,6 @@
 //! The trait of a store, and answers that rest on what was read of one.
 
-ghost use Rattle.std.specs.Prelude.{◌≡◌, true, is_ok, IfOk, OnOk};
+ghost use Rattle.std.specs.Prelude.{◌≡◌, true, false, is_ok, Ok, IfOk, OnOk};
 ghost use Rattle.sched_book.specs.Sound.{Sound};
 ghost use Rattle.sched_book.specs.Trusted.{Trusted};
 ghost use Rattle.stores.specs.Acting.{ActsWhole, parts_of};
@@ -55,14 +55,15 @@ pub trait Store: Desk {
         ensures reads { Self.reads self.old self.new }
         ensures answer { Trusted Self.Units self.old self.new (IfOk result (λ r. r ≡ (holds self.old).batches kind batch.now)) };
 
-    /// Whether no fault has shut it: then what was read of it so far is what it holds.
+    /// Whether it is open: if it is, what was read of it so far is what it holds. If not, a fault has shut it.
     ///
     /// # Errors
     ///
-    /// [`Memory`] where that can't be found out.
+    /// [`Memory`] if that can't be found out.
     fn is_open(&mut self) -> Result<bool, Memory>
         ensures reads { Self.reads self.old self.new }
-        ensures open { clean self.new → result ≡ Ok true → Self.honest self.new };
+        ensures open { clean self.new → result ≡ Ok true → Self.honest self.new }
+        ensures shut { clean self.new → result ≡ Ok false → ¬ Self.honest self.new };
 
     /// Makes these changes and keeps this entry, at once: where it is unavailable, neither is done, unless a fault has shut
     /// the store. A stop at any moment leaves what it could leave before, or, where the store was open, the whole. A call is
