@@ -8,6 +8,7 @@ from urllib.parse import parse_qs
 from wsgiref.util import FileWrapper
 
 from . import client_requests, pages
+from .archives import read_archives
 from .catalogue import Catalogue, MissingFile, read_catalogue
 from .client_replies import ReplyWriter
 from .client_requests import RequestFault, read_request
@@ -59,7 +60,7 @@ class Application:
 
     def __init__(self, settings: Settings, catalogue: Catalogue, counts: Counts, scheduler: Scheduler):
         self.settings, self.catalogue, self.scheduler = settings, catalogue, scheduler
-        self.exchange = Exchange(counts, scheduler, settings.retry_delay)
+        self.exchange = Exchange(counts, scheduler, settings.retry_delay, read_archives(settings.archives))
         self.writer = ReplyWriter(catalogue, settings.name, settings.url)
         self.statements = Statements(counts, scheduler, settings.operator_key)
         self._pages = {

@@ -8,6 +8,7 @@ import logging
 import threading
 from dataclasses import dataclass, replace
 
+from .archives import Archives
 from .calls import call_text
 from .client_requests import ClientRequest
 from .counts import FIRST_KEY, CountEnded, Counts, Key
@@ -53,8 +54,9 @@ def put_off_by(refusal: Refusal) -> PutOff:
 class Exchange:
     """What answers requests."""
 
-    def __init__(self, counts: Counts, scheduler: Scheduler, retry_delay: int):
+    def __init__(self, counts: Counts, scheduler: Scheduler, retry_delay: int, archives: Archives | None = None):
         self.counts, self.scheduler, self.retry_delay = counts, scheduler, retry_delay
+        self.archives = archives or Archives()
         self._locks = KeyLocks(wait_seconds=2 * scheduler.answer_seconds)
 
     def answer(self, request: ClientRequest) -> Reply | PutOff:
@@ -81,12 +83,17 @@ class Exchange:
         call = self.counts.open_call(key)
         if call is None:
             return
-        answer = self.scheduler.call(call)
+        answer = self._answer(key, call)
         if isinstance(answer, Refusal):
             log.warning("a call of %s that was sent again is refused as %s", key.host_cpid, answer.error)
             self.counts.refused(key)
         else:
             self.counts.answered(key, answer, jobs_with(answer, self.counts.jobs_in_hand(key)))
+
+    def _answer(self, key: Key, call: bytes) -> Reply | Refusal:
+        """The answer to a call, with the credit of archives."""
+        answer = self.scheduler.call(call)
+        return self.archives.added_to(key, answer) if isinstance(answer, Reply) else answer
 
     def _call(self, key: Key, request: ClientRequest) -> Reply | PutOff:
         """The reply to a request, where the key is held and has no open call."""
@@ -96,7 +103,7 @@ class Exchange:
         last = 0
         for _ in range(COUNT_ATTEMPTS):
             call = self.counts.opened(key, lambda number: call_text(request, key.host_cpid, number, names, seconds), last)
-            answer = self.scheduler.call(call)
+            answer = self._answer(key, call)
             if isinstance(answer, Reply):
                 self.counts.answered(key, answer, [])
                 return replace(answer, results=jobs_with(answer, in_hand))

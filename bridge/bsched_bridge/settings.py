@@ -28,6 +28,7 @@ class Settings:
     threads: int  # how many messages are worked on at once
     answer_seconds: int  # how long an answer of bsched is waited for
     retry_delay: int  # the seconds that a client is told to wait where bsched gave no answer
+    archives: tuple[Path, ...] = ()  # earlier files of the project, whose credit is added
 
     @property
     def path(self) -> str:
@@ -60,6 +61,18 @@ def master_url(file: Entry) -> str:
     return url
 
 
+def archive_paths(file: Entry) -> tuple[Path, ...]:
+    """The earlier files of the project."""
+    paths = []
+    for name in file.taken("archives", list, "an array of texts in quotes", []):
+        if not isinstance(name, str):
+            file.fault("archives is not an array of texts in quotes", "archives")
+        paths.append(file.path.parent / name)
+        if not paths[-1].is_file():
+            file.fault(f"archives: {paths[-1]} is no file", "archives")
+    return tuple(paths)
+
+
 def read_settings(path: Path) -> Settings:
     """The settings of a file; paths in it are relative to its folder."""
     file = OperatorFile(path)
@@ -75,6 +88,7 @@ def read_settings(path: Path) -> Settings:
         threads=file.whole("threads", 1, 64, 8),
         answer_seconds=file.whole("answer_seconds", 1, 120, 15),
         retry_delay=file.whole("retry_delay", 1, 86400, 60),
+        archives=archive_paths(file),
     )
     if not settings.name.strip() or not settings.name.isprintable():
         file.fault("name is empty, or has a character that can't be printed", "name")
