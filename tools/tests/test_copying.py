@@ -344,18 +344,6 @@ def test_what_a_killed_copy_left_is_cleared(project, copies):
     assert not left.exists() and fresh.exists()
 
 
-@pytest.fixture
-def small_disk(tmp_path):
-    """A file system with little room."""
-    folder = tmp_path / "small"
-    folder.mkdir()
-    words = ["mount", "-t", "tmpfs", "-o", "size=64k", "tmpfs", str(folder)]
-    if subprocess.run(words, capture_output=True).returncode:
-        pytest.skip("no file system may be mounted")
-    yield folder
-    subprocess.run(["umount", folder], check=True)
-
-
 def test_a_full_disk(project, twin, small_disk):
     status, told, fault = tools("copy", "--tables", project, "--to", small_disk)
     assert (status, told) == (1, "")
