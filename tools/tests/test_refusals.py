@@ -98,6 +98,7 @@ def test_tables_that_a_program_serves(project, twin, tmp_path, command):
 
 @pytest.mark.parametrize("words, wanted", [
     (["results", "--cursor", "DISK/cursor"], "cursor"),
+    (["results", "--to", "DISK/new"], "new"),
     (["statistics", "--to", "DISK"], "user.gz"),
     (["report", "--to", "DISK"], "history.jsonl"),
 ])
