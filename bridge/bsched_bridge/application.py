@@ -1,7 +1,5 @@
 """The WSGI application: which URL is answered by what."""
-import logging
 import re
-import traceback
 from collections.abc import Callable, Iterable
 from dataclasses import replace
 from pathlib import Path
@@ -18,7 +16,18 @@ from .client_requests import RequestFault, read_request
 from .counts import Counts
 from .exchange import HOUR, Exchange, PutOff, Resending
 from .host_rules import HostRuleReader
-from .http_messages import BYTES, PHRASES, TEXT, XML, Answer, Environ, HttpFault, body_of, has_method
+from .http_messages import (
+    BYTES,
+    PHRASES,
+    TEXT,
+    XML,
+    Answer,
+    Environ,
+    HttpFault,
+    body_of,
+    has_method,
+    log_fault,
+)
 from .members import Members
 from .passwords import Passwords
 from .scheduler import Scheduler
@@ -32,13 +41,6 @@ BLOCK = 65536
 
 StartResponse = Callable[[str, list[tuple[str, str]]], Any]
 Handler = Callable[[Environ], Answer]
-log = logging.getLogger(__name__)
-
-
-def log_fault(error: Exception) -> None:
-    """Logs where a message could not be answered, and nothing that the message said: it may be a password."""
-    where = "".join(traceback.format_tb(error.__traceback__))
-    log.error("a message could not be answered: %s\n%s", type(error).__name__, where)
 
 
 class Application:

@@ -544,6 +544,19 @@ def test_the_day_is_counted_where_the_row_is_made(open_bridge):
     members.insert("v@sums.example", secret, "N", False, 87_400, 2)
 
 
+def test_a_full_disk(open_bridge, twin, monkeypatch):
+    """Nothing can be written for a while: no key is told, and afterwards there is one account."""
+    with monkeypatch.context() as patch:
+        patch.setattr(open_bridge.file, "transaction", lambda is_synced=True: 1 // 0)
+        assert create(open_bridge) == -183
+    key = create(open_bridge)
+    with monkeypatch.context() as patch:
+        patch.setattr(open_bridge.members, "imported", lambda member: 1 // 0)
+        assert create(open_bridge, "bob@sums.example") == -183
+    other = create(open_bridge, "bob@sums.example")
+    assert made_accounts(twin) == [key, other]
+
+
 # ---- What nobody may read in a log
 
 
@@ -571,9 +584,12 @@ def test_nothing_secret_is_logged(open_bridge, twin, caplog, monkeypatch):
         raise ValueError(f"{EMAIL} {key}")
 
     monkeypatch.setattr(open_bridge.application.accounts.members, "of_email", fails)
-    assert open_bridge.got(account_query("create_account.php", EMAIL, "secret1"), REMOTE_ADDR=CLIENT)[
-        0
-    ].startswith("500")
+    assert create(open_bridge, client="203.0.113.9") == -183
+    form = f"key={key}&email={EMAIL}&password=secret1".encode()
+    monkeypatch.setattr(open_bridge.application.accounts, "has_password", fails)
+    kind = "application/x-www-form-urlencoded"
+    assert open_bridge.got("/p/get_passwd.php", "POST", form, CONTENT_TYPE=kind)[0].startswith("500")
+    assert caplog.text.count("a message could not be answered: ValueError") == 2
     assert len(caplog.records) > 5
     assert not [secret for secret in {*secrets, key} if secret in caplog.text]
     for _, authenticator, _ in rows(open_bridge):
