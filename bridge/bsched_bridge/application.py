@@ -1,4 +1,5 @@
 """The WSGI application: which URL is answered by what."""
+import logging
 import re
 from collections.abc import Callable, Iterable
 from dataclasses import replace
@@ -39,6 +40,7 @@ from .statements import Statements
 REST_OF_FILE = re.compile(r"bytes=([0-9]{1,18})-")
 BLOCK = 65536
 
+log = logging.getLogger(__name__)
 StartResponse = Callable[[str, list[tuple[str, str]]], Any]
 Handler = Callable[[Environ], Answer]
 
@@ -176,6 +178,8 @@ def new_application(path: Path) -> Application:
     beside it.
     """
     settings = read_settings(path)
+    if settings.is_without_addresses:
+        log.warning("all volunteers count as one address, that of the proxy: set address_field in [accounts]")
     catalogue = read_catalogue(settings.catalogue)
     scheduler = Scheduler(settings.scheduler, settings.answer_seconds)
     rules = HostRuleReader(path, settings.host_rules)
