@@ -9,7 +9,9 @@ import xml.etree.ElementTree as ElementTree
 import pytest
 from hypothesis import given
 from hypothesis import strategies as st
-from joining import CLIENT, account_query, client_hash, create, look_up, made_accounts, rows, told, works
+from joining import (
+    CLIENT, account_query, client_hash, create, look_up, made_accounts, rows, told, wait_until, works,
+)
 from messages import request, value
 
 from bsched_bridge.accounts import account_import, clean_name, is_email
@@ -371,8 +373,7 @@ def test_two_hashes_at_once_and_few_that_wait(monkeypatch):
     threads = [threading.Thread(target=passwords.new_secret, args=("0" * 32,)) for _ in range(4)]
     for thread in threads:
         thread.start()
-    while passwords._places._value:
-        pass
+    wait_until(lambda: not passwords._places._value)
     with pytest.raises(TooBusy):
         passwords.new_secret("0" * 32)
     ended.set()
@@ -418,8 +419,7 @@ def test_account_messages_leave_threads_for_calls(open_bridge):
         threads = [threading.Thread(target=lambda: answers.append(create(open_bridge))) for _ in range(4)]
         for thread in threads:
             thread.start()
-        while open_bridge.application.accounts._places._value:
-            pass
+        wait_until(lambda: not open_bridge.application.accounts._places._value)
         assert create(open_bridge, "bob@sums.example") == look_up(open_bridge) == -183
         assert answers == []
         assert value(open_bridge.call(request()), "hostid") == "1"
