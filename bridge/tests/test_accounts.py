@@ -4,6 +4,7 @@ logged.
 import json
 import re
 import threading
+import time
 import xml.etree.ElementTree as ElementTree
 
 import pytest
@@ -17,7 +18,7 @@ from messages import request, value
 from bsched_bridge.accounts import account_import, clean_name, is_email
 from bsched_bridge.limits import RecentCounts, is_loopback, network_of
 from bsched_bridge.members import DayIsFull, Member
-from bsched_bridge.passwords import COST, Cost, Passwords, TooBusy
+from bsched_bridge.passwords import COST, Cost, Passwords, TooBusy, scrypt
 from bsched_bridge.passwords import client_hash as own_client_hash
 
 EMAIL = "ann@sums.example"
@@ -522,7 +523,12 @@ def test_bsched_that_was_put_back_to_an_older_copy(open_bridge, twin, caplog):
     assert rows(open_bridge) == [(EMAIL, key, 1)]
 
 
-def test_two_creations_at_once_are_one(open_bridge, twin):
+def test_creations_at_once_are_one(open_bridge, twin, monkeypatch):
+    def slow(*words):
+        time.sleep(0.1)
+        return scrypt(*words)
+
+    monkeypatch.setattr("bsched_bridge.passwords.scrypt", slow)
     answers = []
     threads = [threading.Thread(target=lambda: answers.append(create(open_bridge))) for _ in range(4)]
     for thread in threads:
