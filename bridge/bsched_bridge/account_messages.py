@@ -10,7 +10,9 @@ from xml.etree.ElementTree import Element, SubElement
 from .accounts import AccountFault, Accounts, Fault
 from .catalogue import Catalogue
 from .client_replies import add, written
-from .http_messages import NO_STORE, XML, Answer, Environ, has_method, is_of_no_browser, query_of
+from .http_messages import (
+    NO_STORE, XML, Answer, Environ, HttpFault, has_method, is_of_no_browser, log_fault, query_of,
+)
 from .limits import is_loopback, network_of
 from .scheduler import NoAnswer, Scheduler
 from .settings import Settings
@@ -97,11 +99,19 @@ class AccountMessages:
         return client_of(environ, self._address_field)
 
     def _answered(self, find: Callable[[Environ, dict[str, str]], str], environ: Environ) -> Answer:
-        """The answer with the key that is found."""
+        """The answer with the key that is found; a fault of the bridge, such as a full disk, is one to try
+        again.
+        """
         try:
             return Answer(XML, account_out(find(environ, query_of(environ))), NO_STORE)
-        except AccountFault as fault:
-            return Answer(XML, account_error(fault.fault), NO_STORE)
+        except AccountFault as told:
+            fault = told.fault
+        except HttpFault:
+            raise
+        except Exception as error:
+            log_fault(error)
+            fault = Fault.NO_ANSWER
+        return Answer(XML, account_error(fault), NO_STORE)
 
     def _created(self, environ: Environ, told: dict[str, str]) -> str:
         """The key of a new account."""

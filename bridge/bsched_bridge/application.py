@@ -1,7 +1,6 @@
 """The WSGI application: which URL is answered by what."""
 import logging
 import re
-import traceback
 from collections.abc import Callable, Iterable
 from dataclasses import replace
 from pathlib import Path
@@ -19,7 +18,18 @@ from .client_requests import RequestFault, read_request
 from .counts import Counts
 from .exchange import HOUR, Exchange, PutOff, Resending
 from .host_rules import HostRuleReader
-from .http_messages import BYTES, PHRASES, TEXT, XML, Answer, Environ, HttpFault, body_of, has_method
+from .http_messages import (
+    BYTES,
+    PHRASES,
+    TEXT,
+    XML,
+    Answer,
+    Environ,
+    HttpFault,
+    body_of,
+    has_method,
+    log_fault,
+)
 from .members import Members
 from .passwords import Passwords
 from .scheduler import Scheduler
@@ -31,15 +41,9 @@ from .statements import Statements
 REST_OF_FILE = re.compile(r"bytes=([0-9]{1,18})-")
 BLOCK = 65536
 
+log = logging.getLogger(__name__)
 StartResponse = Callable[[str, list[tuple[str, str]]], Any]
 Handler = Callable[[Environ], Answer]
-log = logging.getLogger(__name__)
-
-
-def log_fault(error: Exception) -> None:
-    """Logs where a message could not be answered, and nothing that the message said: it may be a password."""
-    where = "".join(traceback.format_tb(error.__traceback__))
-    log.error("a message could not be answered: %s\n%s", type(error).__name__, where)
 
 
 class Application:
@@ -176,6 +180,8 @@ def new_application(path: Path) -> Application:
     beside it.
     """
     settings = read_settings(path)
+    if settings.is_without_addresses:
+        log.warning("all volunteers count as one address, that of the proxy: set address_field in [accounts]")
     catalogue = read_catalogue(settings.catalogue)
     scheduler = Scheduler(settings.scheduler, settings.answer_seconds)
     rules = HostRuleReader(path, settings.host_rules)

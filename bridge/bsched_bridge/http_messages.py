@@ -1,5 +1,7 @@
 """Messages of HTTP: what a browser or a client sends, and what it gets."""
+import logging
 import re
+import traceback
 from dataclasses import dataclass, field
 from typing import Any
 from urllib.parse import parse_qs
@@ -29,6 +31,7 @@ NO_STORE = {"Cache-Control": "no-store"}
 BROWSER_FIELDS = ("HTTP_ORIGIN", "HTTP_REFERER", "HTTP_SEC_FETCH_SITE")
 
 Environ = dict[str, Any]
+log = logging.getLogger(__name__)
 
 
 class HttpFault(Exception):
@@ -47,6 +50,12 @@ class Answer:
     body: bytes
     fields: dict[str, str] = field(default_factory=dict)
     status: int = 200
+
+
+def log_fault(error: Exception) -> None:
+    """Logs where a message could not be answered, and nothing that the message said: it may be a password."""
+    where = "".join(traceback.format_tb(error.__traceback__))
+    log.error("a message could not be answered: %s\n%s", type(error).__name__, where)
 
 
 def has_method(environ: Environ, *methods: str) -> None:

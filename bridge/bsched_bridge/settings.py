@@ -64,6 +64,15 @@ class Settings:
         """The path of the master URL; it begins and ends with a slash."""
         return urlsplit(self.url).path
 
+    @property
+    def is_without_addresses(self) -> bool:
+        """Whether the limits of accounts see a proxy alone: TLS ends at one, and it tells no address of a
+        client.
+        """
+        return (
+            self.accounts is not None and self.accounts.address_field is None and self.url.startswith("https")
+        )
+
 
 def address(file: Entry, member: str) -> Address:
     """The address that a member tells as HOST:PORT."""

@@ -1,7 +1,9 @@
 """What the tests share: a bsched that can lose answers, and a bridge before it."""
 import io
 import os
+import shutil
 import sys
+import tempfile
 from pathlib import Path
 
 import hypothesis.configuration
@@ -11,9 +13,6 @@ sys.dont_write_bytecode = True
 BRIDGE = Path(__file__).resolve().parent.parent
 sys.path[:0] = [str(BRIDGE), str(BRIDGE.parent / "bench"), str(BRIDGE / "tests")]
 
-# the tests stop programs and never the power, so nothing need reach a disk
-if os.access("/dev/shm", os.W_OK):
-    os.environ.setdefault("PYTEST_DEBUG_TEMPROOT", "/dev/shm")
 hypothesis.configuration.set_hypothesis_home_dir(BRIDGE / ".pytest_cache" / "hypothesis")
 
 from twin import Twin  # noqa: E402
@@ -27,6 +26,7 @@ from bsched_bridge.scheduler import Scheduler  # noqa: E402
 from bsched_bridge.settings import read_settings  # noqa: E402
 from bsched_bridge.state_file import StateFile  # noqa: E402
 
+MEMORY = "/dev/shm"
 CATALOGUE = """\
 code_sign_key = "key"
 files = "files"
@@ -47,6 +47,16 @@ name = "u2"
 command_line = "--two <2>"
 input_files = [{ name = "two.txt", open_name = "numbers" }]
 """
+
+
+@pytest.fixture
+def tmp_path():
+    """A folder of a test, in memory where there is room: tests stop programs and never the power, so nothing
+    need reach a disk.
+    """
+    has_room = os.access(MEMORY, os.W_OK) and shutil.disk_usage(MEMORY).free > 2**30
+    with tempfile.TemporaryDirectory(prefix="bridge_", dir=MEMORY if has_room else None) as folder:
+        yield Path(folder)
 
 
 @pytest.fixture(scope="session")

@@ -3,6 +3,7 @@ end.
 """
 import hashlib
 import re
+import time
 import xml.etree.ElementTree as ElementTree
 from dataclasses import dataclass, field
 from urllib.parse import quote
@@ -87,6 +88,15 @@ def rows(bridge):
 def made_accounts(twin):
     """The keys that bsched has, but for the operator's."""
     return [key for key in twin.service.machine.rows["accounts"] if key not in OPERATORS]
+
+
+def wait_until(is_so):
+    """Waits until something is so, for ten seconds at most."""
+    for _ in range(1000):
+        if is_so():
+            return
+        time.sleep(0.01)
+    raise AssertionError("it did not come about")
 
 
 # ---- Stops

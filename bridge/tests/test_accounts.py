@@ -4,18 +4,21 @@ logged.
 import json
 import re
 import threading
+import time
 import xml.etree.ElementTree as ElementTree
 
 import pytest
 from hypothesis import given
 from hypothesis import strategies as st
-from joining import CLIENT, account_query, client_hash, create, look_up, made_accounts, rows, told, works
+from joining import (
+    CLIENT, account_query, client_hash, create, look_up, made_accounts, rows, told, wait_until, works,
+)
 from messages import request, value
 
 from bsched_bridge.accounts import account_import, clean_name, is_email
 from bsched_bridge.limits import RecentCounts, is_loopback, network_of
 from bsched_bridge.members import DayIsFull, Member
-from bsched_bridge.passwords import COST, Cost, Passwords, TooBusy
+from bsched_bridge.passwords import COST, Cost, Passwords, TooBusy, scrypt
 from bsched_bridge.passwords import client_hash as own_client_hash
 
 EMAIL = "ann@sums.example"
@@ -371,8 +374,7 @@ def test_two_hashes_at_once_and_few_that_wait(monkeypatch):
     threads = [threading.Thread(target=passwords.new_secret, args=("0" * 32,)) for _ in range(4)]
     for thread in threads:
         thread.start()
-    while passwords._places._value:
-        pass
+    wait_until(lambda: not passwords._places._value)
     with pytest.raises(TooBusy):
         passwords.new_secret("0" * 32)
     ended.set()
@@ -418,8 +420,7 @@ def test_account_messages_leave_threads_for_calls(open_bridge):
         threads = [threading.Thread(target=lambda: answers.append(create(open_bridge))) for _ in range(4)]
         for thread in threads:
             thread.start()
-        while open_bridge.application.accounts._places._value:
-            pass
+        wait_until(lambda: not open_bridge.application.accounts._places._value)
         assert create(open_bridge, "bob@sums.example") == look_up(open_bridge) == -183
         assert answers == []
         assert value(open_bridge.call(request()), "hostid") == "1"
@@ -522,16 +523,20 @@ def test_bsched_that_was_put_back_to_an_older_copy(open_bridge, twin, caplog):
     assert rows(open_bridge) == [(EMAIL, key, 1)]
 
 
-def test_two_creations_at_once_are_one(open_bridge, twin):
+def test_creations_at_once_are_one(open_bridge, twin, monkeypatch):
+    def slow(*words):
+        time.sleep(0.1)
+        return scrypt(*words)
+
+    monkeypatch.setattr("bsched_bridge.passwords.scrypt", slow)
     answers = []
     threads = [threading.Thread(target=lambda: answers.append(create(open_bridge))) for _ in range(4)]
     for thread in threads:
         thread.start()
     for thread in threads:
         thread.join()
-    assert len(answers) == 4
-    keys = {answer for answer in answers if isinstance(answer, str)}
-    assert keys == set(made_accounts(twin)) and len(keys) == 1 == len(rows(open_bridge))
+    (key,) = made_accounts(twin)
+    assert answers == [key] * 4 and len(rows(open_bridge)) == 1
 
 
 def test_the_day_is_counted_where_the_row_is_made(open_bridge):
@@ -542,6 +547,19 @@ def test_the_day_is_counted_where_the_row_is_made(open_bridge):
     with pytest.raises(DayIsFull):
         members.insert("v@sums.example", secret, "N", False, 87_399, 2)
     members.insert("v@sums.example", secret, "N", False, 87_400, 2)
+
+
+def test_a_full_disk(open_bridge, twin, monkeypatch):
+    """Nothing can be written for a while: no key is told, and afterwards there is one account."""
+    with monkeypatch.context() as patch:
+        patch.setattr(open_bridge.file, "transaction", lambda is_synced=True: 1 // 0)
+        assert create(open_bridge) == -183
+    key = create(open_bridge)
+    with monkeypatch.context() as patch:
+        patch.setattr(open_bridge.members, "imported", lambda member: 1 // 0)
+        assert create(open_bridge, "bob@sums.example") == -183
+    other = create(open_bridge, "bob@sums.example")
+    assert made_accounts(twin) == [key, other]
 
 
 # ---- What nobody may read in a log
@@ -571,9 +589,12 @@ def test_nothing_secret_is_logged(open_bridge, twin, caplog, monkeypatch):
         raise ValueError(f"{EMAIL} {key}")
 
     monkeypatch.setattr(open_bridge.application.accounts.members, "of_email", fails)
-    assert open_bridge.got(account_query("create_account.php", EMAIL, "secret1"), REMOTE_ADDR=CLIENT)[
-        0
-    ].startswith("500")
+    assert create(open_bridge, client="203.0.113.9") == -183
+    form = f"key={key}&email={EMAIL}&password=secret1".encode()
+    monkeypatch.setattr(open_bridge.application.accounts, "has_password", fails)
+    kind = "application/x-www-form-urlencoded"
+    assert open_bridge.got("/p/get_passwd.php", "POST", form, CONTENT_TYPE=kind)[0].startswith("500")
+    assert caplog.text.count("a message could not be answered: ValueError") == 2
     assert len(caplog.records) > 5
     assert not [secret for secret in {*secrets, key} if secret in caplog.text]
     for _, authenticator, _ in rows(open_bridge):

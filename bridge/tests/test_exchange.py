@@ -3,23 +3,14 @@ refusal.
 """
 import json
 import threading
-import time
 
 import pytest
+from joining import wait_until
 from messages import jobs, names, request, value
 from twin import Twin
 
 from bsched_bridge.counts import FIRST_KEY
 from bsched_bridge.exchange import Resending
-
-
-def wait_until(is_so):
-    """Waits until something is so, for ten seconds at most."""
-    for _ in range(1000):
-        if is_so():
-            return
-        time.sleep(0.01)
-    raise AssertionError("it did not come about")
 
 
 def test_a_first_call(bridge, twin):

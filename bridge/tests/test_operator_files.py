@@ -34,6 +34,18 @@ def test_settings_of_accounts(project):
     assert settings.accounts == AccountSettings(100, 5, "X-Real-IP", True, "Be kind.\n")
 
 
+@pytest.mark.parametrize("url, field, is_without", [
+    ("https://sums.example/p/", "", True), ("https://sums.example/p/", 'address_field = "X-Real-IP"', False),
+    ("http://127.0.0.1:8081/p/", "", False),
+])
+def test_a_proxy_that_tells_no_addresses(project, url, field, is_without):
+    path = project / "bridge.toml"
+    assert not read_settings(path).is_without_addresses
+    text = path.read_text().replace("http://127.0.0.1:8081/p/", url)
+    path.write_text(f"{text}[accounts]\nmost_a_day = 1\n{field}\n")
+    assert read_settings(path).is_without_addresses is is_without
+
+
 def test_accounts_are_imported_with_the_operators_key(project):
     path = project / "bridge.toml"
     text = path.read_text().replace('operator_key = "change-this-key"\n', "")

@@ -37,6 +37,8 @@ class Handler(BaseHTTPRequestHandler):
         """A call or an import."""
         twin = self.server.twin
         body = self.rfile.read(int(self.headers["content-length"]))
+        if len(body) < int(self.headers["content-length"]):
+            return  # the bridge was killed while it sent this; bsched does not act on it either
         if self.path.startswith("/import/"):
             return self.do_import(body)
         with twin.lock:
