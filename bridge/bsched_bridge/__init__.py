@@ -10,6 +10,7 @@ client_requests  what a client's XML says
 exchange         one request and its answer: resends, counts, what a refusal means to a client
 counts           the keys with their counts and calls without an answer
 calls            the JSON text of a call
+archives         the credit of earlier files of the project, which is added to replies
 scheduler        the connection to bsched, and what its answers say
 client_replies   the XML of a reply
 catalogue        files, command lines and signatures, as the operator wrote them

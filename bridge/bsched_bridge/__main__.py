@@ -52,6 +52,9 @@ def serve(path: Path, only_check: bool) -> None:
         catalogue = read_catalogue(settings.catalogue)
         counts = len(catalogue.apps), len(catalogue.versions), len(catalogue.works)
         print("good: {} applications, {} versions, {} workunits".format(*counts))
+        if settings.accounts is not None:
+            limits = settings.accounts.most_a_day, settings.accounts.most_from_address
+            print("volunteers make accounts: at most {} a day, {} from one address".format(*limits))
         return
     application = new_application(path)
     print(f"serving {settings.url} on {settings.listen.host}:{settings.listen.port}", flush=True)

@@ -26,8 +26,7 @@ HOUR, DAY = 3600, 86400
 MOST_WRONG_PASSWORDS = 10  # an hour, of each client address and of each e-mail address
 MOST_NAME = 64  # bytes
 MOST_EMAIL = 254  # characters
-# what the Manager takes for an e-mail address; an answer that it is none is one that the Manager never ends
-# with
+# what the Manager takes for an e-mail address; its wizard never ends if the project says that this is none
 MANAGER_EMAIL = re.compile(r"[^@]+@[^@.]+\.[^@]{2,}")
 NO_EMAIL = re.compile(r"[\s\x00-\x1f\x7f\ufffd]")
 NO_NAME = re.compile("[\\s\x00-\x1f\x7f-\x9f\ufffd]+")
@@ -40,8 +39,7 @@ log = logging.getLogger(__name__)
 class Fault(Enum):
     """Why a message about an account comes to nothing: BOINC's number for clients, and a text for people.
 
-    The Manager never ends with some other numbers, and not with -205 in answer to what it takes for an
-    address.
+    The Manager's wizard never ends with some other numbers, or with -205 for what it takes for an address.
     """
 
     WRONG = -155, "No account has this e-mail address and password."

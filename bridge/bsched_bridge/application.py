@@ -12,6 +12,7 @@ from . import pages
 from .account_messages import AccountMessages, project_config
 from .account_pages import AccountPages
 from .accounts import Accounts
+from .archives import read_archives
 from .catalogue import Catalogue, MissingFile, read_catalogue
 from .client_replies import ReplyWriter
 from .client_requests import RequestFault, read_request
@@ -59,6 +60,7 @@ class Application:
         self.exchange = Exchange(
             counts, scheduler, settings.retry_delay, rules or (lambda: settings.host_rules),
             self.accounts.is_imported_again if self.accounts else lambda _authenticator: False,
+            read_archives(settings.archives),
         )
         self.writer = ReplyWriter(catalogue, settings.name, settings.url)
         self.statements = Statements(counts, self.members, scheduler, settings.operator_key, settings.counts)

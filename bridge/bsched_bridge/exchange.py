@@ -10,6 +10,7 @@ import threading
 from collections.abc import Callable
 from dataclasses import dataclass, replace
 
+from .archives import Archives
 from .calls import call_text
 from .client_requests import ClientRequest
 from .counts import FIRST_KEY, CountEnded, Counts, Key, TooManyHosts
@@ -77,9 +78,11 @@ class Exchange:
     def __init__(
         self, counts: Counts, scheduler: Scheduler, retry_delay: int, rules: Callable[[], HostRules],
         is_imported_again: Callable[[str], bool] = lambda _authenticator: False,
+        archives: Archives | None = None,
     ):
         self.counts, self.scheduler, self.retry_delay, self.rules = counts, scheduler, retry_delay, rules
         self.is_imported_again = is_imported_again  # imports an account that bsched has lost
+        self.archives = archives or Archives()
         self._locks = KeyLocks(wait_seconds=2 * scheduler.answer_seconds)
 
     def answer(self, request: ClientRequest) -> Reply | PutOff:
@@ -113,12 +116,17 @@ class Exchange:
         call = self.counts.open_call(key)
         if call is None:
             return
-        answer = self.scheduler.call(call)
+        answer = self._answer(key, call)
         if isinstance(answer, Refusal):
             log.warning("a call of %s that was sent again is refused as %s", key.host_cpid, answer.error)
             self.counts.refused(key)
         else:
             self.counts.answered(key, answer, jobs_with(answer, self.counts.jobs_in_hand(key)))
+
+    def _answer(self, key: Key, call: bytes) -> Reply | Refusal:
+        """The answer to a call, with the credit of archives."""
+        answer = self.scheduler.call(call)
+        return self.archives.added_to(key, answer) if isinstance(answer, Reply) else answer
 
     def _call(self, key: Key, request: ClientRequest) -> Reply | PutOff:
         """The reply to a request, where the key is held and has no open call."""
@@ -140,7 +148,7 @@ class Exchange:
                     key.host_cpid, shown_key(key.authenticator), many.count,
                 )
                 return too_many_hosts(many.count)
-            answer = self.scheduler.call(call)
+            answer = self._answer(key, call)
             if isinstance(answer, Reply):
                 self.counts.answered(key, answer, [])
                 return replace(answer, results=jobs_with(answer, in_hand))

@@ -1,4 +1,5 @@
 """The pages of the project, for people: the master page, and how the project stands."""
+import re
 from html import escape
 
 from .http_messages import Answer, Environ, query_of
@@ -8,6 +9,7 @@ from .statements import Status, UnitCounts
 from .texts import credits_text, moment_text
 
 USERS_ON_A_PAGE = 100
+PAGE_NUMBER = re.compile("[1-9][0-9]{0,5}")
 
 
 def master_page(settings: Settings) -> Answer:
@@ -19,70 +21,52 @@ def master_page(settings: Settings) -> Answer:
         f'<link rel="boinc_scheduler" href="{scheduler}">\n<!--\n<scheduler>{scheduler}</scheduler>\n-->\n'
     )
     links = [("status", "How the project stands")]
-    if settings.accounts is not None:
-        links.append(("account", "Your account"))
-        if settings.accounts.terms is not None:
-            links.append(("terms", "Terms of use"))
+    if settings.accounts is None:
+        joining = joining_by_key(settings)
+    else:
+        has_terms = settings.accounts.terms is not None
+        joining = joining_by_oneself(settings, has_terms)
+        links += [("account", "Your account"), *([("terms", "Terms of use")] if has_terms else [])]
     welcome = paragraphs(settings.welcome) if settings.welcome else ""
     return page(
-        settings.name,
-        welcome,
-        element("h2", "How to join"),
-        *joining(settings),
-        head=head,
-        links=tuple(links)
+        settings.name, welcome, element("h2", "How to join"), *joining, head=head, links=tuple(links)
     )
 
 
-def joining(settings: Settings) -> list[Markup]:
-    """How a volunteer joins."""
+def steps(settings: Settings, *last: Markup) -> Markup:
+    """What a volunteer does in the Manager: the first steps, and some more."""
+    anyway = "If it says that the project may not have work for your type of computer, answer “Yes”."
     url = element("code", settings.url)
-    if settings.accounts is None:
-        return [
-            element("p", "The project's operator gives you an account key. Then, in the BOINC Manager:"),
-            element(
-                "ol",
-                element("li", "Choose “Add project”, and enter ", url, " as the project URL."),
-                element(
-                    "li",
-                    "If it says that the project may not have work for your type of computer, answer “Yes”.",
-                ),
-                element("li", "Enter the account key as user name, and anything as password."),
-            ),
-        ]
-    terms = settings.accounts.terms is not None
-    agree = (
-        [element("li", "Read the ", element("a", "terms of use", href="terms"), " and agree to them.")]
-        if terms
-        else []
+    first = element("li", "Choose “Add project”, and enter ", url, " as the project URL.")
+    return element("ol", first, element("li", anyway), *last)
+
+
+def joining_by_key(settings: Settings) -> list[Markup]:
+    """How a volunteer joins where only the operator makes accounts."""
+    return [
+        element("p", "The project's operator gives you an account key. Then, in the BOINC Manager:"),
+        steps(settings, element("li", "Enter the account key as user name, and anything as password.")),
+    ]
+
+
+def joining_by_oneself(settings: Settings, has_terms: bool) -> list[Markup]:
+    """How a volunteer joins without the operator."""
+    boinc = element("a", "boinc.berkeley.edu", href="https://boinc.berkeley.edu/download.php")
+    terms = element("a", "terms of use", href="terms")
+    agree = [element("li", "Read the ", terms, " and agree to them.")] if has_terms else []
+    new = "Choose “No, new user”, and enter an e-mail address and a password of your choice."
+    more = "On another computer choose “Yes, existing user”, and enter the same address and password."
+    kept = (
+        "The project keeps your address to find your account, and sends no e-mail. It does not keep your "
+        "password."
     )
     return [
         element(
-            "p",
-            "Install BOINC from ",
-            element("a", "boinc.berkeley.edu", href="https://boinc.berkeley.edu/download.php"),
-            " or from your system's packages. Then, in the BOINC Manager:",
+            "p", "Install BOINC from ", boinc, " or from your system's packages. Then, in the BOINC Manager:"
         ),
-        element(
-            "ol",
-            element("li", "Choose “Add project”, and enter ", url, " as the project URL."),
-            element(
-                "li", "If it says that the project may not have work for your type of computer, answer “Yes”."
-            ),
-            *agree,
-            element(
-                "li", "Choose “No, new user”, and enter an e-mail address and a password of your choice."
-            ),
-        ),
-        element(
-            "p", "On another computer choose “Yes, existing user”, and enter the same address and password."
-        ),
-        element(
-            "p",
-            "The project keeps your address to find your account, and sends no e-mail. It does not keep "
-            "your password.",
-            class_="note",
-        ),
+        steps(settings, *agree, element("li", new)),
+        element("p", more),
+        element("p", kept, class_="note"),
     ]
 
 
@@ -95,9 +79,8 @@ def no_passwords_page(settings: Settings) -> Answer:
         ),
         element(
             "p",
-            "A computer that has the project keeps the key in a file account_*.xml in BOINC's data "
-            "folder, as "
-            "“authenticator”. Else ask the project's operator.",
+            "A computer that has the project keeps the key in a file account_*.xml in BOINC's data folder, "
+            "as “authenticator”. Else ask the project's operator.",
         ),
         links=((".", "The project"),),
     )
@@ -133,10 +116,8 @@ def units_markup(units: UnitCounts) -> list[Markup]:
 def users_markup(status: Status, environ: Environ) -> list[Markup]:
     """A part of the users, by their credit."""
     pages = max(1, -(-len(status.ranking) // USERS_ON_A_PAGE))
-    told = query_of(environ).get("page", "1")
-    number = (
-        min(int(told), pages) if told.isascii() and told.isdigit() and 0 < len(told) < 7 and int(told) else 1
-    )
+    told = query_of(environ).get("page", "")
+    number = min(int(told), pages) if PAGE_NUMBER.fullmatch(told) else 1
     first, last = (number - 1) * USERS_ON_A_PAGE, number * USERS_ON_A_PAGE
     rows: list[list[object]] = [
         [Number(place), name, Number(credits_text(credit))]
@@ -176,11 +157,9 @@ def hosts_markup(status: Status) -> list[Markup]:
         if counts:
             rows.append(["all", "", "", "", *map(sum, zip(*counts))])
         notes.append(
-            "Results are out until they are reported or their deadline passes; those whose deadline "
-            "passed are late. Those "
-            "that wait are reported, and their workunit is not decided. Done are those that were found "
-            "valid; failed are "
-            "errors, and results found invalid."
+            "Results are out until they are reported or their deadline passes; those whose deadline passed "
+            "are late. Those that wait are reported, and their workunit is not decided. Done are those that "
+            "were found valid; failed are errors, and results found invalid."
         )
     return [
         element("h2", "Computers"),

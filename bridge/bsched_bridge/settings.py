@@ -57,6 +57,7 @@ class Settings:
     counts: Path | None  # a file with the counts of a copy of bsched's tables
     host_rules: HostRules
     accounts: AccountSettings | None  # none where only the operator makes accounts
+    archives: tuple[Path, ...] = ()  # earlier files of the project, whose credit is added
 
     @property
     def path(self) -> str:
@@ -138,6 +139,18 @@ def read_host_rules(file: OperatorFile) -> HostRules:
     return HostRules(file.whole("most_hosts", 1, 100_000, 20), file.words("barred"))
 
 
+def archive_paths(file: Entry) -> tuple[Path, ...]:
+    """The earlier files of the project."""
+    paths = []
+    for name in file.taken("archives", list, "an array of texts in quotes", []):
+        if not isinstance(name, str):
+            file.fault("archives is not an array of texts in quotes", "archives")
+        paths.append(file.path.parent / name)
+        if not paths[-1].is_file():
+            file.fault(f"archives: {paths[-1]} is no file", "archives")
+    return tuple(paths)
+
+
 def read_settings(path: Path) -> Settings:
     """The settings of a file; paths in it are relative to its folder."""
     file = OperatorFile(path)
@@ -158,6 +171,7 @@ def read_settings(path: Path) -> Settings:
         counts=path.parent / file.text("counts") if "counts" in file.members else None,
         host_rules=read_host_rules(file),
         accounts=read_accounts(file, url, key is not None),
+        archives=archive_paths(file),
     )
     if not settings.name.strip() or not settings.name.isprintable():
         file.fault("name is empty, or has a character that can't be printed", "name")

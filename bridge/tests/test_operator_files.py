@@ -210,6 +210,10 @@ def ordered(folder, *words):
 def test_the_command_line(project):
     told = ordered(project, "--config", "bridge.toml", "--check")
     assert (told.returncode, told.stdout) == (0, "good: 1 applications, 1 versions, 1 workunits\n")
+    with (project / "bridge.toml").open("a") as file:
+        file.write("[accounts]\nmost_a_day = 7\n")
+    told = ordered(project, "--config", "bridge.toml", "--check")
+    assert told.stdout.splitlines()[1:] == ["volunteers make accounts: at most 7 a day, 3 from one address"]
     (project / "catalogue.toml").write_text("x = 1\n")
     told = ordered(project, "--config", "bridge.toml")
     assert (told.returncode, told.stderr) == (

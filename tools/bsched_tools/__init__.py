@@ -2,6 +2,7 @@
 
 All but `copy` and `doctor` read a copy of the tables. Nothing here writes the tables. A module for each noun:
 
+faults, files         faults in one line, and files that are written whole or not at all
 holders, stopping     which process has the tables, and how it stands still for a moment
 taking, copies        the bytes of the tables at one moment, and a folder of copies
 copying               how a copy is made of these

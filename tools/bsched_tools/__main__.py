@@ -48,6 +48,7 @@ def words() -> argparse.ArgumentParser:
     results = commands.add_parser("results", help="the results of workunits that are done or have failed")
     add_copies(results)
     results.add_argument("--json", action="store_true", help="lines of JSON, and not comma-separated values")
+    results.add_argument("--to", type=Path, metavar="NEW", help="a new file, and not standard output")
     begin = results.add_mutually_exclusive_group()
     begin.add_argument("--after", metavar="NAME", help="only workunits that were imported after this one")
     begin.add_argument("--cursor", type=Path, metavar="FILE", help="only what was not given out before")
@@ -91,8 +92,8 @@ def copy(told: argparse.Namespace) -> None:
 
 
 def results(told: argparse.Namespace) -> None:
-    """Writes results to standard output."""
-    write_results(told.tables, told.json, told.after, told.cursor)
+    """Writes results."""
+    write_results(told.tables, told.json, told.after, told.cursor, told.to)
 
 
 def counts(told: argparse.Namespace) -> None:

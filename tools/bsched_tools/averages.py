@@ -3,13 +3,12 @@ runs."""
 import hashlib
 import hmac
 import json
-import os
 import secrets
 from dataclasses import asdict, dataclass
 from pathlib import Path
 
-from .copies import sync
 from .faults import Fault
+from .files import replace_file
 from .members import Host, User
 
 FORMAT = 1
@@ -101,10 +100,4 @@ class Averages:
             "format": FORMAT, "salt": self.salt, "users": self.users,
             "hosts": {name: asdict(kept) for name, kept in self.hosts.items()},
         }
-        new = self.path.with_name(f"{self.path.name}.new")
-        with open(os.open(new, os.O_WRONLY | os.O_CREAT | os.O_TRUNC, 0o600), "w") as file:
-            json.dump(told, file)
-            file.flush()
-            os.fsync(file.fileno())
-        os.replace(new, self.path)
-        sync(self.path.parent)
+        replace_file(self.path, [json.dumps(told).encode()], mode=0o600)

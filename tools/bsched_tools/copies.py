@@ -11,20 +11,12 @@ from pathlib import Path
 
 from . import tables
 from .faults import Fault
+from .files import sync
 from .taking import Source, Taken
 
 WORK_PREFIX = ".bsched-copy-"
 LEFT_SECONDS = 60.0  # a folder in which a copy is made is left for good if it is older, and nobody has it
 PAUSE_SECONDS = 0.05
-
-
-def sync(path: Path) -> None:
-    """What is in a file, or in a folder, is on the disk then."""
-    descriptor = os.open(path, os.O_RDONLY)
-    try:
-        os.fsync(descriptor)
-    finally:
-        os.close(descriptor)
 
 
 @contextmanager

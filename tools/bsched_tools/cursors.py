@@ -6,15 +6,14 @@ and of others the place of the last result that was given out.
 import fcntl
 import hashlib
 import json
-import os
 from collections.abc import Iterator
 from contextlib import contextmanager
 from dataclasses import dataclass, field
 from pathlib import Path
 from typing import Any
 
-from .copies import sync
 from .faults import Fault
+from .files import replace_file
 from .tables import Tables
 
 FORMAT = 1
@@ -87,13 +86,7 @@ class Cursor:
             mark: {"closed": ranges_of(given.closed), "places": given.places}
             for mark, given in self.projects.items()
         }
-        new = self.path.with_name(f"{self.path.name}.new")
-        with new.open("w") as file:
-            json.dump({"format": FORMAT, "given": told}, file)
-            file.flush()
-            os.fsync(file.fileno())
-        os.replace(new, self.path)
-        sync(self.path.parent)
+        replace_file(self.path, [json.dumps({"format": FORMAT, "given": told}).encode()])
 
 
 @contextmanager

@@ -1,5 +1,4 @@
 """The files that statistics sites read: tables.xml, user.gz, team.gz and host.gz."""
-import gzip
 import hashlib
 import os
 import re
@@ -10,8 +9,9 @@ from pathlib import Path
 from xml.sax.saxutils import escape
 
 from .averages import Averages, Kept
-from .copies import sync, turn
+from .copies import turn
 from .faults import Fault
+from .files import replace_file
 from .members import Host, User, agreed_in, users_of
 from .tables import opened
 
@@ -124,24 +124,6 @@ def listed(root: str, elements: Iterable[str]) -> Iterator[bytes]:
     yield f"</{root}>\n".encode()
 
 
-def replace_file(path: Path, parts: Iterable[bytes], moment: int | None = None) -> None:
-    """Puts a file in its place, whole or not at all; compressed if a moment is given."""
-    new = path.with_name(f".{path.name}.new")
-    try:
-        with new.open("wb") as file:
-            if moment is None:
-                file.writelines(parts)
-            else:
-                with gzip.GzipFile(filename="", mode="wb", fileobj=file, mtime=moment) as packed:
-                    packed.writelines(parts)
-            file.flush()
-            os.fsync(file.fileno())
-        os.replace(new, path)
-    except OSError as error:
-        new.unlink(missing_ok=True)
-        raise Fault(f"{path}: {error.strerror}") from None
-
-
 def state_of(folder: Path) -> Path:
     """Where the averages are kept: beside the folder, which is public."""
     return folder.with_name(f"{folder.name}-averages.json")
@@ -164,6 +146,5 @@ def export(paths: Iterable[Path], folder: Path, agreed: Path | None, everybody: 
         replace_file(folder / "team.gz", listed("teams", []), moment)
         replace_file(folder / "host.gz", listed("hosts", made.hosts), moment)
         replace_file(folder / "tables.xml", [made.totals().encode()])
-        sync(folder)
         averages.write()
     return Exported(made.count, len(made.users), len(made.hosts))

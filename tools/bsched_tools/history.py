@@ -1,12 +1,11 @@
 """What earlier reports counted, in a small file to which each report appends a line."""
 import json
-import os
 from dataclasses import asdict, dataclass, field
 from pathlib import Path
 from typing import Any
 
 from .counts import IS_HELD, Counts
-from .exports import replace_file
+from .files import append_line, replace_file
 from .tables import Tables
 
 HOUR = 3600
@@ -86,12 +85,7 @@ class History:
             tables.moment, dict(counts.workunits), dict(counts.instances), counts.people, counts.millicredits,
             counts.bytes, self.turnaround(tables),
         )
-        with self.path.open("ab") as file:
-            if file.tell() and not self.path.read_bytes().endswith(b"\n"):
-                file.write(b"\n")  # a stop left the last line half written
-            file.write(json.dumps(asdict(entry)).encode() + b"\n")
-            file.flush()
-            os.fsync(file.fileno())
+        append_line(self.path, json.dumps(asdict(entry)).encode())
         held = {"moment": tables.moment, "held": [f"{unit}.{num}" for unit, num in tables.rows(HELD)]}
         replace_file(self.held_path, [json.dumps(held).encode()])
         self.entries.append(entry)

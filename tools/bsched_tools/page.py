@@ -8,8 +8,9 @@ from pathlib import Path
 from . import plots
 from .copies import turn
 from .counts import DAY, Counts, counted
-from .exports import credits_text, replace_file
+from .exports import credits_text
 from .faults import Fault
+from .files import replace_file
 from .findings import (
     credit_by_user, deadlines_by_hour, hosts_with_errors, marked_by_class, stuck_workunits,
 )

@@ -1,18 +1,19 @@
 """The results of workunits, as comma-separated values or as lines of JSON."""
 import csv
+import io
 import json
 import os
 import stat
 import sys
-from abc import ABC, abstractmethod
 from collections.abc import Iterable, Iterator
 from contextlib import ExitStack, suppress
 from dataclasses import dataclass, replace
 from pathlib import Path
 from typing import TextIO
 
-from .cursors import Given, cursor_at
+from .cursors import Cursor, Given, cursor_at
 from .faults import Fault
+from .files import replace_file
 from .tables import Tables, opened
 from .workunits import Result, Workunit, decided
 
@@ -30,31 +31,25 @@ class Line:
     is_late: bool  # the workunit was given out before, and these are further results
 
 
-class Writer(ABC):
-    """Who writes lines in a form."""
+def csv_text(rows: Iterable[Iterable[object]]) -> str:
+    """Rows as comma-separated values."""
+    file = io.StringIO()
+    csv.writer(file, lineterminator="\n").writerows(rows)
+    return file.getvalue()
 
-    @abstractmethod
-    def write(self, line: Line) -> None:
-        """Writes one."""
 
-
-class CsvWriter(Writer):
-    """Comma-separated values: a row for each result, and one for each workunit that failed."""
-
-    def __init__(self, file: TextIO):
-        self._writer = csv.writer(file, lineterminator="\n")
-        self._writer.writerow(COLUMNS)
-
-    def write(self, line: Line) -> None:
-        """Writes the rows of a workunit."""
-        unit, late = line.workunit, int(line.is_late)
-        status = "failed" if unit.reason else "done"
-        front = (unit.name, unit.app, status, unit.reason, unit.millicredits, unit.canonical, unit.output)
-        for one in unit.results:
-            verdict = "valid" if one.is_valid else "invalid"
-            self._writer.writerow((*front, one.name, verdict, one.host, one.user, late))
-        if unit.reason:
-            self._writer.writerow((*front, "", "", "", "", late))
+def as_csv(line: Line) -> str:
+    """A workunit as comma-separated values: a row for each result, or one if it failed."""
+    unit, late = line.workunit, int(line.is_late)
+    status = "failed" if unit.reason else "done"
+    front = (unit.name, unit.app, status, unit.reason, unit.millicredits, unit.canonical, unit.output)
+    if unit.reason:
+        return csv_text([(*front, "", "", "", "", late)])
+    rows = []
+    for one in unit.results:
+        verdict = "valid" if one.is_valid else "invalid"
+        rows.append((*front, one.name, verdict, one.host, one.user, late))
+    return csv_text(rows)
 
 
 def member_of(result: Result) -> dict[str, object]:
@@ -62,26 +57,20 @@ def member_of(result: Result) -> dict[str, object]:
     return {"result": result.name, "host": result.host, "user": result.user}
 
 
-class JsonWriter(Writer):
-    """A line of JSON for each workunit."""
-
-    def __init__(self, file: TextIO):
-        self._file = file
-
-    def write(self, line: Line) -> None:
-        """Writes the line of a workunit."""
-        unit = line.workunit
-        said: dict[str, object] = {"workunit": unit.name, "app": unit.app, "late": line.is_late}
-        if unit.reason:
-            said |= {"status": "failed", "reason": unit.reason}
-        else:
-            said |= {
-                "status": "done", "millicredits": unit.millicredits,
-                "canonical": unit.canonical, "output": unit.output,
-                "valid": [member_of(one) for one in unit.results if one.is_valid],
-                "invalid": [member_of(one) for one in unit.results if not one.is_valid],
-            }
-        self._file.write(f"{json.dumps(said, ensure_ascii=False)}\n")
+def as_json(line: Line) -> str:
+    """A workunit as a line of JSON."""
+    unit = line.workunit
+    said: dict[str, object] = {"workunit": unit.name, "app": unit.app, "late": line.is_late}
+    if unit.reason:
+        said |= {"status": "failed", "reason": unit.reason}
+    else:
+        said |= {
+            "status": "done", "millicredits": unit.millicredits,
+            "canonical": unit.canonical, "output": unit.output,
+            "valid": [member_of(one) for one in unit.results if one.is_valid],
+            "invalid": [member_of(one) for one in unit.results if not one.is_valid],
+        }
+    return f"{json.dumps(said, ensure_ascii=False)}\n"
 
 
 def lines_of(tables: Tables, after: int, given: Given | None) -> Iterator[Line]:
@@ -122,26 +111,42 @@ def flushed(file: TextIO) -> None:
             os.fsync(file.fileno())
 
 
+def texts(
+    all_tables: list[Tables], as_lines: bool, after: str | None, cursor: Cursor | None
+) -> Iterator[str]:
+    """What is written, part by part."""
+    begins = dict.fromkeys((tables.path for tables in all_tables), 0)
+    if after is not None:
+        begins = places_after(all_tables, after)
+    if not as_lines:
+        yield csv_text([COLUMNS])
+    for tables in all_tables:
+        if tables.path in begins:
+            for line in lines_of(tables, begins[tables.path], cursor.given(tables) if cursor else None):
+                yield as_json(line) if as_lines else as_csv(line)
+
+
 def write_results(
     paths: Iterable[Path],
-    as_json: bool = False,
+    as_lines: bool = False,
     after: str | None = None,
     cursor: Path | None = None,
-    file: TextIO = sys.stdout,
+    target: Path | None = None,
+    file: TextIO | None = None,
 ) -> None:
-    """Writes the results of tables. The cursor is written last: after a crash in between, results come
-    again."""
+    """Writes the results of tables to standard output or to a new file, as comma-separated values or as lines
+    of JSON. The cursor is written last: after a stop in between, results come again."""
     with ExitStack() as stack:
         kept = stack.enter_context(cursor_at(cursor)) if cursor is not None else None
+        if target is not None and target.exists():
+            raise Fault(f"{target}: it exists: take in what it has, and remove it")
         all_tables = [stack.enter_context(opened(path)) for path in paths]
-        begins = dict.fromkeys((tables.path for tables in all_tables), 0)
-        if after is not None:
-            begins = places_after(all_tables, after)
-        writer: Writer = JsonWriter(file) if as_json else CsvWriter(file)
-        for tables in all_tables:
-            if tables.path in begins:
-                for line in lines_of(tables, begins[tables.path], kept.given(tables) if kept else None):
-                    writer.write(line)
-        flushed(file)
+        parts = texts(all_tables, as_lines, after, kept)
+        if target is not None:
+            replace_file(target, (part.encode() for part in parts))
+        else:
+            output = file or sys.stdout
+            output.writelines(parts)
+            flushed(output)
         if kept is not None:
             kept.write()

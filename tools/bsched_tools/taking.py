@@ -17,8 +17,12 @@ from .stopping import process_of, stopped
 FICLONE = 0x40049409  # shares the blocks of a file, on a file system that can
 PART = 1 << 24
 SEEK_SECONDS = 10.0  # how long it is tried again when another process is in the way
-# a file that was not written for so long shows each later write by another time, on every file system
-SETTLED_SECONDS = 3.0
+# a file that was not written for so long shows each later write by another time: where the file system has
+# fractions of a second, and on every file system
+FINE_SECONDS, SETTLED_SECONDS = 0.1, 3.0
+NANOSECONDS = 1_000_000_000
+# how often a file is copied early, and how long a pause in its writes is awaited
+EARLY_COPIES, SETTLE_SECONDS = 3, 0.5
 MOST_IN_MEMORY = 1 << 26
 FROM_ANOTHER_FILE_SYSTEM = (errno.EXDEV, errno.EINVAL, errno.ENOSYS, errno.EOPNOTSUPP)
 
@@ -81,9 +85,19 @@ def copy_bytes(source: int, target: int) -> None:
 def write_mark(descriptor: int) -> tuple[int, ...] | None:
     """What each write to a file changes; None if the last write is too recent for that."""
     found = os.fstat(descriptor)
-    if not SETTLED_SECONDS < time.time() - max(found.st_mtime, found.st_ctime):
+    is_fine = all(one % NANOSECONDS for one in (found.st_mtime_ns, found.st_ctime_ns))
+    age = time.time() - max(found.st_mtime, found.st_ctime)
+    if age <= (FINE_SECONDS if is_fine else SETTLED_SECONDS):
         return None
     return found.st_mtime_ns, found.st_ctime_ns, found.st_size
+
+
+def settled_mark(descriptor: int) -> tuple[int, ...] | None:
+    """The same, once there is a pause in the writes; None if there is none soon."""
+    ends = time.monotonic() + SETTLE_SECONDS
+    while (mark := write_mark(descriptor)) is None and time.monotonic() < ends:
+        time.sleep(0.02)
+    return mark
 
 
 def opened_file(path: Path, flags: int, stack: ExitStack) -> int:
@@ -103,12 +117,16 @@ class Work:
         self.target_log = opened_file(folder / "copy.db-wal", create, stack)
 
     def copy_early(self, descriptor: int) -> tuple[int, ...] | None:
-        """Copies the file before the process stands still. The mark shows later whether it was written
-        since."""
-        mark = write_mark(descriptor)
-        if mark is not None:
+        """Copies the file before the process stands still. The mark shows later whether it was written since.
+        A file that is written meanwhile is copied again, a few times."""
+        for _ in range(EARLY_COPIES):
+            mark = settled_mark(descriptor)
+            if mark is None:
+                return None
             copy_bytes(descriptor, self.target)
-        return mark
+            if write_mark(descriptor) == mark:
+                return mark
+        return None
 
     def copy_rest(self, descriptor: int, log: int | None, mark: tuple[int, ...] | None) -> bytes:
         """Copies what was not copied early, while nobody writes. The bytes of a short log are returned

@@ -1,4 +1,5 @@
 """What the tests share."""
+import subprocess
 import sys
 from pathlib import Path
 
@@ -31,3 +32,15 @@ def copies(tmp_path):
     folder = tmp_path / "copies"
     folder.mkdir()
     return folder
+
+
+@pytest.fixture
+def small_disk(tmp_path):
+    """A file system with little room."""
+    folder = tmp_path / "small"
+    folder.mkdir()
+    words = ["mount", "-t", "tmpfs", "-o", "size=64k", "tmpfs", str(folder)]
+    if subprocess.run(words, capture_output=True).returncode:
+        pytest.skip("no file system may be mounted")
+    yield folder
+    subprocess.run(["umount", folder], check=True)

@@ -85,8 +85,6 @@ def test_copies_under_load_have_what_was_answered(project, twin, copies):
 
 def test_a_file_that_was_not_written_for_long_is_copied_before_the_stop(project, twin, copies, monkeypatch):
     twin.call(1, 1)
-    monkeypatch.setattr(taking, "SETTLED_SECONDS", 0.05)
-    time.sleep(0.1)
     parts = counted_parts(monkeypatch)
     first = copying.copy_tables(project, copies)
     assert len(parts) == 1
@@ -96,7 +94,6 @@ def test_a_file_that_was_not_written_for_long_is_copied_before_the_stop(project,
 
 
 def test_a_file_that_is_written_after_the_early_copy_is_copied_again(project, twin, copies, monkeypatch):
-    monkeypatch.setattr(taking, "SETTLED_SECONDS", 0.0)
     early = taking.Work.copy_early
 
     def written_afterwards(work, descriptor):
@@ -108,6 +105,35 @@ def test_a_file_that_is_written_after_the_early_copy_is_copied_again(project, tw
     parts = counted_parts(monkeypatch)
     copying.copy_tables(project, copies)
     assert len(parts) == 2
+
+
+def test_a_file_that_is_always_written_is_copied_in_the_stop(project, twin, copies, monkeypatch):
+    monkeypatch.setattr(taking, "SETTLE_SECONDS", 0.1)
+    monkeypatch.setattr(taking, "FINE_SECONDS", 1000)
+    parts = counted_parts(monkeypatch)
+    twin.call(1, 1)
+    copied = copying.copy_tables(project, copies)
+    assert len(parts) == 1 and dict(rows_of(copied.path, SEQNOS)) == {"k1": 1}
+
+
+def test_a_file_that_is_written_during_the_early_copy_is_copied_again(project, twin, copies, monkeypatch):
+    copy_bytes, parts = taking.copy_bytes, []
+
+    def written_meanwhile(*files):
+        copy_bytes(*files)
+        parts.append(files)
+        if len(parts) == 1:
+            os.utime(project)
+
+    monkeypatch.setattr(taking, "copy_bytes", written_meanwhile)
+    copying.copy_tables(project, copies)
+    assert len(parts) == 2
+
+
+def test_times_of_whole_seconds_are_not_trusted_soon(project):
+    os.utime(project, (1, 1))
+    with open(project) as file:
+        assert taking.write_mark(file.fileno()) is None
 
 
 def killed_after(seconds, project, copies):
@@ -342,18 +368,6 @@ def test_what_a_killed_copy_left_is_cleared(project, copies):
     os.utime(left, (0, 0))
     copying.copy_tables(project, copies)
     assert not left.exists() and fresh.exists()
-
-
-@pytest.fixture
-def small_disk(tmp_path):
-    """A file system with little room."""
-    folder = tmp_path / "small"
-    folder.mkdir()
-    words = ["mount", "-t", "tmpfs", "-o", "size=64k", "tmpfs", str(folder)]
-    if subprocess.run(words, capture_output=True).returncode:
-        pytest.skip("no file system may be mounted")
-    yield folder
-    subprocess.run(["umount", folder], check=True)
 
 
 def test_a_full_disk(project, twin, small_disk):

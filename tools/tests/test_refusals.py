@@ -1,4 +1,5 @@
 """Each command refuses what is no copy of the tables, and a full disk, in one line."""
+import contextlib
 import sqlite3
 import subprocess
 import sys
@@ -93,6 +94,21 @@ def test_tables_that_a_program_serves(project, twin, tmp_path, command):
     wanted = f"a program has it: run `bsched-tools copy --tables {project} --to FOLDER`, and read the copy"
     assert fault == f"bsched-tools: {project}: {wanted}\n"
     assert twin.call(1, 1)["hostid"] == 1
+
+
+@pytest.mark.parametrize("words, wanted", [
+    (["results", "--cursor", "DISK/cursor"], "cursor"),
+    (["results", "--to", "DISK/new"], "new"),
+    (["statistics", "--to", "DISK"], "user.gz"),
+    (["report", "--to", "DISK"], "history.jsonl"),
+])
+def test_a_full_disk(project, small_disk, words, wanted):
+    with (small_disk / "full").open("wb", buffering=0) as full, contextlib.suppress(OSError):
+        while full.write(b"x" * 4096):
+            pass
+    said = [word.replace("DISK", str(small_disk)) for word in words]
+    status, _, fault = tools(said[0], "--tables", project, *said[1:])
+    assert (status, fault) == (1, f"bsched-tools: {small_disk / wanted}: No space left on device\n")
 
 
 @pytest.mark.parametrize("command", ["results", "counts"])

@@ -31,7 +31,7 @@ def verdicts_of(unit):
 def lines_of(*paths, **more):
     """The lines of results as JSON."""
     file = io.StringIO()
-    results.write_results(paths, as_json=True, file=file, **more)
+    results.write_results(paths, as_lines=True, file=file, **more)
     return [json.loads(line) for line in file.getvalue().splitlines()]
 
 
@@ -200,6 +200,39 @@ def test_a_cursor_is_written_only_after_the_output(tmp_path):
         results.write_results([path], cursor=cursor, file=Full())
     assert not cursor.exists()
     assert rows_of(path, cursor=cursor) == rows_of(path)
+
+
+def test_a_new_file_is_whole_and_is_never_written_over(tmp_path):
+    path = stored_life(life_of(3), tmp_path / "project.db")
+    cursor, target = tmp_path / "cursor", tmp_path / "new"
+    results.write_results([path], as_lines=True, cursor=cursor, target=target)
+    lines = [json.loads(line) for line in target.read_text().splitlines()]
+    assert lines == lines_of(path)
+    before = cursor.read_text()
+    with pytest.raises(Fault, match="new: it exists: take in what it has, and remove it"):
+        results.write_results([path], cursor=cursor, target=target)
+    assert cursor.read_text() == before
+    target.unlink()
+    results.write_results([path], as_lines=True, cursor=cursor, target=target)
+    assert target.read_text() == ""
+
+
+def test_a_stop_before_the_cursor_is_written(tmp_path, monkeypatch):
+    """Then what is new comes again."""
+    path = stored_life(life_of(3), tmp_path / "project.db")
+    cursor, target = tmp_path / "cursor", tmp_path / "new"
+
+    def stopped(_cursor):
+        raise KeyboardInterrupt
+
+    monkeypatch.setattr(results.Cursor, "write", stopped)
+    with pytest.raises(KeyboardInterrupt):
+        results.write_results([path], cursor=cursor, target=target)
+    first = target.read_text()
+    target.unlink()
+    monkeypatch.undo()
+    results.write_results([path], cursor=cursor, target=target)
+    assert target.read_text() == first and len(first) > 100
 
 
 def test_what_is_no_cursor(tmp_path):

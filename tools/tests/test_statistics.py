@@ -9,7 +9,7 @@ import pytest
 from lives import Stored, life_of, stored_life
 from small_project import SETTINGS, make_tables, tools
 
-from bsched_tools import averages, exports
+from bsched_tools import averages, exports, files
 from bsched_tools.faults import Fault
 
 DAY = 86400
@@ -137,7 +137,7 @@ def test_no_half_file(tmp_path, folder, monkeypatch):
     def full(_descriptor):
         raise OSError(28, "No space left on device")
 
-    monkeypatch.setattr(exports.os, "fsync", full)
+    monkeypatch.setattr(files.os, "fsync", full)
     with pytest.raises(Fault, match="user.gz: No space left on device"):
         exports.export([path], folder, None, False)
     assert {one.name: one.read_bytes() for one in folder.iterdir()} == before

@@ -10,15 +10,14 @@ use Rattle.texts.proofs.Words.{IsUtf8-word}
 use Rattle.sched_book.specs.Classes.{class_of}
 use Rattle.sched_book.specs.Former.{IsOfItsPlatform, IsUnmarked, IsUnclassed}
 use Rattle.sched_book.specs.Places.{nth, unit_at}
-use Rattle.sched_book.specs.Sound.{Sound}
 use Rattle.sched_book.specs.declared.instance.UnitBook.{UnitBook}
 use Rattle.sched_book.specs.declared.rows.ClassRule.{ClassRule}
 use Rattle.sched_book.specs.declared.rows.Version.{Version}
 use Rattle.sched_book.specs.declared.world.World.{World}
 use Rattle.table_meaning.specs.Holding.{Contents, with_row}
-use Rattle.table_meaning.specs.Rows.{RowKey, setting_key, account_key, app_key, version_key, unit_key, host_key, instance_key, kept_key, batch_key, class_key, mark_key, columns_of, look_up, same_key, table_at}
+use Rattle.table_meaning.specs.Rows.{RowKey, setting_key, account_key, app_key, version_key, unit_key, host_key, instance_key, kept_key, batch_key, class_key, mark_key, columns_of, same_key, table_at}
 use Rattle.table_meaning.specs.Schemas.{has_table, HoldAt}
-use Rattle.table_meaning.specs.Upgrades.{HostCalls, in_first_slot, former_call, former_columns, schema_row_of, KeepCalls, HoldFirstWorld, HoldSecondWorld, UpgradesWorld}
+use Rattle.table_meaning.specs.Upgrades.{HostCalls, in_first_slot, former_columns, schema_row_of}
 use Rattle.table_meaning.specs.Worlds.{SlotCalls, call_row, class_row, mark_row, version_row, contents_of}
 use Rattle.table_meaning.specs.declared.rows.StoredRow.{StoredRow}
 use Rattle.table_meaning.specs.declared.rows.StoredRow.TheVariants as stored
@@ -27,7 +26,7 @@ use Rattle.table_reading.proofs.HeldRows.{HaveTexts}
 use Rattle.table_rows.specs.Utf8.{IsUtf8Value, HasUtf8}
 use Rattle.table_worlds.proofs.ByPlace.{all_nth}
 use Rattle.sched_tables.specs.Commits.{Imports}
-use Rattle.sched_tables.specs.Laws.{AreUtf8At, AreCallsUtf8, UpgradedOpen, UpgradedCanBeOpened}
+use Rattle.sched_tables.specs.Laws.{AreUtf8At, UpgradedCanBeOpened}
 use Rattle.sched_tables.proofs.Reopened.{held_can_be_opened}
 use Rattle.sched_tables.proofs.TextsKept.{of_columns, utf8_of}
 

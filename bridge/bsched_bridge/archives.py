@@ -1,0 +1,52 @@
+"""Credit of earlier files of a project: it is added to what replies tell.
+
+A project whose file is full begins a further one with the same accounts (docs/OPERATING.md, "More than
+200,000 workunits"). The earlier files are archives, which nobody writes any more.
+"""
+import sqlite3
+from collections import Counter
+from collections.abc import Iterable
+from contextlib import closing
+from dataclasses import dataclass, field, replace
+from pathlib import Path
+from urllib.parse import quote
+
+from .counts import Key
+from .operator_files import OperatorFault
+from .scheduler import Reply
+
+CREDIT = "SELECT auth, cpid, credit FROM host JOIN account ON account.id = account_id"
+
+
+@dataclass(frozen=True, slots=True)
+class Archives:
+    """The credit of hosts and users in archives, in millicredits."""
+
+    hosts: Counter[Key] = field(default_factory=Counter)
+    users: Counter[str] = field(default_factory=Counter)
+
+    def added_to(self, key: Key, reply: Reply) -> Reply:
+        """A reply to a host, with the credit of archives."""
+        user, host = self.users[key.authenticator], self.hosts[key]
+        return replace(
+            reply,
+            user_total_credit=reply.user_total_credit + user,
+            host_total_credit=reply.host_total_credit + host,
+        )
+
+
+def read_archives(paths: Iterable[Path]) -> Archives:
+    """The credit in some archives, as they are when the bridge starts."""
+    archives = Archives()
+    for path in paths:
+        mode = "mode=ro" if path.with_name(f"{path.name}-wal").exists() else "mode=ro&immutable=1"
+        name = f"file:{quote(str(path.absolute()))}?{mode}"
+        try:
+            with closing(sqlite3.connect(name, uri=True, timeout=1)) as file:
+                rows = file.execute(CREDIT).fetchall()
+        except sqlite3.Error as error:
+            raise OperatorFault(path, None, f"is no archive that can be read: {error}") from None
+        for authenticator, host_cpid, credit in rows:
+            archives.hosts[Key(authenticator, host_cpid)] += credit
+            archives.users[authenticator] += credit
+    return archives

@@ -1,0 +1,71 @@
+"""Credit of earlier files of a project is added to replies and to the status page."""
+import sqlite3
+
+import plain_tables
+import pytest
+from messages import request, value
+
+from bsched_bridge.archives import Archives, read_archives
+from bsched_bridge.counts import Key
+from bsched_bridge.operator_files import OperatorFault
+from bsched_bridge.settings import read_settings
+
+
+def archive(path, credits):
+    """An archive with some credit for each authenticator and host_cpid."""
+    connection = sqlite3.connect(path)
+    connection.executescript(plain_tables.FIRST_SCHEMA)
+    users = list(dict.fromkeys(user for user, _ in credits))
+    for number, user in enumerate(users, 1):
+        connection.execute("INSERT INTO account VALUES (?, ?, ?)", (number, user, user))
+    for number, ((user, cpid), credit) in enumerate(credits.items(), 1):
+        row = (number, users.index(user) + 1, cpid, "x", 1, 1, 1, 1, 0, credit)
+        connection.execute(f"INSERT INTO host VALUES ({', '.join('?' * 10)})", row)
+    connection.commit()
+    connection.close()
+    return path
+
+
+def test_credit_is_summed_over_archives(tmp_path):
+    first = archive(tmp_path / "1.db", {("k1", "a"): 1000, ("k1", "b"): 500, ("k2", "a"): 7})
+    second = archive(tmp_path / "2.db", {("k1", "a"): 30})
+    archives = read_archives([first, second])
+    assert archives.users == {"k1": 1530, "k2": 7}
+    assert archives.hosts == {Key("k1", "a"): 1030, Key("k1", "b"): 500, Key("k2", "a"): 7}
+    assert read_archives([]) == Archives()
+
+
+def test_a_file_that_is_no_archive(tmp_path):
+    path = tmp_path / "1.db"
+    for told in (b"", b"text" * 1000):
+        path.write_bytes(told)
+        with pytest.raises(OperatorFault, match="1.db: is no archive that can be read"):
+            read_archives([path])
+
+
+def test_settings(project):
+    path = project / "bridge.toml"
+    text = path.read_text()
+    assert read_settings(path).archives == ()
+    (project / "2026.db").write_bytes(b"")
+    path.write_text(f'{text}archives = ["2026.db"]\n')
+    assert read_settings(path).archives == (project / "2026.db",)
+    for archives, told in (
+        ('["none.db"]', "none.db is no file"), ("[1]", "is not an array of texts in quotes"),
+        ('"2026.db"', "is not an array of texts in quotes"),
+    ):
+        path.write_text(f"{text}archives = {archives}\n")
+        with pytest.raises(OperatorFault, match=f"line 8: archives.*{told}"):
+            read_settings(path)
+
+
+def test_replies_and_the_page_have_the_credit(project, bridge):
+    assert value(bridge.call(request()), "user_total_credit") == "0.000"
+    archive(project / "2026.db", {("ann-key", "c1"): 5000, ("ann-key", "other"): 2500})
+    with (project / "bridge.toml").open("a") as file:
+        file.write('archives = ["2026.db"]\n')
+    bridge.restart()
+    told = bridge.call(request(hostid=1))
+    assert (value(told, "user_total_credit"), value(told, "host_total_credit")) == ("7.500", "5.000")
+    _, _, page = bridge.got("/p/status")
+    assert b">7.500</td>" in page and b">5.000</td>" in page
