@@ -68,7 +68,7 @@ class Machine:
                      "--register=no", "--keep-unit", "--console=pipe", "--resolv-conf=off", "--timezone=off"]
         else:
             words = ["unshare", "--net", "--pid", "--mount", "--uts", "--ipc", "--fork", "--kill-child",
-                     "chroot", folder, "sh", "-c", "mount -t proc proc /proc && exec sleep infinity"]
+                     "chroot", folder, "sh", "-c", "mount -t proc proc /proc; while true; do sleep 60; done"]
         with log.open("w") as file:
             self.process = subprocess.Popen(words, stdin=subprocess.DEVNULL, stdout=file, stderr=file)
         self.leader = ""

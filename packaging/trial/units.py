@@ -83,7 +83,8 @@ class Units:
         begun = f"echo $$ > {pid}; exec {expanded(keys['ExecStart'][0])}"
         self.machine.run(
             f"{setting}; touch {pid}; chown {user}: {pid}; "
-            f"setsid runuser -u {user} -- bash -c {shlex.quote(begun)} > {log} 2>&1 < /dev/null & sleep 1"
+            f"setsid setpriv --reuid={user} --regid={user} --init-groups bash -c {shlex.quote(begun)} "
+            f"> {log} 2>&1 < /dev/null & sleep 1"
         )
         setting += f"; export MAINPID=$(cat {pid})"
         for command in [*keys.get("ExecStartPost", []), *waits_for_notice(keys)]:

@@ -1,0 +1,148 @@
+"""The scripts that the units run, and bsched-project as far as it goes without root."""
+import os
+import socket
+import subprocess
+import threading
+from collections.abc import Iterator
+from http.server import BaseHTTPRequestHandler, HTTPServer
+from pathlib import Path
+
+import pytest
+
+PACKAGING = Path(__file__).resolve().parent.parent
+SERVICE = PACKAGING / "service"
+KEY = "a-key_of.8"
+
+
+def done(
+    *words: str | Path, folder: Path | None = None, **environment: str
+) -> "subprocess.CompletedProcess[str]":
+    """How a script ended."""
+    return subprocess.run(
+        [str(word) for word in words], cwd=folder, env={**os.environ, **environment}, capture_output=True,
+        text=True, timeout=30,
+    )
+
+
+def is_one_line(text: str) -> bool:
+    """Whether a text is one line."""
+    return text.count("\n") == 1 and text.endswith("\n")
+
+
+@pytest.fixture
+def listener() -> Iterator[socket.socket]:
+    """A socket that listens on a port of its own."""
+    with socket.create_server(("127.0.0.1", 0)) as made:
+        yield made
+
+
+# ---- Ports
+
+
+def test_a_port_that_is_free(listener: socket.socket) -> None:
+    port = listener.getsockname()[1]
+    listener.close()
+    told = done(SERVICE / "port-is-free", "PORT", str(port))
+    assert (told.returncode, told.stdout, told.stderr) == (0, "", "")
+
+
+def test_a_port_that_is_in_use(listener: socket.socket) -> None:
+    port = listener.getsockname()[1]
+    told = done(SERVICE / "port-is-free", "BRIDGE_PORT", str(port))
+    assert told.returncode == 1 and is_one_line(told.stderr)
+    assert f"port {port} is in use" in told.stderr and "BRIDGE_PORT" in told.stderr
+
+
+@pytest.mark.parametrize("port", ["", "0", "080", "65536", "100000", "80 ", "-1", "abc"])
+def test_what_is_no_port(port: str) -> None:
+    told = done(SERVICE / "port-is-free", "PORT", port)
+    assert told.returncode == 1 and is_one_line(told.stderr) and f"PORT is '{port}'" in told.stderr
+
+
+def test_a_port_that_answers_ends_the_wait(listener: socket.socket) -> None:
+    told = done(SERVICE / "wait-for-port", str(listener.getsockname()[1]), MAINPID=str(os.getpid()))
+    assert told.returncode == 0
+
+
+def test_a_process_that_has_ended_ends_the_wait(listener: socket.socket) -> None:
+    port = listener.getsockname()[1]
+    listener.close()
+    ended = subprocess.Popen(["true"])
+    ended.wait()
+    assert done(SERVICE / "wait-for-port", str(port), MAINPID=str(ended.pid)).returncode == 1
+
+
+# ---- The tick
+
+
+class Answering(BaseHTTPRequestHandler):
+    """Answers a tick as bsched does."""
+
+    def do_POST(self) -> None:
+        """A tick with the key, or number 13."""
+        is_good = (self.path, self.headers["x-operator-key"]) == ("/tick", KEY)
+        body = b'{"lapsed":2}' if is_good else b'{"error":"not_operator","number":13}'
+        self.send_response(200 if is_good else 403)
+        self.send_header("content-length", str(len(body)))
+        self.end_headers()
+        self.wfile.write(body)
+
+    def log_message(self, *_words: object) -> None:
+        """Nothing."""
+
+
+@pytest.fixture
+def scheduler_port() -> Iterator[str]:
+    """The port of something that answers ticks."""
+    server = HTTPServer(("127.0.0.1", 0), Answering)
+    thread = threading.Thread(target=server.serve_forever)
+    thread.start()
+    yield str(server.server_port)
+    server.shutdown()
+    thread.join(10)
+    server.server_close()
+
+
+@pytest.mark.parametrize("line", [
+    f'operator_key = "{KEY}"', f"operator_key='{KEY}'", f'  operator_key  =  "{KEY}"  # for the tick',
+])
+def test_a_tick(tmp_path: Path, scheduler_port: str, line: str) -> None:
+    (tmp_path / "settings.toml").write_text(f"max_hosts = 3\n{line}\nrequest_delay = 60\n")
+    told = done(SERVICE / "tick", scheduler_port, folder=tmp_path)
+    assert (told.returncode, told.stdout, told.stderr) == (0, '{"lapsed":2}\n', "")
+
+
+def test_a_tick_with_another_key(tmp_path: Path, scheduler_port: str) -> None:
+    (tmp_path / "settings.toml").write_text('operator_key = "another-key"\n')
+    told = done(SERVICE / "tick", scheduler_port, folder=tmp_path)
+    assert told.returncode == 1 and is_one_line(told.stderr) and scheduler_port in told.stderr
+
+
+def test_a_tick_that_nobody_answers(tmp_path: Path, listener: socket.socket) -> None:
+    port = str(listener.getsockname()[1])
+    listener.close()
+    (tmp_path / "settings.toml").write_text(f'operator_key = "{KEY}"\n')
+    told = done(SERVICE / "tick", port, folder=tmp_path)
+    assert told.returncode == 1 and is_one_line(told.stderr) and "no good answer" in told.stderr
+
+
+def test_settings_without_a_key(tmp_path: Path) -> None:
+    (tmp_path / "settings.toml").write_text("operator_key = 7\n")
+    told = done(SERVICE / "tick", "1", folder=tmp_path)
+    assert told.returncode == 1 and is_one_line(told.stderr) and str(tmp_path) in told.stderr
+
+
+# ---- bsched-project
+
+
+@pytest.mark.parametrize("words", [
+    [], ["one", "two"], ["--port"], ["--nothing", "x"], [""], [".x"], ["a/b"], ["a b"], ["-x"], ["x" * 65],
+])
+def test_a_bad_command_line(words: list[str]) -> None:
+    told = done(PACKAGING / "bsched-project", *words)
+    assert told.returncode == 64 and is_one_line(told.stderr) and told.stdout == ""
+
+
+def test_help() -> None:
+    told = done(PACKAGING / "bsched-project", "--help")
+    assert told.returncode == 0 and told.stdout.startswith("usage: bsched-project") and told.stderr == ""
