@@ -377,6 +377,21 @@ def test_a_full_disk(project, twin, small_disk):
     assert goes_on(twin) and list(small_disk.iterdir()) == []
 
 
+@pytest.mark.parametrize("cut, told", [
+    (lambda whole: whole[:-4096], "it is spoiled or cut off (database disk image is malformed)"),
+    (lambda whole: whole[:-100], "SQLite finds: "),
+    (lambda whole: whole[:50], "it is spoiled or cut off (database disk image is malformed)"),
+    (lambda _whole: b"text\n" * 500, "it is spoiled or cut off (file is not a database)"),
+    (lambda _whole: b"", "it has no tables of bsched"),
+])
+def test_tables_that_are_not_whole(project, copies, cut, told):
+    project.write_bytes(cut(project.read_bytes()))
+    status, _, fault = tools("copy", "--tables", project, "--to", copies)
+    wanted = f"bsched-tools: {project}: the copy was not good, and is not kept: {told}"
+    assert status == 1 and fault.startswith(wanted) and fault.count("\n") == 1
+    assert list(copies.iterdir()) == []
+
+
 def test_tables_of_another_program(tmp_path, copies):
     other = tmp_path / "other.db"
     connection = sqlite3.connect(other)
