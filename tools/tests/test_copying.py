@@ -191,8 +191,9 @@ def test_a_process_that_ran_meanwhile_voids_the_copy(twin):
 
 
 def test_a_process_that_does_not_stop_goes_on(project, twin, copies, monkeypatch):
-    monkeypatch.setattr(stopping, "STOP_SECONDS", -1)
+    monkeypatch.setattr(stopping, "STOP_SECONDS", 0.01)
     monkeypatch.setattr(stopping, "is_still", lambda _states: False)
+    monkeypatch.setattr(taking, "SEEK_SECONDS", 0.2)
     with pytest.raises(Fault, match="did not stop within a second, and was continued"):
         copying.copy_tables(project, copies)
     assert goes_on(twin)
@@ -238,6 +239,18 @@ def test_a_copy_has_the_owner_of_the_tables(project, copies):
         pytest.skip("no owner may be set")
     found = copying.copy_tables(project, copies).path.stat()
     assert (found.st_uid, found.st_gid) == (1234, 1235)
+
+
+def test_a_process_that_stops_at_the_second_try(project, twin, copies, monkeypatch):
+    is_still, tries = stopping.is_still, []
+
+    def too_late_at_first(states):
+        tries.append(states)
+        return len(tries) > 20 and is_still(states)
+
+    monkeypatch.setattr(stopping, "STOP_SECONDS", 0.002)
+    monkeypatch.setattr(stopping, "is_still", too_late_at_first)
+    assert copying.copy_tables(project, copies).still_seconds is not None and goes_on(twin)
 
 
 def test_tables_that_nobody_has(project, copies):
