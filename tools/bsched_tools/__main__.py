@@ -76,7 +76,7 @@ def add_copies(parser: argparse.ArgumentParser) -> None:
     """The option that names the tables which are read."""
     parser.add_argument(
         "--tables", type=Path, required=True, nargs="+", metavar="COPY",
-        help="copies of the tables, or folders of copies, of which the newest one is read",
+        help="copies of the tables; a folder stands for its newest copy",
     )
 
 

@@ -37,7 +37,7 @@ def check_whole(path: Path) -> None:
             raise Fault(fault)
         (told,), *_ = connection.execute("PRAGMA quick_check(1)").fetchall()
         if told != "ok":
-            raise Fault(f"SQLite finds: {told}")
+            raise Fault(f"SQLite finds: {' '.join(told.split())}")
 
 
 def check_by_program(program: Path, path: Path) -> None:
@@ -99,7 +99,7 @@ def copy_tables(path: Path, target: Path, keep: int | None = None, program: Path
             try:
                 check(taken, program)
             except Fault as fault:
-                told = str(fault).removeprefix(f"{taken.path}: ")
+                told = str(fault).removeprefix(f"{taken.path}: ").removesuffix(tables.TAKE_ANOTHER)
                 raise Fault(f"{path}: the copy was not good, and is not kept: {told}") from None
             with turn(folder, TURN_SECONDS):
                 name = target if folder != target else folder / copy_name(source, taken.moment)

@@ -11,7 +11,7 @@ from .checks import wrong_rows
 from .faults import Fault
 from .settings_file import settings_faults
 from .tables import (
-    Tables, check_file, connected, faults_of, journal_fault, log_of, moment_of, schema_fault,
+    TAKE_ANOTHER, Tables, check_file, connected, faults_of, journal_fault, log_of, moment_of, schema_fault,
 )
 
 MOST_ROWS = 50
@@ -60,7 +60,7 @@ def content_faults(path: Path) -> Iterator[str]:
             return
         told = [row[0] for row in connection.execute("PRAGMA integrity_check(5)")]
         if told != ["ok"]:
-            yield f"SQLite finds: {'; '.join(told)}: {RESTORE}"
+            yield f"SQLite finds: {' '.join('; '.join(told).split())}: {RESTORE}"
             return
         settings = dict(connection.execute("SELECT name, value FROM setting"))
         found = list(islice(wrong_rows(Tables(path, connection, moment_of(path), settings)), MOST_ROWS))
@@ -83,7 +83,7 @@ def tables_faults(path: Path) -> Iterator[str]:
         check_file(real)
         yield from content_faults(real)
     except Fault as fault:
-        yield str(fault).removeprefix(f"{real}: ")
+        yield str(fault).removeprefix(f"{real}: ").replace(TAKE_ANOTHER, f": {RESTORE}")
 
 
 def examined(tables: Path | None, settings: Path | None) -> Iterator[str]:

@@ -22,7 +22,7 @@ NO_XML = re.compile("[^\t\n\r\x20-\ud7ff\ue000-\ufffd\U00010000-\U0010ffff]")
 
 @dataclass(frozen=True, slots=True)
 class Exported:
-    """How many there are, and of how many users the names are told."""
+    """How many users and hosts there are, and how many users are named."""
 
     users: int
     agreed: int
@@ -48,7 +48,7 @@ def credits_text(millicredits: int) -> str:
 def user_members(
     user: User, known: tuple[int, int], average: float, cpid: str, moment: int
 ) -> dict[str, object]:
-    """What is told of a user who agreed."""
+    """The members of a user who agreed."""
     number, created = known
     return {
         "id": number,
@@ -63,7 +63,7 @@ def user_members(
 
 
 def host_members(host: Host, kept: Kept, userid: int | None, cpid: str) -> dict[str, object]:
-    """What is told of a host; its user only if the user agreed."""
+    """The members of a host. Its user is named only if the user agreed."""
     return {
         "id": kept.id,
         **({} if userid is None else {"userid": userid}),

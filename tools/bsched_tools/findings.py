@@ -68,7 +68,7 @@ def credit_by_user(tables: Tables) -> list[tuple[str, int, int]]:
 
 
 def hosts_with_errors(tables: Tables) -> list[HostErrors]:
-    """The hosts of which the most results came to nothing."""
+    """The hosts with the most results that came to nothing."""
     invalid = Counter(one.host for unit in decided(tables) for one in unit.results if not one.is_valid)
     hosts = [
         HostErrors(host, user, errors or 0, invalid[host], late or 0, given, quota)

@@ -19,7 +19,7 @@ LOCK = re.compile(r"^lock:\s+\d+:\s+\S+\s+\S+\s+(READ|WRITE)\s+\S+\s+\S+\s+(\d+)
 
 @dataclass(frozen=True, slots=True)
 class Identity:
-    """What a file is, whatever its names are."""
+    """What a file is, regardless of its names."""
 
     device: int
     inode: int

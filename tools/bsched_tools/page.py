@@ -164,6 +164,9 @@ def turnaround_part(entries: list[Entry], moment: int) -> str:
 def deadlines_part(tables: Tables, late: int) -> str:
     """The deadlines of the next day."""
     numbers = deadlines_by_hour(tables)
+    already = f"{late} instances are late already, and lapse at the next tick."
+    if not any(numbers):
+        return section("Deadlines of the next day", f"<p>No deadline is in the next day. {already}</p>\n")
     labels = [
         datetime.fromtimestamp(tables.moment + 3600 * hour, timezone.utc).strftime("%H:%M")
         for hour in range(len(numbers))
@@ -171,7 +174,7 @@ def deadlines_part(tables: Tables, late: int) -> str:
     text = f"{sum(numbers)} deadlines in the next day, at most {max(numbers)} in an hour."
     svg = plots.columns("deadlines", text, labels, numbers, "hour that begins at (UTC)")
     rows = [(label, number) for label, number in zip(labels, numbers) if number]
-    caption = f"{text} {late} instances are late already, and lapse at the next tick."
+    caption = f"{text} {already}"
     return section("Deadlines of the next day", figure(svg, caption, table(("hour from", "deadlines"), rows)))
 
 

@@ -74,6 +74,7 @@ def columns(name: str, text: str, labels: Sequence[str], values: Sequence[float]
         step = max(1, len(labels) // 8)
         axes.set_xticks(range(0, len(labels), step), labels[::step])
         axes.yaxis.set_major_locator(MaxNLocator(integer=True))
+        axes.set_ylim(0, 1.05 * max([1, *values]))
         axes.set_xlabel(label)
         axes.grid(axis="y", color=TEXT, alpha=0.15)
         return written(figure, name, text)

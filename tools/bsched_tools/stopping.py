@@ -84,7 +84,7 @@ def wait_until_still(process: Process) -> Threads:
         if process.has_ended():
             raise Retry(f"process {process.pid} has ended")
         if time.monotonic() > ends:
-            raise Fault(f"process {process.pid} did not stop within a second, and was continued: try again")
+            raise Retry(f"process {process.pid} did not stop within a second, and was continued: try again")
         time.sleep(PAUSE_SECONDS)
     return states
 

@@ -18,6 +18,7 @@ HEAD = b"SQLite format 3\0"
 COPY_NAME = re.compile(r"(?P<stem>.+)-(?P<moment>\d{8}T\d{6}\.\d{3}Z)\.db")
 MOMENT = "%Y%m%dT%H%M%S.%fZ"
 BUSY_SECONDS = 1.0
+TAKE_ANOTHER = ": take another copy"
 
 
 @dataclass(slots=True)
@@ -50,7 +51,7 @@ def faults_of(path: Path) -> Iterator[None]:
         if "locked" in told:
             told = f"a program has it: run `bsched-tools copy --tables {path} --to FOLDER`, and read the copy"
         elif "malformed" in told or "not a database" in told:
-            told = f"it is spoiled or cut off ({told}): take another copy"
+            told = f"it is spoiled or cut off ({told}){TAKE_ANOTHER}"
         elif "unable to open" in told or "readonly" in told:
             told = f"it can't be opened for reading ({told}): look at the rights on it and on its folder"
         raise Fault(f"{path}: {told}") from None
@@ -100,7 +101,7 @@ def check_file(path: Path) -> None:
     pages, is_counted = int.from_bytes(head[28:32], "big"), head[24:28] == head[92:96]
     whole = pages * (65536 if page == 1 else page)
     if not has_log and is_counted and size < whole:
-        raise Fault(f"{path}: it is cut off: it has {size} of {whole} bytes: take another copy")
+        raise Fault(f"{path}: it is cut off: it has {size} of {whole} bytes{TAKE_ANOTHER}")
 
 
 def log_of(path: Path) -> Path:

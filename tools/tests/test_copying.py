@@ -191,8 +191,9 @@ def test_a_process_that_ran_meanwhile_voids_the_copy(twin):
 
 
 def test_a_process_that_does_not_stop_goes_on(project, twin, copies, monkeypatch):
-    monkeypatch.setattr(stopping, "STOP_SECONDS", -1)
+    monkeypatch.setattr(stopping, "STOP_SECONDS", 0.01)
     monkeypatch.setattr(stopping, "is_still", lambda _states: False)
+    monkeypatch.setattr(taking, "SEEK_SECONDS", 0.2)
     with pytest.raises(Fault, match="did not stop within a second, and was continued"):
         copying.copy_tables(project, copies)
     assert goes_on(twin)
@@ -238,6 +239,18 @@ def test_a_copy_has_the_owner_of_the_tables(project, copies):
         pytest.skip("no owner may be set")
     found = copying.copy_tables(project, copies).path.stat()
     assert (found.st_uid, found.st_gid) == (1234, 1235)
+
+
+def test_a_process_that_stops_at_the_second_try(project, twin, copies, monkeypatch):
+    is_still, tries = stopping.is_still, []
+
+    def too_late_at_first(states):
+        tries.append(states)
+        return len(tries) > 20 and is_still(states)
+
+    monkeypatch.setattr(stopping, "STOP_SECONDS", 0.002)
+    monkeypatch.setattr(stopping, "is_still", too_late_at_first)
+    assert copying.copy_tables(project, copies).still_seconds is not None and goes_on(twin)
 
 
 def test_tables_that_nobody_has(project, copies):
@@ -375,6 +388,21 @@ def test_a_full_disk(project, twin, small_disk):
     assert (status, told) == (1, "")
     assert fault == f"bsched-tools: {small_disk}: No space left on device\n"
     assert goes_on(twin) and list(small_disk.iterdir()) == []
+
+
+@pytest.mark.parametrize("cut, told", [
+    (lambda whole: whole[:-4096], "it is spoiled or cut off (database disk image is malformed)"),
+    (lambda whole: whole[:-100], "SQLite finds: "),
+    (lambda whole: whole[:50], "it is spoiled or cut off (database disk image is malformed)"),
+    (lambda _whole: b"text\n" * 500, "it is spoiled or cut off (file is not a database)"),
+    (lambda _whole: b"", "it has no tables of bsched"),
+])
+def test_tables_that_are_not_whole(project, copies, cut, told):
+    project.write_bytes(cut(project.read_bytes()))
+    status, _, fault = tools("copy", "--tables", project, "--to", copies)
+    wanted = f"bsched-tools: {project}: the copy was not good, and is not kept: {told}"
+    assert status == 1 and fault.startswith(wanted) and fault.count("\n") == 1
+    assert list(copies.iterdir()) == []
 
 
 def test_tables_of_another_program(tmp_path, copies):
