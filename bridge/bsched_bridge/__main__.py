@@ -31,7 +31,7 @@ class CommandLine(argparse.ArgumentParser):
 def words() -> argparse.ArgumentParser:
     """The command line."""
     parser = CommandLine(
-        prog="python3 -m bsched_bridge", description="A bridge between BOINC's client and bsched."
+        prog="bsched-bridge", description="A bridge between BOINC's client and bsched."
     )
     parser.add_argument("--config", type=Path, metavar="FILE", help="the settings (TOML); serves them")
     parser.add_argument("--check", action="store_true", help="looks at the settings and the catalogue alone")
