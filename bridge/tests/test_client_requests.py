@@ -90,11 +90,11 @@ def test_each_result_has_its_own_standard_error():
 
 def test_sections_are_looked_at_once():
     part = b"<stderr_out><![CDATA["
-    began = time.monotonic()
+    began = time.process_time()
     for body in (part * 350_000, (part + b"]]>") * 350_000, (part + b"</stderr_out>") * 200_000):
         with pytest.raises(RequestFault):
             read_request(body)
-    assert time.monotonic() - began < 10
+    assert time.process_time() - began < 60  # each section once: looked at again and again, it would be hours
 
 
 @pytest.mark.parametrize("told, status", [
