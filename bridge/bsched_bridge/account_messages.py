@@ -78,7 +78,7 @@ def account_error(fault: Fault) -> bytes:
 class AccountMessages:
     """What answers clients that ask about accounts; without accounts they ask about keys alone."""
 
-    def __init__(self, settings: Settings, accounts: Accounts | None, scheduler: Scheduler):
+    def __init__(self, settings: Settings, accounts: Accounts | None, scheduler: Scheduler) -> None:
         self.accounts, self.scheduler = accounts, scheduler
         self._address_field = settings.accounts.address_field if settings.accounts else None
 

@@ -97,7 +97,7 @@ NEW_PASSWORD = Input(
 class AccountPages:
     """What answers people about accounts."""
 
-    def __init__(self, settings: Settings, accounts: Accounts, statements: Statements):
+    def __init__(self, settings: Settings, accounts: Accounts, statements: Statements) -> None:
         self.settings, self.accounts, self.statements = settings, accounts, statements
         self._field = settings.accounts.address_field if settings.accounts else None
 

@@ -75,7 +75,7 @@ class Fault(Enum):
 class AccountFault(Exception):
     """A message about an account comes to nothing."""
 
-    def __init__(self, fault: Fault):
+    def __init__(self, fault: Fault) -> None:
         super().__init__(fault.text)
         self.fault = fault
 

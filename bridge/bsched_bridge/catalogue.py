@@ -90,7 +90,7 @@ class MissingFile(Exception):
 class FileFolder:
     """The folder of the files that clients may download."""
 
-    def __init__(self, path: Path):
+    def __init__(self, path: Path) -> None:
         self.path = path
         self._known: dict[tuple[str, int, int], StoredFile] = {}
         self._lock = threading.Lock()

@@ -49,7 +49,7 @@ def written(root: Element) -> bytes:
 class ReplyWriter:
     """Who writes replies for a project."""
 
-    def __init__(self, catalogue: Catalogue, name: str, url: str):
+    def __init__(self, catalogue: Catalogue, name: str, url: str) -> None:
         self.catalogue, self.name, self.url = catalogue, name, url
 
     def _begun(self, delay: int) -> Element:

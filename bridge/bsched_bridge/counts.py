@@ -25,7 +25,7 @@ class CountEnded(Exception):
 class TooManyHosts(Exception):
     """A new key of an account that has as many hosts as it may have."""
 
-    def __init__(self, count: int):
+    def __init__(self, count: int) -> None:
         super().__init__(f"the account has {count} hosts")
         self.count = count
 
@@ -56,7 +56,7 @@ class HeardHost:
 class Counts:
     """The counts in a state file."""
 
-    def __init__(self, file: StateFile):
+    def __init__(self, file: StateFile) -> None:
         self.file = file
 
     # ---- Keys

@@ -12,7 +12,7 @@ log = logging.getLogger(__name__)
 class HostRuleReader:
     """Who has the settings of today. A faulty file changes nothing, and gets one line in the log."""
 
-    def __init__(self, path: Path, rules: HostRules):
+    def __init__(self, path: Path, rules: HostRules) -> None:
         self.path, self._rules = path, rules
         self._lock = threading.Lock()
         self._seen = self._state()

@@ -37,7 +37,7 @@ log = logging.getLogger(__name__)
 class HttpFault(Exception):
     """A message of HTTP that is no message to this application."""
 
-    def __init__(self, status: int, **fields: str):
+    def __init__(self, status: int, **fields: str) -> None:
         super().__init__(PHRASES[status])
         self.status, self.fields = status, fields
 

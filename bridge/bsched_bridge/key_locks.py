@@ -11,7 +11,7 @@ class Busy(Exception):
 class KeyLocks:
     """A lock for each key that is in use, and none for the others."""
 
-    def __init__(self, wait_seconds: float):
+    def __init__(self, wait_seconds: float) -> None:
         self.wait_seconds = wait_seconds
         self._guard = threading.Lock()
         self._locks: dict[Hashable, tuple[threading.Lock, int]] = {}  # with how many want it or have it

@@ -15,7 +15,7 @@ class RecentCounts:
     forgotten.
     """
 
-    def __init__(self, most: int, seconds: float, clock: Callable[[], float] = time.monotonic):
+    def __init__(self, most: int, seconds: float, clock: Callable[[], float] = time.monotonic) -> None:
         self.most, self.seconds, self.clock = most, seconds, clock
         self._lock = threading.Lock()
         self._times: OrderedDict[Hashable, list[float]] = OrderedDict()

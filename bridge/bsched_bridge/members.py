@@ -98,7 +98,7 @@ def first_heard(connection: sqlite3.Connection, authenticator: str, name: str, n
 class Members:
     """The accounts in a state file."""
 
-    def __init__(self, file: StateFile):
+    def __init__(self, file: StateFile) -> None:
         self.file = file
 
     def _one(self, where: str, *values: object) -> Member | None:

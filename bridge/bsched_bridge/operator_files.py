@@ -14,7 +14,7 @@ TABLE = re.compile(r"[ \t]*\[\[?[ \t]*([A-Za-z0-9_-]+)[ \t]*\]\]?")
 class OperatorFault(Exception):
     """A fault in a file that an operator wrote."""
 
-    def __init__(self, path: Path, line: int | None, what: str):
+    def __init__(self, path: Path, line: int | None, what: str) -> None:
         where = f"{path}: " if line is None else f"{path}: line {line}: "
         super().__init__(where + what)
 
@@ -22,7 +22,7 @@ class OperatorFault(Exception):
 class Entry:
     """A table of such a file: its members are taken one after the other, and what is left over is a fault."""
 
-    def __init__(self, path: Path, members: dict[str, Any], lines: list[str], first: int, last: int):
+    def __init__(self, path: Path, members: dict[str, Any], lines: list[str], first: int, last: int) -> None:
         self.path, self.members, self.untaken = path, members, set(members)
         self._lines, self._first, self._last = lines, first, last
 
@@ -115,7 +115,7 @@ class Entry:
 class OperatorFile(Entry):
     """The whole file; the members before the first table are its own."""
 
-    def __init__(self, path: Path):
+    def __init__(self, path: Path) -> None:
         try:
             text = path.read_text(encoding="utf-8")
             members = tomllib.loads(text)

@@ -75,7 +75,7 @@ class Passwords:
     Few may wait for their turn, so that other messages find a thread.
     """
 
-    def __init__(self, cost: Cost = COST):
+    def __init__(self, cost: Cost = COST) -> None:
         self.cost = cost
         self._unknown = Secret(secrets.token_bytes(SALT_BYTES), b"", cost.text())
         self._turns = threading.BoundedSemaphore(AT_ONCE)

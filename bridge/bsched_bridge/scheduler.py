@@ -92,7 +92,7 @@ def read_refusal(status: int, said: object) -> Refusal:
 class Scheduler:
     """Who sends messages to bsched. Each message has a connection of its own, as bsched wants it."""
 
-    def __init__(self, address: Address, answer_seconds: int):
+    def __init__(self, address: Address, answer_seconds: int) -> None:
         self.address, self.answer_seconds = address, answer_seconds
         self.silent_since: float | None = None  # when bsched first gave no answer, if none came since
 

@@ -62,7 +62,7 @@ class StateFault(Exception):
 class StateFile:
     """A connection to the state file. One process at a time has it; its threads take turns."""
 
-    def __init__(self, path: Path):
+    def __init__(self, path: Path) -> None:
         self._lock = threading.Lock()
         try:
             self._connection = sqlite3.connect(path, isolation_level=None, check_same_thread=False, timeout=1)

@@ -54,7 +54,7 @@ class Kept:
 class Averages:
     """The file in which it is kept. No key is in it: users and hosts are named by a keyed digest."""
 
-    def __init__(self, path: Path):
+    def __init__(self, path: Path) -> None:
         self.path = path
         self.salt, self.users, self.hosts = secrets.token_hex(16), dict[str, list[int]](), dict[str, Kept]()
         if path.exists():

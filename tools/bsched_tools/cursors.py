@@ -56,7 +56,7 @@ def project_mark(tables: Tables) -> str:
 class Cursor:
     """The file, and what it says."""
 
-    def __init__(self, path: Path):
+    def __init__(self, path: Path) -> None:
         self.path = path
         self.projects: dict[str, Given] = {}
         if path.exists():

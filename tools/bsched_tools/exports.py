@@ -84,7 +84,7 @@ def host_members(host: Host, kept: Kept, userid: int | None, cpid: str) -> dict[
 class Export:
     """The elements of all files."""
 
-    def __init__(self, averages: Averages, moment: int, agreed: set[str] | None):
+    def __init__(self, averages: Averages, moment: int, agreed: set[str] | None) -> None:
         self.averages, self.moment, self.agreed = averages, moment, agreed
         self.users: list[str] = []
         self.hosts: list[str] = []

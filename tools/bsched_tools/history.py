@@ -50,7 +50,7 @@ def bin_of(seconds: int) -> int:
 class History:
     """The file, and which instances were held at the last report."""
 
-    def __init__(self, folder: Path):
+    def __init__(self, folder: Path) -> None:
         self.path, self.held_path = folder / "history.jsonl", folder / "held.json"
         self.entries: list[Entry] = []
         if self.path.exists():

@@ -110,7 +110,7 @@ def opened_file(path: Path, flags: int, stack: ExitStack) -> int:
 class Work:
     """The two files into which the tables and their log are copied."""
 
-    def __init__(self, folder: Path, source: Source, stack: ExitStack):
+    def __init__(self, folder: Path, source: Source, stack: ExitStack) -> None:
         self.source, self.path = source, folder / "copy.db"
         create = os.O_RDWR | os.O_CREAT | os.O_EXCL
         self.target = opened_file(self.path, create, stack)
