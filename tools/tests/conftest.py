@@ -1,6 +1,7 @@
 """What the tests share."""
 import subprocess
 import sys
+from collections.abc import Iterator
 from pathlib import Path
 
 import pytest
@@ -13,13 +14,13 @@ from small_project import Twin, make_tables  # noqa: E402
 
 
 @pytest.fixture
-def project(tmp_path):
+def project(tmp_path: Path) -> Path:
     """The tables of a small project."""
     return make_tables(tmp_path / "project.db")
 
 
 @pytest.fixture
-def twin(project):
+def twin(project: Path) -> Iterator[Twin]:
     """The small project, served."""
     served = Twin(project)
     yield served
@@ -27,7 +28,7 @@ def twin(project):
 
 
 @pytest.fixture
-def copies(tmp_path):
+def copies(tmp_path: Path) -> Path:
     """A folder for copies."""
     folder = tmp_path / "copies"
     folder.mkdir()
