@@ -1,11 +1,11 @@
 -- Two lists, each element of one related to the one at its place in the other.
-use Rattle.std.proofs.Common.{◌≡◌, ℕ, zero, suc, ◌+◌, ◌-◌, Bool, true, false, cond, eqb, List, [], ◌∷◌, Option, Some, None, sym, refl, ap, ◌∙◌}
+use Rattle.std.proofs.Common.{◌≡◌, ℕ, zero, suc, ◌+◌, ◌-◌, Bool, true, false, cond, eqb, List, [], ◌∷◌, Option, Some, None, sym, refl, ap, ◌∙◌, subst}
 use Rattle.std.specs.Prelude.{◌||◌, All, map, sum_by, slice_get}
 use Rattle.std.specs.List.{list_any}
 use Rattle.std.proofs.lemmas.List.Elements.{All-head, All-tail}
 use Rattle.std.proofs.lemmas.List.Sums.{sum_by-cons}
 use Rattle.sched_book.specs.Places.{nth}
-use Rattle.sched_book.specs.Reports.{modify_at, modify_nth}
+use Rattle.sched_book.proofs.PlacesOf.{nth-suc}
 
 abbrev pub Along : {X : Type 0} → (X → X → Type 0) → List X → List X → Type 0
 Along R [] [] = Unit {0}
@@ -13,28 +13,22 @@ Along R [] (y ∷ ys) = ⊥
 Along R (x ∷ xs) [] = ⊥
 Along R (x ∷ xs) (y ∷ ys) = R x y × Along R xs ys
 
--- a list and itself
-pub along_same : {X : Type 0} (R : X → X → Type 0) → ((x : X) → R x x) → (xs : List X) → Along R xs xs
-along_same R same [] = tt
-along_same R same (x ∷ xs) = (same x, along_same R same xs)
+-- what stands at a place of each, or nothing in both
+abbrev pub Both : {X : Type 0} → (X → X → Type 0) → Option X → Option X → Type 0
+Both R None None = Unit {0}
+Both R None (Some y) = ⊥
+Both R (Some x) None = ⊥
+Both R (Some x) (Some y) = R x y
 
--- one element of the second changed
-along_changed_at : {X : Type 0} (R : X → X → Type 0) (f : X → X) (xs ys : List X) (i : ℕ) → Along R xs ys
-    → ((x y : X) → R x y → slice_get ys i ≡ Some y → R x (f y)) → Along R xs (modify_at f ys i)
-along_changed_at R f [] [] i along here = tt
-along_changed_at R f [] (y ∷ ys) i along here = absurd along
-along_changed_at R f (x ∷ xs) [] i along here = absurd along
-along_changed_at R f (x ∷ xs) (y ∷ ys) zero along here = (here x y along.0 refl, along.1)
-along_changed_at R f (x ∷ xs) (y ∷ ys) (suc i) along here = (along.0, along_changed_at R f xs ys i along.1 here)
+along_from : {X : Type 0} (R : X → X → Type 0) (xs ys : List X) → ((i : ℕ) → Both R (slice_get xs i) (slice_get ys i)) → Along R xs ys
+along_from R [] [] both = tt
+along_from R [] (y ∷ ys) both = absurd (both 0)
+along_from R (x ∷ xs) [] both = absurd (both 0)
+along_from R (x ∷ xs) (y ∷ ys) both = (both 0, along_from R xs ys (λ i. both (suc i)))
 
-pub along_changed_nth : {X : Type 0} (R : X → X → Type 0) (f : X → X) (xs ys : List X) (n : ℕ) → Along R xs ys
-    → ((x y : X) → R x y → nth ys n ≡ Some y → R x (f y)) → Along R xs (modify_nth f ys n)
-along_changed_nth {X} R f xs ys n along here = cases (eqb n 0) here
-  where
-    cases : (b : Bool) → ((x y : X) → R x y → cond b None (slice_get ys (n - 1)) ≡ Some y → R x (f y))
-        → Along R xs (cond b ys (modify_at f ys (n - 1)))
-    cases true at = along
-    cases false at = along_changed_at R f xs ys (n - 1) along at
+pub along_places : {X : Type 0} (R : X → X → Type 0) (xs ys : List X) → ((n : ℕ) → Both R (nth xs n) (nth ys n)) → Along R xs ys
+along_places R xs ys both =
+    along_from R xs ys (λ i. subst (λ o. Both R o (slice_get ys i)) (nth-suc xs i) (subst (Both R (nth xs (suc i))) (nth-suc ys i) (both (suc i))))
 
 -- each element of the second made into another
 pub along_map : {X : Type 0} (P : X → Type 0) (R Q : X → X → Type 0) (g : X → X) → ((x y : X) → P x → R x y → Q x (g y))

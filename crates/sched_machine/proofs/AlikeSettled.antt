@@ -7,11 +7,10 @@ use Rattle.rpc_records.specs.declared.request.Request.{Request}
 use Rattle.sched_book.specs.Count.{is_open}
 use Rattle.sched_book.specs.Fits.{estimate, unit_fits, is_for}
 use Rattle.sched_book.specs.Grant.{Asking}
-use Rattle.sched_book.specs.Places.{nth, status_of, host_at, user_had, account_at, was_sent}
-use Rattle.sched_book.specs.Reports.{first_reports}
+use Rattle.sched_book.specs.Places.{nth, status_of, user_had, account_at, was_sent}
 use Rattle.sched_book.specs.Settle.{grown, with_grown, settled}
 use Rattle.sched_book.specs.Sound.{IsSoundUnit, Sound}
-use Rattle.sched_book.specs.Step.{IsCaller, host_number, at_entry, after_reports, host_at_entry, lost_of, after_lost, after_settlement, asking_of}
+use Rattle.sched_book.specs.Step.{IsCaller, host_number, at_entry, host_at_entry, after_lost, asking_of}
 use Rattle.sched_book.specs.declared.instance.Instance.{Instance}
 use Rattle.sched_book.specs.declared.instance.UnitBook.{UnitBook}
 use Rattle.sched_book.specs.declared.machine.Caller.{Caller}
@@ -21,10 +20,9 @@ use Rattle.job_choice.specs.Alike.{IsLike}
 use Rattle.sched_book.proofs.PlacesOf.{nth-suc}
 use Rattle.quorum_credit.proofs.Grown.{grown_sound}
 use Rattle.sched_machine.specs.Alike.{SettledIsLike}
-use Rattle.sched_machine.proofs.AlikeLists.{Along, along_same, along_map, along_nth, along_sum}
-use Rattle.sched_machine.proofs.AlikeUnits.{IsKept, kept_self, HasOne, row_grown, sent_grown, has_grown, IsFrom}
-use Rattle.sched_machine.proofs.AlikeCalls.{from_reports, lost_owned, from_lost}
-use Rattle.sched_machine.proofs.AlikeHosts.{account_at_entry, account_stays, account_settled, account_or, same_user, user_has_one}
+use Rattle.sched_machine.proofs.AlikeLists.{Along, along_map, along_nth, along_sum}
+use Rattle.sched_machine.proofs.AlikeUnits.{IsKept, HasOne, row_grown, sent_grown, has_grown, IsFrom, before_settlement}
+use Rattle.sched_machine.proofs.AlikeHosts.{account_at_entry, account_stays, account_settled, host_settled, same_user, user_has_one}
 
 -- a workunit that is sound, and needs nothing
 abbrev IsWhole : World → UnitBook → Type 0
@@ -107,17 +105,6 @@ module _ (w : World) (hosts : List HostRow) (units : List UnitBook) (q : Asking)
     in_progress = refl;
   }
 
--- what reports and lost jobs leave
-pub before_settlement : (w : World) (c : Caller) (r : Request) (now : ℕ) → IsFrom (host_number w c) (at_entry w c r) (after_lost w c r now)
-before_settlement w c r now =
-    let entry : World = at_entry w c r in
-    let host : ℕ = host_number w c in
-    let reported : IsFrom host entry (after_reports w c r) =
-    from_reports entry entry host (first_reports r.results) entry
-    (record { units = along_same (IsKept host) (kept_self host) entry.units; rest = refl }) in
-    from_lost entry entry (host_at_entry w c r) now host (lost_of w c r) (after_reports w c r)
-    (lost_owned (after_reports w c r) host r.other_results) reported
-
 -- the law
 module _ (w : World) (c : Caller) (r : Request) (now : ℕ) (sound : Sound w) (caller : IsCaller w c r) where
   abbrev entry : World
@@ -140,11 +127,7 @@ module _ (w : World) (c : Caller) (r : Request) (now : ℕ) (sound : Sound w) (c
   from = before_settlement w c r now
 
   account_asking : asking.host.account ≡ c.account
-  account_asking =
-      account_or (host_at (after_settlement w c r now) number) (host_at_entry w c r) c.account
-      (account_settled entry (with_grown left) left.hosts number
-      ∙ ap (λ (v : World). account_at v.hosts number) from.rest
-      ∙ account_at_entry w c r caller)
+  account_asking = ap (λ o. (unwrap_or o (host_at_entry w c r)).account) (host_settled w c r caller now)
 
   abbrev hosts_after : List HostRow
   hosts_after = (settled entry changed).hosts

@@ -1,22 +1,31 @@
 -- What the changes of a call leave of a workunit: one that no instance of the call's host stands in stays as it is.
-use Rattle.std.proofs.Common.{◌≡◌, ℕ, ◌+◌, ◌*◌, ◌⊎◌, inl, inr, Bool, true, false, cond, List, ◌++◌, Option, Some, None, sym, refl, ap, ◌∙◌, subst, arith}
-use Rattle.std.specs.Prelude.{◌||◌, count_by, replicate, option_map, option_and_then, slice_get}
+use Rattle.std.proofs.Common.{◌≡◌, ℕ, suc, ◌+◌, ◌-◌, ◌/◌, ◌⊎◌, inl, inr, Bool, true, false, cond, eqb, List, [], ◌∷◌, ◌++◌, Option, Some, None, sym, refl, ap, ap₂, ◌∙◌}
+use Rattle.std.specs.Prelude.{◌&&◌, ◌||◌, ◌==◌, count_by, map, replicate, option_map, option_and_then, slice_get}
 use Rattle.std.specs.List.{list_any}
-use Rattle.std.proofs.lemmas.List.Folds.{list_any_at, list_any-append, sum_by-replicate}
-use Rattle.std.proofs.lemmas.List.Sums.{sum_by-append}
-use Rattle.std.proofs.lemmas.Option.{slice_get_within, get_or_from_slice_get}
+use Rattle.std.proofs.lemmas.List.Folds.{Any-from_list_any, list_any_at, list_any-append}
+use Rattle.std.proofs.lemmas.Option.{slice_get-get_or, slice_get_within, get_or_from_slice_get}
+use Rattle.rpc_records.specs.declared.request.Request.{Request}
 use Rattle.sched_book.specs.Count.{is_open, need}
-use Rattle.sched_book.specs.Places.{instance_at, book_status, is_owned_by, was_sent, is_same}
-use Rattle.sched_book.specs.Reports.{with_number, with_changed}
+use Rattle.sched_book.specs.Desk.{workunit_at}
+use Rattle.sched_book.specs.PlaceLaws.{ChangesInstancesAlone}
+use Rattle.sched_book.specs.Places.{nth, instance_at, book_status, option_any, is_owned_by, was_sent}
 use Rattle.sched_book.specs.Settle.{fresh, grown}
+use Rattle.sched_book.specs.Step.{after_lost, at_entry, host_number}
 use Rattle.sched_book.specs.declared.instance.Instance.{Instance}
+use Rattle.sched_book.specs.declared.instance.Owner.{Owner}
 use Rattle.sched_book.specs.declared.instance.Place.{Place}
 use Rattle.sched_book.specs.declared.instance.UnitBook.{UnitBook}
+use Rattle.sched_book.specs.declared.machine.Call.TheVariants as call
+use Rattle.sched_book.specs.declared.machine.Caller.{Caller}
 use Rattle.sched_book.specs.declared.rows.App.{App}
 use Rattle.sched_book.specs.declared.world.World.{World}
-use Rattle.sched_book.proofs.Recording.{instance_at-with_changed}
-use Rattle.sched_machine.proofs.UnitsAlike.{modify_at-none, count_same, any_here}
-use Rattle.sched_machine.proofs.AlikeLists.{Along, along_changed_nth}
+use Rattle.sched_book.proofs.Settling.{nth-map}
+use Rattle.quorum_credit.proofs.ByPlace.{same_by_place}
+use Rattle.sched_machine.proofs.AlikeLists.{Along, Both, along_places}
+use Rattle.sched_machine.proofs.RowsListed.{none_any}
+use Rattle.sched_machine.proofs.StepMoves.{Lasts, left_alone, left_lasts}
+use Rattle.sched_machine.proofs.UnitsAlike.{count_cons}
+use Rattle.sched_machine.proofs.UnitsGrown.{count_none}
 
 -- the host was given some instance of the workunit
 abbrev pub HasOne : ℕ → UnitBook → Type 0
@@ -28,35 +37,83 @@ pub record IsKept (host : ℕ) (b d : UnitBook) : Type 0 where
   pub sent : (day : ℕ) → count_by (was_sent host day) d.instances ≡ count_by (was_sent host day) b.instances
   pub held : (d ≡ b) ⊎ (HasOne host b × HasOne host d)
 
--- a change that leaves an instance with its host, and its moment of sending
-pub record Stays (host : ℕ) (f : Instance → Instance) : Type 0 where
-  pub owned : (x : Instance) → is_owned_by host (f x) ≡ is_owned_by host x
-  pub sent : (x : Instance) (day : ℕ) → was_sent host day (f x) ≡ was_sent host day x
+-- what stands at a place, and what became of it: the same, or the host's
+abbrev StaysOwn : ℕ → Option Instance → Option Instance → Type 0
+StaysOwn host o q =
+    ((day : ℕ) → option_map (was_sent host day) q ≡ option_map (was_sent host day) o)
+    × ((q ≡ o) ⊎ ((option_any (is_owned_by host) o ≡ true) × (option_any (is_owned_by host) q ≡ true)))
 
-pub kept_self : (host : ℕ) (b : UnitBook) → IsKept host b b
-kept_self host b = record { row = refl; sent = λ day. refl; held = inl refl }
+-- so through the reports and the lost jobs of its call
+stays_own : (w : World) (c : Caller) (r : Request) (p : Place) → Lasts w (call.Rpc c r) p (StaysOwn (host_number w c))
+stays_own w c r p = record {
+  same = λ o. (λ day. refl, inl refl);
+  chain = λ o q s first second. (
+    λ day. second.0 day ∙ first.0 day,
+    elim first.1 [
+      | inl same ↦ elim second.1 [ inl also ↦ inl (also ∙ same) | inr both ↦ inr (sym (ap (option_any (is_owned_by (host_number w c))) same) ∙ both.0, both.1) ]
+      | inr both ↦ inr (both.0, elim second.1 [ inl also ↦ ap (option_any (is_owned_by (host_number w c))) also ∙ both.1 | inr two ↦ two.1 ])
+    ],
+  );
+  reported = λ r place x none own later. (λ day. refl, inr (own, own));
+  lapses = λ lapse x none own. (λ day. refl, inr (own, own));
+  moved = λ f o x is own again. (
+    λ day. sym (ap (λ q. Some (option_any (λ (o : Owner). (o.host == host_number w c) && (o.sent / 86400 == day)) q)) is),
+    inr (own, sym (ap (λ q. option_any (λ n. n == host_number w c) (option_map (λ (o : Owner). o.host) q)) is) ∙ own),
+  );
+}
 
--- such a change of an instance of the host
-pub kept_changed : (host : ℕ) (f : Instance → Instance) (i : ℕ) (b d : UnitBook) → Stays host f → IsKept host b d
-    → ((x : Instance) → slice_get d.instances i ≡ Some x → is_owned_by host x ≡ true) → IsKept host b (with_number f i d)
-kept_changed host f i b d stays kept owned = cases (slice_get d.instances i) refl
+-- as many pass where each passes as the one at its index
+count_alike : (t : Instance → Bool) (xs ys : List Instance) → ((i : ℕ) → option_map t (slice_get ys i) ≡ option_map t (slice_get xs i))
+    → count_by t ys ≡ count_by t xs
+count_alike t [] [] same = refl
+count_alike t [] (y ∷ ys) same = absurd (let never : Some (t y) ≡ None = same 0 in cc)
+count_alike t (x ∷ xs) [] same = absurd (let never : None ≡ Some (t x) = same 0 in cc)
+count_alike t (x ∷ xs) (y ∷ ys) same =
+    let both : Some (t y) ≡ Some (t x) = same 0 in
+    let first : t y ≡ t x = cc in
+    count_cons t y ys (t x) first
+    ∙ ap (λ n. cond {A = ℕ} (t x) 1 0 + n) (count_alike t xs ys (λ i. same (suc i)))
+    ∙ sym (count_cons t x xs (t x) refl)
+
+-- a workunit whose instances stay so
+kept_by : (host : ℕ) (b d : UnitBook) → d.unit ≡ b.unit → ((i : ℕ) → StaysOwn host (slice_get b.instances i) (slice_get d.instances i)) → IsKept host b d
+kept_by host b d row stays = record {
+  row = row;
+  sent = λ day. count_alike (was_sent host day) b.instances d.instances (λ i. (stays i).0 day);
+  held = cases (list_any (is_owned_by host) b.instances) refl;
+}
   where
-    had : HasOne host d → HasOne host b
-    had has = elim kept.held [ inl same ↦ subst (HasOne host) same has | inr both ↦ both.0 ]
+    nobody : list_any (is_owned_by host) b.instances ≡ false → (i : ℕ) (o : Option Instance) → slice_get b.instances i ≡ o → option_any (is_owned_by host) o ≡ true → ⊥
+    nobody none i None there own = absurd cc
+    nobody none i (Some x) there own = let never : false ≡ true = sym (none_any (is_owned_by host) b.instances none i x there) ∙ own in absurd cc
 
-    cases : (o : Option Instance) → slice_get d.instances i ≡ o → IsKept host b (with_number f i d)
-    cases None is =
-        let same : d ≡ with_number f i d = ap (λ xs. record d { instances = xs }) (sym (modify_at-none f d.instances i is)) in
-        subst (IsKept host b) same kept
-    cases (Some x) is = record {
-      row = kept.row;
-      sent = λ day. count_same (was_sent host day) f d.instances i x is (stays.sent x day) ∙ kept.sent day;
-      held = inr (
-        had (list_any_at (is_owned_by host) d.instances i x (slice_get_within d.instances i x is)
-            (ap (is_owned_by host) (get_or_from_slice_get d.instances i x x is) ∙ owned x is)),
-        any_here (is_owned_by host) f d.instances i x is (stays.owned x ∙ owned x is),
-      );
-    }
+    same : list_any (is_owned_by host) b.instances ≡ false → (i : ℕ) → slice_get d.instances i ≡ slice_get b.instances i
+    same none i = elim (stays i).1 [ inl is ↦ is | inr both ↦ absurd (nobody none i (slice_get b.instances i) refl both.0) ]
+
+    at_place : list_any (is_owned_by host) b.instances ≡ false → (n : ℕ) (t : Bool) → cond t None (slice_get d.instances (n - 1)) ≡ cond t None (slice_get b.instances (n - 1))
+    at_place none n true = refl
+    at_place none n false = same none (n - 1)
+
+    -- one that is the host's is so later
+    still : (i : ℕ) (o q : Option Instance) → slice_get d.instances i ≡ q → StaysOwn host o q → option_any (is_owned_by host) o ≡ true → HasOne host d
+    still i None q there goes own = absurd cc
+    still i (Some x) None there goes own = absurd (let never : None ≡ Some (was_sent host 0 x) = goes.0 0 in cc)
+    still i (Some x) (Some y) there goes own =
+        list_any_at (is_owned_by host) d.instances i y (slice_get_within d.instances i y there)
+        (ap (is_owned_by host) (get_or_from_slice_get d.instances i y y there)
+        ∙ elim goes.1 [ inl is ↦ ap (option_any (is_owned_by host)) is ∙ own | inr both ↦ both.1 ])
+
+    cases : (t : Bool) → list_any (is_owned_by host) b.instances ≡ t → (d ≡ b) ⊎ (HasOne host b × HasOne host d)
+    cases true is =
+        let found = Any-from_list_any (is_owned_by host) b.instances is in
+        inr (
+          is,
+          still found.0 (slice_get b.instances found.0) (slice_get d.instances found.0) refl (stays found.0)
+              (ap (option_any (is_owned_by host)) (slice_get-get_or b.instances found.0 found.1 found.2) ∙ ap (is_owned_by host) found.3 ∙ found.4),
+        )
+    cases false is =
+        let instances : d.instances ≡ b.instances = same_by_place d.instances b.instances (λ n. at_place is n (eqb n 0)) in
+        inl (λ i. record { unit = row i; instances = instances i })
 
 -- what it needs of new instances
 pub row_grown : (apps : List App) (d : UnitBook) → (grown apps d).unit ≡ d.unit
@@ -66,6 +123,14 @@ row_grown apps d = cases (is_open (book_status apps d))
     cases true = refl
     cases false = refl
 
+pub rows_grown : (apps : List App) (bs : List UnitBook) → map (λ (b : UnitBook). b.unit) (map (grown apps) bs) ≡ map (λ (b : UnitBook). b.unit) bs
+rows_grown apps [] = refl
+rows_grown apps (b ∷ bs) = ap₂ (λ u us. u ∷ us) (row_grown apps b) (rows_grown apps bs)
+
+-- the row at a place, by all rows
+pub row_at : (w v : World) → map (λ (b : UnitBook). b.unit) v.units ≡ map (λ (b : UnitBook). b.unit) w.units → (n : ℕ) → workunit_at v n ≡ workunit_at w n
+row_at w v rows n = sym (nth-map (λ (b : UnitBook). b.unit) v.units n) ∙ ap (λ us. nth us n) rows ∙ nth-map (λ (b : UnitBook). b.unit) w.units n
+
 pub sent_grown : (host day : ℕ) (apps : List App) (d : UnitBook)
     → count_by (was_sent host day) (grown apps d).instances ≡ count_by (was_sent host day) d.instances
 sent_grown host day apps d = cases (is_open (book_status apps d)) (need d.unit d.instances)
@@ -73,13 +138,7 @@ sent_grown host day apps d = cases (is_open (book_status apps d)) (need d.unit d
     cases : (t : Bool) (many : ℕ) → count_by (was_sent host day) (cond t (record d { instances = d.instances ++ replicate many fresh }) d).instances
         ≡ count_by (was_sent host day) d.instances
     cases false many = refl
-    cases true many =
-        let all : count_by (was_sent host day) (d.instances ++ replicate many fresh)
-        ≡ count_by (was_sent host day) d.instances + count_by (was_sent host day) (replicate many fresh) =
-        sum_by-append (λ y. cond {A = ℕ} (was_sent host day y) 1 0) d.instances (replicate many fresh) in
-        let none : count_by (was_sent host day) (replicate many fresh) ≡ many * 0 =
-        sum_by-replicate (λ y. cond {A = ℕ} (was_sent host day y) 1 0) many fresh in
-        omega arith
+    cases true many = count_none (was_sent host day) d.instances many fresh refl
 
 pub has_grown : (host : ℕ) (apps : List App) (d : UnitBook) → HasOne host d → HasOne host (grown apps d)
 has_grown host apps d has = cases (is_open (book_status apps d))
@@ -90,33 +149,39 @@ has_grown host apps d has = cases (is_open (book_status apps d))
         list_any-append (is_owned_by host) d.instances (replicate (need d.unit d.instances) fresh)
         ∙ ap (λ t. t || list_any (is_owned_by host) (replicate (need d.unit d.instances) fresh)) has
 
--- what stands at a place, if anything, is the host's
-abbrev pub IsOwnedAt : ℕ → World → Place → Type 0
-IsOwnedAt host w p = (x : Instance) → instance_at w p ≡ Some x → is_owned_by host x ≡ true
-
--- it stays so
-pub owned_after : (host : ℕ) (f : Instance → Instance) (w : World) (p q : Place) → Stays host f → IsOwnedAt host w q → IsOwnedAt host (with_changed f w p) q
-owned_after host f w p q stays owned y stands = cases (is_same p q) (instance_at w q) refl (sym (instance_at-with_changed f w p q) ∙ stands)
-  where
-    cases : (b : Bool) (o : Option Instance) → instance_at w q ≡ o → cond b (option_map f o) o ≡ Some y → is_owned_by host y ≡ true
-    cases true None is put = absurd cc
-    cases true (Some x) is put =
-        let value : f x ≡ y = cc in
-        ap (is_owned_by host) (sym value) ∙ stays.owned x ∙ owned x is
-    cases false o is put = owned y (is ∙ put)
-
 -- A world and what became of it: but for its workunits the same.
 pub record IsFrom (host : ℕ) (w v : World) : Type 0 where
   pub units : Along (IsKept host) w.units v.units
   pub rest : v ≡ record w { units = v.units }
 
--- one instance of the host changed
-pub from_changed : (host : ℕ) (f : Instance → Instance) (w v : World) (p : Place) → Stays host f → IsOwnedAt host v p → IsFrom host w v
-    → IsFrom host w (with_changed f v p)
-from_changed host f w v p stays owned from = record {
-  units = along_changed_nth (IsKept host) (with_number f p.number) w.units v.units p.unit from.units
-      (λ b d kept stands.
-      kept_changed host f p.number b d stays kept
-      (λ x is. owned x (ap (option_and_then (λ (u : UnitBook). slice_get u.instances p.number)) stands ∙ is)));
-  rest = ap {A = World} {B = World} (λ z. record z { units = (with_changed f v p).units }) from.rest;
+from_places : (host : ℕ) (w v : World) → ChangesInstancesAlone w v → ((p : Place) → StaysOwn host (instance_at w p) (instance_at v p)) → IsFrom host w v
+from_places host w v alone stays = record {
+  units = along_places (IsKept host) w.units v.units (λ n.
+      cases (nth w.units n) (nth v.units n)
+      (row_at w v alone.units n)
+      (λ i. stays (record { unit = n; number = i })));
+  rest = λ i. record {
+    settings = alone.settings i;
+    accounts = alone.accounts i;
+    apps = alone.apps i;
+    versions = alone.versions i;
+    units = v.units;
+    hosts = alone.hosts i;
+  };
 }
+  where
+    at : ℕ → Option UnitBook → Option Instance
+    at i o = option_and_then (λ (b : UnitBook). slice_get b.instances i) o
+
+    cases : (o q : Option UnitBook) → option_map (λ (b : UnitBook). b.unit) q ≡ option_map (λ (b : UnitBook). b.unit) o
+        → ((i : ℕ) → StaysOwn host (at i o) (at i q)) → Both (IsKept host) o q
+    cases None None row own = tt
+    cases None (Some d) row own = absurd cc
+    cases (Some b) None row own = absurd cc
+    cases (Some b) (Some d) row own = kept_by host b d (let same : d.unit ≡ b.unit = cc in same) own
+
+-- what the reports and the lost jobs of a call leave
+pub before_settlement : (w : World) (c : Caller) (r : Request) (now : ℕ) → IsFrom (host_number w c) (at_entry w c r) (after_lost w c r now)
+before_settlement w c r now =
+    from_places (host_number w c) (at_entry w c r) (after_lost w c r now) (left_alone w c r now)
+    (λ p. left_lasts (StaysOwn (host_number w c)) w c r p (stays_own w c r p) now)

@@ -7,34 +7,71 @@ use Rattle.rpc_records.specs.declared.request.Request.{Request}
 use Rattle.rpc_records.specs.declared.reply.Reply.{Reply}
 use Rattle.sched_book.specs.Classes.{suits, rule_after, is_of_first}
 use Rattle.sched_book.specs.Fits.{is_eligible, version_for, version_at_unit}
+use Rattle.sched_book.specs.Imports.{with_rows}
 use Rattle.sched_book.specs.Lost.{delay_at}
 use Rattle.sched_book.specs.PlaceLaws.{HasGranted}
 use Rattle.sched_book.specs.Places.{unit_at, instance_at}
+use Rattle.sched_book.specs.Settle.{settled}
 use Rattle.sched_book.specs.Sound.{Sound}
-use Rattle.sched_book.specs.Step.{RpcStep, after_grant, after_settlement, asking_of, class_granted, class_one, classed, granted, host_at_entry, host_number, with_owner}
+use Rattle.sched_book.specs.Step.{RpcStep, after_grant, after_settlement, asking_of, class_granted, class_one, classed, granted, host_at_entry, host_number, with_owner, lapsed}
 use Rattle.sched_book.specs.declared.instance.Instance.{Instance}
 use Rattle.sched_book.specs.declared.instance.Owner.{Owner}
 use Rattle.sched_book.specs.declared.instance.Place.{Place}
 use Rattle.sched_book.specs.declared.instance.UnitBook.{UnitBook}
-use Rattle.sched_book.specs.declared.machine.Answered.TheVariants as answered
+use Rattle.sched_book.specs.declared.machine.Call.{Call}
 use Rattle.sched_book.specs.declared.machine.Call.TheVariants as call
 use Rattle.sched_book.specs.declared.machine.Caller.{Caller}
 use Rattle.sched_book.specs.declared.rows.ClassRule.{ClassRule}
 use Rattle.sched_book.specs.declared.rows.ClassRule.TheVariants.{Any, OfFirst, Only}
 use Rattle.sched_book.specs.declared.rows.HostRow.{HostRow}
+use Rattle.sched_book.specs.declared.rows.Rows.{Rows}
 use Rattle.sched_book.specs.declared.rows.Version.{Version}
 use Rattle.sched_book.specs.declared.rows.Workunit.{Workunit}
 use Rattle.sched_book.specs.declared.world.World.{World}
 use Rattle.sched_book.proofs.Newest.{in_front, none_in_nothing}
 use Rattle.sched_book.proofs.PlaceChanges.{grants_are_by_place}
-use Rattle.sched_machine.specs.Classes.{rule_at, Follows, IsGivenBy, HadOwner, OwnersAreOfClasses}
+use Rattle.sched_machine.specs.Classes.{rule_at, Follows, IsGiven, IsGivenBy, HadOwner, OwnersAreOfClasses}
 use Rattle.sched_machine.specs.Runs.{owner_at}
 use Rattle.sched_machine.proofs.AlikeSettled.{the_settled_world_is_like_the_first}
 use Rattle.sched_machine.proofs.Classed.{classed_like, instance_same}
 use Rattle.sched_machine.proofs.ClassesKept.{same_rule, rule_granted, classed_stay}
 use Rattle.sched_machine.proofs.HeldSaid.{Runs, eligible_runs, row_stays}
-use Rattle.sched_machine.proofs.OwnersBefore.{key, key_in, settlement_key, tick_key, rows_key}
-use Rattle.sched_machine.proofs.RunDeadlines.{among}
+use Rattle.sched_machine.proofs.OptionParts.{mapped_by}
+use Rattle.sched_machine.proofs.StepCases.{by_call}
+use Rattle.sched_machine.proofs.StepMoves.{among, Lasts, settled_lasts, rows_last, lapses_last, settlement_lasts}
+
+-- whose an instance is, and from which moment
+abbrev pub key : Owner → ℕ × ℕ
+key o = (o.host, o.sent)
+
+abbrev pub key_in : Option Instance → Option (ℕ × ℕ)
+key_in o = option_map key (option_and_then (λ (x : Instance). x.owner) o)
+
+abbrev HasSameKey : Option Instance → Option Instance → Type 0
+HasSameKey i j = key_in j ≡ key_in i
+
+key_lasts : (w : World) (c : Call) (p : Place) → Lasts w c p HasSameKey
+key_lasts w c p = record {
+  same = λ i. refl;
+  chain = λ i j k first second. second ∙ first;
+  reported = λ r place x none own later. refl;
+  lapses = λ lapse x none own. refl;
+  moved = λ f o x is own again. sym (ap (option_map key) is);
+}
+
+-- a call up to its settlement
+pub settlement_key : (w : World) (c : Caller) (r : Request) (now : ℕ) (p : Place)
+    → key_in (instance_at (after_settlement w c r now) p) ≡ key_in (instance_at w p)
+settlement_key w c r now p = settlement_lasts HasSameKey w c r p (key_lasts w (call.Rpc c r) p) now refl
+
+-- a tick
+pub tick_key : (w : World) (now : ℕ) (p : Place) → key_in (instance_at (settled w (lapsed w now)) p) ≡ key_in (instance_at w p)
+tick_key w now p =
+    settled_lasts HasSameKey (λ i. refl) refl w (lapsed w now) p ∙ lapses_last HasSameKey w now p (key_lasts w call.Tick p)
+
+-- an import: of a new workunit nobody was given any
+pub rows_key : (w : World) (new : Rows) (p : Place) → key_in (instance_at (with_rows w new) p) ≡ key_in (instance_at w p)
+rows_key w new p = rows_last HasSameKey (λ i. refl) refl w new p
 
 -- ---- a rule through the classes that are granted
 
@@ -125,21 +162,12 @@ module _ (entry : World) (h : HostRow) (n : ℕ) (version : Version) (runs : ver
 
 -- the workunit whose rule it is
 pub book_of : (w : World) (n : ℕ) (rule : ClassRule) → rule_at w n ≡ Some rule → (b : UnitBook) × (unit_at w n ≡ Some b) × (b.unit.class_rule ≡ rule)
-book_of w n rule is = cases (unit_at w n) refl is
-  where
-    cases : (o : Option UnitBook) → unit_at w n ≡ o → option_map (λ (b : UnitBook). b.unit.class_rule) o ≡ Some rule
-        → (b : UnitBook) × (unit_at w n ≡ Some b) × (b.unit.class_rule ≡ rule)
-    cases None stands none = absurd cc
-    cases (Some b) stands some = (b, stands, let same : b.unit.class_rule ≡ rule = cc in same)
+book_of w n rule is = mapped_by (λ (b : UnitBook). b.unit.class_rule) (unit_at w n) rule is
 
 -- who owns an instance and did so before the step
 pub had : (w : World) (p : Place) (o : Owner) → option_map key (owner_at w p) ≡ Some (key o) → HadOwner w p o
-had w p o is = cases (owner_at w p) refl is
-  where
-    cases : (q : Option Owner) → owner_at w p ≡ q → option_map key q ≡ Some (key o) → HadOwner w p o
-    cases None stands none = absurd cc
-    cases (Some m) stands some =
-        let same : key m ≡ key o = cc in (m, stands, ap (λ (k : ℕ × ℕ). k.0) same, ap (λ (k : ℕ × ℕ). k.1) same)
+had w p o is =
+    let at = mapped_by key (owner_at w p) (key o) is in (at.0, at.1, ap (λ (k : ℕ × ℕ). k.0) at.2, ap (λ (k : ℕ × ℕ). k.1) at.2)
 
 -- a call
 module _ (w : World) (c : Caller) (r : Request) (now : ℕ) (sound : Sound w) (after : World) (reply : Reply) (step : RpcStep w c r now after reply)
@@ -181,29 +209,26 @@ module _ (w : World) (c : Caller) (r : Request) (now : ℕ) (sound : Sound w) (a
     -- the version that the host runs of it
     runs : Runs w c r now step.jobs caller p
     runs =
-        eligible_runs w c r now step.jobs p
+        eligible_runs w c r now step.jobs step.caller p
         (sym ((the_settled_world_is_like_the_first w c r now sound step.caller step.room).eligible p)
         ∙ All-contains (λ q. is_eligible settlement (asking_of w c r now).host q ≡ true) step.jobs p step.grant.eligible there)
 
+    row : (b : UnitBook) × (unit_at w p.unit ≡ Some b) × (b.unit ≡ runs.unit)
+    row = mapped_by (λ (b : UnitBook). b.unit) (unit_at w p.unit) runs.unit runs.stands
+
     version_runs : version_at_unit w caller p.unit ≡ Some runs.version
-    version_runs = cases (unit_at w p.unit) runs.stands
-      where
-        cases : (q : Option UnitBook) → option_map (λ (b : UnitBook). b.unit) q ≡ Some runs.unit
-            → option_and_then (λ (b : UnitBook). version_for w caller b.unit.app) q ≡ Some runs.version
-        cases None none = absurd cc
-        cases (Some b) some = let same : b.unit ≡ runs.unit = cc in ap (λ (u : Workunit). version_for w caller u.app) same ∙ runs.found
+    version_runs =
+        ap (option_and_then (λ (b : UnitBook). version_for w caller b.unit.app)) row.1 ∙ ap (λ (u : Workunit). version_for w caller u.app) row.2 ∙ runs.found
 
     suited : Suited given p.unit runs.version
     suited = record {
       rule = runs.unit.class_rule;
-      stands = same_rule w given p.unit (row_stays w c r now step.jobs p.unit) ∙ cases (unit_at w p.unit) runs.stands;
+      stands =
+          same_rule w given p.unit (row_stays w c r now step.jobs p.unit)
+          ∙ ap (option_map (λ (b : UnitBook). b.unit.class_rule)) row.1
+          ∙ ap (λ (u : Workunit). Some u.class_rule) row.2;
       suited = runs.suited;
     }
-      where
-        cases : (q : Option UnitBook) → option_map (λ (b : UnitBook). b.unit) q ≡ Some runs.unit
-            → option_map (λ (b : UnitBook). b.unit.class_rule) q ≡ Some runs.unit.class_rule
-        cases None none = absurd cc
-        cases (Some b) some = let same : b.unit ≡ runs.unit = cc in ap (λ (u : Workunit). Some u.class_rule) same
 
     job : IsGivenBy w after c r now p o
     job =
@@ -226,14 +251,9 @@ module _ (w : World) (c : Caller) (r : Request) (now : ℕ) (sound : Sound w) (a
   ]
 
 pub owners_are_of_classes : OwnersAreOfClasses
-owners_are_of_classes w after (call.Rpc c r) now (answered.Rpc reply) sound step p o is = call_gives w c r now sound after reply step p o is
-owners_are_of_classes w after (call.Rpc c r) now (answered.Imported n) sound step p o is = absurd step
-owners_are_of_classes w after (call.Rpc c r) now (answered.Lapsed n) sound step p o is = absurd step
-owners_are_of_classes w after (call.Import new) now (answered.Imported n) sound step p o is =
-    inl (had w p o (sym (rows_key w new p) ∙ ap (λ v. option_map key (owner_at v p)) (sym step.left) ∙ ap (option_map key) is))
-owners_are_of_classes w after (call.Import new) now (answered.Rpc reply) sound step p o is = absurd step
-owners_are_of_classes w after (call.Import new) now (answered.Lapsed n) sound step p o is = absurd step
-owners_are_of_classes w after call.Tick now (answered.Lapsed n) sound step p o is =
-    inl (had w p o (sym (tick_key w now p) ∙ ap (λ v. option_map key (owner_at v p)) (sym step.left) ∙ ap (option_map key) is))
-owners_are_of_classes w after call.Tick now (answered.Rpc reply) sound step p o is = absurd step
-owners_are_of_classes w after call.Tick now (answered.Imported n) sound step p o is = absurd step
+owners_are_of_classes w after c now answer sound step p o is =
+    by_call w after now (λ c answer. HadOwner w p o ⊎ IsGiven w after c now p o)
+    (λ c r reply step. call_gives w c r now sound after reply step p o is)
+    (λ new count step. inl (had w p o (sym (rows_key w new p) ∙ ap (λ v. option_map key (owner_at v p)) (sym step.left) ∙ ap (option_map key) is)))
+    (λ count step. inl (had w p o (sym (tick_key w now p) ∙ ap (λ v. option_map key (owner_at v p)) (sym step.left) ∙ ap (option_map key) is)))
+    c answer step

@@ -1,6 +1,6 @@
 -- The class of a version that a host runs is a word.
 use Rattle.std.proofs.Common.{◌≡◌, ℕ, Bool, true, false, cond, List, Option, Some, None, subst}
-use Rattle.std.specs.Prelude.{option_and_then, MatchOption}
+use Rattle.std.specs.Prelude.{MatchOption}
 use Rattle.std.specs.List.{list_any}
 use Rattle.std.specs.Str.{bytes_eq}
 use Rattle.std.proofs.lemmas.List.Elements.{All-contains}
@@ -15,6 +15,7 @@ use Rattle.sched_book.specs.declared.rows.HostRow.{HostRow}
 use Rattle.sched_book.specs.declared.rows.Version.{Version}
 use Rattle.sched_book.specs.declared.world.World.{World}
 use Rattle.sched_book.proofs.Newest.{version_is_newest_of_first}
+use Rattle.sched_machine.proofs.OptionParts.{then_by}
 
 -- since the version stands
 for_app : (w : World) → Sound w → (h : HostRow) (app : List ℕ) (v : Version) → version_for w h app ≡ Some v → IsWord v.class
@@ -28,8 +29,5 @@ for_app w sound h app v is = cases (list_any (λ (a : App). bytes_eq a.name app)
         (All-contains (IsSoundVersion w.apps) w.versions v sound.rows.versions known.stands).limits.class
 
 pub version_word : (w : World) → Sound w → (h : HostRow) (unit : ℕ) (v : Version) → version_at_unit w h unit ≡ Some v → IsWord v.class
-version_word w sound h unit v is = cases (unit_at w unit) is
-  where
-    cases : (o : Option UnitBook) → option_and_then (λ (b : UnitBook). version_for w h b.unit.app) o ≡ Some v → IsWord v.class
-    cases None none = absurd cc
-    cases (Some b) found = for_app w sound h b.unit.app v found
+version_word w sound h unit v is =
+    let b = then_by (λ (b : UnitBook). version_for w h b.unit.app) (unit_at w unit) v is in for_app w sound h b.0.unit.app v b.2

@@ -1,5 +1,5 @@
 -- What the classes that a grant has workunits take leave: all but the rules of these workunits.
-use Rattle.std.proofs.Common.{◌≡◌, ◌≢◌, ℕ, ◌+◌, ◌≤◌, Bool, false, cond, List, [], ◌∷◌, Option, Some, None, sym, refl, ap, ap₂, ◌∙◌, subst}
+use Rattle.std.proofs.Common.{◌≡◌, ℕ, ◌+◌, Bool, false, cond, List, [], ◌∷◌, Option, Some, None, sym, refl, ap, ap₂, ◌∙◌}
 use Rattle.std.specs.Prelude.{◌==◌, map, sum_by, option_map, option_and_then, unwrap_or, slice_get, IfSome}
 use Rattle.std.specs.List.{enumerate_from}
 use Rattle.std.proofs.lemmas.List.Sums.{sum_by-cons}
@@ -7,10 +7,8 @@ use Rattle.rpc_records.specs.Ranges.{IsWord}
 use Rattle.rpc_records.specs.declared.reply.Job.{Job}
 use Rattle.sched_book.specs.Classes.{class_of, rule_after, imported, with_class}
 use Rattle.sched_book.specs.Fits.{version_for, version_at_unit}
-use Rattle.sched_book.specs.Limits.{most_workunits}
 use Rattle.sched_book.specs.Names.{instance_name}
 use Rattle.sched_book.specs.Places.{nth, unit_at, instance_at, deadline_of, name_at, credit_in, host_credit, user_credit, is_held_by}
-use Rattle.sched_book.specs.Reports.{modify_nth}
 use Rattle.sched_book.specs.Sound.{IsSettledUnit, IsSettled, Sound}
 use Rattle.sched_book.specs.Step.{class_granted, class_one, classed, deadline_at, job_of, job_at}
 use Rattle.sched_book.specs.declared.instance.Instance.{Instance}
@@ -24,12 +22,11 @@ use Rattle.sched_book.specs.declared.rows.Version.{Version}
 use Rattle.sched_book.specs.declared.world.World.{World}
 use Rattle.sched_book.proofs.Classes.{first_stays, limits_with_rule}
 use Rattle.sched_book.proofs.PlaceChanges.{map_changed_nth}
-use Rattle.sched_book.proofs.PlacesOf.{length-modify_nth}
 use Rattle.sched_book.proofs.Settling.{nth-map}
 use Rattle.sched_machine.specs.Asked.{holds}
 use Rattle.sched_machine.proofs.ClassWords.{version_word}
-use Rattle.sched_machine.proofs.RowsKept.{rows_kept}
-use Rattle.sched_machine.proofs.RowsListed.{all_changed_nth, pairs_changed_nth}
+use Rattle.sched_machine.proofs.RowsKept.{rows_changed}
+use Rattle.sched_machine.proofs.RowsListed.{all_changed_nth}
 
 -- a workunit as if it had taken no class
 abbrev pub plain : UnitBook → UnitBook
@@ -57,17 +54,20 @@ granted_like w unit class = record {
       (λ b. ap (λ (rule : ClassRule). record b { unit = record b.unit { class_rule = rule } }) (first_stays b.unit.class_rule class)) w.units unit;
 }
 
-one_like : (entry : World) (h : HostRow) (w : World) (p : Place) → IsLike w (class_one entry h w p)
-one_like entry h w p = cases (version_at_unit entry h p.unit)
+-- what each class that is granted keeps, those of all jobs keep
+pub classes_keep : (P : World → Type 0) (entry : World) (h : HostRow)
+    → ((w : World) (unit : ℕ) (v : Version) → version_at_unit entry h unit ≡ Some v → P w → P (class_granted w unit v.class))
+    → (jobs : List Place) (w : World) → P w → P (classed entry h w jobs)
+classes_keep P entry h one [] w was = was
+classes_keep P entry h one (p ∷ jobs) w was = classes_keep P entry h one jobs (class_one entry h w p) (cases (version_at_unit entry h p.unit) refl)
   where
-    cases : (o : Option Version) → IsLike w (unwrap_or (option_map (λ (v : Version). class_granted w p.unit v.class) o) w)
-    cases None = like_self w
-    cases (Some v) = granted_like w p.unit v.class
+    cases : (o : Option Version) → version_at_unit entry h p.unit ≡ o → P (unwrap_or (option_map (λ (v : Version). class_granted w p.unit v.class) o) w)
+    cases None is = was
+    cases (Some v) is = one w p.unit v is was
 
 pub classed_like : (entry : World) (h : HostRow) (jobs : List Place) (w : World) → IsLike w (classed entry h w jobs)
-classed_like entry h [] w = like_self w
-classed_like entry h (p ∷ jobs) w =
-    like_then w (class_one entry h w p) (classed entry h (class_one entry h w p) jobs) (one_like entry h w p) (classed_like entry h jobs (class_one entry h w p))
+classed_like entry h jobs w =
+    classes_keep (IsLike w) entry h (λ u unit v is like. like_then w u (class_granted u unit v.class) like (granted_like u unit v.class)) jobs w (like_self w)
 
 -- what is read of a list of which each element is made another, where it reads the same of both
 pub sum_mapped : {X : Type 0} (g : X → X) (f : X → ℕ) → ((x : X) → f (g x) ≡ f x) → (xs : List X) → sum_by f (map g xs) ≡ sum_by f xs
@@ -161,20 +161,10 @@ unit_stays hosts apps class word b settled = record {
 
 granted_settled : (w : World) (unit : ℕ) (class : List ℕ) → IsWord class → IsSettled w → IsSettled (class_granted w unit class)
 granted_settled w unit class word settled = record {
-  rows = rows_kept w (modify_nth (with_class class) w.units unit) settled.rows
-      (pairs_changed_nth (λ a b. a.unit.name ≢ b.unit.name) (with_class class) w.units unit settled.rows.unit_names (λ b is c. (λ before. before, λ before. before)))
-      (subst (λ n. n ≤ most_workunits) (sym (length-modify_nth (with_class class) w.units unit)) settled.rows.unit_count);
+  rows = rows_changed w (with_class class) unit (λ b. refl) settled.rows;
   units = all_changed_nth (IsSettledUnit w.hosts w.apps) (with_class class) w.units unit settled.units (λ b is before. unit_stays w.hosts w.apps class word b before);
 }
 
-module _ (entry : World) (h : HostRow) (known : Sound entry) where
-  one_settled : (w : World) (p : Place) → IsSettled w → IsSettled (class_one entry h w p)
-  one_settled w p settled = cases (version_at_unit entry h p.unit) refl
-    where
-      cases : (o : Option Version) → version_at_unit entry h p.unit ≡ o → IsSettled (unwrap_or (option_map (λ (v : Version). class_granted w p.unit v.class) o) w)
-      cases None is = settled
-      cases (Some v) is = granted_settled w p.unit v.class (version_word entry known h p.unit v is) settled
-
-  pub classed_settled : (jobs : List Place) (w : World) → IsSettled w → IsSettled (classed entry h w jobs)
-  classed_settled [] w settled = settled
-  classed_settled (p ∷ jobs) w settled = classed_settled jobs (class_one entry h w p) (one_settled w p settled)
+pub classed_settled : (entry : World) (h : HostRow) → Sound entry → (jobs : List Place) (w : World) → IsSettled w → IsSettled (classed entry h w jobs)
+classed_settled entry h known =
+    classes_keep IsSettled entry h (λ w unit v is settled. granted_settled w unit v.class (version_word entry known h unit v is) settled)

@@ -1,34 +1,32 @@
 -- Which versions may do a workunit stays through a step, unless it is still to take its class.
-use Rattle.std.proofs.Common.{◌≡◌, ℕ, Bool, true, false, cond, eqb, List, [], ◌∷◌, Option, Some, None, sym, refl, ap, ◌∙◌, subst}
-use Rattle.std.specs.Prelude.{map, option_map, unwrap_or}
+use Rattle.std.proofs.Common.{◌≡◌, ℕ, Bool, true, false, cond, eqb, List, Option, Some, None, sym, refl, ap, ◌∙◌, subst}
+use Rattle.std.specs.Prelude.{map, option_map}
 use Rattle.sched_book.specs.Classes.{rule_after, with_class, is_of_first}
 use Rattle.sched_book.specs.Desk.{workunit_at}
-use Rattle.sched_book.specs.Fits.{version_at_unit}
 use Rattle.sched_book.specs.Imports.{new_unit, with_rows}
-use Rattle.sched_book.specs.Places.{nth, unit_at}
-use Rattle.sched_book.specs.Settle.{grown, settled}
-use Rattle.sched_book.specs.Step.{Step, after_settlement, class_granted, class_one, classed, granted, host_at_entry, host_number, lapsed}
+use Rattle.sched_book.specs.Places.{unit_at}
+use Rattle.sched_book.specs.Settle.{settled}
+use Rattle.sched_book.specs.Step.{Step, after_settlement, class_granted, classed, granted, host_at_entry, host_number, lapsed}
 use Rattle.sched_book.specs.declared.instance.Place.{Place}
 use Rattle.sched_book.specs.declared.instance.UnitBook.{UnitBook}
 use Rattle.sched_book.specs.declared.machine.Answered.{Answered}
-use Rattle.sched_book.specs.declared.machine.Answered.TheVariants as answered
 use Rattle.sched_book.specs.declared.machine.Call.{Call}
-use Rattle.sched_book.specs.declared.machine.Call.TheVariants as call
 use Rattle.sched_book.specs.declared.rows.ClassRule.{ClassRule}
 use Rattle.sched_book.specs.declared.rows.ClassRule.TheVariants.{Any, OfFirst, Only}
 use Rattle.sched_book.specs.declared.rows.HostRow.{HostRow}
 use Rattle.sched_book.specs.declared.rows.Rows.{Rows}
 use Rattle.sched_book.specs.declared.rows.Rows.TheVariants as rows
-use Rattle.sched_book.specs.declared.rows.Version.{Version}
 use Rattle.sched_book.specs.declared.rows.Workunit.{Workunit}
 use Rattle.sched_book.specs.declared.world.World.{World}
 use Rattle.sched_book.proofs.PlaceChanges.{lapses_are_by_place}
 use Rattle.sched_book.proofs.PlacesOf.{nth-modify_nth}
-use Rattle.sched_book.proofs.Settling.{nth-map}
 use Rattle.sched_machine.specs.Classes.{rule_at, ClassesStay}
-use Rattle.sched_machine.proofs.AlikeUnits.{row_grown}
+use Rattle.sched_machine.proofs.Classed.{classes_keep}
+use Rattle.sched_machine.proofs.AlikeUnits.{row_at, rows_grown}
 use Rattle.sched_machine.proofs.HeldSaid.{row_stays}
-use Rattle.sched_machine.proofs.RunKept.{front_nth}
+use Rattle.sched_machine.proofs.OptionParts.{mapped_by}
+use Rattle.sched_machine.proofs.RowsListed.{front_nth}
+use Rattle.sched_machine.proofs.StepCases.{by_call}
 
 -- a rule is read off the row
 pub same_rule : (w v : World) (n : ℕ) → workunit_at v n ≡ workunit_at w n → rule_at v n ≡ rule_at w n
@@ -71,53 +69,30 @@ granted_stays w unit class n rule known is = rule_granted w unit class n ∙ cas
     cases true = ap (option_map (λ rule. rule_after rule class)) is ∙ ap Some (rule_kept rule class known)
     cases false = is
 
-one_stays : (entry : World) (h : HostRow) (w : World) (p : Place) → ClassesStay w (class_one entry h w p)
-one_stays entry h w p = cases (version_at_unit entry h p.unit)
-  where
-    cases : (o : Option Version) → ClassesStay w (unwrap_or (option_map (λ (v : Version). class_granted w p.unit v.class) o) w)
-    cases None = stay_self w
-    cases (Some v) = granted_stays w p.unit v.class
-
 pub classed_stay : (entry : World) (h : HostRow) (jobs : List Place) (w : World) → ClassesStay w (classed entry h w jobs)
-classed_stay entry h [] w = stay_self w
-classed_stay entry h (p ∷ jobs) w =
-    stay_then w (class_one entry h w p) (classed entry h (class_one entry h w p) jobs) (one_stays entry h w p) (classed_stay entry h jobs (class_one entry h w p))
+classed_stay entry h jobs w =
+    classes_keep (ClassesStay w) entry h (λ u unit v is stay. stay_then w u (class_granted u unit v.class) stay (granted_stays u unit v.class)) jobs w (stay_self w)
 
--- lapses and settlement leave the rows
-tick_row : (w : World) (now n : ℕ) → workunit_at (settled w (lapsed w now)) n ≡ workunit_at w n
-tick_row w now n =
-    ap (option_map (λ (b : UnitBook). b.unit)) (nth-map (grown (lapsed w now).apps) (lapsed w now).units n)
-    ∙ cases (unit_at (lapsed w now) n)
-    ∙ sym (nth-map (λ (b : UnitBook). b.unit) (lapsed w now).units n)
-    ∙ ap (λ us. nth us n) (lapses_are_by_place w now).rest.units
-    ∙ nth-map (λ (b : UnitBook). b.unit) w.units n
-  where
-    cases : (o : Option UnitBook) → option_map (λ (b : UnitBook). b.unit) (option_map (grown (lapsed w now).apps) o) ≡ option_map (λ (b : UnitBook). b.unit) o
-    cases None = refl
-    cases (Some b) = ap Some (row_grown (lapsed w now).apps b)
-
+-- an import leaves the rows
 rows_stay : (w : World) (new : Rows) → ClassesStay w (with_rows w new)
 rows_stay w (rows.Accounts xs) n rule known is = is
 rows_stay w (rows.Apps xs) n rule known is = is
 rows_stay w (rows.Versions xs) n rule known is = is
-rows_stay w (rows.Workunits us) n rule known is = cases (unit_at w n) refl is
-  where
-    cases : (o : Option UnitBook) → unit_at w n ≡ o → option_map (λ (b : UnitBook). b.unit.class_rule) o ≡ Some rule → rule_at (with_rows w (rows.Workunits us)) n ≡ Some rule
-    cases None stands none = absurd cc
-    cases (Some b) stands there = ap (option_map (λ (b : UnitBook). b.unit.class_rule)) (front_nth w.units (map new_unit us) n b stands) ∙ there
+rows_stay w (rows.Workunits us) n rule known is =
+    let b = mapped_by (λ (b : UnitBook). b.unit.class_rule) (unit_at w n) rule is in
+    ap (option_map (λ (b : UnitBook). b.unit.class_rule)) (front_nth w.units (map new_unit us) n b.0 b.1) ∙ ap Some b.2
 
 -- each step
 pub classes_stay_in_step : (w after : World) (c : Call) (now : ℕ) (answer : Answered) → Step w c now after answer → ClassesStay w after
-classes_stay_in_step w after (call.Rpc c r) now (answered.Rpc reply) step =
+classes_stay_in_step w after c now answer step =
+    by_call w after now (λ c answer. ClassesStay w after)
+    (λ c r reply step.
     let given : World = granted (after_settlement w c r now) (host_number w c) now step.jobs in
     subst (ClassesStay w) (sym step.left) (λ n rule known is.
-    classed_stay w (host_at_entry w c r) step.jobs given n rule known (same_rule w given n (row_stays w c r now step.jobs n) ∙ is))
-classes_stay_in_step w after (call.Rpc c r) now (answered.Imported n) step = absurd step
-classes_stay_in_step w after (call.Rpc c r) now (answered.Lapsed n) step = absurd step
-classes_stay_in_step w after (call.Import new) now (answered.Imported n) step = subst (ClassesStay w) (sym step.left) (rows_stay w new)
-classes_stay_in_step w after (call.Import new) now (answered.Rpc reply) step = absurd step
-classes_stay_in_step w after (call.Import new) now (answered.Lapsed n) step = absurd step
-classes_stay_in_step w after call.Tick now (answered.Lapsed n) step =
-    subst (ClassesStay w) (sym step.left) (λ n rule known is. same_rule w (settled w (lapsed w now)) n (tick_row w now n) ∙ is)
-classes_stay_in_step w after call.Tick now (answered.Rpc reply) step = absurd step
-classes_stay_in_step w after call.Tick now (answered.Imported n) step = absurd step
+    classed_stay w (host_at_entry w c r) step.jobs given n rule known (same_rule w given n (row_stays w c r now step.jobs n) ∙ is)))
+    (λ new count step. subst (ClassesStay w) (sym step.left) (rows_stay w new))
+    (λ count step.
+    let left : World = lapsed w now in
+    subst (ClassesStay w) (sym step.left) (λ n rule known is.
+    same_rule w (settled w left) n (row_at w (settled w left) (rows_grown left.apps left.units ∙ (lapses_are_by_place w now).rest.units) n) ∙ is))
+    c answer step

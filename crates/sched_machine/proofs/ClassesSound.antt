@@ -1,8 +1,8 @@
 -- After a step no workunit that is still to take a class has an owner, where that held before it.
 use Rattle.std.proofs.Common.{◌≡◌, inl, inr, ℕ, suc, [], Option, Some, None, sym, refl, ap, ◌∙◌, subst}
-use Rattle.std.specs.Prelude.{All, option_map, option_and_then, slice_get}
+use Rattle.std.specs.Prelude.{option_map, option_and_then, slice_get}
 use Rattle.rpc_records.specs.declared.request.Request.{Request}
-use Rattle.sched_book.specs.Places.{unit_at}
+use Rattle.sched_book.specs.Places.{unit_at, instance_at}
 use Rattle.sched_book.specs.Sound.{HasClassOnceGiven, IsSettledUnit, IsSoundUnit, IsSettled, Sound}
 use Rattle.sched_book.specs.Step.{Step, after_settlement}
 use Rattle.sched_book.specs.declared.instance.Instance.{Instance}
@@ -20,10 +20,10 @@ use Rattle.sched_book.proofs.PlacesOf.{nth-suc}
 use Rattle.quorum_credit.proofs.ByPlace.{all_get, all_nth}
 use Rattle.sched_machine.specs.Classes.{rule_at, ClassesStay, Follows, IsGiven, HadOwner}
 use Rattle.sched_machine.specs.Runs.{owner_at}
-use Rattle.sched_machine.proofs.ClassOwners.{had, owners_are_of_classes}
+use Rattle.sched_machine.proofs.ClassOwners.{had, owners_are_of_classes, key, settlement_key}
 use Rattle.sched_machine.proofs.ClassesKept.{same_rule, classes_stay_in_step}
 use Rattle.sched_machine.proofs.HeldSaid.{row_stays}
-use Rattle.sched_machine.proofs.OwnersBefore.{key, settlement_key}
+use Rattle.sched_machine.proofs.OptionParts.{then_by}
 use Rattle.sched_machine.proofs.RowsListed.{all_from}
 
 -- nobody owns an instance of a workunit that is still to take a class
@@ -32,23 +32,15 @@ NoneOwnsTooSoon w = (p : Place) (o : Owner) → owner_at w p ≡ Some o → rule
 
 -- so it is in a sound world
 pub none_too_soon : (w : World) → Sound w → NoneOwnsTooSoon w
-none_too_soon w sound p o owned waits = at_unit (unit_at w p.unit) refl owned waits
-  where
-    at_number : (b : UnitBook) → All (λ (x : Instance). x.owner ≡ None) b.instances → (q : Option Instance) → slice_get b.instances p.number ≡ q
-        → option_and_then (λ (x : Instance). x.owner) q ≡ Some o → ⊥
-    at_number b free None there none = absurd cc
-    at_number b free (Some x) there some =
-        let nobody : x.owner ≡ None = all_get (λ (x : Instance). x.owner ≡ None) b.instances p.number x free there in
-        let never : None ≡ Some o = sym nobody ∙ some in absurd cc
-
-    at_unit : (q : Option UnitBook) → unit_at w p.unit ≡ q
-        → option_and_then (λ (x : Instance). x.owner) (option_and_then (λ (b : UnitBook). slice_get b.instances p.number) q) ≡ Some o
-        → option_map (λ (b : UnitBook). b.unit.class_rule) q ≡ Some OfFirst → ⊥
-    at_unit None stands none rule = absurd cc
-    at_unit (Some b) stands some rule =
-        let first : b.unit.class_rule ≡ OfFirst = cc in
-        at_number b ((all_nth (IsSoundUnit w.hosts w.apps) w.units p.unit b sound.units stands).classed first)
-        (slice_get b.instances p.number) refl some
+none_too_soon w sound p o owned waits =
+    let x = then_by (λ (x : Instance). x.owner) (instance_at w p) o owned in
+    let b = then_by (λ (b : UnitBook). slice_get b.instances p.number) (unit_at w p.unit) x.0 x.1 in
+    let both : Some b.0.unit.class_rule ≡ Some OfFirst = sym (ap (option_map (λ (b : UnitBook). b.unit.class_rule)) b.1) ∙ waits in
+    let first : b.0.unit.class_rule ≡ OfFirst = cc in
+    let free = (all_nth (IsSoundUnit w.hosts w.apps) w.units p.unit b.0 sound.units b.1).classed first in
+    let nobody : x.0.owner ≡ None = all_get (λ (x : Instance). x.owner ≡ None) b.0.instances p.number x.0 free b.2 in
+    let never : None ≡ Some o = sym nobody ∙ x.2 in
+    absurd cc
 
 -- and a settled world is sound where it is so
 pub settled_is_sound : (w : World) → IsSettled w → NoneOwnsTooSoon w → Sound w
@@ -77,20 +69,15 @@ settled_is_sound w settled none = record {
 
 -- who owned an instance before, in a sound world, does not own it too soon where classes stayed
 owned_before : (w v : World) → Sound w → ClassesStay w v → (p : Place) (o : Owner) → HadOwner w p o → rule_at v p.unit ≡ Some OfFirst → ⊥
-owned_before w v sound stay p o before waits = at_unit (unit_at w p.unit) refl
+owned_before w v sound stay p o before waits =
+    let x = then_by (λ (x : Instance). x.owner) (instance_at w p) before.0 before.1 in
+    let b = then_by (λ (b : UnitBook). slice_get b.instances p.number) (unit_at w p.unit) x.0 x.1 in
+    by_rule b.0.unit.class_rule (ap (option_map (λ (b : UnitBook). b.unit.class_rule)) b.1)
   where
     by_rule : (rule : ClassRule) → rule_at w p.unit ≡ Some rule → ⊥
     by_rule Any is = let never : Some Any ≡ Some OfFirst = sym (stay p.unit Any refl is) ∙ waits in absurd cc
     by_rule OfFirst is = none_too_soon w sound p before.0 before.1 is
     by_rule (Only class) is = let never : Some (Only class) ≡ Some OfFirst = sym (stay p.unit (Only class) refl is) ∙ waits in absurd cc
-
-    at_unit : (q : Option UnitBook) → unit_at w p.unit ≡ q → ⊥
-    at_unit None stands =
-        let never : None ≡ Some before.0 =
-        sym (ap (λ (q : Option UnitBook). option_and_then (λ (x : Instance). x.owner) (option_and_then (λ (b : UnitBook). slice_get b.instances p.number) q)) stands)
-        ∙ before.1 in
-        absurd cc
-    at_unit (Some b) stands = by_rule b.unit.class_rule (ap (option_map (λ (b : UnitBook). b.unit.class_rule)) stands)
 
 -- nor who was given it by a call
 given_now : (w v : World) (c : Call) (now : ℕ) (p : Place) (o : Owner) → IsGiven w v c now p o → rule_at v p.unit ≡ Some OfFirst → ⊥

@@ -1,6 +1,6 @@
 -- Classes that are taken, as changes of a world.
 use Rattle.std.proofs.Common.{◌≡◌, ℕ, ◌+◌, ◌<◌, ◌≤◌, Bool, true, false, cond, eqb, List, [], ◌∷◌, ◌++◌, drop, Option, Some, None, sym, refl, ap, ◌∙◌, subst}
-use Rattle.std.specs.Prelude.{IsTrue, is_some, get_or, option_map, option_and_then, unwrap_or, length}
+use Rattle.std.specs.Prelude.{IsTrue, is_some, get_or, option_map, unwrap_or, length}
 use Rattle.std.proofs.lemmas.List.{drop_more}
 use Rattle.std.proofs.lemmas.List.Elements.{All-head, All-tail}
 use Rattle.std.proofs.lemmas.List.Sums.{fold-append}
@@ -27,6 +27,7 @@ use Rattle.quorum_credit.proofs.FitReports.{fit_more}
 use Rattle.sched_machine.specs.Granting.{with_classes, AreRunBy, CanTake, FitWithHost}
 use Rattle.sched_machine.proofs.ClassWords.{version_word}
 use Rattle.sched_machine.proofs.Classed.{plain, granted_like, plain_same, instance_same}
+use Rattle.sched_machine.proofs.OptionParts.{mapped_by, then_by}
 
 -- ---- changes that fit
 
@@ -63,14 +64,12 @@ stands_after w cs unit is = ap is_some (unit_at-applied w unit cs) ∙ still_sta
 -- a class leaves instances within limits
 class_limited : (w : World) (unit : ℕ) (class : List ℕ) → IsLimited w → IsLimited (class_granted w unit class)
 class_limited w unit class limited = record {
-  few = λ n b stands. cases n b (unit_at w n) refl (sym (ap (option_map plain) stands) ∙ plain_same w (class_granted w unit class) (granted_like w unit class) n);
+  few = λ n b stands.
+      (let c = mapped_by plain (unit_at w n) (plain b)
+      (sym (plain_same w (class_granted w unit class) (granted_like w unit class) n) ∙ ap (option_map plain) stands) in
+      subst (λ (z : UnitBook). length z.instances ≤ most_instances) c.2 (limited.few n c.0 c.1));
   each = λ p x stands. limited.each p x (sym (instance_same w (class_granted w unit class) (granted_like w unit class) p) ∙ stands);
 }
-  where
-    cases : (n : ℕ) (b : UnitBook) (o : Option UnitBook) → unit_at w n ≡ o → Some (plain b) ≡ option_map plain o → length b.instances ≤ most_instances
-    cases n b None was is = absurd cc
-    cases n b (Some c) was is =
-        let same : plain c ≡ plain b = cc in subst (λ (z : UnitBook). length z.instances ≤ most_instances) same (limited.few n c was)
 
 class_fits : (w : World) (host : ℕ) (cs more : List Change) (unit : ℕ) (class : List ℕ) → FitsOne w (change.Class unit class)
     → more ≡ cs ++ change.Class unit class ∷ [] → FitWithHost w host cs → FitWithHost w host more
@@ -114,9 +113,8 @@ taken_is w h (j ∷ js) v runs =
 pub can_take : (w : World) (h : HostRow) (jobs : List Granted) → Sound w → AreRunBy w h jobs → CanTake w jobs
 can_take w h jobs sound runs = λ k d within. one (get_or jobs k d) (runs k d within)
   where
-    stands : (v : Version) (o : Option UnitBook) → Some v ≡ option_and_then (λ (b : UnitBook). version_for w h b.unit.app) o → is_some o ≡ true
-    stands v None run = absurd cc
-    stands v (Some b) run = refl
-
     one : (j : Granted) → Some j.version ≡ version_at_unit w h j.place.unit → FitsOne w (change.Class j.place.unit j.version.class)
-    one j run = (stands j.version (unit_at w j.place.unit) run, version_word w sound h j.place.unit j.version (sym run))
+    one j run = (
+      ap is_some (then_by (λ (b : UnitBook). version_for w h b.unit.app) (unit_at w j.place.unit) j.version (sym run)).1,
+      version_word w sound h j.place.unit j.version (sym run),
+    )

@@ -1,22 +1,22 @@
 -- The credit of a host and of a user after a call is what it was before, and what the marks of settlement bring: a grant
 -- behind settlement brings nothing.
-use Rattle.std.proofs.Common.{◌≡◌, ℕ, zero, suc, ◌+◌, ◌-◌, ◌*◌, ◌<◌, ◌≤◌, Bool, true, false, cond, eqb, eqb-true, eq-eqb, inl, List, [], ◌∷◌, length, get_or, All, AllPairs, Option, Some, None, sym, refl, ap, ap₂, ◌∙◌, subst, arith}
+use Rattle.std.proofs.Common.{◌≡◌, ℕ, zero, suc, ◌+◌, ◌-◌, ◌*◌, ◌<◌, ◌≤◌, Bool, true, false, cond, eqb, eqb-true, eq-eqb, inl, List, [], ◌∷◌, length, get_or, All, AllPairs, Option, Some, None, sym, refl, ap, ap₂, ◌∙◌, subst, arith, ne_eqb}
+use Rattle.std.proofs.lemmas.Bool.{false_from_ne_true}
 use Rattle.std.specs.Prelude.{◌&&◌, ◌==◌, IsTrue, sum_by, count_by, is_some, option_map, option_and_then, unwrap_or, slice_get, IfSome}
 use Rattle.std.specs.List.{enumerate_from}
 use Rattle.std.proofs.lemmas.List.Elements.{All-head, All-tail}
 use Rattle.std.proofs.lemmas.List.Sums.{sum_by-cons}
 use Rattle.rpc_records.specs.Ranges.{IsInRange}
 use Rattle.rpc_records.specs.declared.request.Request.{Request}
-use Rattle.sched_book.specs.Count.{agree, tells_success, told_place, told_output, output_of, is_judged, has_failed, is_valid, canonical, verdict, verdict_by}
+use Rattle.sched_book.specs.Count.{agree, tells_success, told_place, told_output, is_judged, has_failed, is_valid, canonical, verdict, verdict_by}
 use Rattle.sched_book.specs.Fits.{is_eligible}
 use Rattle.sched_book.specs.Grant.{IsGrant}
 use Rattle.sched_book.specs.Limits.{last_moment}
 use Rattle.sched_book.specs.Lost.{delay_at}
-use Rattle.sched_book.specs.Places.{nth, unit_at, option_any, host_of, is_owned_by, agreement_by, book_status, book_verdict, verdict_of, credit_in, host_credit, user_credit}
-use Rattle.sched_book.specs.Reports.{modify_at, modify_nth, with_number}
-use Rattle.sched_book.specs.Settle.{with_grown}
+use Rattle.sched_book.specs.Places.{nth, unit_at, option_any, host_of, is_owned_by, agreement_by, book_status, book_verdict, verdict_of, credit_in, host_credit, user_credit, instance_at}
+use Rattle.sched_book.specs.Reports.{modify_at, modify_nth, with_number, with_changed}
 use Rattle.sched_book.specs.Sound.{IsBare, HasOwnerAmong, IsSoundUnit, Sound}
-use Rattle.sched_book.specs.Step.{IsCaller, HasRoom, at_entry, after_lost, after_settlement, host_number, asking_of, with_owner, grant_one, granted}
+use Rattle.sched_book.specs.Step.{IsCaller, HasRoom, after_settlement, host_number, asking_of, with_owner, grant_one, granted}
 use Rattle.sched_book.specs.declared.instance.Instance.{Instance}
 use Rattle.sched_book.specs.declared.instance.Owner.{Owner}
 use Rattle.sched_book.specs.declared.instance.Place.{Place}
@@ -31,6 +31,7 @@ use Rattle.sched_book.specs.declared.rows.Workunit.{Workunit}
 use Rattle.sched_book.specs.declared.world.World.{World}
 use Rattle.sched_book.proofs.Credits.{sum_same, sum_zero, exchange, of_number}
 use Rattle.sched_book.proofs.PlacesOf.{nth-suc, slice_get-modify_at}
+use Rattle.sched_book.proofs.Recording.{instance_at-with_changed}
 use Rattle.sched_book.proofs.Rising.{pairs_head, pairs_tail}
 use Rattle.sched_book.proofs.Settling.{slice_get-enumerate_from}
 use Rattle.job_choice.proofs.Candidates.{stood}
@@ -44,38 +45,22 @@ use Rattle.quorum_credit.proofs.MarkedCredit.{host_credit-marked, host_credit-no
 use Rattle.quorum_credit.proofs.NewlyCounted.{sum_from, sum_plus}
 use Rattle.sched_machine.specs.Decisions.{verdict_at}
 use Rattle.sched_machine.specs.Totals.{belongs, user_credits_in}
-use Rattle.sched_machine.proofs.DecidedChanges.{UnitBecame, UnitBecameAt, IsMild, owner_mild}
+use Rattle.sched_machine.proofs.DecidedChanges.{UnitBecame, UnitBecameAt, owner_became}
 use Rattle.sched_machine.proofs.DecidedGood.{BecameAt, AllBecame, Continues, good_continues}
-use Rattle.sched_machine.proofs.DecidedSteps.{WorldBecame, units_settled, apps_left, hosts_left, accounts_then, accounts_settled}
+use Rattle.sched_machine.proofs.DecidedSteps.{WorldBecame, settled_became}
+use Rattle.sched_machine.proofs.DecidedSums.{no_verdict}
 use Rattle.sched_machine.proofs.DecidedUnits.{canonical_same, canonical_equal}
 use Rattle.sched_machine.proofs.DecidedWorlds.{world_stays}
-use Rattle.sched_machine.proofs.RowsEntry.{AccountsStay, accounts_at_entry}
-use Rattle.sched_machine.proofs.RowsListed.{count_changed}
-use Rattle.sched_machine.proofs.RunKept.{HoldsAt, elsewhere, eligible_is_free}
+use Rattle.sched_machine.proofs.RowsEntry.{AccountsStay}
+use Rattle.sched_machine.proofs.RowsListed.{count_changed, sum_changed_at}
+use Rattle.sched_machine.proofs.StepMoves.{eligible_is_free}
 use Rattle.sched_machine.proofs.StepsSound.{settled_sound}
 
--- What became of a world that a call found, up to settlement.
-settled_became : (w : World) (c : Caller) (r : Request) (now : ℕ) → Sound w → IsCaller w c r → WorldBecame w (after_settlement w c r now)
-settled_became w c r now sound caller =
-    let left : World = after_lost w c r now in
-    record {
-      units = units_settled w c r now sound caller;
-      hosts = accounts_then w.hosts left.hosts (after_settlement w c r now).hosts
-          (subst (AccountsStay w.hosts) (sym (hosts_left w c r now sound caller)) (accounts_at_entry w c r caller))
-          (accounts_settled (at_entry w c r) (with_grown left) left.hosts);
-      agreements = λ name known. ap (λ apps. agreement_by apps name) (apps_left w c r now sound caller);
-    }
-
--- a verdict on a valid result, and none on what was not reported
+-- a verdict on a valid result
 valid_verdict : (o : Option Verdict) → is_valid o ≡ true → o ≡ Some Valid
 valid_verdict None is = absurd cc
 valid_verdict (Some Valid) is = refl
 valid_verdict (Some Invalid) is = absurd cc
-
-no_verdict : (a : Agreement) (xs : List Instance) (o : Option ℕ) (x : Instance) → x.report ≡ None → verdict_by a xs o x ≡ None
-no_verdict a xs None x none = refl
-no_verdict a xs (Some c) x none =
-    ap (λ r. cond (tells_success r) (Some (cond (agree a (told_output r) (output_of xs c)) Valid Invalid)) None) none
 
 -- A sound world and what became of it: each valid result stays so, with its host.
 module _ (old new : World) (sound : Sound old) (became : WorldBecame old new) where
@@ -177,8 +162,7 @@ module _ (o : Owner) (xs : List Instance) (n : ℕ)
       cases false is None stood = tt
       cases false is (Some x) stood = record { report = inl refl; live = λ is. is; owned = λ host is. is }
       cases true is (Some x) stood =
-          let mild : IsMild x (with_owner o x) = owner_mild o x (untold x (ap (slice_get xs) (eqb-true n i is) ∙ stood)).0 in
-          record { report = inl refl; live = mild.live; owned = mild.owned }
+          owner_became most true o x (untold x (ap (slice_get xs) (eqb-true n i is) ∙ stood)).0
 
   verdict_same : (a : Agreement) (u : Workunit) (x : Instance) → verdict a u ys x ≡ verdict a u xs x
   verdict_same a u x = ap (λ q. verdict_by a ys q x) (canonical_equal a u true xs ys on refl) ∙ cases (canonical a u xs) refl
@@ -197,7 +181,13 @@ abbrev IsUntold : Instance → Type 0
 IsUntold x = (x.owner ≡ None) × (x.report ≡ None)
 
 abbrev IsUntoldAt : World → Place → Type 0
-IsUntoldAt = HoldsAt IsUntold
+IsUntoldAt w p = (x : Instance) → instance_at w p ≡ Some x → IsUntold x
+
+-- a change of another workunit leaves it so
+elsewhere : (f : Instance → Instance) (w : World) (p q : Place) → p.unit < q.unit → IsUntoldAt w q → IsUntoldAt (with_changed f w p) q
+elsewhere f w p q before untold y stands =
+    untold y (sym (instance_at-with_changed f w p q
+    ∙ ap (λ b. cond (b && eqb p.number q.number) (option_map f (instance_at w q)) (instance_at w q)) (ne_eqb p.unit q.unit (λ same. omega arith))) ∙ stands)
 
 -- the credit of its workunit stays when it goes to a host
 given_credit : (apps : List App) (host : ℕ) (o : Owner) (n : ℕ) (b : UnitBook) → ((x : Instance) → slice_get b.instances n ≡ Some x → IsUntold x)
@@ -223,14 +213,7 @@ given_credit apps host o n b untold =
         none own (verdict a b.unit b.instances y) (no_verdict a b.instances (canonical a b.unit b.instances) y (same ∙ untold))
         ∙ sym (none was (verdict a b.unit b.instances x) (no_verdict a b.instances (canonical a b.unit b.instances) x untold))
 
--- a sum where one element changes and counts as much
-sum_changed_at : {X : Type 0} (g : X → ℕ) (f : X → X) (xs : List X) (i : ℕ) → ((x : X) → slice_get xs i ≡ Some x → g (f x) ≡ g x)
-    → sum_by g (modify_at f xs i) ≡ sum_by g xs
-sum_changed_at g f [] i same = refl
-sum_changed_at g f (x ∷ xs) zero same = sum_by-cons g (f x) xs ∙ ap (λ n. n + sum_by g xs) (same x refl) ∙ sym (sum_by-cons g x xs)
-sum_changed_at g f (x ∷ xs) (suc i) same =
-    sum_by-cons g x (modify_at f xs i) ∙ ap (λ n. g x + n) (sum_changed_at g f xs i same) ∙ sym (sum_by-cons g x xs)
-
+-- so where the element at a place changes
 sum_changed_nth : {X : Type 0} (g : X → ℕ) (f : X → X) (xs : List X) (n : ℕ) → ((x : X) → nth xs n ≡ Some x → g (f x) ≡ g x)
     → sum_by g (modify_nth f xs n) ≡ sum_by g xs
 sum_changed_nth {X} g f xs n same = cases (eqb n 0) same
@@ -260,7 +243,7 @@ module _ (host now : ℕ) where
       let rest = grant_brings jobs (grant_one host now w p)
       (pairs_tail (λ (p q : Place). p.unit < q.unit) p jobs rising)
       (λ k d within.
-      elsewhere IsUntold (with_owner o) w p (get_or jobs k d) (pairs_head (λ (p q : Place). p.unit < q.unit) p jobs rising k d within)
+      elsewhere (with_owner o) w p (get_or jobs k d) (pairs_head (λ (p q : Place). p.unit < q.unit) p jobs rising k d within)
       (All-tail (IsUntoldAt w) p jobs untold k d within)) in
       (rest.0 ∙ grant_one_brings w p (All-head (IsUntoldAt w) p jobs untold), rest.1)
 
@@ -364,11 +347,9 @@ nothing_without w sound n none =
   where
     other : (o : Option ℕ) → IfSome o (λ host. IsTrue (is_some (nth w.hosts host))) → option_any (λ m. m == n) o ≡ false
     other None among = refl
-    other (Some host) among = cases (eqb host n) refl
-      where
-        cases : (b : Bool) → eqb host n ≡ b → b ≡ false
-        cases true is = absurd (let never : is_some (nth w.hosts host) ≡ false = ap (λ m. is_some (nth w.hosts m)) (eqb-true host n is) ∙ ap is_some none in cc)
-        cases false is = refl
+    other (Some host) among =
+        false_from_ne_true (eqb host n)
+        (λ is. (let never : true ≡ false = sym among ∙ ap (λ m. is_some (nth w.hosts m)) (eqb-true host n is) ∙ ap is_some none in absurd cc))
 
 -- What a call leaves to hosts and to users.
 pub totals_known : (w : World) (c : Caller) (r : Request) (now : ℕ) (marks : List Mark) (jobs : List Place) → Sound w → IsCaller w c r → HasRoom w c

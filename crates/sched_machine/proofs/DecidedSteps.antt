@@ -1,25 +1,19 @@
 -- What a step makes of the workunits and the hosts of a sound world.
-use Rattle.std.proofs.Common.{◌≡◌, ℕ, ◌+◌, ◌<◌, ◌≤◌, List, [], ◌∷◌, ◌++◌, length, get_or, All, AllPairs, Option, Some, None, sym, refl, ap, ◌∙◌, subst, arith}
-use Rattle.std.specs.Prelude.{IsTrue, map, count_by, option_map, option_and_then, unwrap_or, slice_get, IfSome}
+use Rattle.std.proofs.Common.{◌≡◌, ℕ, ◌≤◌, Bool, List, ◌++◌, length, Option, Some, None, sym, refl, ap, ◌∙◌, subst, arith}
+use Rattle.std.specs.Prelude.{IsTrue, map, count_by, option_map, option_and_then, unwrap_or, IfSome}
 use Rattle.std.specs.List.{enumerate_from}
-use Rattle.std.proofs.lemmas.List.Elements.{All-head, All-tail}
 use Rattle.rpc_records.specs.declared.reply.Reply.{Reply}
 use Rattle.rpc_records.specs.declared.request.Request.{Request}
 use Rattle.sched_book.specs.Count.{is_judged, has_failed, report_place, told_place}
 use Rattle.sched_book.specs.Imports.{has_app, new_unit, with_rows}
-use Rattle.sched_book.specs.Lost.{delay_at}
-use Rattle.sched_book.specs.Places.{nth, agreement_by, book_status, overdue}
-use Rattle.sched_book.specs.Reports.{first_reports}
+use Rattle.sched_book.specs.Places.{nth, agreement_by, book_status, status_at}
 use Rattle.sched_book.specs.Settle.{grown, with_grown, with_quota, settled}
 use Rattle.sched_book.specs.Sound.{IsSoundUnit, Sound}
-use Rattle.sched_book.specs.Step.{IsCaller, RpcStep, TickStep, Step, at_entry, after_reports, after_lost, after_settlement, host_number, host_at_entry, lost_of, asking_of, lapsed, with_owner, grant_one, granted, after_grant}
+use Rattle.sched_book.specs.Step.{IsCaller, RpcStep, TickStep, Step, at_entry, after_lost, after_settlement, host_number, host_at_entry, asking_of, lapsed, granted, after_grant}
 use Rattle.sched_book.specs.declared.instance.Instance.{Instance}
 use Rattle.sched_book.specs.declared.instance.Outcome.{Outcome}
-use Rattle.sched_book.specs.declared.instance.Owner.{Owner}
-use Rattle.sched_book.specs.declared.instance.Place.{Place}
 use Rattle.sched_book.specs.declared.instance.UnitBook.{UnitBook}
 use Rattle.sched_book.specs.declared.machine.Answered.{Answered}
-use Rattle.sched_book.specs.declared.machine.Answered.TheVariants as answered
 use Rattle.sched_book.specs.declared.machine.Call.{Call}
 use Rattle.sched_book.specs.declared.machine.Call.TheVariants as call
 use Rattle.sched_book.specs.declared.machine.Caller.{Caller}
@@ -30,14 +24,14 @@ use Rattle.sched_book.specs.declared.rows.Rows.TheVariants as rows
 use Rattle.sched_book.specs.declared.world.World.{World}
 use Rattle.sched_book.proofs.PlaceChanges.{grants_are_by_place, lapses_are_by_place}
 use Rattle.quorum_credit.proofs.ByPlace.{all_get, all_nth, nth-map_places}
-use Rattle.sched_machine.proofs.AlikeSettled.{before_settlement}
 use Rattle.sched_machine.proofs.Classed.{plain, IsLike, classed_like, plain_same}
 use Rattle.sched_machine.proofs.DecidedGood.{AllBecame}
 use Rattle.sched_machine.proofs.RowsEntry.{AccountsStay, accounts_at_entry}
-use Rattle.sched_machine.proofs.RunKept.{IsFree, elsewhere, eligible_is_free, front_nth}
-use Rattle.sched_book.proofs.Rising.{pairs_head, pairs_tail}
+use Rattle.sched_machine.proofs.RowsListed.{front_nth}
 use Rattle.sched_machine.proofs.RowsNamed.{agreement_stays}
-use Rattle.sched_machine.proofs.DecidedChanges.{UnitBecameAt, UnitsBecame, units_same, units_changed, mild_keeps, owner_mild, IsInRange, reports_kept, lost_kept, lapses_kept, units_grown}
+use Rattle.sched_machine.proofs.StepCases.{by_call}
+use Rattle.sched_machine.proofs.StepMoves.{judged_at, granted_lasts, lapses_last, left_alone, left_lasts}
+use Rattle.sched_machine.proofs.DecidedChanges.{UnitBecameAt, UnitsBecame, GoesOn, IsInRange, goes_given, goes_on, goes_self, units_on, units_same, units_grown}
 
 -- A world and what became of it: its workunits, whose hosts they are, and how outputs are compared.
 pub record WorldBecame (w v : World) : Type 0 where
@@ -60,23 +54,6 @@ in_range w sound k b stands i x there is =
         → told_place o ≤ count_by is_judged b.instances
     told None low = omega arith
     told (Some t) low = placed t.place low
-
--- a grant, where nobody was given what is granted
-module _ (apps : List App) (bs : List UnitBook) (host now : ℕ) where
-  grant_kept : (jobs : List Place) (w : World) → UnitsBecame apps bs w.units → AllPairs (λ (p r : Place). p.unit < r.unit) jobs → All (IsFree w) jobs
-      → UnitsBecame apps bs (granted w host now jobs).units
-  grant_kept [] w was rising free = was
-  grant_kept (p ∷ jobs) w was rising free =
-      let o : Owner = record { host = host; sent = now; deadline = now + delay_at w p } in
-      grant_kept jobs (grant_one host now w p)
-      (units_changed apps bs (with_owner o) w p was
-      (λ b c y before stands became here.
-      mild_keeps b apps y (with_owner o y)
-      (owner_mild o y (All-head (IsFree w) p jobs free y (ap (option_and_then (λ (u : UnitBook). slice_get u.instances p.number)) stands ∙ here)))))
-      (pairs_tail (λ (p r : Place). p.unit < r.unit) p jobs rising)
-      (λ k d within.
-      elsewhere (λ x. x.owner ≡ None) (with_owner o) w p (get_or jobs k d) (pairs_head (λ (p r : Place). p.unit < r.unit) p jobs rising k d within)
-      (All-tail (IsFree w) p jobs free k d within))
 
 -- hosts keep their accounts
 accounts_same : (hosts : List HostRow) → AccountsStay hosts hosts
@@ -114,42 +91,38 @@ became_like w v u like became = record {
 
 -- a call
 module _ (w : World) (c : Caller) (r : Request) (now : ℕ) (sound : Sound w) (caller : IsCaller w c r) where
-  abbrev entry : World
-  entry = at_entry w c r
-
   abbrev left : World
   left = after_lost w c r now
 
   units_left : UnitsBecame w.apps w.units left.units
   units_left =
-      lost_kept entry (host_number w c) (host_at_entry w c r) now (lost_of w c r) (after_reports w c r)
-      (reports_kept entry (host_number w c) (first_reports r.results) entry (units_same w.apps w.units))
+      units_on w w left (units_same w.apps w.units) (left_alone w c r now).units
+      (λ p. left_lasts (GoesOn (judged_at w p.unit) (has_failed (status_at w p.unit))) w c r p (goes_on w (call.Rpc c r) p) now)
 
-  pub apps_left : left.apps ≡ w.apps
-  apps_left = ap (λ (v : World). v.apps) (before_settlement w c r now).rest
+  -- up to its settlement, and with its grant
+  pub settled_became : WorldBecame w (after_settlement w c r now)
+  settled_became = record {
+    units = subst (λ apps. UnitsBecame w.apps w.units (map (grown apps) left.units)) (sym (left_alone w c r now).apps)
+        (units_grown w.apps w.units left.units (in_range w sound) units_left);
+    hosts = accounts_then w.hosts left.hosts (after_settlement w c r now).hosts
+        (subst (AccountsStay w.hosts) (sym (left_alone w c r now).hosts) (accounts_at_entry w c r caller))
+        (accounts_settled (at_entry w c r) (with_grown left) left.hosts);
+    agreements = λ name known. ap (λ apps. agreement_by apps name) (left_alone w c r now).apps;
+  }
 
-  pub hosts_left : left.hosts ≡ entry.hosts
-  hosts_left = ap (λ (v : World). v.hosts) (before_settlement w c r now).rest
-
-  pub units_settled : UnitsBecame w.apps w.units (after_settlement w c r now).units
-  units_settled =
-      subst (λ apps. UnitsBecame w.apps w.units (map (grown apps) left.units)) (sym apps_left)
-      (units_grown w.apps w.units left.units (in_range w sound) units_left)
-
-  pub call_became : (after : World) (reply : Reply) → RpcStep w c r now after reply → WorldBecame w after
+  call_became : (after : World) (reply : Reply) → RpcStep w c r now after reply → WorldBecame w after
   call_became after reply step =
       let settlement : World = after_settlement w c r now in
       let rest = (grants_are_by_place settlement (host_number w c) now step.jobs).rest in
       let given : World = granted settlement (host_number w c) now step.jobs in
       subst (WorldBecame w) (sym step.left)
       (became_like w given (after_grant w c r now step.jobs) (classed_like w (host_at_entry w c r) step.jobs given) (record {
-        units = grant_kept w.apps w.units (host_number w c) now step.jobs settlement units_settled step.grant.rising
-            (λ k d within. eligible_is_free settlement (asking_of w c r now).host (get_or step.jobs k d) (step.grant.eligible k d within));
-        hosts = subst (AccountsStay w.hosts) (sym rest.hosts)
-            (accounts_then w.hosts left.hosts settlement.hosts
-            (subst (AccountsStay w.hosts) (sym hosts_left) (accounts_at_entry w c r caller))
-            (accounts_settled entry (with_grown left) left.hosts));
-        agreements = λ name known. ap (λ apps. agreement_by apps name) (rest.apps ∙ apps_left);
+        units = units_on w settlement given settled_became.units rest.units (λ p.
+            let n : ℕ = judged_at w p.unit in
+            let failed : Bool = has_failed (status_at w p.unit) in
+            granted_lasts (GoesOn n failed) (goes_self n failed) (goes_given n failed) settlement (asking_of w c r now) step.jobs step.grant p);
+        hosts = subst (AccountsStay w.hosts) (sym rest.hosts) settled_became.hosts;
+        agreements = λ name known. ap (λ apps. agreement_by apps name) rest.apps ∙ settled_became.agreements name known;
       }))
 
 -- a tick
@@ -160,7 +133,9 @@ tick_became w after now count sound step =
     subst (WorldBecame w) (sym step.left)
     (record {
       units = subst (λ apps. UnitsBecame w.apps w.units (map (grown apps) left.units)) (sym rest.apps)
-          (units_grown w.apps w.units left.units (in_range w sound) (lapses_kept w 0 (overdue w now) w (units_same w.apps w.units)));
+          (units_grown w.apps w.units left.units (in_range w sound)
+          (units_on w w left (units_same w.apps w.units) rest.units
+          (λ p. lapses_last (GoesOn (judged_at w p.unit) (has_failed (status_at w p.unit))) w now p (goes_on w call.Tick p))));
       hosts = accounts_then w.hosts left.hosts (settled w left).hosts
           (subst (AccountsStay w.hosts) (sym rest.hosts) (accounts_same w.hosts))
           (accounts_settled w (with_grown left) left.hosts);
@@ -185,12 +160,9 @@ import_became w (rows.Workunits us) =
 
 -- each step
 pub step_became : (w after : World) (c : Call) (now : ℕ) (answer : Answered) → Sound w → Step w c now after answer → WorldBecame w after
-step_became w after (call.Rpc c r) now (answered.Rpc reply) sound step = call_became w c r now sound step.caller after reply step
-step_became w after (call.Rpc c r) now (answered.Imported n) sound step = absurd step
-step_became w after (call.Rpc c r) now (answered.Lapsed n) sound step = absurd step
-step_became w after (call.Import new) now (answered.Imported n) sound step = subst (WorldBecame w) (sym step.left) (import_became w new)
-step_became w after (call.Import new) now (answered.Rpc reply) sound step = absurd step
-step_became w after (call.Import new) now (answered.Lapsed n) sound step = absurd step
-step_became w after call.Tick now (answered.Lapsed n) sound step = tick_became w after now n sound step
-step_became w after call.Tick now (answered.Rpc reply) sound step = absurd step
-step_became w after call.Tick now (answered.Imported n) sound step = absurd step
+step_became w after c now answer sound step =
+    by_call w after now (λ c answer. WorldBecame w after)
+    (λ c r reply step. call_became w c r now sound step.caller after reply step)
+    (λ new count step. subst (WorldBecame w) (sym step.left) (import_became w new))
+    (λ count step. tick_became w after now count sound step)
+    c answer step

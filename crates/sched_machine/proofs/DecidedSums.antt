@@ -8,11 +8,11 @@ use Rattle.sched_book.specs.Count.{agree, tells_success, told_output, output_of,
 use Rattle.sched_book.specs.Places.{nth, agreement_of, verdict_of, option_any, host_of, is_owned_by, credit_in, host_credit}
 use Rattle.sched_book.specs.Sound.{IsBare, HasOwnerAmong, IsSoundUnit, IsSoundHost, Sound}
 use Rattle.sched_book.specs.declared.instance.Instance.{Instance}
-use Rattle.sched_book.specs.declared.instance.Outcome.{Outcome}
 use Rattle.sched_book.specs.declared.instance.Owner.{Owner}
 use Rattle.sched_book.specs.declared.instance.UnitBook.{UnitBook}
 use Rattle.sched_book.specs.declared.instance.Verdict.TheVariants.{Valid, Invalid}
 use Rattle.sched_book.specs.declared.rows.Account.{Account}
+use Rattle.sched_book.specs.declared.rows.Agreement.{Agreement}
 use Rattle.sched_book.specs.declared.rows.HostRow.{HostRow}
 use Rattle.sched_book.specs.declared.world.World.{World}
 use Rattle.sched_book.proofs.PlacesOf.{nth-suc}
@@ -20,6 +20,7 @@ use Rattle.sched_book.proofs.Settling.{slice_get-enumerate_from}
 use Rattle.quorum_credit.proofs.ByPlace.{all_get}
 use Rattle.sched_machine.specs.Decisions.{CreditsAddUp}
 use Rattle.sched_book.proofs.Credits.{exchange, times}
+use Rattle.sched_machine.proofs.OptionParts.{mapped_by}
 
 -- sums that are the same at each element
 sum_alike : {X : Type 0} (f g : X → ℕ) (xs : List X) → ((i : ℕ) (x : X) → slice_get xs i ≡ Some x → f x ≡ g x) → sum_by f xs ≡ sum_by g xs
@@ -62,17 +63,17 @@ module _ {X : Type 0} (c : ℕ) where
       ap (λ m. sum_by (one_of m) (enumerate_from 1 xs)) (let same : suc i ≡ 1 + i = omega arith in same)
       ∙ once xs 1 i (sym (ap is_some (nth-suc xs i)) ∙ stands)
 
--- a valid result was reported
+-- there is no verdict on what was not reported, so a valid result was
+pub no_verdict : (a : Agreement) (xs : List Instance) (o : Option ℕ) (x : Instance) → x.report ≡ None → verdict_by a xs o x ≡ None
+no_verdict a xs None x none = refl
+no_verdict a xs (Some c) x none =
+    ap (λ r. cond (tells_success r) (Some (cond (agree a (told_output r) (output_of xs c)) Valid Invalid)) None) none
+
 valid_reported : (w : World) (b : UnitBook) (x : Instance) → is_valid (verdict_of w b x) ≡ true → x.report ≢ None
-valid_reported w b x valid none = cases (canonical (agreement_of w b) b.unit b.instances) valid
-  where
-    cases : (o : Option ℕ) → is_valid (verdict_by (agreement_of w b) b.instances o x) ≡ true → ⊥
-    cases None is = absurd cc
-    cases (Some k) is =
-        let never : false ≡ true =
-        sym (ap (λ (r : Option Outcome). is_valid (cond (tells_success r) (Some (cond (agree (agreement_of w b) (told_output r) (output_of b.instances k)) Valid Invalid)) None)) none)
-        ∙ is in
-        absurd cc
+valid_reported w b x valid none =
+    let a : Agreement = agreement_of w b in
+    let never : false ≡ true = sym (ap is_valid (no_verdict a b.instances (canonical a b.unit b.instances) x none)) ∙ valid in
+    absurd cc
 
 module _ (w : World) (sound : Sound w) where
   -- a valid result has an owner, whose host stands
@@ -161,15 +162,13 @@ module _ (w : World) (sound : Sound w) where
       exchange (λ (a : ℕ × Account) (e : ℕ × HostRow). cond (e.1.account == a.0) (host_credit w e.0) 0) (enumerate_from 1 w.accounts) (enumerate_from 1 w.hosts)
       ∙ sum_alike (λ (e : ℕ × HostRow). sum_by (λ (a : ℕ × Account). cond (e.1.account == a.0) (host_credit w e.0) 0) (enumerate_from 1 w.accounts))
       (λ e. host_credit w e.0) (enumerate_from 1 w.hosts)
-      (λ i e there. of_place (host_credit w e.0) w.accounts e.1.account (stands i e (slice_get w.hosts i) refl (sym (slice_get-enumerate_from 1 w.hosts i) ∙ there)))
+      (λ i e there. of_place (host_credit w e.0) w.accounts e.1.account (stands i e there))
     where
-      stands : (i : ℕ) (e : ℕ × HostRow) (o : Option HostRow) → slice_get w.hosts i ≡ o → option_map (λ h. (1 + i, h)) o ≡ Some e
-          → is_some (nth w.accounts e.1.account) ≡ true
-      stands i e None is put = absurd cc
-      stands i e (Some h) is put =
-          let value : (1 + i, h) ≡ e = (let both : Some (1 + i, h) ≡ Some e = put in cc) in
-          subst (λ (f : ℕ × HostRow). is_some (nth w.accounts f.1.account) ≡ true) value
-          (account_stands h (all_get (IsSoundHost (length w.accounts) w.settings.daily_result_quota) w.hosts i h sound.rows.hosts is))
+      stands : (i : ℕ) (e : ℕ × HostRow) → slice_get (enumerate_from 1 w.hosts) i ≡ Some e → is_some (nth w.accounts e.1.account) ≡ true
+      stands i e there =
+          let h = mapped_by (λ h. (1 + i, h)) (slice_get w.hosts i) e (sym (slice_get-enumerate_from 1 w.hosts i) ∙ there) in
+          subst (λ (f : ℕ × HostRow). is_some (nth w.accounts f.1.account) ≡ true) h.2
+          (account_stands h.0 (all_get (IsSoundHost (length w.accounts) w.settings.daily_result_quota) w.hosts i h.0 sound.rows.hosts h.1))
 
 pub sound_credits_add_up : (w : World) → Sound w → CreditsAddUp w
 sound_credits_add_up w sound = record { hosts = hosts_add_up w sound; users = users_add_up w sound ∙ hosts_add_up w sound }

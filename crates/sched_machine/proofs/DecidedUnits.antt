@@ -1,10 +1,10 @@
 -- What is decided of a workunit stays: its canonical result, the verdicts on its instances, and its status.
 use Rattle.std.proofs.Common.{◌≡◌, ℕ, zero, suc, ◌+◌, ◌-◌, ◌<◌, ◌≤◌, inl, inr, Bool, true, false, cond, List, [], ◌∷◌, ◌++◌, length, take, drop, Option, Some, None, sym, refl, ap, ◌∙◌, subst, arith}
-use Rattle.std.specs.Prelude.{find, count_by, is_some, nat_le, nat_lt, option_and_then, slice_get}
+use Rattle.std.specs.Prelude.{find, is_some, nat_le, nat_lt, slice_get}
 use borrow.Author.Tests.{leb-true, le-leb, ltb-true, lt-ltb}
 use Rattle.std.proofs.lemmas.List.{append-nil, length-append, take-append-le, drop-append-le}
 use Rattle.std.proofs.lemmas.List.Sums.{sum_by-cons}
-use Rattle.sched_book.specs.Count.{agree, tells_success, tells_error, is_judged, told_place, told_output, is_live, is_open, has_failed, report_of, output_of, good, errors, live, votes, leader, first_leader, majority, canonical, want, need, status, verdict_by, verdict}
+use Rattle.sched_book.specs.Count.{agree, tells_success, tells_error, told_place, told_output, is_live, is_open, has_failed, report_of, output_of, good, errors, live, votes, leader, first_leader, majority, canonical, want, need, status, verdict_by, verdict}
 use Rattle.sched_book.specs.declared.instance.Instance.{Instance}
 use Rattle.sched_book.specs.declared.instance.Outcome.{Outcome}
 use Rattle.sched_book.specs.declared.instance.Status.{Status}
@@ -221,24 +221,6 @@ live_became n failed (x ∷ xs) (y ∷ ys) same became =
     let after : live (y ∷ ys) ≡ one (is_live y) + live ys = sum_by-cons (λ z. cond {A = ℕ} (is_live z) 1 0) y ys in
     let before : live (x ∷ xs) ≡ one (is_live x) + live xs = sum_by-cons (λ z. cond {A = ℕ} (is_live z) 1 0) x xs in
     let fewer : one (is_live y) ≤ one (is_live x) = at_most (is_live y) (is_live x) (became 0).live in
-    omega arith
-
--- what was judged stays so
-pub still_judged : (n : ℕ) (failed : Bool) (x y : Instance) → IsReported n failed x y → is_judged x ≡ true → is_judged y ≡ true
-still_judged n failed x y reported is = elim reported [
-  | inl same ↦ ap (λ r. is_some (option_and_then (λ (t : Outcome). t.place) r)) same ∙ is
-  | inr new ↦ (let never : false ≡ true = sym (ap (λ r. is_some (option_and_then (λ (t : Outcome). t.place) r)) new.0) ∙ is in absurd cc)
-]
-
--- as many are judged, or more
-pub judged_became : (n : ℕ) (failed : Bool) (xs ys : List Instance) → AllBecame n failed xs ys → count_by is_judged xs ≤ count_by is_judged ys
-judged_became n failed [] ys became = let none : count_by is_judged [] ≡ 0 = refl in omega arith
-judged_became n failed (x ∷ xs) [] became = absurd (became 0)
-judged_became n failed (x ∷ xs) (y ∷ ys) became =
-    let rest : count_by is_judged xs ≤ count_by is_judged ys = judged_became n failed xs ys (λ i. became (suc i)) in
-    let after : count_by is_judged (y ∷ ys) ≡ one (is_judged y) + count_by is_judged ys = sum_by-cons (λ z. cond {A = ℕ} (is_judged z) 1 0) y ys in
-    let before : count_by is_judged (x ∷ xs) ≡ one (is_judged x) + count_by is_judged xs = sum_by-cons (λ z. cond {A = ℕ} (is_judged z) 1 0) x xs in
-    let more : one (is_judged x) ≤ one (is_judged y) = at_most (is_judged x) (is_judged y) (still_judged n failed x y (became 0).report) in
     omega arith
 
 -- the status, by its tests

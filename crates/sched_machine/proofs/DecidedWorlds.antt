@@ -17,11 +17,12 @@ use Rattle.sched_book.specs.declared.world.World.{World}
 use Rattle.sched_book.proofs.PlacesOf.{nth-suc}
 use Rattle.sched_book.proofs.Settling.{slice_get-enumerate_from}
 use Rattle.quorum_credit.proofs.ByPlace.{all_nth}
-use Rattle.sched_machine.specs.Decisions.{canonical_at, CanonicalsStay, verdict_at, VerdictsStay, StatusesStay, CreditsStay}
+use Rattle.sched_machine.specs.Decisions.{CanonicalsStay, VerdictsStay, StatusesStay, CreditsStay}
 use Rattle.sched_machine.proofs.DecidedGood.{Became, BecameAt, Continues, good_continues}
 use Rattle.sched_machine.proofs.DecidedUnits.{at_most, canonical_stays, verdict_stays, status_stays}
 use Rattle.sched_machine.proofs.DecidedChanges.{UnitBecame, UnitBecameAt}
 use Rattle.sched_machine.proofs.DecidedSteps.{WorldBecame, in_range}
+use Rattle.sched_machine.proofs.OptionParts.{mapped_by, some_by, then_by}
 
 -- All that stays. A workunit that stands goes on to stand.
 pub record Stays (old new : World) : Type 0 where
@@ -30,6 +31,15 @@ pub record Stays (old new : World) : Type 0 where
   pub verdicts : VerdictsStay old new
   pub statuses : StatusesStay old new
   pub credits : CreditsStay old new
+
+pub stays_self : (w : World) → Stays w w
+stays_self w = record {
+  stands = λ unit is. is;
+  canonicals = λ unit number is. is;
+  verdicts = λ p d is. is;
+  statuses = λ unit is shut. refl;
+  credits = record { host = λ number. omega arith; user = λ account. omega arith };
+}
 
 -- it stays over one after the other
 pub stays_then : (w v u : World) → Stays w v → Stays v u → Stays w u
@@ -100,39 +110,29 @@ module _ (old new : World) (sound : Sound old) (became : WorldBecame old new) wh
       good_continues (count_by is_judged b.instances) (failed b) b.instances c.instances (in_range old sound unit b stood) is.became
 
   still_stands : (unit : ℕ) → is_some (unit_at old unit) ≡ true → is_some (unit_at new unit) ≡ true
-  still_stands unit is = cases (unit_at old unit) refl is
-    where
-      cases : (o : Option UnitBook) → unit_at old unit ≡ o → is_some o ≡ true → is_some (unit_at new unit) ≡ true
-      cases None stood never = absurd cc
-      cases (Some b) stood some = ap is_some (at unit b stood).stands
+  still_stands unit is = let b = some_by (unit_at old unit) is in ap is_some (at unit b.0 b.1).stands
 
   -- the laws, from this world to that
   canonicals : CanonicalsStay old new
-  canonicals unit number is = cases (unit_at old unit) refl is
-    where
-      cases : (o : Option UnitBook) → unit_at old unit ≡ o
-          → option_and_then (λ (b : UnitBook). canonical (agreement b) b.unit b.instances) o ≡ Some number → canonical_at new unit ≡ Some number
-      cases None stood never = absurd cc
-      cases (Some b) stood found =
-          let there : At unit b = at unit b stood in
-          ap (option_and_then (λ (c : UnitBook). canonical (agreement_by new.apps c.unit.app) c.unit c.instances)) there.stands
-          ∙ ap (λ a. canonical a there.c.unit there.c.instances) there.agreement
-          ∙ ap (λ u. canonical (agreement b) u there.c.instances) there.is.row
-          ∙ canonical_stays (agreement b) b.unit (failed b) b.instances there.c.instances (continues unit b stood there.c there.is) number found
+  canonicals unit number is =
+      let b = then_by (λ (b : UnitBook). canonical (agreement b) b.unit b.instances) (unit_at old unit) number is in
+      let there : At unit b.0 = at unit b.0 b.1 in
+      ap (option_and_then (λ (c : UnitBook). canonical (agreement_by new.apps c.unit.app) c.unit c.instances)) there.stands
+      ∙ ap (λ a. canonical a there.c.unit there.c.instances) there.agreement
+      ∙ ap (λ u. canonical (agreement b.0) u there.c.instances) there.is.row
+      ∙ canonical_stays (agreement b.0) b.0.unit (failed b.0) b.0.instances there.c.instances (continues unit b.0 b.1 there.c there.is) number b.2
 
   statuses : StatusesStay old new
-  statuses unit stands shut = cases (unit_at old unit) refl stands shut
-    where
-      cases : (o : Option UnitBook) → unit_at old unit ≡ o → is_some o ≡ true → is_open (unwrap_or (option_map (status_of old) o) FailedTotal) ≡ false
-          → status_at new unit ≡ unwrap_or (option_map (status_of old) o) FailedTotal
-      cases None stood never shut = absurd cc
-      cases (Some b) stood some shut =
-          let there : At unit b = at unit b stood in
-          ap (λ o. unwrap_or (option_map (status_of new) o) FailedTotal) there.stands
-          ∙ ap (λ a. status a there.c.unit there.c.instances) there.agreement
-          ∙ ap (λ u. status (agreement b) u there.c.instances) there.is.row
-          ∙ status_stays (agreement b) b.unit (count_by is_judged b.instances) b.instances there.c.instances (in_range old sound unit b stood)
-          there.is.became there.is.many shut
+  statuses unit stands shut =
+      let b = some_by (unit_at old unit) stands in
+      let there : At unit b.0 = at unit b.0 b.1 in
+      let was : status_at old unit ≡ book_status old.apps b.0 = ap (λ o. unwrap_or (option_map (status_of old) o) FailedTotal) b.1 in
+      ap (λ o. unwrap_or (option_map (status_of new) o) FailedTotal) there.stands
+      ∙ ap (λ a. status a there.c.unit there.c.instances) there.agreement
+      ∙ ap (λ u. status (agreement b.0) u there.c.instances) there.is.row
+      ∙ status_stays (agreement b.0) b.0.unit (count_by is_judged b.0.instances) b.0.instances there.c.instances (in_range old sound unit b.0 b.1)
+      there.is.became there.is.many (sym (ap is_open was) ∙ shut)
+      ∙ sym was
 
   -- an instance, and what became of it
   record AtNumber (unit number : ℕ) (b : UnitBook) (x : Instance) (c : UnitBook) : Type 0 where
@@ -162,22 +162,14 @@ module _ (old new : World) (sound : Sound old) (became : WorldBecame old new) wh
       }
 
   verdicts : VerdictsStay old new
-  verdicts p d is = cases (unit_at old p.unit) refl is
-    where
-      numbers : (b : UnitBook) → unit_at old p.unit ≡ Some b → (o : Option Instance) → slice_get b.instances p.number ≡ o
-          → option_and_then (verdict_of old b) o ≡ Some d → verdict_at new p ≡ Some d
-      numbers b stood None was never = absurd cc
-      numbers b stood (Some x) was known =
-          let there : At p.unit b = at p.unit b stood in
-          let here : AtNumber p.unit p.number b x there.c = at_number p.unit p.number b x stood was there in
-          ap (option_and_then (λ (c : UnitBook). option_and_then (verdict_of new c) (slice_get c.instances p.number))) there.stands
-          ∙ ap (option_and_then (verdict_of new there.c)) here.stands
-          ∙ here.verdict d known
-
-      cases : (o : Option UnitBook) → unit_at old p.unit ≡ o
-          → option_and_then (λ (b : UnitBook). option_and_then (verdict_of old b) (slice_get b.instances p.number)) o ≡ Some d → verdict_at new p ≡ Some d
-      cases None stood never = absurd cc
-      cases (Some b) stood known = numbers b stood (slice_get b.instances p.number) refl known
+  verdicts p d is =
+      let b = then_by (λ (b : UnitBook). option_and_then (verdict_of old b) (slice_get b.instances p.number)) (unit_at old p.unit) d is in
+      let x = then_by (verdict_of old b.0) (slice_get b.0.instances p.number) d b.2 in
+      let there : At p.unit b.0 = at p.unit b.0 b.1 in
+      let here : AtNumber p.unit p.number b.0 x.0 there.c = at_number p.unit p.number b.0 x.0 b.1 x.1 there in
+      ap (option_and_then (λ (c : UnitBook). option_and_then (verdict_of new c) (slice_get c.instances p.number))) there.stands
+      ∙ ap (option_and_then (verdict_of new there.c)) here.stands
+      ∙ here.verdict d x.2
 
   -- the credit of a host from one workunit
   credit_grows : (host unit : ℕ) (b : UnitBook) → unit_at old unit ≡ Some b → (there : At unit b)
@@ -220,7 +212,8 @@ module _ (old new : World) (sound : Sound old) (became : WorldBecame old new) wh
   user_grows : (account : ℕ) → user_credit old account ≤ user_credit new account
   user_grows account =
       sum_grows (share old) (share new) (enumerate_from 1 old.hosts) (enumerate_from 1 new.hosts)
-      (λ i e was. cases i e (slice_get old.hosts i) refl (sym (slice_get-enumerate_from 1 old.hosts i) ∙ was))
+      (λ i e was.
+      (let h = mapped_by (λ h. (1 + i, h)) (slice_get old.hosts i) e (sym (slice_get-enumerate_from 1 old.hosts i) ∙ was) in goes_on i e h.0 h.1 h.2))
     where
       share : World → ℕ × HostRow → ℕ
       share w e = cond (eqb e.1.account account) (host_credit w e.0) 0
@@ -229,12 +222,10 @@ module _ (old new : World) (sound : Sound old) (became : WorldBecame old new) wh
       either true m n low = low
       either false m n low = omega arith
 
-      cases : (i : ℕ) (e : ℕ × HostRow) (o : Option HostRow) → slice_get old.hosts i ≡ o → option_map (λ h. (1 + i, h)) o ≡ Some e
+      goes_on : (i : ℕ) (e : ℕ × HostRow) (h : HostRow) → slice_get old.hosts i ≡ Some h → (1 + i, h) ≡ e
           → (f : ℕ × HostRow) × (slice_get (enumerate_from 1 new.hosts) i ≡ Some f) × (share old e ≤ share new f)
-      cases i e None is put = absurd cc
-      cases i e (Some h) is put =
+      goes_on i e h is value =
           let there = became.hosts (suc i) h (nth-suc old.hosts i ∙ is) in
-          let value : (1 + i, h) ≡ e = (let both : Some (1 + i, h) ≡ Some e = put in cc) in
           let stands : slice_get new.hosts i ≡ Some there.0 = sym (nth-suc new.hosts i) ∙ there.1 in (
             (1 + i, there.0),
             slice_get-enumerate_from 1 new.hosts i ∙ ap (option_map (λ h. (1 + i, h))) stands,

@@ -1,53 +1,41 @@
 -- What a host holds after its call, by places.
 use Rattle.std.proofs.Common.{◌≡◌, ◌⊎◌, inl, inr, ℕ, Bool, true, false, cond, not, List, [], Option, Some, None, sym, refl, ap, ◌∙◌, subst}
-use Rattle.std.specs.Prelude.{◌&&◌, ◌==◌, Contains, filter, is_none, option_map, option_and_then, slice_get, unwrap_or}
+use Rattle.std.specs.Prelude.{◌&&◌, ◌==◌, Contains, filter, is_none, option_map, option_and_then, slice_get}
 use Rattle.std.specs.List.{list_any}
 use Rattle.std.specs.Str.{bytes_eq}
 use Rattle.std.proofs.lemmas.List.Elements.{All-contains}
-use Rattle.std.proofs.lemmas.Bool.{and_parts}
-use Rattle.rpc_records.specs.declared.reply.Reply.{Reply}
 use Rattle.rpc_records.specs.declared.request.Request.{Request}
-use Rattle.sched_book.specs.Count.{is_held}
 use Rattle.sched_book.specs.Fits.{is_eligible, is_for}
 use Rattle.sched_book.specs.Lost.{is_listed, is_resent, unlisted}
-use Rattle.sched_book.specs.Names.{instance_name}
 use Rattle.sched_book.specs.Places.{instance_at, held_by, is_held_by, is_owned_by, name_at, option_any}
-use Rattle.sched_book.specs.Reports.{first_reports}
 use Rattle.sched_book.specs.Sound.{IsBare, IsSoundUnit, Sound}
-use Rattle.sched_book.specs.Step.{RpcStep, after_grant, after_lost, after_reports, after_settlement, asking_of, at_entry, granted, host_number, host_at_entry, lost_of, resent_of}
+use Rattle.sched_book.specs.Step.{after_grant, after_lost, after_reports, after_settlement, asking_of, at_entry, granted, host_number, host_at_entry, lost_of, resent_of}
 use Rattle.sched_book.specs.declared.instance.Instance.{Instance}
 use Rattle.sched_book.specs.declared.instance.Owner.{Owner}
 use Rattle.sched_book.specs.declared.instance.Place.{Place}
 use Rattle.sched_book.specs.declared.instance.UnitBook.{UnitBook}
+use Rattle.sched_book.specs.declared.machine.Call.TheVariants as call
 use Rattle.sched_book.specs.declared.machine.Caller.{Caller}
 use Rattle.sched_book.specs.declared.settings.Settings.{Settings}
 use Rattle.sched_book.specs.declared.world.World.{World}
 use Rattle.sched_book.proofs.Newest.{in_filter, passed_filter, passes_filter}
-use Rattle.sched_book.proofs.Recording.{passes-is, reports_are_recorded_by_place}
+use Rattle.sched_book.proofs.PlaceChanges.{lost_jobs_are_by_place, reports_change_instances_alone}
+use Rattle.sched_book.proofs.PlacesWhere.{none_missed}
+use Rattle.sched_book.proofs.Recording.{passes-is}
 use Rattle.job_choice.proofs.Candidates.{Stood, stood}
 use Rattle.quorum_credit.proofs.ByPlace.{all_get, all_nth}
 use Rattle.sched_machine.specs.Asked.{holds}
-use Rattle.sched_machine.specs.Held.{HeldByPlaces, IsHeldByPlace, IsRetained}
-use Rattle.sched_machine.proofs.AlikeCalls.{from_reports}
-use Rattle.sched_machine.proofs.AlikeLists.{along_nth, along_same}
+use Rattle.sched_machine.specs.Held.{HeldByPlaces, IsRetained}
 use Rattle.sched_machine.proofs.AlikeSettled.{the_settled_world_is_like_the_first}
-use Rattle.sched_machine.proofs.AlikeUnits.{IsFrom, IsKept, kept_self}
+use Rattle.sched_machine.proofs.AlikeUnits.{row_at}
 use Rattle.sched_machine.proofs.Classed.{classed_like, holds_same}
-use Rattle.sched_machine.proofs.HeldGranted.{IsUnspoiled, grant_gives, grant_keeps, granted_is_held}
-use Rattle.sched_machine.proofs.HeldLists.{held_is_listed, listed_is_held}
-use Rattle.sched_machine.proofs.HeldLost.{lost_elsewhere, lost_held, lost_resent}
-use Rattle.sched_machine.proofs.HeldReported.{reports_end_holding}
-use Rattle.sched_machine.proofs.RunKept.{free_first, settled_stands}
-use Rattle.sched_machine.proofs.SettledHolds.{is_held_in, lost_hold_no_more, settled_same}
+use Rattle.sched_machine.proofs.JobsSaid.{name_by}
+use Rattle.sched_machine.proofs.SettledHolds.{is_held_in, lost_held, lost_hold_no_more, lost_resent, reports_end_holding, settled_same, IsUnspoiled, grant_gives, grant_keeps, granted_is_held}
+use Rattle.sched_machine.proofs.StepMoves.{free_first, lost_is_held, Lasts, settlement_lasts}
 
--- nobody owns or holds what was given to nobody
+-- nobody owns what was given to nobody
 free_not_owned : (host : ℕ) (x : Instance) → x.owner ≡ None → is_owned_by host x ≡ false
 free_not_owned host x free = ap (λ (o : Option Owner). option_any (λ n. n == host) (option_map (λ (o : Owner). o.host) o)) free
-
-free_not_held : (host : ℕ) (x : Instance) → x.owner ≡ None → is_held_by host x ≡ true → ⊥
-free_not_held host x free held =
-    let never : false ≡ true = sym (free_not_owned host x free) ∙ (and_parts (is_owned_by host x) (is_held x) held).0 in
-    absurd cc
 
 module _ (w : World) (c : Caller) (r : Request) where
   -- the call's host, and the world after its reports
@@ -57,19 +45,9 @@ module _ (w : World) (c : Caller) (r : Request) where
   abbrev reported : World
   reported = after_reports w c r
 
-  -- the rows of workunits and the settings stay through the reports
-  from_entry : IsFrom host (at_entry w c r) reported
-  from_entry =
-      from_reports (at_entry w c r) (at_entry w c r) host (first_reports r.results) (at_entry w c r)
-      (record { units = along_same (IsKept host) (kept_self host) w.units; rest = refl })
-
-  -- so do the names
+  -- the names stay through the reports
   name_stays : (p : Place) → name_at reported p ≡ name_at w p
-  name_stays p =
-      along_nth (IsKept host)
-      (λ o. unwrap_or (option_map (λ (b : UnitBook). instance_name b.unit.name p.number) o) [])
-      (λ o. unwrap_or (option_map (λ (b : UnitBook). instance_name b.unit.name p.number) o) [])
-      refl (λ b d kept. ap (λ u. instance_name u.name p.number) kept.row) w.units reported.units p.unit from_entry.units
+  name_stays p = name_by w reported p (row_at w reported (reports_change_instances_alone (at_entry w c r) host r.results).units p.unit)
 
   -- and what is listed
   listed_stays : (names : List (List ℕ)) (p : Place) → is_listed reported names p ≡ is_listed w names p
@@ -77,7 +55,7 @@ module _ (w : World) (c : Caller) (r : Request) where
 
   -- the settings too
   settings_stay : reported.settings ≡ w.settings
-  settings_stay = ap (λ (v : World). v.settings) from_entry.rest
+  settings_stay = (reports_change_instances_alone (at_entry w c r) host r.results).settings
 
   -- what is lost, where lost jobs are sent again and the client lists what it has
   module _ (names : List (List ℕ)) (resends : w.settings.resend_lost_results ≡ true) (lists : r.other_results ≡ Some names) where
@@ -90,9 +68,7 @@ module _ (w : World) (c : Caller) (r : Request) where
 
     -- so it was held
     lost_was_held : (p : Place) → Contains (lost_of w c r) p → holds reported host p ≡ true
-    lost_was_held p there =
-        listed_is_held reported host p
-        (in_filter (λ p. not (is_listed reported names p)) (held_by reported host) p (subst (λ ps. Contains ps p) lost_are there))
+    lost_was_held p there = lost_is_held reported host r.other_results p there
 
     -- and not listed
     lost_not_listed : (p : Place) → Contains (lost_of w c r) p → is_listed reported names p ≡ true → ⊥
@@ -106,7 +82,7 @@ module _ (w : World) (c : Caller) (r : Request) where
     held_and_unlisted : (p : Place) → holds reported host p ≡ true → is_listed reported names p ≡ false → Contains (lost_of w c r) p
     held_and_unlisted p held unlisted =
         subst (λ ps. Contains ps p) (sym lost_are)
-        (passes_filter (λ p. not (is_listed reported names p)) (held_by reported host) p (held_is_listed reported host p held) (ap not unlisted))
+        (passes_filter (λ p. not (is_listed reported names p)) (held_by reported host) p (none_missed reported (λ b x. is_held_by host x) p held) (ap not unlisted))
 
     module _ (now : ℕ) where
       -- what the lost jobs leave, and what settlement makes of it
@@ -124,7 +100,7 @@ module _ (w : World) (c : Caller) (r : Request) where
           then = sym (settled_same (at_entry w c r) left host p) ∙ held
 
           before : holds reported host p ≡ true
-          before = lost_hold_no_more (at_entry w c r) (host_at_entry w c r) now host (lost_of w c r) reported p then
+          before = lost_hold_no_more (at_entry w c r) (host_at_entry w c r) now host p (lost_of w c r) reported then
 
           cases : (b : Bool) → is_listed reported names p ≡ b → IsRetained w c r names p ⊎ Contains (resent_of w c r) p
           cases true listed =
@@ -139,7 +115,7 @@ module _ (w : World) (c : Caller) (r : Request) where
       settled_retained p kept =
           settled_same (at_entry w c r) left host p
           ∙ passes-is left (is_held_by host) p
-          ∙ ap (is_held_in host) (lost_elsewhere (at_entry w c r) (host_at_entry w c r) now host p (lost_of w c r) reported nowhere)
+          ∙ ap (is_held_in host) ((lost_jobs_are_by_place (at_entry w c r) (host_at_entry w c r) now reported (lost_of w c r)).other p nowhere)
           ∙ sym (passes-is reported (is_held_by host) p)
           ∙ (reports_end_holding w c r p).1 kept.kept
         where
@@ -157,7 +133,7 @@ module _ (w : World) (c : Caller) (r : Request) where
       -- what is eligible is neither reported nor lapsed
       eligible_is_unspoiled : Sound w → (p : Place) → is_eligible w (asking_of w c r now).host p ≡ true → IsUnspoiled settlement p
       eligible_is_unspoiled sound p eligible =
-          record { x = at.x; stands = settled_stands (at_entry w c r) left p at.x (lost_stands (reports_stand)); report = bare.1; lapse = bare.0 }
+          record { x = at.x; stands = settlement_lasts Stays w c r p stays now (λ never. absurd cc) stands; report = bare.1; lapse = bare.0 }
         where
           at : Stood w (λ b x. is_none x.owner && is_for w (asking_of w c r now).host b) p
           at = stood w (λ b x. is_none x.owner && is_for w (asking_of w c r now).host b) p eligible
@@ -173,38 +149,28 @@ module _ (w : World) (c : Caller) (r : Request) where
               all_get IsBare at.book.instances p.number at.x
               (all_nth (IsSoundUnit w.hosts w.apps) w.units p.unit at.book sound.units at.at).well.bare at.stands free
 
-          reports_stand : instance_at reported p ≡ Some at.x
-          reports_stand = elim (reports_are_recorded_by_place (at_entry w c r) host r.results p).stays_or_recorded [
-            | inl same ↦ same ∙ stands
-            | inr known ↦ (
-                let equal : known.before ≡ at.x = (let both : Some known.before ≡ Some at.x = sym known.stood ∙ stands in cc) in
-                let owned : is_owned_by host known.before ≡ true = (and_parts (is_owned_by host known.before) (is_none known.before.report) known.awaited).0 in
-                let never : false ≡ true =
-                sym (free_not_owned host known.before (ap (λ (z : Instance). z.owner) equal ∙ free)) ∙ owned in
-                absurd cc)
-          ]
+          Stays : Option Instance → Option Instance → Type 0
+          Stays i j = i ≡ Some at.x → j ≡ Some at.x
 
-          lost_stands : instance_at reported p ≡ Some at.x → instance_at left p ≡ Some at.x
-          lost_stands there =
-              lost_elsewhere (at_entry w c r) (host_at_entry w c r) now host p (lost_of w c r) reported
-              (λ lost.
-              free_not_held host at.x free
-              (sym (passes-is reported (is_held_by host) p ∙ ap (is_held_in host) there) ∙ lost_was_held p lost))
-              ∙ there
+          mine : (x : Instance) → is_owned_by host x ≡ true → Some x ≡ Some at.x → ⊥
+          mine x own is =
+              let same : x ≡ at.x = cc in
+              let never : false ≡ true = sym (free_not_owned host at.x free) ∙ ap (is_owned_by host) (sym same) ∙ own in
+              absurd cc
 
--- the classes that workunits take leave what a host holds
-pub holds_classed : (w : World) (c : Caller) (r : Request) (now : ℕ) (jobs : List Place) (p : Place)
-    → holds (after_grant w c r now jobs) (host_number w c) p ≡ holds (granted (after_settlement w c r now) (host_number w c) now jobs) (host_number w c) p
-holds_classed w c r now jobs p =
-    let given : World = granted (after_settlement w c r now) (host_number w c) now jobs in
-    holds_same given (after_grant w c r now jobs) (classed_like w (host_at_entry w c r) jobs given) (host_number w c) p
+          stays : Lasts w (call.Rpc c r) p Stays
+          stays = record {
+            same = λ i is. is;
+            chain = λ i j k first second is. second (first is);
+            reported = λ t place x none own later is. absurd (mine x own is);
+            lapses = λ lapse x none own is. absurd (mine x own is);
+            moved = λ f o x owned own again is. absurd (mine x own is);
+          }
 
--- a grant adds its jobs, and takes away nothing
-pub held_by_grant : (w after : World) (c : Caller) (r : Request) (now : ℕ) (reply : Reply) (names : List (List ℕ)) (step : RpcStep w c r now after reply)
-    → Sound w → w.settings.resend_lost_results ≡ true → r.other_results ≡ Some names → (p : Place)
-    → IsHeldByPlace w (granted (after_settlement w c r now) (host_number w c) now step.jobs) c r names step.jobs p
-held_by_grant w after c r now reply names step sound resends lists p = record {
-  from = λ held. elim (grant_gives (host_number w c) now p step.jobs settlement held) [
+-- the law: a grant adds its jobs, and takes away nothing, and the classes that workunits take leave what is held
+pub held_jobs_by_place : HeldByPlaces
+held_jobs_by_place w after c r now reply names step sound resends lists p = record {
+  from = λ held. elim (grant_gives (host_number w c) now p step.jobs settlement (same ∙ held)) [
     | inr job ↦ inr (inr job)
     | inl before ↦ elim (settled_from w c r names resends lists now p before) [
       | inl kept ↦ inl kept
@@ -214,7 +180,8 @@ held_by_grant w after c r now reply names step sound resends lists p = record {
   retained = λ kept. keeps (settled_retained w c r names resends lists now p kept);
   resent = λ sent. keeps (settled_resent w c r names resends lists now p sent);
   granted = λ job.
-      granted_is_held (host_number w c) now p step.jobs settlement job
+      sym same
+      ∙ granted_is_held (host_number w c) now p step.jobs settlement job
       (eligible_is_unspoiled w c r names resends lists now sound p
       (sym ((the_settled_world_is_like_the_first w c r now sound step.caller step.room).eligible p)
       ∙ All-contains (λ q. is_eligible settlement (asking_of w c r now).host q ≡ true) step.jobs p step.grant.eligible job));
@@ -223,20 +190,13 @@ held_by_grant w after c r now reply names step sound resends lists p = record {
     settlement : World
     settlement = after_settlement w c r now
 
-    keeps : holds settlement (host_number w c) p ≡ true → holds (granted settlement (host_number w c) now step.jobs) (host_number w c) p ≡ true
-    keeps = grant_keeps (host_number w c) now p step.jobs settlement
+    given : World
+    given = granted settlement (host_number w c) now step.jobs
 
--- the law: the classes that workunits take leave what is held
-pub held_jobs_by_place : HeldByPlaces
-held_jobs_by_place w after c r now reply names step sound resends lists p = record {
-  from = λ held. given.from (same ∙ held);
-  retained = λ kept. sym same ∙ given.retained kept;
-  resent = λ sent. sym same ∙ given.resent sent;
-  granted = λ job. sym same ∙ given.granted job;
-}
-  where
-    given : IsHeldByPlace w (granted (after_settlement w c r now) (host_number w c) now step.jobs) c r names step.jobs p
-    given = held_by_grant w after c r now reply names step sound resends lists p
+    same : holds given (host_number w c) p ≡ holds after (host_number w c) p
+    same =
+        sym (ap (λ (v : World). holds v (host_number w c) p) step.left
+        ∙ holds_same given (after_grant w c r now step.jobs) (classed_like w (host_at_entry w c r) step.jobs given) (host_number w c) p)
 
-    same : holds (granted (after_settlement w c r now) (host_number w c) now step.jobs) (host_number w c) p ≡ holds after (host_number w c) p
-    same = sym (ap (λ (v : World). holds v (host_number w c) p) step.left ∙ holds_classed w c r now step.jobs p)
+    keeps : holds settlement (host_number w c) p ≡ true → holds after (host_number w c) p ≡ true
+    keeps held = sym same ∙ grant_keeps (host_number w c) now p step.jobs settlement held

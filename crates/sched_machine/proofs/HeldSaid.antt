@@ -1,7 +1,7 @@
 -- What a reply tells of the jobs that a call sends again and grants: each has the name of its instance.
-use Rattle.std.proofs.Common.{◌≡◌, ◌⊎◌, inl, inr, ℕ, ◌+◌, Bool, true, false, cond, eq-eqb, List, [], ◌∷◌, length, Option, Some, None, sym, refl, ap, ◌∙◌, subst}
+use Rattle.std.proofs.Common.{◌≡◌, ◌⊎◌, inl, inr, ℕ, Bool, true, cond, List, [], ◌∷◌, Option, Some, None, sym, refl, ap, ◌∙◌, subst}
 use Rattle.std.proofs.lemmas.Bool.{and_parts}
-use Rattle.std.specs.Prelude.{◌&&◌, Contains, filter_map, is_none, nat_le, not, option_map, option_and_then, unwrap_or}
+use Rattle.std.specs.Prelude.{◌&&◌, Contains, filter_map, is_none, nat_le, not, option_map, unwrap_or}
 use Rattle.std.specs.List.{cons_option, list_any}
 use Rattle.std.specs.Str.{bytes_eq}
 use Rattle.rpc_records.specs.declared.reply.Job.{Job}
@@ -12,30 +12,26 @@ use Rattle.sched_book.specs.Desk.{workunit_at}
 use Rattle.sched_book.specs.Fits.{estimate, is_eligible, is_for, unit_fits, version_among, version_for}
 use Rattle.sched_book.specs.Lost.{is_resent}
 use Rattle.sched_book.specs.Names.{instance_name}
-use Rattle.sched_book.specs.Places.{host_at, name_at, nth, option_any, status_at, status_of, unit_at, user_had}
+use Rattle.sched_book.specs.Places.{name_at, option_any, status_at, status_of, unit_at, user_had}
 use Rattle.sched_book.specs.PlaceLaws.{ChangesInstancesAlone}
-use Rattle.sched_book.specs.Settle.{with_grown, with_quota}
-use Rattle.sched_book.specs.Step.{after_lost, after_settlement, asking_of, at_entry, deadline_at, granted, host_number, host_at_entry, hosts_at_entry, job_at, job_of, row_of_call}
+use Rattle.sched_book.specs.Step.{after_lost, after_settlement, asking_of, at_entry, deadline_at, granted, host_number, host_at_entry, job_at, job_of, IsCaller}
 use Rattle.sched_book.specs.declared.instance.Place.{Place}
 use Rattle.sched_book.specs.declared.instance.UnitBook.{UnitBook}
 use Rattle.sched_book.specs.declared.machine.Caller.{Caller}
 use Rattle.sched_book.specs.declared.rows.App.{App}
-use Rattle.sched_book.specs.declared.rows.ClassRule.{ClassRule}
 use Rattle.sched_book.specs.declared.rows.HostRow.{HostRow}
 use Rattle.sched_book.specs.declared.rows.Version.{Version}
 use Rattle.sched_book.specs.declared.rows.Workunit.{Workunit}
 use Rattle.sched_book.specs.declared.world.World.{World}
 use Rattle.sched_book.proofs.Newest.{behind, front_of, in_front, none_in_nothing}
 use Rattle.sched_book.proofs.PlaceChanges.{grants_are_by_place}
-use Rattle.sched_book.proofs.PlacesOf.{nth-push, nth-modify_nth}
-use Rattle.sched_book.proofs.Settling.{nth-map}
 use Rattle.job_choice.proofs.Candidates.{Stood, stood}
-use Rattle.lost_jobs.proofs.Standing.{name_none, name_some}
-use Rattle.quorum_credit.proofs.ByPlace.{nth-map_places}
-use Rattle.sched_machine.proofs.AlikeLists.{along_nth}
-use Rattle.sched_machine.proofs.AlikeSettled.{before_settlement}
-use Rattle.sched_machine.proofs.JobsSaid.{job_at_some}
-use Rattle.sched_machine.proofs.SettledRows.{SameRow, rows_settled}
+use Rattle.lost_jobs.proofs.Standing.{name_some}
+use Rattle.sched_machine.proofs.AlikeHosts.{host_settled}
+use Rattle.sched_machine.proofs.AlikeUnits.{row_at, rows_grown}
+use Rattle.sched_machine.proofs.JobsSaid.{job_at_some, name_by}
+use Rattle.sched_machine.proofs.OptionParts.{any_by, mapped_by, then_by}
+use Rattle.sched_machine.proofs.StepMoves.{left_alone}
 
 -- what a list holds, of which some elements give something
 pub given_by : {X Y : Type 0} (f : X → Option Y) (xs : List X) (x : X) (y : Y) → Contains xs x → f x ≡ Some y → Contains (filter_map f xs) y
@@ -67,11 +63,6 @@ gave {X} {Y} f (z ∷ xs) y there = cases (f z) refl there (gave f xs y)
       | inr further ↦ later (more further)
     ]
 
--- a version that a workunit of this rule may be done by
-some_suited : (rule : ClassRule) (o : Option Version) → option_any (suits rule) o ≡ true → (v : Version) × (o ≡ Some v) × (suits rule v ≡ true)
-some_suited rule None is = absurd cc
-some_suited rule (Some v) is = (v, refl, is)
-
 module _ (w : World) (c : Caller) (r : Request) (now : ℕ) (jobs : List Place) where
   -- the world that the call leaves
   abbrev after : World
@@ -84,27 +75,20 @@ module _ (w : World) (c : Caller) (r : Request) (now : ℕ) (jobs : List Place) 
   -- so does a whole call
   pub row_stays : (n : ℕ) → workunit_at after n ≡ workunit_at w n
   row_stays n =
-      sym (nth-map (λ (b : UnitBook). b.unit) after.units n)
-      ∙ ap (λ us. nth us n) rest.units
-      ∙ nth-map (λ (b : UnitBook). b.unit) (after_settlement w c r now).units n
-      ∙ along_nth SameRow (option_map (λ (b : UnitBook). b.unit)) (option_map (λ (b : UnitBook). b.unit)) refl (λ b d same. ap Some same)
-      w.units (after_settlement w c r now).units n (rows_settled w c r now)
+      let left : World = after_lost w c r now in
+      row_at w after (rest.units ∙ rows_grown left.apps left.units ∙ (left_alone w c r now).units) n
 
   -- the host runs the same versions
   version_stays : (h : HostRow) (app : List ℕ) → version_for after h app ≡ version_for w h app
   version_stays h app =
       ap (λ apps. cond (list_any (λ (a : App). bytes_eq a.name app) apps) (version_among after.versions app h.platforms) None)
-      (rest.apps ∙ ap (λ (v : World). v.apps) (before_settlement w c r now).rest)
+      (rest.apps ∙ (left_alone w c r now).apps)
       ∙ ap (λ versions. cond (list_any (λ (a : App). bytes_eq a.name app) w.apps) (version_among versions app h.platforms) None)
-      (rest.versions ∙ ap (λ (v : World). v.versions) (before_settlement w c r now).rest)
+      (rest.versions ∙ (left_alone w c r now).versions)
 
   -- the names are the same
   name_stays : (p : Place) → name_at after p ≡ name_at w p
-  name_stays p = cases (workunit_at w p.unit) refl
-    where
-      cases : (o : Option Workunit) → workunit_at w p.unit ≡ o → name_at after p ≡ name_at w p
-      cases None is = name_none after p (row_stays p.unit ∙ is) ∙ sym (name_none w p is)
-      cases (Some u) is = name_some after p u (row_stays p.unit ∙ is) ∙ sym (name_some w p u is)
+  name_stays p = name_by w after p (row_stays p.unit)
 
   -- the workunit at a place stands, and the host runs a version of its application that may do it
   pub record Runs (h : HostRow) (p : Place) : Type 0 where
@@ -125,21 +109,16 @@ module _ (w : World) (c : Caller) (r : Request) (now : ℕ) (jobs : List Place) 
 
   -- and what it tells of has that name
   pub said_name : (h : HostRow) (resent : Bool) (p : Place) (j : Job) → job_at after h resent p ≡ Some j → j.name ≡ name_at w p
-  said_name h resent p j is = at_unit (unit_at after p.unit) is ∙ name_stays p
-    where
-      at_version : (b : UnitBook) (o : Option Version) → option_map (job_of (name_at after p) (deadline_at after p) h resent b.unit) o ≡ Some j → j.name ≡ name_at after p
-      at_version b None is = absurd cc
-      at_version b (Some v) is = let value : job_of (name_at after p) (deadline_at after p) h resent b.unit v ≡ j = cc in sym (ap (λ (z : Job). z.name) value)
-
-      at_unit : (o : Option UnitBook) → option_and_then (λ (b : UnitBook). option_map (job_of (name_at after p) (deadline_at after p) h resent b.unit) (version_for after h b.unit.app)) o ≡ Some j
-          → j.name ≡ name_at after p
-      at_unit None is = absurd cc
-      at_unit (Some b) is = at_version b (version_for after h b.unit.app) is
+  said_name h resent p j is =
+      let b = then_by (λ (b : UnitBook). option_map (job_of (name_at after p) (deadline_at after p) h resent b.unit) (version_for after h b.unit.app))
+      (unit_at after p.unit) j is in
+      let v = mapped_by (job_of (name_at after p) (deadline_at after p) h resent b.0.unit) (version_for after h b.0.unit.app) j b.2 in
+      sym (ap (λ (z : Job). z.name) v.2) ∙ name_stays p
 
   -- the host runs what fits it
   fits_runs : (h : HostRow) (p : Place) (b : UnitBook) → unit_at w p.unit ≡ Some b → unit_fits w h b ≡ true → Runs h p
   fits_runs h p b stands fits =
-      let found = some_suited b.unit.class_rule (version_for w h b.unit.app)
+      let found = any_by (suits b.unit.class_rule) (version_for w h b.unit.app)
       (and_parts (nat_le b.unit.rsc_memory_bound h.m_nbytes && nat_le b.unit.rsc_disk_bound h.d_free
       && nat_le (estimate b.unit.rsc_fpops_est h.p_fpops) b.unit.delay_bound)
       (option_any (suits b.unit.class_rule) (version_for w h b.unit.app)) fits).1 in
@@ -147,63 +126,24 @@ module _ (w : World) (c : Caller) (r : Request) (now : ℕ) (jobs : List Place) 
 
   -- what is sent again to it
   pub resent_runs : (p : Place) → is_resent (at_entry w c r) (host_at_entry w c r) p ≡ true → Runs (host_at_entry w c r) p
-  resent_runs p is = cases (unit_at w p.unit) refl is
-    where
-      cases : (o : Option UnitBook) → unit_at w p.unit ≡ o
-          → unwrap_or (option_map (λ (b : UnitBook). is_open (status_at (at_entry w c r) p.unit) && unit_fits (at_entry w c r) (host_at_entry w c r) b) o) false ≡ true
-          → Runs (host_at_entry w c r) p
-      cases None stands is = absurd cc
-      cases (Some b) stands is =
-          fits_runs (host_at_entry w c r) p b stands
-          (and_parts (is_open (status_at (at_entry w c r) p.unit)) (unit_fits (at_entry w c r) (host_at_entry w c r) b) is).1
-
-  -- the caller's row has the platforms of the request
-  platforms_at_entry : (h : HostRow) → host_at (at_entry w c r) (host_number w c) ≡ Some h → h.platforms ≡ r.platforms
-  platforms_at_entry h stands = cases c.host stands
-    where
-      renewed : (o : Option HostRow) → option_map (λ (k : HostRow). row_of_call c r k.quota) o ≡ Some h → h.platforms ≡ r.platforms
-      renewed None is = absurd cc
-      renewed (Some k) is = let same : row_of_call c r k.quota ≡ h = cc in ap (λ (k : HostRow). k.platforms) (sym same)
-
-      cases : (o : Option ℕ) → nth (hosts_at_entry w c r o) (unwrap_or o (length w.hosts + 1)) ≡ Some h → h.platforms ≡ r.platforms
-      cases None is =
-          let row : HostRow = row_of_call c r w.settings.daily_result_quota in
-          let found : Some row ≡ Some h =
-          sym (nth-push w.hosts row (length w.hosts + 1)
-          ∙ ap (λ (b : Bool). cond b (Some row) (nth w.hosts (length w.hosts + 1))) (eq-eqb (length w.hosts + 1) (length w.hosts + 1) refl))
-          ∙ is in
-          let same : row ≡ h = cc in
-          ap (λ (k : HostRow). k.platforms) (sym same)
-      cases (Some host) is =
-          renewed (nth w.hosts host)
-          (sym (nth-modify_nth (λ (k : HostRow). row_of_call c r k.quota) w.hosts host host
-          ∙ ap (λ (b : Bool). cond b (option_map (λ (k : HostRow). row_of_call c r k.quota) (nth w.hosts host)) (nth w.hosts host)) (eq-eqb host host refl))
-          ∙ is)
+  resent_runs p is =
+      let fits : UnitBook → Bool = unit_fits (at_entry w c r) (host_at_entry w c r) in
+      let b = any_by (λ (b : UnitBook). is_open (status_at (at_entry w c r) p.unit) && fits b) (unit_at w p.unit) is in
+      fits_runs (host_at_entry w c r) p b.0 b.1 (and_parts (is_open (status_at (at_entry w c r) p.unit)) (fits b.0) b.2).1
 
   -- the host that asks for jobs has the platforms that its call names
-  pub platforms_stay : (asking_of w c r now).host.platforms ≡ (host_at_entry w c r).platforms
-  platforms_stay =
-      ap (λ o. (unwrap_or o (host_at_entry w c r)).platforms)
-      (nth-map_places (with_quota (at_entry w c r) (with_grown (after_lost w c r now))) (after_lost w c r now).hosts (host_number w c)
-      ∙ ap (λ (v : World). option_map (λ h. with_quota (at_entry w c r) (with_grown (after_lost w c r now)) (host_number w c, h)) (nth v.hosts (host_number w c)))
-      (before_settlement w c r now).rest)
-      ∙ cases (host_at (at_entry w c r) (host_number w c)) platforms_at_entry
-    where
-      cases : (o : Option HostRow) → ((h : HostRow) → o ≡ Some h → h.platforms ≡ r.platforms)
-          → (unwrap_or (option_map (λ h. with_quota (at_entry w c r) (with_grown (after_lost w c r now)) (host_number w c, h)) o) (host_at_entry w c r)).platforms
-          ≡ (host_at_entry w c r).platforms
-      cases None row = refl
-      cases (Some h) row = row h refl
+  pub platforms_stay : IsCaller w c r → (asking_of w c r now).host.platforms ≡ (host_at_entry w c r).platforms
+  platforms_stay caller = ap (λ o. (unwrap_or o (host_at_entry w c r)).platforms) (host_settled w c r caller now)
 
   -- and what is eligible
-  pub eligible_runs : (p : Place) → is_eligible w (asking_of w c r now).host p ≡ true → Runs (host_at_entry w c r) p
-  eligible_runs p eligible = record {
+  pub eligible_runs : IsCaller w c r → (p : Place) → is_eligible w (asking_of w c r now).host p ≡ true → Runs (host_at_entry w c r) p
+  eligible_runs caller p eligible = record {
     unit = runs.unit;
     version = runs.version;
     stands = runs.stands;
     found =
         ap (λ platforms. cond (list_any (λ (a : App). bytes_eq a.name runs.unit.app) w.apps) (version_among w.versions runs.unit.app platforms) None)
-        (sym platforms_stay)
+        (sym (platforms_stay caller))
         ∙ runs.found;
     suited = runs.suited;
   }

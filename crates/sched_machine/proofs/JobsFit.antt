@@ -1,6 +1,6 @@
 -- What a call's lost jobs change fits behind what its reports change.
 use Rattle.std.proofs.Common.{◌≡◌, ℕ, ◌≤◌, Bool, true, false, cond, List, [], ◌∷◌, ◌++◌, map, Option, Some, None, sym, refl, subst, arith}
-use Rattle.std.specs.Prelude.{All, filter_map, is_some, option_map, option_and_then, unwrap_or, slice_get, IfSome}
+use Rattle.std.specs.Prelude.{All, filter_map, is_some, option_map, unwrap_or, slice_get, IfSome}
 use Rattle.std.specs.List.{cons_option}
 use Rattle.std.proofs.lemmas.List.Elements.{All-head, All-tail}
 use Rattle.rpc_records.specs.declared.request.Request.{Request}
@@ -31,28 +31,24 @@ use Rattle.quorum_credit.proofs.GrownFits.{fits_then}
 use Rattle.sched_machine.specs.Calling.{IsCalling}
 use Rattle.sched_machine.specs.declared.caller.Calling.{Calling}
 use Rattle.sched_machine.proofs.JobsLost.{fates_known}
+use Rattle.sched_machine.proofs.OptionParts.{then_by, mapped_some}
 use Rattle.sched_machine.proofs.StepsSound.{sound_is_well, reported}
-use Rattle.sched_machine.proofs.UnitsGiven.{IsGiven, given_after}
-use Rattle.sched_machine.proofs.UnitsLapsed.{lapse_keeps}
-use Rattle.sched_machine.proofs.UnitsLost.{lost_given, still_some, deadline_keeps, delay_is_low, deadline_is_low}
+use Rattle.sched_machine.proofs.UnitsLapsed.{lapse_keeps, IsGiven, given_after}
+use Rattle.sched_machine.proofs.UnitsLost.{lost_given, deadline_keeps, delay_is_low, deadline_is_low}
 use Rattle.sched_machine.proofs.UnitsWell.{Keeps, owner_among}
 
 -- a world that is well keeps its instances within limits
 pub limited_from_well : (w : World) → IsWell w → IsLimited w
 limited_from_well w well = record {
   few = λ unit b stands. (all_nth (IsWellUnit w.hosts w.apps) w.units unit b well.units stands).few;
-  each = λ p x stands. cases p x (unit_at w p.unit) refl stands;
+  each = λ p x stands.
+      (let b = then_by (λ (b : UnitBook). slice_get b.instances p.number) (unit_at w p.unit) x stands in
+      let unit = all_nth (IsWellUnit w.hosts w.apps) w.units p.unit b.0 well.units b.1 in (
+        all_get (HasOwnerAmong w.hosts) b.0.instances p.number x unit.owners b.2,
+        all_get IsBare b.0.instances p.number x unit.bare b.2,
+        all_get IsInstanceInLimits b.0.instances p.number x unit.instances b.2,
+      ));
 }
-  where
-    cases : (p : Place) (x : Instance) (o : Option UnitBook) → unit_at w p.unit ≡ o
-        → option_and_then (λ (b : UnitBook). slice_get b.instances p.number) o ≡ Some x → HasOwnerAmong w.hosts x × IsBare x × IsInstanceInLimits x
-    cases p x None is none = absurd cc
-    cases p x (Some b) is there =
-        let unit = all_nth (IsWellUnit w.hosts w.apps) w.units p.unit b well.units is in (
-          all_get (HasOwnerAmong w.hosts) b.instances p.number x unit.owners there,
-          all_get IsBare b.instances p.number x unit.bare there,
-          all_get IsInstanceInLimits b.instances p.number x unit.instances there,
-        )
 
 -- a fate leaves an instance within limits, where its deadline is
 fated_good : (hosts : List HostRow) (o : Option ℕ) (x : Instance) → ((d : ℕ) → o ≡ Some d → d ≤ last_deadline)
@@ -69,19 +65,16 @@ fated_good hosts o x low given good =
 -- it takes no owner away
 fated_given : (o : Option ℕ) (x : Instance) → is_some (fated o x).owner ≡ is_some x.owner
 fated_given None x = refl
-fated_given (Some d) x = still_some (λ before. d) x.owner
+fated_given (Some d) x = mapped_some _ x.owner
 
 -- fates that follow from the places, with deadlines within limits
 module _ (r : Place → Option ℕ) (before : World) (low : (p : Place) (d : ℕ) → r p ≡ Some d → d ≤ last_deadline) where
   -- one of them fits where an instance stands
   one_fits : (v : World) (p : Place) (y : Instance) → IsLimited v → is_some y.owner ≡ true → instance_at v p ≡ Some y
       → FitsOne v (change.Instance p (fated (r p) y)) × IsLimited (applied_one v (change.Instance p (fated (r p) y)))
-  one_fits v p y limited given is = at_unit (unit_at v p.unit) refl is
-    where
-      at_unit : (o : Option UnitBook) → unit_at v p.unit ≡ o → option_and_then (λ (b : UnitBook). slice_get b.instances p.number) o ≡ Some y
-          → FitsOne v (change.Instance p (fated (r p) y)) × IsLimited (applied_one v (change.Instance p (fated (r p) y)))
-      at_unit None stands there = absurd cc
-      at_unit (Some b) stands there = done_fits (fated (r p)) v p b y limited stands there (fated_good v.hosts (r p) y (low p) given (limited.each p y is))
+  one_fits v p y limited given is =
+      let b = then_by (λ (b : UnitBook). slice_get b.instances p.number) (unit_at v p.unit) y is in
+      done_fits (fated (r p)) v p b.0 y limited b.1 b.2 (fated_good v.hosts (r p) y (low p) given (limited.each p y is))
 
   -- its change, before others
   step_fits : (v : World) (p : Place) (rest : List Change) (o now : Option Instance) → IsLimited v → IsGiven v p → instance_at v p ≡ now

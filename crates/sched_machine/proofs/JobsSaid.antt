@@ -1,6 +1,7 @@
 -- What a reply says of jobs, by the leaves of their workunits.
 use Rattle.std.proofs.Common.{◌≡◌, ℕ, Bool, List, Option, Some, None, sym, refl, ap, ◌∙◌}
 use Rattle.std.specs.Prelude.{option_map, option_and_then}
+use Rattle.rpc_records.specs.declared.reply.Job.{Job}
 use Rattle.sched_book.specs.Desk.{workunit_at}
 use Rattle.sched_book.specs.Fits.{version_for, version_at_unit}
 use Rattle.sched_book.specs.Names.{instance_name}
@@ -14,22 +15,27 @@ use Rattle.sched_book.specs.declared.rows.Workunit.{Workunit}
 use Rattle.sched_book.specs.declared.world.World.{World}
 use Rattle.call_sheet.specs.Sheets.{IsLeafAt}
 use Rattle.call_sheet.specs.declared.leaf.Leaf.{Leaf}
-use Rattle.lost_jobs.proofs.Standing.{name_some}
+use Rattle.lost_jobs.proofs.Standing.{name_none, name_some}
+use Rattle.sched_machine.proofs.OptionParts.{mapped_by}
 
 -- of a workunit and a version that were found
 pub job_at_some : (w : World) (h : HostRow) (resent : Bool) (p : Place) (u : Workunit) (v : Version) → workunit_at w p.unit ≡ Some u
     → version_for w h u.app ≡ Some v → job_at w h resent p ≡ Some (job_of (instance_name u.name p.number) (deadline_at w p) h resent u v)
 job_at_some w h resent p u v stands found =
-    cases (unit_at w p.unit) stands ∙ ap (λ name. Some (job_of name (deadline_at w p) h resent u v)) (name_some w p u stands)
+    let job : List ℕ → Workunit → Version → Job = λ name x. job_of name (deadline_at w p) h resent x in
+    let b = mapped_by (λ (b : UnitBook). b.unit) (unit_at w p.unit) u stands in
+    ap (option_and_then (λ (b : UnitBook). option_map (job (name_at w p) b.unit) (version_for w h b.unit.app))) b.1
+    ∙ ap (λ (x : Workunit). option_map (job (name_at w p) x) (version_for w h x.app)) b.2
+    ∙ ap (option_map (job (name_at w p) u)) found
+    ∙ ap (λ name. Some (job name u v)) (name_some w p u stands)
+
+-- names stay with the rows
+pub name_by : (w v : World) (p : Place) → workunit_at v p.unit ≡ workunit_at w p.unit → name_at v p ≡ name_at w p
+name_by w v p same = cases (workunit_at w p.unit) refl
   where
-    cases : (o : Option UnitBook) → option_map (λ (b : UnitBook). b.unit) o ≡ Some u
-        → option_and_then (λ (b : UnitBook). option_map (job_of (name_at w p) (deadline_at w p) h resent b.unit) (version_for w h b.unit.app)) o
-        ≡ Some (job_of (name_at w p) (deadline_at w p) h resent u v)
-    cases None none = absurd cc
-    cases (Some b) some =
-        let same : b.unit ≡ u = cc in
-        ap (λ (x : Workunit). option_map (job_of (name_at w p) (deadline_at w p) h resent x) (version_for w h x.app)) same
-        ∙ ap (option_map (job_of (name_at w p) (deadline_at w p) h resent u)) found
+    cases : (o : Option Workunit) → workunit_at w p.unit ≡ o → name_at v p ≡ name_at w p
+    cases None is = name_none v p (same ∙ is) ∙ sym (name_none w p is)
+    cases (Some u) is = name_some v p u (same ∙ is) ∙ sym (name_some w p u is)
 
 -- the applications of workunits stay through a call
 abbrev app_in : Option UnitBook → Option (List ℕ)

@@ -1,7 +1,9 @@
+pub mod OptionParts
+pub mod StepCases
+pub mod StepMoves
 pub mod RowsKept
 pub mod UnitsAlike
 pub mod UnitsWell
-pub mod UnitsGiven
 pub mod UnitsLapsed
 pub mod UnitsReported
 pub mod UnitsLost
@@ -17,13 +19,10 @@ pub mod RowsImport
 pub mod RowsAdmitted
 pub mod StepsSound
 pub mod AlikeLists
-pub mod AlikePlaces
 pub mod AlikeUnits
-pub mod AlikeCalls
 pub mod AlikeHosts
 pub mod AlikeSettled
 pub mod SettledHolds
-pub mod SettledRows
 pub mod EntryHosts
 pub mod AskedSeconds
 pub mod GrantingDone
@@ -34,7 +33,6 @@ pub mod CreditMarked
 pub mod CallsDone
 pub mod JobsLost
 pub mod JobsFit
-pub mod RunKept
 pub mod RunBetween
 pub mod RunLasting
 pub mod RunOne
@@ -47,10 +45,6 @@ pub mod DecidedSteps
 pub mod DecidedWorlds
 pub mod DecidedRuns
 pub mod DecidedSums
-pub mod HeldLists
-pub mod HeldLost
-pub mod HeldGranted
-pub mod HeldReported
 pub mod HeldJobs
 pub mod HeldSaid
 pub mod HeldNamed
@@ -64,7 +58,6 @@ pub mod ClassWords
 pub mod Classed
 pub mod ClassesTaken
 pub mod ClassesKept
-pub mod OwnersBefore
 pub mod ClassOwners
 pub mod ClassesSound
 pub mod ClassRuns

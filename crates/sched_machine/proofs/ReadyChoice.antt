@@ -81,7 +81,7 @@ module _ (w v : World) (r : Request) (now : ℕ) (ready : Ready) (changes : List
     same_version : (app : List ℕ) → version_for w (asking_of w caller r now).host app ≡ version_for w ready.call.host app
     same_version app =
         ap (λ platforms. cond (list_any (λ (a : App). bytes_eq a.name app) w.apps) (version_among w.versions app platforms) None)
-        (platforms_stay w caller r now [] ∙ ap (λ (h : HostRow). h.platforms) (sym is.calling.host))
+        (platforms_stay w caller r now [] is.calling.admitted.caller ∙ ap (λ (h : HostRow). h.platforms) (sym is.calling.host))
 
     pub jobs_run : AreRunBy w ready.call.host g.jobs
     jobs_run i d within =

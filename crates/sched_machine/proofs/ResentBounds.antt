@@ -1,5 +1,5 @@
 -- How long the jobs that a call sends again take together.
-use Rattle.std.proofs.Common.{◌≡◌, ℕ, ◌*◌, ◌≤◌, Bool, true, false, cond, List, [], length, not, Option, Some, None, refl, ap, arith}
+use Rattle.std.proofs.Common.{◌≡◌, ℕ, ◌*◌, ◌≤◌, Bool, true, false, cond, List, [], length, not, Option, Some, None, ap, arith}
 use Rattle.std.specs.Prelude.{◌&&◌, All, filter, nat_le, option_map, sum_by, unwrap_or}
 use Rattle.std.proofs.lemmas.Bool.{and_parts}
 use Rattle.std.proofs.lemmas.List.Elements.{All-weaker, filter_passes}
@@ -17,12 +17,14 @@ use Rattle.sched_book.specs.declared.instance.Place.{Place}
 use Rattle.sched_book.specs.declared.instance.UnitBook.{UnitBook}
 use Rattle.sched_book.specs.declared.machine.Caller.{Caller}
 use Rattle.sched_book.specs.declared.rows.HostRow.{HostRow}
+use Rattle.sched_book.specs.declared.rows.Workunit.{Workunit}
 use Rattle.sched_book.specs.declared.world.World.{World}
 use Rattle.sched_book.proofs.Bounded.{sound_is_bounded, instances_are_few}
 use Rattle.lost_jobs.proofs.Holding.{held_after}
 use Rattle.lost_jobs.proofs.Reported.{reports_hold_no_more}
 use Rattle.quorum_credit.proofs.ByPlace.{all_nth}
 use Rattle.sched_machine.specs.Bounds.{ResentSecondsAreBounded}
+use Rattle.sched_machine.proofs.OptionParts.{any_by}
 
 -- a filter makes no list longer
 filtered : {X : Type 0} (p : X → Bool) (xs : List X) → length (filter p xs) ≤ length xs
@@ -46,22 +48,20 @@ module _ (w : World) (c : Caller) (r : Request) (sound : Sound w) where
 
   -- a job that is sent again fits its host, so it takes no longer than its workunit's delay
   one : (p : Place) → is_resent entry known p ≡ true → estimate_at entry known p ≤ 100000000
-  one p resent = cases (unit_at w p.unit) refl resent
-    where
-      cases : (o : Option UnitBook) → unit_at w p.unit ≡ o
-          → unwrap_or (option_map (λ b. is_open (status_at entry p.unit) && unit_fits entry known b) o) false ≡ true
-          → unwrap_or (option_map (λ (b : UnitBook). estimate b.unit.rsc_fpops_est known.p_fpops) o) 0 ≤ 100000000
-      cases None stands resent = omega arith
-      cases (Some b) stands resent =
-          let memory : Bool = nat_le b.unit.rsc_memory_bound known.m_nbytes in
-          let disk : Bool = nat_le b.unit.rsc_disk_bound known.d_free in
-          let time : Bool = nat_le (estimate b.unit.rsc_fpops_est known.p_fpops) b.unit.delay_bound in
-          let fits : unit_fits entry known b ≡ true = (and_parts (is_open (status_at entry p.unit)) (unit_fits entry known b) resent).1 in
-          let in_time : time ≡ true =
-          (and_parts (memory && disk) time (and_parts (memory && disk && time) (option_any (suits b.unit.class_rule) (version_for entry known b.unit.app)) fits).0).1 in
-          let within : estimate b.unit.rsc_fpops_est known.p_fpops ≤ b.unit.delay_bound = leb-true _ _ in_time in
-          let most : b.unit.delay_bound ≤ 100000000 = (all_nth (IsSoundUnit w.hosts w.apps) w.units p.unit b sound.units stands).well.limits.delay.1 in
-          omega arith
+  one p resent =
+      let b = any_by (λ (b : UnitBook). is_open (status_at entry p.unit) && unit_fits entry known b) (unit_at w p.unit) resent in
+      let u : Workunit = b.0.unit in
+      let memory : Bool = nat_le u.rsc_memory_bound known.m_nbytes in
+      let disk : Bool = nat_le u.rsc_disk_bound known.d_free in
+      let time : Bool = nat_le (estimate u.rsc_fpops_est known.p_fpops) u.delay_bound in
+      let fits : unit_fits entry known b.0 ≡ true = (and_parts (is_open (status_at entry p.unit)) (unit_fits entry known b.0) b.2).1 in
+      let in_time : time ≡ true =
+      (and_parts (memory && disk) time (and_parts (memory && disk && time) (option_any (suits u.class_rule) (version_for entry known u.app)) fits).0).1 in
+      let within : estimate u.rsc_fpops_est known.p_fpops ≤ u.delay_bound = leb-true _ _ in_time in
+      let most : u.delay_bound ≤ 100000000 = (all_nth (IsSoundUnit w.hosts w.apps) w.units p.unit b.0 sound.units b.1).well.limits.delay.1 in
+      let all : estimate_at entry known p ≡ estimate u.rsc_fpops_est known.p_fpops =
+      ap (λ o. unwrap_or (option_map (λ (b : UnitBook). estimate b.unit.rsc_fpops_est known.p_fpops) o) 0) b.1 in
+      omega arith
 
   -- no more are lost than the host held
   few : length (lost_of w c r) ≤ 20000000

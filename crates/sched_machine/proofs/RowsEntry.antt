@@ -23,6 +23,7 @@ use Rattle.sched_book.proofs.PlacesOf.{nth-modify_nth, nth-push, length-modify_n
 use Rattle.quorum_credit.proofs.ByPlace.{all_get}
 use Rattle.quorum_credit.proofs.Numbered.{number_within}
 use Rattle.sched_machine.specs.Laws.{EntryKeepsSound}
+use Rattle.sched_machine.proofs.OptionParts.{some_by}
 use Rattle.sched_machine.proofs.RowsListed.{pairs_from, pairs_get, all_changed_nth, pairs_changed_nth, place_found, place_missing}
 
 -- each host that stands keeps its account
@@ -32,17 +33,12 @@ AccountsStay old new = (n : ℕ) (h : HostRow) → nth old n ≡ Some h → (k :
 -- then a sound workunit stays so
 module _ (old new : List HostRow) (stay : AccountsStay old new) where
   pub same_account : (host : ℕ) → IsTrue (is_some (nth old host)) → (account_at new host ≡ account_at old host) × IsTrue (is_some (nth new host))
-  same_account host stands = cases (nth old host) refl stands
-    where
-      cases : (q : Option HostRow) → nth old host ≡ q → IsTrue (is_some q) → (account_at new host ≡ account_at old host) × IsTrue (is_some (nth new host))
-      cases None is some = absurd cc
-      cases (Some h) is some =
-          let after = stay host h is in (
-            ap (option_map (λ (k : HostRow). k.account)) after.1
-                ∙ ap Some after.2
-                ∙ sym (ap (option_map (λ (k : HostRow). k.account)) is),
-            ap is_some after.1,
-          )
+  same_account host stands =
+      let h = some_by (nth old host) stands in
+      let after = stay host h.0 h.1 in (
+        ap (option_map (λ (k : HostRow). k.account)) after.1 ∙ ap Some after.2 ∙ sym (ap (option_map (λ (k : HostRow). k.account)) h.1),
+        ap is_some after.1,
+      )
 
   -- so an instance is of the same user, and its owner's host stands
   same_user : (x : Instance) → HasOwnerAmong old x → (user_of new x ≡ user_of old x) × HasOwnerAmong new x

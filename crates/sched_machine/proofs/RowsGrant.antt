@@ -5,10 +5,10 @@ use Rattle.std.specs.List.{list_any}
 use Rattle.std.proofs.lemmas.List.Elements.{All-head, All-tail}
 use Rattle.sched_book.specs.Count.{is_judged, is_live, is_open, report_place}
 use Rattle.sched_book.specs.Fits.{is_eligible, is_for, unit_fits}
-use Rattle.sched_book.specs.Limits.{last_moment, last_deadline, most_delay, most_workunits, most_instances, IsInstanceInLimits}
+use Rattle.sched_book.specs.Limits.{last_moment, last_deadline, most_delay, most_instances, IsInstanceInLimits}
 use Rattle.sched_book.specs.Lost.{delay_at}
 use Rattle.sched_book.specs.Places.{nth, unit_at, host_at, status_of, option_any, account_at, user_of, agreement_by, is_of_user, user_had}
-use Rattle.sched_book.specs.Reports.{modify_at, modify_nth, with_number, with_changed}
+use Rattle.sched_book.specs.Reports.{modify_at, with_number, with_changed}
 use Rattle.sched_book.specs.Sound.{AreOfOtherUsers, IsBare, HasOwnerAmong, IsSettledUnit, IsSettled}
 use Rattle.sched_book.specs.Step.{with_owner, grant_one, granted}
 use Rattle.sched_book.specs.declared.instance.Instance.{Instance}
@@ -18,15 +18,15 @@ use Rattle.sched_book.specs.declared.instance.UnitBook.{UnitBook}
 use Rattle.sched_book.specs.declared.rows.App.{App}
 use Rattle.sched_book.specs.declared.rows.HostRow.{HostRow}
 use Rattle.sched_book.specs.declared.world.World.{World}
-use Rattle.sched_book.proofs.PlacesOf.{nth-modify_nth, length-modify_nth}
+use Rattle.sched_book.proofs.PlacesOf.{nth-modify_nth}
 use Rattle.sched_book.proofs.Rising.{pairs_head, pairs_tail}
 use Rattle.quorum_credit.proofs.ByPlace.{all_get, all_nth}
 use Rattle.job_choice.proofs.Candidates.{Stood, stood}
 use Rattle.sched_machine.specs.Laws.{GrantKeepsSettled}
-use Rattle.sched_machine.proofs.RowsKept.{rows_kept}
-use Rattle.sched_machine.proofs.RowsListed.{all_changed, pairs_changed, all_changed_nth, pairs_changed_nth, count_changed, any_changed, none_any}
+use Rattle.sched_machine.proofs.RowsKept.{rows_changed}
+use Rattle.sched_machine.proofs.RowsListed.{all_changed, pairs_changed, all_changed_nth, count_changed, any_changed, none_any}
 use Rattle.sched_machine.proofs.RowsCounted.{need_stays, status_stays}
-use Rattle.sched_machine.proofs.RunKept.{free_first}
+use Rattle.sched_machine.proofs.StepMoves.{free_first}
 use Rattle.sched_machine.proofs.UnitsAlike.{length_changed}
 
 -- what is not the user's went to no host of the user
@@ -97,10 +97,7 @@ not_had false b c d is = absurd cc
 module _ (host now : ℕ) (h : HostRow) (soon : now ≤ last_moment) where
   give_one : (w : World) (p : Place) → IsSettled w → host_at w host ≡ Some h → is_eligible w h p ≡ true → IsSettled (grant_one host now w p)
   give_one w p settled stands eligible = record {
-    rows = rows_kept w (modify_nth (with_number (with_owner o) p.number) w.units p.unit) settled.rows
-        (pairs_changed_nth (λ a b. a.unit.name ≢ b.unit.name) (with_number (with_owner o) p.number) w.units p.unit settled.rows.unit_names
-        (λ b is c. (λ before. before, λ before. before)))
-        (subst (λ n. n ≤ most_workunits) (sym (length-modify_nth (with_number (with_owner o) p.number) w.units p.unit)) settled.rows.unit_count);
+    rows = rows_changed w (with_number (with_owner o) p.number) p.unit (λ b. refl) settled.rows;
     units = all_changed_nth (IsSettledUnit w.hosts w.apps) (with_number (with_owner o) p.number) w.units p.unit settled.units
         (λ b is before. let same : at.book ≡ b = (let both : Some at.book ≡ Some b = sym at.at ∙ is in cc) in subst (λ c. IsSettledUnit w.hosts w.apps (with_number (with_owner o) p.number c)) same here);
   }

@@ -1,6 +1,6 @@
 -- Facts of each element of a list and of each two, by what stands at each index, and after one element is changed.
-use Rattle.std.proofs.Common.{◌≡◌, ℕ, zero, suc, ◌+◌, ◌-◌, ◌<◌, Bool, true, false, cond, eqb, List, [], ◌∷◌, map, get_or, All, AllPairs, Option, Some, None, slice_get, option_map, sym, refl, ap, ◌∙◌, subst, arith}
-use Rattle.std.specs.Prelude.{◌||◌, count_by}
+use Rattle.std.proofs.Common.{◌≡◌, ℕ, zero, suc, ◌+◌, ◌-◌, ◌<◌, Bool, true, false, cond, eqb, List, [], ◌∷◌, ◌++◌, map, get_or, All, AllPairs, Some, None, slice_get, option_map, sym, refl, ap, ◌∙◌, subst, arith}
+use Rattle.std.specs.Prelude.{◌||◌, count_by, sum_by}
 use Rattle.std.specs.List.{list_any, position_from}
 use Rattle.std.proofs.lemmas.List.Elements.{All-cons, All-head, All-tail}
 use Rattle.std.proofs.lemmas.List.Kept.{AllPairs-cons}
@@ -12,6 +12,7 @@ use Rattle.sched_book.specs.Reports.{modify_at, modify_nth}
 use Rattle.sched_book.proofs.PlacesOf.{nth-suc, place_where-is}
 use Rattle.quorum_credit.proofs.ByPlace.{all_get}
 use Rattle.sched_book.proofs.Rising.{pairs_head, pairs_tail}
+use Rattle.sched_machine.proofs.OptionParts.{mapped_by}
 
 -- a fact of each element, and of each two, by index
 pub all_from : {X : Type 0} (P : X → Type 0) (xs : List X) → ((i : ℕ) (x : X) → slice_get xs i ≡ Some x → P x) → All P xs
@@ -31,23 +32,29 @@ pairs_get R xs i j x y all less here there =
 
 -- the same under a function
 pub pairs_map : {X Y : Type 0} (f : X → Y) (R : Y → Y → Type 0) (xs : List X) → AllPairs (λ a b. R (f a) (f b)) xs → AllPairs R (map f xs)
-pairs_map {X} {Y} f R xs all =
-    pairs_from R (map f xs) (λ i j x y less here there. cases i j x y less (slice_get xs i) refl (slice_get xs j) refl
-    (sym (slice_get-map f xs i) ∙ here) (sym (slice_get-map f xs j) ∙ there))
-  where
-    cases : (i j : ℕ) (x y : Y) → i < j → (o : Option X) → slice_get xs i ≡ o → (q : Option X) → slice_get xs j ≡ q
-        → option_map f o ≡ Some x → option_map f q ≡ Some y → R x y
-    cases i j x y less None here q there is also = absurd cc
-    cases i j x y less (Some a) here None there is also = absurd cc
-    cases i j x y less (Some a) here (Some b) there is also =
-        let first : f a ≡ x = cc in
-        let second : f b ≡ y = cc in
-        subst (λ z. R z y) first (subst (R (f a)) second (pairs_get (λ c d. R (f c) (f d)) xs i j a b all less here there))
+pairs_map f R xs all =
+    pairs_from R (map f xs) (λ i j x y less here there.
+    let a = mapped_by f (slice_get xs i) x (sym (slice_get-map f xs i) ∙ here) in
+    let b = mapped_by f (slice_get xs j) y (sym (slice_get-map f xs j) ∙ there) in
+    subst (λ z. R z y) a.2 (subst (R (f a.0)) b.2 (pairs_get (λ c d. R (f c) (f d)) xs i j a.0 b.0 all less a.1 b.1)))
 
 pub pairs_of_map : {X Y : Type 0} (f : X → Y) (R : Y → Y → Type 0) (xs : List X) → AllPairs R (map f xs) → AllPairs (λ a b. R (f a) (f b)) xs
 pairs_of_map f R xs all =
     pairs_from (λ a b. R (f a) (f b)) xs (λ i j x y less here there. pairs_get R (map f xs) i j (f x) (f y) all less
     (slice_get-map f xs i ∙ ap (option_map f) here) (slice_get-map f xs j ∙ ap (option_map f) there))
+
+-- what stands in a list stands there with more behind it
+front_stays : {X : Type 0} (xs more : List X) (i : ℕ) (x : X) → slice_get xs i ≡ Some x → slice_get (xs ++ more) i ≡ Some x
+front_stays [] more i x is = absurd cc
+front_stays (y ∷ xs) more zero x is = is
+front_stays (y ∷ xs) more (suc i) x is = front_stays xs more i x is
+
+pub front_nth : {X : Type 0} (xs more : List X) (n : ℕ) (x : X) → nth xs n ≡ Some x → nth (xs ++ more) n ≡ Some x
+front_nth {X} xs more n x is = cases (eqb n 0) is
+  where
+    cases : (b : Bool) → cond b None (slice_get xs (n - 1)) ≡ Some x → cond b None (slice_get (xs ++ more) (n - 1)) ≡ Some x
+    cases true none = none
+    cases false there = front_stays xs more (n - 1) x there
 
 -- after one element is changed, where the change keeps the fact
 pub all_changed : {X : Type 0} (P : X → Type 0) (f : X → X) (xs : List X) (n : ℕ) → All P xs
@@ -87,18 +94,19 @@ pairs_changed_nth {X} R f xs n all keeps = cases (eqb n 0) keeps
     cases true keeps = all
     cases false keeps = pairs_changed R f xs (n - 1) all (λ x is k z there. keeps x is z)
 
+-- a sum where one element changes and counts as much
+pub sum_changed_at : {X : Type 0} (g : X → ℕ) (f : X → X) (xs : List X) (i : ℕ) → ((x : X) → slice_get xs i ≡ Some x → g (f x) ≡ g x)
+    → sum_by g (modify_at f xs i) ≡ sum_by g xs
+sum_changed_at g f [] i same = refl
+sum_changed_at g f (x ∷ xs) zero same = sum_by-cons g (f x) xs ∙ ap (λ n. n + sum_by g xs) (same x refl) ∙ sym (sum_by-cons g x xs)
+sum_changed_at g f (x ∷ xs) (suc i) same =
+    sum_by-cons g x (modify_at f xs i) ∙ ap (λ n. g x + n) (sum_changed_at g f xs i same) ∙ sym (sum_by-cons g x xs)
+
 -- as many pass after a change that the test does not see, and some do where some did
 pub count_changed : {X : Type 0} (p : X → Bool) (f : X → X) (xs : List X) (n : ℕ) → ((x : X) → slice_get xs n ≡ Some x → p (f x) ≡ p x)
     → count_by p (modify_at f xs n) ≡ count_by p xs
-count_changed p f [] n same = refl
-count_changed p f (x ∷ xs) zero same =
-    sum_by-cons (λ y. cond {A = ℕ} (p y) 1 0) (f x) xs
-    ∙ ap (λ (b : Bool). cond {A = ℕ} b 1 0 + count_by p xs) (same x refl)
-    ∙ sym (sum_by-cons (λ y. cond {A = ℕ} (p y) 1 0) x xs)
-count_changed p f (x ∷ xs) (suc n) same =
-    sum_by-cons (λ y. cond {A = ℕ} (p y) 1 0) x (modify_at f xs n)
-    ∙ ap (λ m. cond {A = ℕ} (p x) 1 0 + m) (count_changed p f xs n same)
-    ∙ sym (sum_by-cons (λ y. cond {A = ℕ} (p y) 1 0) x xs)
+count_changed p f xs n same =
+    sum_changed_at (λ y. cond {A = ℕ} (p y) 1 0) f xs n (λ x is. ap (λ (b : Bool). cond {A = ℕ} b 1 0) (same x is))
 
 pub any_changed : {X : Type 0} (p : X → Bool) (f : X → X) (xs : List X) (n : ℕ) → ((x : X) → slice_get xs n ≡ Some x → p (f x) ≡ p x)
     → list_any p (modify_at f xs n) ≡ list_any p xs

@@ -1,24 +1,28 @@
 -- There is no more than one step of each call, and no more than one run of a list of calls.
-use Rattle.std.proofs.Common.{◌≡◌, ℕ, true, false, List, [], ◌∷◌, ◌++◌, map, sym, refl, ap, ◌∙◌, subst}
+use Rattle.std.proofs.Common.{◌≡◌, ℕ, true, false, List, [], ◌∷◌, ◌++◌, map, sym, refl, ap, ◌∙◌, subst, length}
 use Rattle.std.specs.Prelude.{filter_map}
 use Rattle.rpc_records.specs.declared.reply.Reply.{Reply}
 use Rattle.rpc_records.specs.declared.request.Report.{Report}
 use Rattle.rpc_records.specs.declared.request.Request.{Request}
-use Rattle.sched_book.specs.Grant.{end_word}
+use Rattle.sched_book.specs.Grant.{end_word, IsGrant}
+use Rattle.sched_book.specs.Imports.{with_rows, row_count}
 use Rattle.sched_book.specs.Lost.{aborts}
-use Rattle.sched_book.specs.Places.{host_credit, user_credit}
+use Rattle.sched_book.specs.Places.{host_credit, user_credit, overdue}
 use Rattle.sched_book.specs.Reports.{first_reports}
-use Rattle.sched_book.specs.Step.{RpcStep, TickStep, ImportStep, Trace, after_settlement, asking_of, after_grant, host_number, host_at_entry, job_at, resent_of, user_name}
+use Rattle.sched_book.specs.Settle.{settled}
+use Rattle.sched_book.specs.Step.{Trace, after_settlement, asking_of, after_grant, host_number, host_at_entry, job_at, resent_of, user_name, Step, lapsed}
 use Rattle.sched_book.specs.declared.instance.Place.{Place}
+use Rattle.sched_book.specs.declared.machine.Answered.{Answered}
 use Rattle.sched_book.specs.declared.machine.Answered.TheVariants as answered
+use Rattle.sched_book.specs.declared.machine.Call.{Call}
 use Rattle.sched_book.specs.declared.machine.Call.TheVariants as call
 use Rattle.sched_book.specs.declared.machine.Caller.{Caller}
-use Rattle.sched_book.specs.declared.rows.Rows.{Rows}
 use Rattle.sched_book.specs.declared.world.World.{World}
 use Rattle.job_choice.proofs.Only.{one_grant}
 use Rattle.sched_machine.specs.Runs.{StepIsDetermined, RunIsDetermined}
+use Rattle.sched_machine.proofs.StepCases.{by_call}
 
--- a scheduler call: there is one grant, and the rest is made of it
+-- what a scheduler call answers
 module _ (w : World) (c : Caller) (r : Request) (now : ℕ) where
   abbrev reply_with : World → List Place → Reply
   reply_with after jobs = record {
@@ -35,38 +39,31 @@ module _ (w : World) (c : Caller) (r : Request) (now : ℕ) where
     user_total_credit = user_credit after c.account;
   }
 
-  one_call : (v u : World) (a b : Reply) → RpcStep w c r now v a → RpcStep w c r now u b → (v ≡ u) × (a ≡ b)
-  one_call v u a b first second =
-      let jobs : first.jobs ≡ second.jobs =
-      one_grant (after_settlement w c r now) (asking_of w c r now) first.jobs second.jobs first.grant second.grant in
-      let left : v ≡ u = first.left ∙ ap (after_grant w c r now) jobs ∙ sym second.left in
-      (left, first.answer ∙ ap (λ after. reply_with after first.jobs) left ∙ ap (reply_with u) jobs ∙ sym second.answer)
+-- what a step of a call leaves and answers, but for which jobs it grants
+abbrev Leaves : World → Call → ℕ → World → Answered → Type 0
+Leaves w (call.Rpc c r) now v a =
+    (jobs : List Place) × IsGrant (after_settlement w c r now) (asking_of w c r now) jobs × (v ≡ after_grant w c r now jobs)
+    × (a ≡ answered.Rpc (reply_with w c r now (after_grant w c r now jobs) jobs))
+Leaves w (call.Import new) now v a = (v ≡ with_rows w new) × (a ≡ answered.Imported (row_count new))
+Leaves w call.Tick now v a = (v ≡ settled w (lapsed w now)) × (a ≡ answered.Lapsed (length (overdue w now)))
 
-one_tick : (w v u : World) (now n m : ℕ) → TickStep w now v n → TickStep w now u m → (v ≡ u) × (n ≡ m)
-one_tick w v u now n m first second = (first.left ∙ sym second.left, first.answer ∙ sym second.answer)
-
-one_import : (w v u : World) (new : Rows) (n m : ℕ) → ImportStep w new v n → ImportStep w new u m → (v ≡ u) × (n ≡ m)
-one_import w v u new n m first second = (first.left ∙ sym second.left, first.answer ∙ sym second.answer)
+leaves : (w v : World) (c : Call) (now : ℕ) (a : Answered) → Step w c now v a → Leaves w c now v a
+leaves w v c now =
+    by_call w v now (λ c a. Leaves w c now v a)
+    (λ c r reply step. (step.jobs, step.grant, step.left, ap answered.Rpc (step.answer ∙ ap (λ after. reply_with w c r now after step.jobs) step.left)))
+    (λ new count step. (step.left, ap answered.Imported step.answer)) (λ count step. (step.left, ap answered.Lapsed step.answer)) c
 
 pub a_step_is_determined : StepIsDetermined
-a_step_is_determined w v u (call.Rpc c r) now (answered.Rpc a) (answered.Rpc b) first second =
-    let one = one_call w c r now v u a b first second in (one.0, ap answered.Rpc one.1)
-a_step_is_determined w v u (call.Rpc c r) now (answered.Rpc a) (answered.Imported m) first second = absurd second
-a_step_is_determined w v u (call.Rpc c r) now (answered.Rpc a) (answered.Lapsed m) first second = absurd second
-a_step_is_determined w v u (call.Rpc c r) now (answered.Imported n) b first second = absurd first
-a_step_is_determined w v u (call.Rpc c r) now (answered.Lapsed n) b first second = absurd first
-a_step_is_determined w v u (call.Import new) now (answered.Imported n) (answered.Imported m) first second =
-    let one = one_import w v u new n m first second in (one.0, ap answered.Imported one.1)
-a_step_is_determined w v u (call.Import new) now (answered.Imported n) (answered.Rpc b) first second = absurd second
-a_step_is_determined w v u (call.Import new) now (answered.Imported n) (answered.Lapsed m) first second = absurd second
-a_step_is_determined w v u (call.Import new) now (answered.Rpc a) b first second = absurd first
-a_step_is_determined w v u (call.Import new) now (answered.Lapsed n) b first second = absurd first
-a_step_is_determined w v u call.Tick now (answered.Lapsed n) (answered.Lapsed m) first second =
-    let one = one_tick w v u now n m first second in (one.0, ap answered.Lapsed one.1)
-a_step_is_determined w v u call.Tick now (answered.Lapsed n) (answered.Rpc b) first second = absurd second
-a_step_is_determined w v u call.Tick now (answered.Lapsed n) (answered.Imported m) first second = absurd second
-a_step_is_determined w v u call.Tick now (answered.Rpc a) b first second = absurd first
-a_step_is_determined w v u call.Tick now (answered.Imported n) b first second = absurd first
+a_step_is_determined w v u c now a b first second = same c (leaves w v c now a first) (leaves w u c now b second)
+  where
+    same : (c : Call) → Leaves w c now v a → Leaves w c now u b → (v ≡ u) × (a ≡ b)
+    same (call.Rpc c r) one other =
+        let jobs : one.0 ≡ other.0 = one_grant (after_settlement w c r now) (asking_of w c r now) one.0 other.0 one.1 other.1 in (
+          one.2 ∙ ap (after_grant w c r now) jobs ∙ sym other.2,
+          one.3 ∙ ap (λ jobs. answered.Rpc (reply_with w c r now (after_grant w c r now jobs) jobs)) jobs ∙ sym other.3,
+        )
+    same (call.Import new) one other = (one.0 ∙ sym other.0, one.1 ∙ sym other.1)
+    same call.Tick one other = (one.0 ∙ sym other.0, one.1 ∙ sym other.1)
 
 -- each further turn is one of the same world
 pub a_run_is_determined : RunIsDetermined

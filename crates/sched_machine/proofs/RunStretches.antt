@@ -1,27 +1,29 @@
 -- What holds of the calls between two worlds of a run.
 use Rattle.std.proofs.Common.{◌≡◌, ◌⊎◌, inl, inr, ℕ, zero, suc, ◌<◌, ◌≤◌, true, List, [], ◌∷◌, length, Some, None, sym, refl, ap, ◌∙◌, subst, arith}
-use Rattle.std.specs.Prelude.{slice_get}
+use Rattle.rpc_records.specs.declared.request.Request.{Request}
 use Rattle.sched_book.specs.Imports.{with_rows}
 use Rattle.sched_book.specs.Sound.{Sound}
-use Rattle.sched_book.specs.Step.{Step, Trace, after_reports, after_settlement, at_entry, deadline_at, granted, host_number, host_at_entry, lost_of}
+use Rattle.sched_book.specs.Step.{Step, Trace, after_settlement, deadline_at, granted, host_number, host_at_entry}
 use Rattle.sched_book.specs.declared.instance.Owner.{Owner}
 use Rattle.sched_book.specs.declared.instance.Place.{Place}
 use Rattle.sched_book.specs.declared.machine.Answered.{Answered}
 use Rattle.sched_book.specs.declared.machine.Answered.TheVariants as answered
 use Rattle.sched_book.specs.declared.machine.Call.{Call}
 use Rattle.sched_book.specs.declared.machine.Call.TheVariants as call
+use Rattle.sched_book.specs.declared.machine.Caller.{Caller}
 use Rattle.sched_book.specs.declared.rows.Rows.{Rows}
 use Rattle.sched_book.specs.declared.rows.Rows.TheVariants as rows
 use Rattle.sched_book.specs.declared.settings.Settings.{Settings}
 use Rattle.sched_book.specs.declared.world.World.{World}
-use Rattle.sched_book.proofs.PlaceChanges.{reports_change_instances_alone, lapses_are_by_place, grants_are_by_place, lost_jobs_are_by_place}
-use Rattle.sched_machine.specs.Laws.{AreCallsInLimits}
+use Rattle.sched_book.proofs.PlaceChanges.{lapses_are_by_place, grants_are_by_place}
 use Rattle.sched_machine.specs.Runs.{owner_at, world_after, IsSentAgain}
 use Rattle.sched_machine.specs.Stretches.{IsInSightAfter, IsSentAgainAfter, DeadlinesMoveByResendsInRuns, HoldsWhatIsListedOrNamedInRuns}
 use Rattle.sched_machine.proofs.Classed.{classed_like}
 use Rattle.sched_machine.proofs.HeldNamed as named
 use Rattle.sched_machine.proofs.RunDeadlines.{deadlines_move_by_resends_alone}
 use Rattle.sched_machine.proofs.RunLasting.{owners_stay_in_step}
+use Rattle.sched_machine.proofs.StepCases.{by_call}
+use Rattle.sched_machine.proofs.StepMoves.{left_alone}
 use Rattle.sched_machine.proofs.StepsSound.{step_keeps_sound}
 
 -- ---- deadlines
@@ -51,30 +53,27 @@ one_before w calls turns e t i j p n o same moves = elim moves [
   )
 ]
 
-from_first : (w : World) (calls : List (Call × ℕ)) (turns : List (Answered × World)) → Trace w calls turns → (j : ℕ) → j ≤ length turns
-    → (p : Place) (o : Owner) → owner_at w p ≡ Some o → MovesBefore w calls turns 0 j p o
-from_first w calls turns trace zero within p o is = inl refl
-from_first w [] [] trace (suc j) within p o is = absurd (omega arith)
-from_first w [] (t ∷ ts) trace (suc j) within p o is = absurd trace
-from_first w (e ∷ es) [] trace (suc j) within p o is = absurd trace
-from_first w (e ∷ es) (t ∷ ts) trace (suc j) within p o is =
+moves : (w : World) (calls : List (Call × ℕ)) (turns : List (Answered × World)) → Trace w calls turns → (i j : ℕ) → i ≤ j → j ≤ length turns
+    → (p : Place) (o : Owner) → owner_at (world_after w turns i) p ≡ Some o → MovesBefore w calls turns i j p o
+moves w calls turns trace zero zero less within p o is = inl refl
+moves w calls turns trace (suc i) zero less within p o is = absurd (omega arith)
+moves w [] [] trace i (suc j) less within p o is = absurd (omega arith)
+moves w [] (t ∷ ts) trace i (suc j) less within p o is = absurd trace
+moves w (e ∷ es) [] trace i (suc j) less within p o is = absurd trace
+moves w (e ∷ es) (t ∷ ts) trace (suc i) (suc j) less within p o is =
+    one_before w es ts e t i j p o o refl (moves t.1 es ts trace.1 i j (omega arith) (omega arith) p o is)
+moves w (e ∷ es) (t ∷ ts) trace zero (suc j) less within p o is =
     let next = owners_stay_in_step w t.1 e.0 e.1 t.0 trace.0 p o is in
     elim (deadlines_move_by_resends_alone w t.1 e.0 e.1 t.0 trace.0 p o is) [
       | inr again ↦ inr (0, omega arith, omega arith, (e, refl, again))
-      | inl stays ↦ elim (one_before w es ts e t 0 j p next.0 o next.2 (from_first t.1 es ts trace.1 j (omega arith) p next.0 next.1)) [
+      | inl stays ↦ elim (one_before w es ts e t 0 j p next.0 o next.2 (moves t.1 es ts trace.1 0 j (omega arith) (omega arith) p next.0 next.1)) [
         | inl later ↦ inl (later ∙ stays)
         | inr again ↦ inr (again.0, omega arith, again.2, again.3)
       ]
     ]
 
 pub deadlines_move_by_resends_in_runs : DeadlinesMoveByResendsInRuns
-deadlines_move_by_resends_in_runs w calls turns trace i zero less within p o is = absurd (omega arith)
-deadlines_move_by_resends_in_runs w calls turns trace zero (suc j) less within p o is = from_first w calls turns trace (suc j) within p o is
-deadlines_move_by_resends_in_runs w [] [] trace (suc i) (suc j) less within p o is = absurd (omega arith)
-deadlines_move_by_resends_in_runs w [] (t ∷ ts) trace (suc i) (suc j) less within p o is = absurd trace
-deadlines_move_by_resends_in_runs w (e ∷ es) [] trace (suc i) (suc j) less within p o is = absurd trace
-deadlines_move_by_resends_in_runs w (e ∷ es) (t ∷ ts) trace (suc i) (suc j) less within p o is =
-    one_before w es ts e t i j p o o refl (deadlines_move_by_resends_in_runs t.1 es ts trace.1 i j (omega arith) (omega arith) p o is)
+deadlines_move_by_resends_in_runs w calls turns trace i j less within = moves w calls turns trace i j (omega arith) within
 
 -- ---- held jobs
 
@@ -86,69 +85,40 @@ rows_leave w (rows.Versions xs) = refl
 rows_leave w (rows.Workunits xs) = refl
 
 pub settings_stay_in_step : (w after : World) (c : Call) (now : ℕ) (answer : Answered) → Step w c now after answer → after.settings ≡ w.settings
-settings_stay_in_step w after (call.Rpc c r) now (answered.Rpc reply) step =
+settings_stay_in_step w after c now answer step =
+    by_call w after now (λ c answer. after.settings ≡ w.settings)
+    (λ c r reply step.
     ap (λ (v : World). v.settings) step.left
     ∙ ap (λ (v : World). v.settings)
     (classed_like w (host_at_entry w c r) step.jobs (granted (after_settlement w c r now) (host_number w c) now step.jobs)).rest
     ∙ (grants_are_by_place (after_settlement w c r now) (host_number w c) now step.jobs).rest.settings
-    ∙ (lost_jobs_are_by_place (at_entry w c r) (host_at_entry w c r) now (after_reports w c r) (lost_of w c r)).rest.settings
-    ∙ (reports_change_instances_alone (at_entry w c r) (host_number w c) r.results).settings
-settings_stay_in_step w after (call.Rpc c r) now (answered.Imported n) step = absurd step
-settings_stay_in_step w after (call.Rpc c r) now (answered.Lapsed n) step = absurd step
-settings_stay_in_step w after (call.Import new) now (answered.Imported n) step = ap (λ (v : World). v.settings) step.left ∙ rows_leave w new
-settings_stay_in_step w after (call.Import new) now (answered.Rpc reply) step = absurd step
-settings_stay_in_step w after (call.Import new) now (answered.Lapsed n) step = absurd step
-settings_stay_in_step w after call.Tick now (answered.Lapsed n) step =
-    ap (λ (v : World). v.settings) step.left ∙ (lapses_are_by_place w now).rest.settings
-settings_stay_in_step w after call.Tick now (answered.Rpc reply) step = absurd step
-settings_stay_in_step w after call.Tick now (answered.Imported n) step = absurd step
+    ∙ (left_alone w c r now).settings)
+    (λ new count step. ap (λ (v : World). v.settings) step.left ∙ rows_leave w new)
+    (λ count step. ap (λ (v : World). v.settings) step.left ∙ (lapses_are_by_place w now).rest.settings)
+    c answer step
 
--- A turn of a run, which is a step of a sound world with the settings of the first.
-record IsTurn (w : World) (turns : List (Answered × World)) (n : ℕ) (e : Call × ℕ) : Type 0 where
-  answer : Answered
-  there : slice_get turns n ≡ Some (answer, world_after w turns (suc n))
-  sound : Sound (world_after w turns n)
-  step : Step (world_after w turns n) e.0 e.1 (world_after w turns (suc n)) answer
-  settings : (world_after w turns n).settings ≡ w.settings
-
--- each call of a run has one
-turn_at : (w : World) (calls : List (Call × ℕ)) (turns : List (Answered × World)) → Sound w → AreCallsInLimits calls → Trace w calls turns
-    → (n : ℕ) (e : Call × ℕ) → slice_get calls n ≡ Some e → IsTurn w turns n e
-turn_at w [] turns sound limits trace n e called = absurd (let never : None ≡ Some e = called in cc)
-turn_at w (f ∷ fs) [] sound limits trace n e called = absurd trace
-turn_at w (f ∷ fs) (u ∷ us) sound limits trace zero e called =
-    let same : f ≡ e = (let both : Some f ≡ Some e = called in cc) in
-    record {
-      answer = u.0;
-      there = refl;
-      sound = sound;
-      step = subst (λ (f : Call × ℕ). Step w f.0 f.1 u.1 u.0) same trace.0;
-      settings = refl;
+-- the first call of a run
+first : (w : World) (t : Answered × World) (ts : List (Answered × World)) (e : Call × ℕ) (c : Caller) (r : Request) (now : ℕ) (names : List (List ℕ))
+    → Sound w → w.settings.resend_lost_results ≡ true → r.other_results ≡ Some names → e ≡ (call.Rpc c r, now) → Step w e.0 e.1 t.1 t.0
+    → IsInSightAfter w (t ∷ ts) 0 c r names
+first w t ts e c r now names sound resends lists same step = cases t.0 refl (subst (λ (e : Call × ℕ). Step w e.0 e.1 t.1 t.0) same step)
+  where
+    cases : (answer : Answered) → t.0 ≡ answer → Step w (call.Rpc c r) now t.1 answer → IsInSightAfter w (t ∷ ts) 0 c r names
+    cases (answered.Rpc reply) is step = record {
+      reply = reply;
+      turn = ap (λ a. Some (a, t.1)) is;
+      held = named.a_host_holds_what_is_listed_or_named w t.1 c r now reply names step sound resends lists;
     }
-turn_at w (f ∷ fs) (u ∷ us) sound limits trace (suc n) e called =
-    let later = turn_at u.1 fs us (step_keeps_sound w u.1 f.0 f.1 u.0 sound limits.0 limits.1 trace.0) limits.2 trace.1 n e called in
-    record {
-      answer = later.answer;
-      there = later.there;
-      sound = later.sound;
-      step = later.step;
-      settings = later.settings ∙ settings_stay_in_step w u.1 f.0 f.1 u.0 trace.0;
-    }
+    cases (answered.Imported count) is step = absurd step
+    cases (answered.Lapsed count) is step = absurd step
 
 pub a_host_holds_what_is_listed_or_named_in_runs : HoldsWhatIsListedOrNamedInRuns
-a_host_holds_what_is_listed_or_named_in_runs w calls turns sound limits trace resends n now c r names called lists =
-    let turn = turn_at w calls turns sound limits trace n (call.Rpc c r, now) called in
-    cases turn.answer turn.there turn.step turn.sound (ap (λ (s : Settings). s.resend_lost_results) turn.settings ∙ resends)
-  where
-    before : World
-    before = world_after w turns n
-
-    after : World
-    after = world_after w turns (suc n)
-
-    cases : (answer : Answered) → slice_get turns n ≡ Some (answer, after) → Step before (call.Rpc c r) now after answer → Sound before
-        → before.settings.resend_lost_results ≡ true → IsInSightAfter w turns n c r names
-    cases (answered.Rpc reply) there step sound again =
-        record { reply = reply; turn = there; held = named.a_host_holds_what_is_listed_or_named before after c r now reply names step sound again lists }
-    cases (answered.Imported count) there step sound again = absurd step
-    cases (answered.Lapsed count) there step sound again = absurd step
+a_host_holds_what_is_listed_or_named_in_runs w [] turns sound limits trace resends n now c r names called lists =
+    absurd (let never : None ≡ Some (call.Rpc c r, now) = called in cc)
+a_host_holds_what_is_listed_or_named_in_runs w (e ∷ es) [] sound limits trace resends n now c r names called lists = absurd trace
+a_host_holds_what_is_listed_or_named_in_runs w (e ∷ es) (t ∷ ts) sound limits trace resends zero now c r names called lists =
+    first w t ts e c r now names sound resends lists (let both : Some e ≡ Some (call.Rpc c r, now) = called in cc) trace.0
+a_host_holds_what_is_listed_or_named_in_runs w (e ∷ es) (t ∷ ts) sound limits trace resends (suc n) now c r names called lists =
+    let later = a_host_holds_what_is_listed_or_named_in_runs t.1 es ts (step_keeps_sound w t.1 e.0 e.1 t.0 sound limits.0 limits.1 trace.0) limits.2 trace.1
+    (ap (λ (s : Settings). s.resend_lost_results) (settings_stay_in_step w t.1 e.0 e.1 t.0 trace.0) ∙ resends) n now c r names called lists in
+    record { reply = later.reply; turn = later.turn; held = later.held }

@@ -1,48 +1,52 @@
--- What a call's host holds after settlement it held before the call.
-use Rattle.std.proofs.Common.{◌≡◌, ℕ, zero, suc, Bool, true, false, cond, List, [], ◌∷◌, ◌++◌, Option, Some, None, sym, refl, ap, ◌∙◌}
-use Rattle.std.specs.Prelude.{◌&&◌, fold, is_none, is_some, replicate, option_map, option_and_then, unwrap_or, slice_get}
+-- What a call's host holds after its reports, its lost jobs, settlement and its grant, at one place.
+use Rattle.std.proofs.Common.{◌≡◌, inl, inr, ℕ, Bool, true, false, List, Option, Some, None, sym, refl, ap, ◌∙◌, ◌⊎◌, ◌+◌}
+use Rattle.std.proofs.lemmas.Bool.{and_parts}
+use Rattle.std.specs.Prelude.{◌&&◌, Contains, fold, is_none, is_some, option_map, unwrap_or}
+use borrow.Author.Tests.{eq-eqb}
 use Rattle.rpc_records.specs.declared.request.Request.{Request}
-use Rattle.sched_book.specs.Count.{is_open, need}
-use Rattle.sched_book.specs.Fits.{estimate_at}
-use Rattle.sched_book.specs.Lost.{is_resent, delay_at, deadline_after, with_deadline, with_lapse, resend_or_drop}
-use Rattle.sched_book.specs.Places.{unit_at, instance_at, book_status, is_held_by, is_owned_by, is_same}
-use Rattle.sched_book.specs.Reports.{with_changed}
-use Rattle.sched_book.specs.Settle.{fresh, grown, settled}
-use Rattle.sched_book.specs.Step.{host_number, at_entry, after_reports, host_at_entry, lost_of, after_lost, after_settlement}
+use Rattle.sched_book.specs.Count.{is_held}
+use Rattle.sched_book.specs.Lost.{is_resent, with_deadline, with_lapse, resend_or_drop, delay_at}
+use Rattle.sched_book.specs.PlaceLaws.{HasResentOrDropped, HasGranted}
+use Rattle.sched_book.specs.Places.{instance_at, is_held_by, is_owned_by}
+use Rattle.sched_book.specs.Settle.{settled}
+use Rattle.sched_book.specs.Step.{host_number, at_entry, after_reports, host_at_entry, lost_of, after_lost, after_settlement, with_owner, granted}
 use Rattle.sched_book.specs.declared.instance.Instance.{Instance}
+use Rattle.sched_book.specs.declared.instance.Lapse.{Lapse}
 use Rattle.sched_book.specs.declared.instance.Lapse.TheVariants.{Dropped}
+use Rattle.sched_book.specs.declared.instance.Outcome.{Outcome}
 use Rattle.sched_book.specs.declared.instance.Owner.{Owner}
 use Rattle.sched_book.specs.declared.instance.Place.{Place}
-use Rattle.sched_book.specs.declared.instance.UnitBook.{UnitBook}
 use Rattle.sched_book.specs.declared.machine.Caller.{Caller}
-use Rattle.sched_book.specs.declared.rows.App.{App}
 use Rattle.sched_book.specs.declared.rows.HostRow.{HostRow}
 use Rattle.sched_book.specs.declared.world.World.{World}
-use Rattle.sched_book.proofs.Recording.{passes-is, instance_at-with_changed}
-use Rattle.sched_book.proofs.Settling.{nth-map}
+use Rattle.sched_book.proofs.PlaceChanges.{lost_jobs_are_by_place, grants_are_by_place}
+use Rattle.sched_book.proofs.Recording.{passes-is}
 use Rattle.lost_jobs.specs.Holding.{HoldsNoMore}
-use Rattle.lost_jobs.proofs.Reported.{reports_hold_no_more}
+use Rattle.lost_jobs.proofs.Reported.{reports_hold_no_more, held_unreported, unreported_held}
 use Rattle.sched_machine.specs.Asked.{holds}
+use Rattle.sched_machine.specs.Held.{ReportsEndHolding}
+use Rattle.sched_machine.proofs.OptionParts.{any_by}
+use Rattle.sched_machine.proofs.StepMoves.{among, settled_lasts, none_of}
+
+-- after the reports it holds what it held and did not report
+pub reports_end_holding : ReportsEndHolding
+reports_end_holding w c r p = (
+  λ held. record {
+    held = reports_hold_no_more entry host r.results p held;
+    unreported = λ known. held_unreported entry host r.results p held known.0 known.1 known.2;
+  },
+  λ kept. unreported_held entry host r.results p kept.held (λ t there names. kept.unreported (t, there, names)),
+)
+  where
+    entry : World
+    entry = at_entry w c r
+
+    host : ℕ
+    host = host_number w c
 
 -- an instance that the host holds stands
 abbrev pub is_held_in : ℕ → Option Instance → Bool
 is_held_in host o = unwrap_or (option_map (is_held_by host) o) false
-
--- a change after which the host holds an instance only where it held it before
-abbrev HoldsNew : ℕ → (Instance → Instance) → Type 0
-HoldsNew host f = (x : Instance) → is_held_by host (f x) ≡ true → is_held_by host x ≡ true
-
--- one such change
-changed_holds : (host : ℕ) (f : Instance → Instance) (v : World) (q : Place) → HoldsNew host f → HoldsNoMore v (with_changed f v q) host
-changed_holds host f v q new p holds =
-    passes-is v (is_held_by host) p
-    ∙ cases (is_same q p) (instance_at v p)
-    (sym (ap (is_held_in host) (instance_at-with_changed f v q p)) ∙ sym (passes-is (with_changed f v q) (is_held_by host) p) ∙ holds)
-  where
-    cases : (b : Bool) (o : Option Instance) → is_held_in host (cond b (option_map f o) o) ≡ true → is_held_in host o ≡ true
-    cases true None held = held
-    cases true (Some x) held = new x held
-    cases false o held = held
 
 -- who lost an instance for good does not hold it
 pub dropped_not_held : (host : ℕ) (x : Instance) → is_held_by host (with_lapse Dropped x) ≡ false
@@ -64,70 +68,120 @@ deadline_holds host f x = cases x.owner
     cases None = refl
     cases (Some o) = refl
 
--- lost jobs
-module _ (entry : World) (h : HostRow) (now host : ℕ) where
-  one_lost_holds : (v : World) (p : Place) → HoldsNoMore v (resend_or_drop entry h now v p) host
-  one_lost_holds v p = cases (is_resent entry h p)
-    where
-      later : ℕ → ℕ
-      later = deadline_after now (estimate_at entry h p) (delay_at entry p)
-
-      cases : (b : Bool) → HoldsNoMore v (cond b (with_changed (with_deadline later) v p) (with_changed (with_lapse Dropped) v p)) host
-      cases true = changed_holds host (with_deadline later) v p (λ x held. sym (deadline_holds host later x) ∙ held)
-      cases false =
-          changed_holds host (with_lapse Dropped) v p
-          (λ x held. (let never : true ≡ false = sym held ∙ dropped_not_held host x in absurd cc))
-
-  pub lost_hold_no_more : (places : List Place) (v : World) → HoldsNoMore v (fold (resend_or_drop entry h now) v places) host
-  lost_hold_no_more [] v q holds = holds
-  lost_hold_no_more (p ∷ places) v q holds = one_lost_holds v p q (lost_hold_no_more places (resend_or_drop entry h now v p) q holds)
-
--- nobody holds a new instance
-fresh_not_held : (host many m : ℕ) → is_held_in host (slice_get (replicate many fresh) m) ≡ false
-fresh_not_held host zero m = refl
-fresh_not_held host (suc many) zero = refl
-fresh_not_held host (suc many) (suc m) = fresh_not_held host many m
-
-behind_holds : (host many : ℕ) (xs : List Instance) (m : ℕ)
-    → is_held_in host (slice_get (xs ++ replicate many fresh) m) ≡ is_held_in host (slice_get xs m)
-behind_holds host many [] m = fresh_not_held host many m
-behind_holds host many (x ∷ xs) zero = refl
-behind_holds host many (x ∷ xs) (suc m) = behind_holds host many xs m
-
-pub grown_holds : (host : ℕ) (apps : List App) (b : UnitBook) (m : ℕ)
-    → is_held_in host (slice_get (grown apps b).instances m) ≡ is_held_in host (slice_get b.instances m)
-grown_holds host apps b m = cases (is_open (book_status apps b)) (need b.unit b.instances)
-  where
-    cases : (t : Bool) (many : ℕ)
-        → is_held_in host (slice_get (cond t (record b { instances = b.instances ++ replicate many fresh }) b).instances m)
-        ≡ is_held_in host (slice_get b.instances m)
-    cases true many = behind_holds host many b.instances m
-    cases false many = refl
-
 -- settlement changes nothing in who holds what
 pub settled_same : (old v : World) (host : ℕ) (p : Place) → holds (settled old v) host p ≡ holds v host p
 settled_same old v host p =
     passes-is (settled old v) (is_held_by host) p
-    ∙ ap held_of (nth-map (grown v.apps) v.units p.unit)
-    ∙ cases (unit_at v p.unit)
+    ∙ settled_lasts (λ o q. is_held_in host q ≡ is_held_in host o) (λ o. refl) refl old v p
     ∙ sym (passes-is v (is_held_by host) p)
-  where
-    held_of : Option UnitBook → Bool
-    held_of o = is_held_in host (option_and_then (λ (b : UnitBook). slice_get b.instances p.number) o)
 
-    cases : (o : Option UnitBook) → is_held_in host (option_and_then (λ (b : UnitBook). slice_get b.instances p.number) (option_map (grown v.apps) o))
-        ≡ is_held_in host (option_and_then (λ (b : UnitBook). slice_get b.instances p.number) o)
-    cases None = refl
-    cases (Some b) = grown_holds host v.apps b p.number
+-- Lost jobs.
+module _ (entry : World) (h : HostRow) (now host : ℕ) (p : Place) (places : List Place) (v : World) where
+  abbrev after : World
+  after = fold (resend_or_drop entry h now) v places
 
-pub settled_holds : (old v : World) (host : ℕ) → HoldsNoMore v (settled old v) host
-settled_holds old v host p holds = sym (settled_same old v host p) ∙ holds
+  left : HasResentOrDropped entry h now v places after
+  left = lost_jobs_are_by_place entry h now v places
+
+  -- what the host holds after them, by what stands there
+  holds_by : (o : Option Instance) → instance_at after p ≡ o → is_held_in host o ≡ is_held_in host (instance_at v p) → holds after host p ≡ holds v host p
+  holds_by o is same = passes-is after (is_held_by host) p ∙ ap (is_held_in host) is ∙ same ∙ sym (passes-is v (is_held_by host) p)
+
+  -- what is sent again is held as before
+  pub lost_resent : is_resent entry h p ≡ true → holds after host p ≡ holds v host p
+  lost_resent sent = elim (among p places) [
+    | inl there ↦ holds_by _ (left.resent p there sent) (moved _ (instance_at v p))
+    | inr nowhere ↦ holds_by _ (left.other p nowhere) refl
+  ]
+    where
+      moved : (f : ℕ → ℕ) (o : Option Instance) → is_held_in host (option_map (with_deadline f) o) ≡ is_held_in host o
+      moved f None = refl
+      moved f (Some x) = deadline_holds host f x
+
+  -- what is lost and is still held is sent again
+  pub lost_held : Contains places p → holds after host p ≡ true → is_resent entry h p ≡ true
+  lost_held there held = cases (is_resent entry h p) refl
+    where
+      dropped : (o : Option Instance) → is_held_in host (option_map (with_lapse Dropped) o) ≡ false
+      dropped None = refl
+      dropped (Some x) = dropped_not_held host x
+
+      cases : (b : Bool) → is_resent entry h p ≡ b → is_resent entry h p ≡ true
+      cases true is = is
+      cases false is =
+          let never : false ≡ true =
+          sym (passes-is after (is_held_by host) p ∙ ap (is_held_in host) (left.dropped p there is) ∙ dropped (instance_at v p)) ∙ held in
+          absurd cc
+
+  pub lost_hold_no_more : holds after host p ≡ true → holds v host p ≡ true
+  lost_hold_no_more held = elim (among p places) [
+    | inl there ↦ sym (lost_resent (lost_held there held)) ∙ held
+    | inr nowhere ↦ sym (holds_by _ (left.other p nowhere) refl) ∙ held
+  ]
 
 -- all of it
 pub after_settlement_holds : (w : World) (c : Caller) (r : Request) (now : ℕ) → HoldsNoMore w (after_settlement w c r now) (host_number w c)
 after_settlement_holds w c r now p holds =
-    let entry : World = at_entry w c r in
-    let host : ℕ = host_number w c in
-    reports_hold_no_more entry host r.results p
-    (lost_hold_no_more entry (host_at_entry w c r) now host (lost_of w c r) (after_reports w c r) p
-    (settled_holds entry (after_lost w c r now) host p holds))
+    reports_hold_no_more (at_entry w c r) (host_number w c) r.results p
+    (lost_hold_no_more (at_entry w c r) (host_at_entry w c r) now (host_number w c) p (lost_of w c r) (after_reports w c r)
+    (sym (settled_same (at_entry w c r) (after_lost w c r now) (host_number w c) p) ∙ holds))
+
+-- an instance that was neither reported nor lapsed stands at the place
+pub record IsUnspoiled (v : World) (p : Place) : Type 0 where
+  pub x : Instance
+  pub stands : instance_at v p ≡ Some x
+  pub report : x.report ≡ None
+  pub lapse : x.lapse ≡ None
+
+-- who is given what was neither reported nor lapsed holds it
+given_is_held : (host now deadline : ℕ) (x : Instance) → x.report ≡ None → x.lapse ≡ None
+    → is_held_by host (with_owner (record { host = host; sent = now; deadline = deadline }) x) ≡ true
+given_is_held host now deadline x report lapse =
+    ap (λ (b : Bool). (true && b) && ((true && is_none x.report) && is_none x.lapse)) (eq-eqb host host refl)
+    ∙ ap (λ (o : Option Outcome). (true && true) && ((true && is_none o) && is_none x.lapse)) report
+    ∙ ap (λ (o : Option Lapse). (true && true) && ((true && true) && is_none o)) lapse
+
+-- who holds it is given what was neither
+unspoiled : (host : ℕ) (x : Instance) → is_held_by host x ≡ true → (x.report ≡ None) × (x.lapse ≡ None)
+unspoiled host x held =
+    let last = and_parts (is_some x.owner && is_none x.report) (is_none x.lapse) (and_parts (is_owned_by host x) (is_held x) held).1 in
+    (none_of x.report (and_parts (is_some x.owner) (is_none x.report) last.0).1, none_of x.lapse last.1)
+
+module _ (host now : ℕ) (p : Place) (jobs : List Place) (v : World) where
+  abbrev with_jobs : World
+  with_jobs = granted v host now jobs
+
+  by_jobs : HasGranted v host now jobs with_jobs
+  by_jobs = grants_are_by_place v host now jobs
+
+  -- what is a job stands there with its owner
+  job_holds : Contains jobs p → (x : Instance) → instance_at v p ≡ Some x → x.report ≡ None → x.lapse ≡ None → holds with_jobs host p ≡ true
+  job_holds there x stands report lapse =
+      passes-is with_jobs (is_held_by host) p
+      ∙ ap (is_held_in host) (by_jobs.job p there ∙ ap (option_map (with_owner _)) stands)
+      ∙ given_is_held host now (now + delay_at v p) x report lapse
+
+  -- and what is none is held as before
+  elsewhere : (Contains jobs p → ⊥) → holds with_jobs host p ≡ holds v host p
+  elsewhere nowhere = passes-is with_jobs (is_held_by host) p ∙ ap (is_held_in host) (by_jobs.other p nowhere) ∙ sym (passes-is v (is_held_by host) p)
+
+  -- a grant takes away nothing that the host holds
+  pub grant_keeps : holds v host p ≡ true → holds with_jobs host p ≡ true
+  grant_keeps held = elim (among p jobs) [
+    | inl there ↦ (
+        let x = any_by (is_held_by host) (instance_at v p) (sym (passes-is v (is_held_by host) p) ∙ held) in
+        let both = unspoiled host x.0 x.2 in
+        job_holds there x.0 x.1 both.0 both.1)
+    | inr nowhere ↦ elsewhere nowhere ∙ held
+  ]
+
+  -- what it holds after it held before, or was given
+  pub grant_gives : holds with_jobs host p ≡ true → holds v host p ≡ true ⊎ Contains jobs p
+  grant_gives held = elim (among p jobs) [
+    | inl there ↦ inr there
+    | inr nowhere ↦ inl (sym (elsewhere nowhere) ∙ held)
+  ]
+
+  -- what is given is held, where it was neither reported nor lapsed
+  pub granted_is_held : Contains jobs p → IsUnspoiled v p → holds with_jobs host p ≡ true
+  granted_is_held there good = job_holds there good.x good.stands good.report good.lapse

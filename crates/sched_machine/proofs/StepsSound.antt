@@ -1,35 +1,34 @@
 -- Each step leaves a sound world sound: its parts, one after the other.
-use Rattle.std.proofs.Common.{◌≡◌, ℕ, ◌≤◌, true, [], ◌∷◌, Option, Some, None, sym, refl, ap, ◌∙◌, subst, arith}
-use Rattle.std.specs.Prelude.{◌≢◌, All, IsTrue, is_some, option_map, unwrap_or}
+use Rattle.std.proofs.Common.{◌≡◌, ℕ, ◌≤◌, [], ◌∷◌, Some, sym, ap, ◌∙◌, subst, arith}
+use Rattle.std.specs.Prelude.{◌≢◌, All, IsTrue, unwrap_or}
 use Rattle.rpc_records.specs.Ranges.{IsInRange}
 use Rattle.rpc_records.specs.declared.request.Request.{Request}
 use Rattle.rpc_records.specs.declared.reply.Reply.{Reply}
+use Rattle.sched_book.specs.Calls.{IsCallInLimits}
 use Rattle.sched_book.specs.Imports.{same_version}
 use Rattle.sched_book.specs.Limits.{last_moment, IsAccountInLimits, IsAppInLimits}
-use Rattle.sched_book.specs.Places.{host_at, nth}
-use Rattle.sched_book.specs.Settle.{with_grown, with_quota}
+use Rattle.sched_book.specs.Places.{host_at}
 use Rattle.sched_book.specs.Sound.{IsSoundUnit, IsSoundHost, IsSoundVersion, HaveOtherKeys, Sound, IsSettled, IsWell}
-use Rattle.sched_book.specs.Step.{IsCaller, HasRoom, RpcStep, TickStep, at_entry, after_reports, after_lost, after_settlement, granted, host_number, host_at_entry, lost_of, asking_of, lapsed}
+use Rattle.sched_book.specs.Step.{IsCaller, HasRoom, RpcStep, TickStep, at_entry, after_reports, after_lost, after_settlement, granted, host_number, host_at_entry, asking_of, lapsed}
 use Rattle.sched_book.specs.declared.instance.UnitBook.{UnitBook}
 use Rattle.sched_book.specs.declared.machine.Answered.TheVariants as answered
 use Rattle.sched_book.specs.declared.machine.Call.TheVariants as call
 use Rattle.sched_book.specs.declared.machine.Caller.{Caller}
 use Rattle.sched_book.specs.declared.rows.Account.{Account}
 use Rattle.sched_book.specs.declared.rows.App.{App}
-use Rattle.sched_book.specs.declared.rows.HostRow.{HostRow}
 use Rattle.sched_book.specs.declared.rows.Version.{Version}
 use Rattle.sched_book.specs.declared.world.World.{World}
-use Rattle.sched_book.specs.PlaceLaws.{ChangesInstancesAlone}
-use Rattle.sched_book.proofs.PlaceChanges.{reports_change_instances_alone, lapses_are_by_place, lost_jobs_are_by_place}
-use Rattle.sched_book.proofs.Settling.{settlement_is_pointwise}
+use Rattle.sched_book.proofs.PlaceChanges.{lapses_are_by_place}
 use Rattle.sched_book.proofs.Rising.{pairs_nil}
 use Rattle.sched_machine.specs.Laws.{StepKeepsSound, RunsKeepSound, EmptyIsSound}
-use Rattle.sched_machine.proofs.AlikeHosts.{account_at_entry}
+use Rattle.sched_machine.proofs.AlikeHosts.{host_settled}
 use Rattle.sched_machine.proofs.ClassesSound.{settled_is_sound, settlement_not_too_soon, step_is_sound}
 use Rattle.sched_machine.proofs.Classed.{classed_settled}
 use Rattle.sched_machine.proofs.RowsEntry.{entry_keeps_sound}
 use Rattle.sched_machine.proofs.RowsGrant.{grant_keeps_settled}
 use Rattle.sched_machine.proofs.RowsImport.{import_keeps_sound}
+use Rattle.sched_machine.proofs.StepCases.{by_call}
+use Rattle.sched_machine.proofs.StepMoves.{left_alone}
 use Rattle.sched_machine.proofs.UnitsLapsed.{lapses_keep_well}
 use Rattle.sched_machine.proofs.UnitsLost.{lost_jobs_keep_well}
 use Rattle.sched_machine.proofs.UnitsReported.{reports_keep_well}
@@ -38,19 +37,6 @@ use Rattle.sched_machine.proofs.UnitsSettled.{settlement_settles}
 -- a sound world is sound but for what open workunits may lack
 pub sound_is_well : (w : World) → Sound w → IsWell w
 sound_is_well w sound = record { rows = sound.rows; units = λ k d within. (sound.units k d within).well }
-
-mapped_some : {X Y : Type 0} (f : X → Y) (o : Option X) → is_some (option_map f o) ≡ is_some o
-mapped_some f None = refl
-mapped_some f (Some x) = refl
-
--- the caller's host stands from the entry on
-entry_stands : (w : World) (c : Caller) (r : Request) → IsCaller w c r → is_some (host_at (at_entry w c r) (host_number w c)) ≡ true
-entry_stands w c r caller =
-    sym (mapped_some (λ (h : HostRow). h.account) (host_at (at_entry w c r) (host_number w c))) ∙ ap is_some (account_at_entry w c r caller)
-
-some_or : {X : Type 0} (o : Option X) (d : X) → is_some o ≡ true → o ≡ Some (unwrap_or o d)
-some_or None d never = absurd cc
-some_or (Some x) d some = refl
 
 module _ (w : World) (c : Caller) (r : Request) (now : ℕ) (sound : Sound w) (caller : IsCaller w c r)
     (room : HasRoom w c) (limits : IsInRange r) (early : now ≤ last_moment) where
@@ -65,26 +51,15 @@ module _ (w : World) (c : Caller) (r : Request) (now : ℕ) (sound : Sound w) (c
       lost_jobs_keep_well (at_entry w c r) (after_reports w c r) (host_at_entry w c r) now (host_number w c) r.other_results
       (sound_is_well (at_entry w c r) entered) early reported
 
-  -- what lost jobs and reports leave beside the instances
-  lost_rest : ChangesInstancesAlone (after_reports w c r) (after_lost w c r now)
-  lost_rest = (lost_jobs_are_by_place (at_entry w c r) (host_at_entry w c r) now (after_reports w c r) (lost_of w c r)).rest
-
-  reports_rest : ChangesInstancesAlone (at_entry w c r) (after_reports w c r)
-  reports_rest = reports_change_instances_alone (at_entry w c r) (host_number w c) r.results
-
   all_settled : IsSettled (after_settlement w c r now)
-  all_settled = settlement_settles (at_entry w c r) (after_lost w c r now) (sym (lost_rest.settings ∙ reports_rest.settings)) left_well
+  all_settled = settlement_settles (at_entry w c r) (after_lost w c r now) (sym (left_alone w c r now).settings) left_well
 
   pub settled_sound : Sound (after_settlement w c r now)
   settled_sound = settled_is_sound (after_settlement w c r now) all_settled (settlement_not_too_soon w c r now sound)
 
   pub host_stands : host_at (after_settlement w c r now) (host_number w c) ≡ Some (asking_of w c r now).host
   host_stands =
-      some_or (host_at (after_settlement w c r now) (host_number w c)) (host_at_entry w c r)
-      (ap is_some ((settlement_is_pointwise (at_entry w c r) (after_lost w c r now)).host (host_number w c))
-      ∙ mapped_some (λ h. with_quota (at_entry w c r) (with_grown (after_lost w c r now)) (host_number w c, h)) (host_at (after_lost w c r now) (host_number w c))
-      ∙ ap (λ hosts. is_some (nth hosts (host_number w c))) (lost_rest.hosts ∙ reports_rest.hosts)
-      ∙ entry_stands w c r caller)
+      host_settled w c r caller now ∙ ap (λ o. Some (unwrap_or o (host_at_entry w c r))) (sym (host_settled w c r caller now))
 
   call_keeps_sound : (after : World) (reply : Reply) → RpcStep w c r now after reply → Sound after
   call_keeps_sound after reply step =
@@ -100,16 +75,12 @@ tick_keeps_sound w after now count sound step =
     (settlement_settles w (lapsed w now) (sym (lapses_are_by_place w now).rest.settings) (lapses_keep_well w now (sound_is_well w sound))))
 
 pub step_keeps_sound : StepKeepsSound
-step_keeps_sound w after (call.Rpc c r) now (answered.Rpc reply) sound limits early step =
-    call_keeps_sound w c r now sound step.caller step.room limits early after reply step
-step_keeps_sound w after (call.Rpc c r) now (answered.Imported n) sound limits early step = absurd step
-step_keeps_sound w after (call.Rpc c r) now (answered.Lapsed n) sound limits early step = absurd step
-step_keeps_sound w after (call.Import new) now (answered.Imported n) sound limits early step = import_keeps_sound w after new n sound step
-step_keeps_sound w after (call.Import new) now (answered.Rpc reply) sound limits early step = absurd step
-step_keeps_sound w after (call.Import new) now (answered.Lapsed n) sound limits early step = absurd step
-step_keeps_sound w after call.Tick now (answered.Lapsed n) sound limits early step = tick_keeps_sound w after now n sound step
-step_keeps_sound w after call.Tick now (answered.Rpc reply) sound limits early step = absurd step
-step_keeps_sound w after call.Tick now (answered.Imported n) sound limits early step = absurd step
+step_keeps_sound w after c now answer sound limits early step =
+    by_call w after now (λ c answer. IsCallInLimits c → Sound after)
+    (λ c r reply step limits. call_keeps_sound w c r now sound step.caller step.room limits early after reply step)
+    (λ new count step limits. import_keeps_sound w after new count sound step)
+    (λ count step limits. tick_keeps_sound w after now count sound step)
+    c answer step limits
 
 pub runs_keep_sound : RunsKeepSound
 runs_keep_sound w [] [] sound limits trace = tt

@@ -1,15 +1,14 @@
 -- A list and one that has what is like each element at its index; and a list with one element changed.
-use Rattle.std.proofs.Common.{◌≡◌, ℕ, zero, suc, ◌+◌, ◌-◌, Bool, true, false, cond, eqb, List, [], ◌∷◌, length, get_or, Option, Some, None, sym, refl, ap, ◌∙◌, subst, arith}
-use Rattle.std.specs.Prelude.{◌||◌, All, AllPairs, count_by, map, option_map, slice_get}
+use Rattle.std.proofs.Common.{◌≡◌, ℕ, zero, suc, ◌+◌, Bool, true, false, cond, List, [], ◌∷◌, length, get_or, Some, None, sym, refl, ap, ◌∙◌, subst, arith}
+use Rattle.std.specs.Prelude.{◌||◌, All, AllPairs, count_by, map, slice_get}
 use Rattle.std.specs.List.{list_any, enumerate_from}
-use Rattle.std.proofs.lemmas.Bool.{eqb-true}
 use Rattle.std.proofs.lemmas.List.Sums.{sum_by-cons}
 use Rattle.std.proofs.lemmas.Option.{slice_get_within, slice_get-get_or, get_or_from_slice_get, slice_get-map}
-use Rattle.sched_book.specs.Places.{nth}
-use Rattle.sched_book.specs.Reports.{modify_at, modify_nth}
-use Rattle.sched_book.proofs.PlacesOf.{slice_get-modify_at}
+use Rattle.sched_book.specs.Reports.{modify_at}
 use Rattle.sched_book.proofs.Settling.{slice_get-enumerate_from}
 use Rattle.quorum_credit.proofs.ByPlace.{all_get}
+use Rattle.sched_machine.proofs.OptionParts.{mapped_by}
+use Rattle.sched_machine.proofs.RowsListed.{count_changed}
 
 -- each element of the second list is like the one at its index in the first
 abbrev pub Alike : {X : Type 0} → (X → X → Type 0) → List X → List X → Type 0
@@ -33,32 +32,6 @@ pairs_alike P Q R xs ys alike carry pairs i j d below within =
     (pairs i j d below (slice_get_within xs j second.0 second.1))))
 
 -- one element changed
-pub alike_same : {X : Type 0} (R : X → X → Type 0) → ((x : X) → R x x) → (xs : List X) → Alike R xs xs
-alike_same R same xs i x stands = (x, stands, same x)
-
-pub alike_changed_at : {X : Type 0} (R : X → X → Type 0) → ((x : X) → R x x) → (f : X → X) (xs : List X) (i : ℕ)
-    → ((x : X) → slice_get xs i ≡ Some x → R x (f x)) → Alike R xs (modify_at f xs i)
-alike_changed_at {X} R same f xs i here j y stands = cases (eqb i j) refl (slice_get xs j) refl (sym (slice_get-modify_at f xs i j) ∙ stands)
-  where
-    cases : (b : Bool) → eqb i j ≡ b → (o : Option X) → slice_get xs j ≡ o → cond b (option_map f o) o ≡ Some y
-        → (x : X) × (slice_get xs j ≡ Some x) × R x y
-    cases true is None was put = absurd cc
-    cases true is (Some x) was put =
-        let value : f x ≡ y = cc in
-        (x, was, subst (R x) value (here x (ap (slice_get xs) (eqb-true i j is) ∙ was)))
-    cases false is None was put = absurd cc
-    cases false is (Some x) was put =
-        let value : x ≡ y = cc in
-        (x, was, subst (R x) value (same x))
-
-pub alike_changed_nth : {X : Type 0} (R : X → X → Type 0) → ((x : X) → R x x) → (f : X → X) (xs : List X) (n : ℕ)
-    → ((x : X) → nth xs n ≡ Some x → R x (f x)) → Alike R xs (modify_nth f xs n)
-alike_changed_nth {X} R same f xs n here = cases (eqb n 0) here
-  where
-    cases : (b : Bool) → ((x : X) → cond b None (slice_get xs (n - 1)) ≡ Some x → R x (f x)) → Alike R xs (cond b xs (modify_at f xs (n - 1)))
-    cases true at = alike_same R same xs
-    cases false at = alike_changed_at R same f xs (n - 1) at
-
 pub modify_at-none : {X : Type 0} (f : X → X) (xs : List X) (i : ℕ) → slice_get xs i ≡ None → modify_at f xs i ≡ xs
 modify_at-none f [] i none = refl
 modify_at-none f (x ∷ xs) zero none = absurd cc
@@ -76,14 +49,9 @@ count_cons p x xs b is = sum_by-cons (λ y. cond {A = ℕ} (p y) 1 0) x xs ∙ a
 
 pub count_same : {X : Type 0} (p : X → Bool) (f : X → X) (xs : List X) (i : ℕ) (x : X) → slice_get xs i ≡ Some x → p (f x) ≡ p x
     → count_by p (modify_at f xs i) ≡ count_by p xs
-count_same p f [] i x stands same = refl
-count_same p f (y ∷ ys) zero x stands same =
-    let is : y ≡ x = cc in
-    count_cons p (f y) ys (p y) (ap (λ z. p (f z)) is ∙ same ∙ ap p (sym is)) ∙ sym (count_cons p y ys (p y) refl)
-count_same p f (y ∷ ys) (suc i) x stands same =
-    count_cons p y (modify_at f ys i) (p y) refl
-    ∙ ap (λ n. cond {A = ℕ} (p y) 1 0 + n) (count_same p f ys i x stands same)
-    ∙ sym (count_cons p y ys (p y) refl)
+count_same p f xs i x stands same =
+    count_changed p f xs i (λ y there.
+    let is : x ≡ y = (let both : Some x ≡ Some y = sym stands ∙ there in cc) in subst (λ z. p (f z) ≡ p z) is same)
 
 pub count_more : {X : Type 0} (p : X → Bool) (f : X → X) (xs : List X) (i : ℕ) (x : X) → slice_get xs i ≡ Some x → p x ≡ false → p (f x) ≡ true
     → count_by p (modify_at f xs i) ≡ count_by p xs + 1
@@ -133,18 +101,13 @@ any_here q f (y ∷ ys) (suc i) x stands now = cases (q y) (any_here q f ys i x 
 
 -- each element made into one that is like it
 pub alike_map : {X : Type 0} (R : X → X → Type 0) (f : X → X) (xs : List X) → ((x : X) → R x (f x)) → Alike R xs (map f xs)
-alike_map {X} R f xs makes i y stands = cases (slice_get xs i) refl (sym (slice_get-map f xs i) ∙ stands)
-  where
-    cases : (o : Option X) → slice_get xs i ≡ o → option_map f o ≡ Some y → (x : X) × (slice_get xs i ≡ Some x) × R x y
-    cases None is put = absurd cc
-    cases (Some x) is put = let value : f x ≡ y = cc in (x, is, subst (R x) value (makes x))
+alike_map R f xs makes i y stands =
+    let x = mapped_by f (slice_get xs i) y (sym (slice_get-map f xs i) ∙ stands) in (x.0, x.1, subst (R x.0) x.2 (makes x.0))
 
 -- the same where each comes with its number
 pub alike_numbered : {X : Type 0} (R : X → X → Type 0) (f : ℕ × X → X) (xs : List X) → ((n : ℕ) (x : X) → R x (f (n, x)))
     → Alike R xs (map f (enumerate_from 1 xs))
-alike_numbered {X} R f xs makes i y stands =
-    cases (slice_get xs i) refl (sym (slice_get-map f (enumerate_from 1 xs) i ∙ ap (option_map f) (slice_get-enumerate_from 1 xs i)) ∙ stands)
-  where
-    cases : (o : Option X) → slice_get xs i ≡ o → option_map f (option_map (λ x. (1 + i, x)) o) ≡ Some y → (x : X) × (slice_get xs i ≡ Some x) × R x y
-    cases None is put = absurd cc
-    cases (Some x) is put = let value : f (1 + i, x) ≡ y = cc in (x, is, subst (R x) value (makes (1 + i) x))
+alike_numbered R f xs makes i y stands =
+    let e = mapped_by f (slice_get (enumerate_from 1 xs) i) y (sym (slice_get-map f (enumerate_from 1 xs) i) ∙ stands) in
+    let x = mapped_by (λ x. (1 + i, x)) (slice_get xs i) e.0 (sym (slice_get-enumerate_from 1 xs i) ∙ e.1) in
+    (x.0, x.1, subst (R x.0) (ap f x.2 ∙ e.2) (makes (1 + i) x.0))

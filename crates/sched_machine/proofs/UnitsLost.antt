@@ -1,13 +1,14 @@
 -- Lost jobs, sent again or dropped, leave a world well.
-use Rattle.std.proofs.Common.{◌≡◌, ℕ, ◌+◌, ◌≤◌, inl, Bool, true, false, cond, not, List, [], Option, Some, None, refl, arith}
-use Rattle.std.specs.Prelude.{All, nat_le, is_some, option_map, unwrap_or, IfSome}
-use Rattle.std.proofs.lemmas.List.Elements.{All-nil, All-filter}
+use Rattle.std.proofs.Common.{◌≡◌, ℕ, ◌+◌, ◌≤◌, inl, Bool, true, false, cond, List, Option, Some, None, refl, arith, ap, sym, ◌∙◌}
+use Rattle.std.specs.Prelude.{All, nat_le, is_some, option_map, unwrap_or}
+use Rattle.std.proofs.lemmas.List.Elements.{All-weaker}
 use Rattle.std.proofs.lemmas.Bool.{and_parts}
 use Rattle.sched_book.specs.Count.{is_held}
 use Rattle.sched_book.specs.Fits.{estimate_at}
-use Rattle.sched_book.specs.Lost.{is_listed, unlisted, lost, is_resent, delay_at, deadline_after, with_deadline, with_lapse, resend_or_drop}
+use Rattle.sched_book.specs.Lost.{lost, is_resent, delay_at, deadline_after, with_deadline, with_lapse, resend_or_drop}
 use Rattle.sched_book.specs.Limits.{last_moment, last_deadline, most_delay}
-use Rattle.sched_book.specs.Places.{unit_at, is_held_by, is_owned_by, held_by}
+use Rattle.sched_book.specs.PlaceLaws.{IsLost}
+use Rattle.sched_book.specs.Places.{unit_at, is_held_by, is_owned_by}
 use Rattle.sched_book.specs.Reports.{with_changed}
 use Rattle.sched_book.specs.Sound.{IsWellUnit, IsWell}
 use Rattle.sched_book.specs.declared.instance.Instance.{Instance}
@@ -17,11 +18,13 @@ use Rattle.sched_book.specs.declared.instance.Place.{Place}
 use Rattle.sched_book.specs.declared.instance.UnitBook.{UnitBook}
 use Rattle.sched_book.specs.declared.rows.HostRow.{HostRow}
 use Rattle.sched_book.specs.declared.world.World.{World}
+use Rattle.sched_book.proofs.LostPlaces.{lost_are_held_and_unlisted}
+use Rattle.sched_book.proofs.Recording.{passes-is}
 use Rattle.quorum_credit.proofs.ByPlace.{all_nth}
 use Rattle.sched_machine.specs.Laws.{LostJobsKeepWell}
-use Rattle.sched_machine.proofs.UnitsGiven.{IsGiven, given_after, fold_well, places_given}
-use Rattle.sched_machine.proofs.UnitsLapsed.{held_given, lapse_well}
-use Rattle.sched_machine.proofs.UnitsWell.{Keeps, changed_well}
+use Rattle.sched_machine.proofs.OptionParts.{mapped_some}
+use Rattle.sched_machine.proofs.UnitsLapsed.{held_given, lapse_well, IsGiven, given_after, fold_well}
+use Rattle.sched_machine.proofs.UnitsWell.{Keeps, changed_well, keeps_self}
 
 -- what a host holds was given to it
 held_by_given : (host : ℕ) (x : Instance) → is_held_by host x ≡ true → is_some x.owner ≡ true
@@ -29,51 +32,26 @@ held_by_given host x held = held_given x (and_parts (is_owned_by host x) (is_hel
 
 -- so was what is lost
 pub lost_given : (w : World) (host : ℕ) (names : Option (List (List ℕ))) → All (IsGiven w) (lost w host names)
-lost_given w host names = cases w.settings.resend_lost_results names
+lost_given w host names =
+    All-weaker (IsLost w host names) (IsGiven w)
+    (λ p lost x stands.
+    held_by_given host x (sym (passes-is w (is_held_by host) p ∙ ap (λ o. unwrap_or (option_map (is_held_by host) o) false) stands) ∙ lost.held))
+    (lost w host names) (lost_are_held_and_unlisted w host names).each
+
+-- a new deadline changes its host and moment of sending as little
+pub deadline_keeps : (f : ℕ → ℕ) → ((d : ℕ) → d ≤ last_deadline → f d ≤ last_deadline) → (x : Instance) → Keeps x (with_deadline f x)
+deadline_keeps f low x = cases x.owner
   where
-    cases : (b : Bool) (list : Option (List (List ℕ))) → All (IsGiven w) (cond b (unlisted w host list) [])
-    cases false list = All-nil (IsGiven w)
-    cases true None = All-nil (IsGiven w)
-    cases true (Some list) =
-        All-filter (λ p. not (is_listed w list p)) (IsGiven w) (held_by w host) (places_given w (is_held_by host) (held_by_given host))
+    given : Option Owner → Instance
+    given o = record { owner = o; lapse = x.lapse; report = x.report }
 
--- a new deadline takes no owner away, and changes its host and moment of sending as little
-module _ (f : ℕ → ℕ) where
-  abbrev moved : Owner → Owner
-  moved o = record o { deadline = f o.deadline }
-
-  pub still_some : (o : Option Owner) → is_some (option_map moved o) ≡ is_some o
-  still_some None = refl
-  still_some (Some o) = refl
-
-  same_host : (o : Option Owner) → option_map (λ (o : Owner). o.host) (option_map moved o) ≡ option_map (λ (o : Owner). o.host) o
-  same_host None = refl
-  same_host (Some o) = refl
-
-  sent_early : (o : Option Owner) → IfSome o (λ o. o.sent ≤ last_moment) → IfSome (option_map moved o) (λ o. o.sent ≤ last_moment)
-  sent_early None early = tt
-  sent_early (Some o) early = early
-
-  none_before : (o : Option Owner) → option_map moved o ≡ None → o ≡ None
-  none_before None is = refl
-  none_before (Some o) is = absurd cc
-
-  deadline_low : ((d : ℕ) → d ≤ last_deadline → f d ≤ last_deadline) → (o : Option Owner) → IfSome o (λ o. o.deadline ≤ last_deadline)
-      → IfSome (option_map moved o) (λ o. o.deadline ≤ last_deadline)
-  deadline_low low None was = tt
-  deadline_low low (Some o) was = low o.deadline was
-
-  pub deadline_keeps : ((d : ℕ) → d ≤ last_deadline → f d ≤ last_deadline) → (x : Instance) → Keeps x (with_deadline f x)
-  deadline_keeps low x = record {
-    host = same_host x.owner;
-    bare = λ bare none. bare (none_before x.owner none);
-    limits = λ limits. record {
-      sent = sent_early x.owner limits.sent;
-      deadline = deadline_low low x.owner limits.deadline;
-      output = limits.output;
-      place = limits.place;
-    };
-  }
+    cases : (o : Option Owner) → Keeps (given o) (with_deadline f (given o))
+    cases None = keeps_self (given None)
+    cases (Some o) = record {
+      host = refl;
+      bare = λ bare none. absurd cc;
+      limits = λ limits. record { sent = limits.sent; deadline = low o.deadline limits.deadline; output = limits.output; place = limits.place };
+    }
 
 -- a workunit's delay keeps a deadline within limits
 pub delay_is_low : (w : World) (p : Place) → IsWell w → delay_at w p ≤ most_delay
@@ -110,7 +88,7 @@ module _ (entry : World) (h : HostRow) (now : ℕ) (entered : IsWell entry) (ear
   one_given w p q given = cases (is_resent entry h p)
     where
       cases : (b : Bool) → IsGiven (cond b (with_changed (with_deadline (later p)) w p) (with_changed (with_lapse Dropped) w p)) q
-      cases true = given_after (with_deadline (later p)) w p q (λ x. still_some (later p) x.owner) given
+      cases true = given_after (with_deadline (later p)) w p q (λ x. mapped_some _ x.owner) given
       cases false = given_after (with_lapse Dropped) w p q (λ x. refl) given
 
 -- and all

@@ -1,15 +1,15 @@
 -- Reports leave a world well.
-use Rattle.std.proofs.Common.{◌≡◌, ℕ, ◌+◌, ◌≤◌, inl, inr, Bool, true, false, cond, List, [], ◌∷◌, length, Option, Some, None, sym, refl, ap, ◌∙◌, arith}
-use Rattle.std.specs.Prelude.{◌&&◌, All, fold, count_by, is_some, is_none, option_map, option_and_then, unwrap_or, slice_get, IfSome}
-use Rattle.std.proofs.lemmas.List.Elements.{All-head, All-tail}
+use Rattle.std.proofs.Common.{◌≡◌, ℕ, ◌+◌, ◌≤◌, inl, inr, Bool, true, false, cond, [], length, Option, Some, None, sym, refl, ap, ◌∙◌, arith}
+use Rattle.std.specs.Prelude.{count_by, is_some, is_none, option_map, option_and_then, unwrap_or, slice_get, IfSome, Contains}
+use Rattle.std.proofs.lemmas.List.Elements.{All-contains}
 use Rattle.std.proofs.lemmas.List.Sums.{count_by-le-length}
 use Rattle.std.proofs.lemmas.Bool.{and_parts}
 use Rattle.rpc_records.specs.Ranges.{IsReport}
 use Rattle.rpc_records.specs.declared.request.Report.{Report}
 use Rattle.sched_book.specs.Count.{is_judged, report_place, has_failed}
 use Rattle.sched_book.specs.Limits.{most_instances}
-use Rattle.sched_book.specs.Places.{passes, place_named, status_at, is_owned_by}
-use Rattle.sched_book.specs.Reports.{modify_at, with_changed, first_reports, awaits_report, with_report, next_place, judged_place, record_at, record_one}
+use Rattle.sched_book.specs.Places.{status_at, is_owned_by, instance_at}
+use Rattle.sched_book.specs.Reports.{modify_at, with_changed, first_reports, awaits_report, with_report, next_place, judged_place}
 use Rattle.sched_book.specs.Sound.{IsWell}
 use Rattle.sched_book.specs.declared.instance.Instance.{Instance}
 use Rattle.sched_book.specs.declared.instance.Outcome.{Outcome}
@@ -18,23 +18,19 @@ use Rattle.sched_book.specs.declared.instance.UnitBook.{UnitBook}
 use Rattle.sched_book.specs.declared.world.World.{World}
 use Rattle.quorum_credit.proofs.FirstNames.{all_first}
 use Rattle.sched_machine.specs.Laws.{ReportsKeepWell}
+use Rattle.sched_machine.proofs.StepMoves.{none_of, reports_keep}
 use Rattle.sched_machine.proofs.UnitsAlike.{length_changed, count_more}
-use Rattle.sched_machine.proofs.UnitsGiven.{owned_given}
+use Rattle.sched_machine.proofs.UnitsLapsed.{owned_given}
 use Rattle.sched_machine.proofs.UnitsWell.{Keeps, IsGoodChange, changed_well}
 
 -- what awaits a report was given, and is not judged
 awaits_given : (host : ℕ) (x : Instance) → awaits_report host x ≡ true → is_some x.owner ≡ true
 awaits_given host x awaits = owned_given host x (and_parts (is_owned_by host x) (is_none x.report) awaits).0
 
-pub unreported : (o : Option Outcome) (b : Bool) → (b && is_none o) ≡ true → o ≡ None
-unreported None b awaits = refl
-unreported (Some r) true awaits = absurd cc
-unreported (Some r) false awaits = absurd cc
-
 -- an instance that awaits a report
 module _ (host : ℕ) (r : Report) (known : IsReport r) (x : Instance) (awaits : awaits_report host x ≡ true) where
   none_yet : x.report ≡ None
-  none_yet = unreported x.report (is_owned_by host x) awaits
+  none_yet = none_of x.report (and_parts (is_owned_by host x) (is_none x.report) awaits).1
 
   no_place_yet : report_place x ≡ None
   no_place_yet = ap (option_and_then (λ (t : Outcome). t.place)) none_yet
@@ -72,35 +68,17 @@ module _ (host : ℕ) (r : Report) (known : IsReport r) (x : Instance) (awaits :
     inr (no_place_yet, ap Some (let same : n ≡ count_by is_judged b.instances + 1 = omega arith in same)),
   )
 
--- one report more
-record_at_well : (entry : World) (host : ℕ) (r : Report) → IsReport r → (w : World) (p : Place) → IsWell w → IsWell (record_at entry host r w p)
-record_at_well entry host r known w p well = cases (passes w (λ b x. awaits_report host x) p) refl
-  where
-    cases : (t : Bool) → passes w (λ b x. awaits_report host x) p ≡ t
-        → IsWell (cond t (with_changed (with_report r (judged_place entry w p.unit)) w p) w)
-    cases false fails = well
-    cases true pass =
-        changed_well (with_report r (judged_place entry w p.unit)) w p well
-        (λ b x unit stands is.
-        report_is_good host r known x
-        (sym (ap (λ o. unwrap_or (option_and_then (λ (u : UnitBook). option_map (awaits_report host) (slice_get u.instances p.number)) o) false) stands
-        ∙ ap (λ o. unwrap_or (option_map (awaits_report host) o) false) is)
-        ∙ pass)
-        b p.number (next_place w p.unit) (has_failed (status_at entry p.unit)) unit.few is
-        (ap (λ o. unwrap_or (option_map (λ (u : UnitBook). 1 + count_by is_judged u.instances) o) 1) stands))
-
-record_one_well : (entry : World) (host : ℕ) (w : World) (r : Report) → IsReport r → IsWell w → IsWell (record_one entry host w r)
-record_one_well entry host w r known well = cases (place_named entry r.name)
-  where
-    cases : (o : Option Place) → IsWell (unwrap_or (option_map (record_at entry host r w) o) w)
-    cases None = well
-    cases (Some p) = record_at_well entry host r known w p well
-
--- and all
+-- one report after the other
 pub reports_keep_well : ReportsKeepWell
-reports_keep_well entry host reports known well = all (first_reports reports) (all_first IsReport [] reports known) entry well
+reports_keep_well entry host reports known = reports_keep IsWell entry host (first_reports reports) one entry
   where
-    all : (rs : List Report) → All IsReport rs → (w : World) → IsWell w → IsWell (fold (record_one entry host) w rs)
-    all [] each w is = is
-    all (r ∷ rs) each w is =
-        all rs (All-tail IsReport r rs each) (record_one entry host w r) (record_one_well entry host w r (All-head IsReport r rs each) is)
+    one : (r : Report) → Contains (first_reports reports) r → (w : World) (p : Place) (x : Instance) → instance_at w p ≡ Some x → awaits_report host x ≡ true
+        → IsWell w → IsWell (with_changed (with_report r (judged_place entry w p.unit)) w p)
+    one r there w p x stands awaits well =
+        changed_well (with_report r (judged_place entry w p.unit)) w p well
+        (λ b y unit at is.
+        let both : Some x ≡ Some y = sym stands ∙ ap (option_and_then (λ (u : UnitBook). slice_get u.instances p.number)) at ∙ is in
+        let same : x ≡ y = cc in
+        report_is_good host r (All-contains IsReport (first_reports reports) r (all_first IsReport [] reports known) there) y
+        (ap (awaits_report host) (sym same) ∙ awaits) b p.number (next_place w p.unit) (has_failed (status_at entry p.unit)) unit.few is
+        (ap (λ o. unwrap_or (option_map (λ (u : UnitBook). 1 + count_by is_judged u.instances) o) 1) at))

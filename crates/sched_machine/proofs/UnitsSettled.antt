@@ -1,21 +1,22 @@
 -- Settlement makes a well world settled.
-use Rattle.std.proofs.Common.{◌≡◌, ◌≢◌, ℕ, ◌≤◌, Bool, true, false, cond, List, ◌++◌, length, Option, Some, None, sym, refl, ap, ◌∙◌, subst, arith}
-use Rattle.std.specs.Prelude.{map, replicate, is_some, option_map}
+use Rattle.std.proofs.Common.{◌≡◌, ◌≢◌, ℕ, ◌≤◌, List, length, sym, refl, ap, ◌∙◌, subst, arith}
+use Rattle.std.specs.Prelude.{map, is_some}
 use Rattle.std.specs.List.{enumerate_from}
 use Rattle.std.proofs.lemmas.List.{length-map}
-use Rattle.sched_book.specs.Count.{is_open, need}
 use Rattle.sched_book.specs.Limits.{most_workunits}
-use Rattle.sched_book.specs.Places.{nth, book_status}
-use Rattle.sched_book.specs.Settle.{fresh, grown, with_grown, charges, merits, with_quota, settled}
+use Rattle.sched_book.specs.Places.{nth}
+use Rattle.sched_book.specs.Settle.{grown, with_grown, charges, merits, with_quota, settled}
 use Rattle.sched_book.specs.Sound.{HaveOtherKeys, IsSoundHost, IsSettledUnit, IsSettled, IsWellUnit, IsWell}
 use Rattle.sched_book.specs.declared.instance.UnitBook.{UnitBook}
 use Rattle.sched_book.specs.declared.rows.HostRow.{HostRow}
 use Rattle.sched_book.specs.declared.world.World.{World}
-use Rattle.quorum_credit.proofs.ByPlace.{nth-map_places}
 use Rattle.quorum_credit.proofs.Numbered.{length-numbered}
 use Rattle.sched_machine.specs.Laws.{SettlementSettles}
+use Rattle.sched_machine.proofs.AlikeHosts.{account_settled}
+use Rattle.sched_machine.proofs.AlikeUnits.{row_grown}
 use Rattle.sched_machine.proofs.UnitsAlike.{all_alike, pairs_alike, alike_map, alike_numbered}
 use Rattle.quorum_credit.proofs.NewQuotas.{quota_within}
+use Rattle.sched_machine.proofs.OptionParts.{mapped_some}
 use Rattle.sched_machine.proofs.UnitsGrown.{HaveSameUsers, grown_settled}
 
 module _ (old changed : World) (same : old.settings ≡ changed.settings) (well : IsWell changed) where
@@ -28,18 +29,12 @@ module _ (old changed : World) (same : old.settings ≡ changed.settings) (well 
   -- hosts keep their accounts and keys
   same_users : HaveSameUsers changed.hosts hosts_after
   same_users = record {
-    account = λ n. ap (option_map (λ (h : HostRow). h.account)) (nth-map_places quoted changed.hosts n) ∙ account_of n (nth changed.hosts n);
-    stands = λ n. ap is_some (nth-map_places quoted changed.hosts n) ∙ still_some n (nth changed.hosts n);
+    account = account_settled old (with_grown changed) changed.hosts;
+    stands = λ n.
+        sym (mapped_some (λ (h : HostRow). h.account) (nth hosts_after n))
+        ∙ ap is_some (account_settled old (with_grown changed) changed.hosts n)
+        ∙ mapped_some (λ (h : HostRow). h.account) (nth changed.hosts n);
   }
-    where
-      account_of : (n : ℕ) (o : Option HostRow)
-          → option_map (λ (h : HostRow). h.account) (option_map (λ h. quoted (n, h)) o) ≡ option_map (λ (h : HostRow). h.account) o
-      account_of n None = refl
-      account_of n (Some h) = refl
-
-      still_some : (n : ℕ) (o : Option HostRow) → is_some (option_map (λ h. quoted (n, h)) o) ≡ is_some o
-      still_some n None = refl
-      still_some n (Some h) = refl
 
   abbrev HasSameKey : HostRow → HostRow → Type 0
   HasSameKey h k = (k.account ≡ h.account) × (k.cpid ≡ h.cpid)
@@ -91,7 +86,7 @@ module _ (old changed : World) (same : old.settings ≡ changed.settings) (well 
           app_names = well.rows.app_names;
           version_names = well.rows.version_names;
           unit_names = pairs_alike (λ a b. a.unit.name ≢ b.unit.name) (λ a b. a.unit.name ≢ b.unit.name) row changed.units units_after
-              (alike_map row (grown changed.apps) changed.units grown_row)
+              (alike_map row (grown changed.apps) changed.units (row_grown changed.apps))
               (λ x y a b first second apart equal. apart (sym (ap (λ u. u.name) first) ∙ equal ∙ ap (λ u. u.name) second))
               well.rows.unit_names;
           host_keys = pairs_alike HaveOtherKeys HaveOtherKeys HasSameKey changed.hosts hosts_after
@@ -106,13 +101,6 @@ module _ (old changed : World) (same : old.settings ≡ changed.settings) (well 
             (alike_map whole (grown changed.apps) changed.units (grown_settled changed.hosts hosts_after changed.apps same_users))
             (λ b c carry unit. carry unit) well.units;
       }
-    where
-      grown_row : (b : UnitBook) → (grown changed.apps b).unit ≡ b.unit
-      grown_row b = cases (is_open (book_status changed.apps b))
-        where
-          cases : (t : Bool) → (cond t (record b { instances = b.instances ++ replicate (need b.unit b.instances) fresh }) b).unit ≡ b.unit
-          cases true = refl
-          cases false = refl
 
 pub settlement_settles : SettlementSettles
 settlement_settles old changed same well = settles old changed same well

@@ -1,12 +1,13 @@
 -- A world stays well where one instance is changed and keeps what is said of it.
-use Rattle.std.proofs.Common.{◌≡◌, ◌≢◌, ℕ, ◌+◌, ◌<◌, ◌≤◌, ◌⊎◌, inl, inr, Bool, true, false, ltb, List, length, Option, Some, None, sym, refl, ap, ◌∙◌, subst, arith}
+use Rattle.std.proofs.Common.{◌≡◌, ℕ, ◌+◌, ◌<◌, ◌≤◌, ◌⊎◌, inl, inr, Bool, true, false, ltb, List, length, Option, Some, None, sym, refl, ap, ◌∙◌, subst, arith}
+use Rattle.std.proofs.lemmas.List.Elements.{All-weaker}
 use Rattle.std.specs.Prelude.{◌==◌, All, IsTrue, count_by, is_some, option_and_then, slice_get, IfSome}
 use Rattle.std.proofs.lemmas.Option.{IfSome_then}
 use borrow.Author.Tests.{ltb-true, ltb-false, eq-eqb}
 use Rattle.sched_book.specs.Count.{is_judged, report_place}
-use Rattle.sched_book.specs.Limits.{most_instances, most_workunits, IsInstanceInLimits}
+use Rattle.sched_book.specs.Limits.{most_instances, IsInstanceInLimits}
 use Rattle.sched_book.specs.Places.{nth, unit_at, option_any, host_of, account_at}
-use Rattle.sched_book.specs.Reports.{modify_at, modify_nth, with_number, with_changed}
+use Rattle.sched_book.specs.Reports.{modify_at, with_number, with_changed}
 use Rattle.sched_book.specs.Sound.{AreOfOtherUsers, IsBare, HasOwnerAmong, has_place, IsWellUnit, IsWell}
 use Rattle.sched_book.specs.declared.instance.Instance.{Instance}
 use Rattle.sched_book.specs.declared.instance.Place.{Place}
@@ -14,10 +15,10 @@ use Rattle.sched_book.specs.declared.instance.UnitBook.{UnitBook}
 use Rattle.sched_book.specs.declared.rows.App.{App}
 use Rattle.sched_book.specs.declared.rows.HostRow.{HostRow}
 use Rattle.sched_book.specs.declared.world.World.{World}
-use Rattle.sched_book.proofs.PlacesOf.{length-modify_nth}
 use Rattle.quorum_credit.proofs.ByPlace.{all_get}
-use Rattle.sched_machine.proofs.RowsKept.{rows_kept}
-use Rattle.sched_machine.proofs.UnitsAlike.{Alike, all_alike, pairs_alike, alike_changed_at, alike_changed_nth, modify_at-none, length_changed, count_same, count_more, any_kept, any_here}
+use Rattle.sched_machine.proofs.RowsKept.{rows_changed}
+use Rattle.sched_machine.proofs.RowsListed.{all_changed, all_changed_nth, pairs_changed}
+use Rattle.sched_machine.proofs.UnitsAlike.{modify_at-none, length_changed, count_same, count_more, any_kept, any_here}
 
 -- the changed instance is with the same host, and stays bare and within limits
 pub record Keeps (x y : Instance) : Type 0 where
@@ -52,11 +53,9 @@ module _ (f : Instance → Instance) (xs : List Instance) (i : ℕ) (x : Instanc
   in_range_after : (m : ℕ) → count_by is_judged xs ≤ m → IsInRange m (f x) → All (IsInRange m) (modify_at f xs i)
   in_range_after m more now =
       let n : ℕ = count_by is_judged xs in
-      let carried : Instance → Instance → Type 0 = λ y z. IsInRange n y → IsInRange m z in
-      all_alike (IsInRange n) (IsInRange m) carried xs (modify_at f xs i)
-      (alike_changed_at carried (λ y low. IfSome_then (report_place y) low (λ place below. omega arith)) f xs i
-      (λ y is low. (let same : x ≡ y = cc in subst (λ z. IsInRange m (f z)) same now)))
-      (λ y z carry low. carry low) placed.in_range
+      all_changed (IsInRange m) f xs i
+      (All-weaker (IsInRange n) (IsInRange m) (λ y low. IfSome_then (report_place y) low (λ place below. omega arith)) xs placed.in_range)
+      (λ y is before. (let same : x ≡ y = cc in subst (λ z. IsInRange m (f z)) same now))
 
   placed_alike : IsJudgedAlike x (f x) → ArePlaced (modify_at f xs i)
   placed_alike alike =
@@ -125,7 +124,7 @@ other_users hosts x y a b first second others = λ given also same.
 pub owner_among : (hosts : List HostRow) (x y : Instance) → Keeps x y → HasOwnerAmong hosts x → HasOwnerAmong hosts y
 owner_among hosts x y keeps among = subst (λ o. IfSome o (λ host. IsTrue (is_some (nth hosts host)))) (sym keeps.host) among
 
-keeps_self : (x : Instance) → Keeps x x
+pub keeps_self : (x : Instance) → Keeps x x
 keeps_self x = record { host = refl; bare = λ bare. bare; limits = λ limits. limits }
 
 -- a workunit with one instance changed
@@ -134,39 +133,27 @@ unit_well : (hosts : List HostRow) (apps : List App) (f : Instance → Instance)
 unit_well hosts apps f i b well good =
     let xs : List Instance = b.instances in
     let ys : List Instance = modify_at f b.instances i in
-    let alike : Alike Keeps xs ys = alike_changed_at Keeps keeps_self f xs i (λ x is. (good x is).0) in
     let placed : ArePlaced ys =
     placed_after f xs i (record { places = well.places; in_range = well.in_range }) (λ x is. (good x is).1) in
     record {
-      one_for_each_user = pairs_alike (AreOfOtherUsers hosts) (AreOfOtherUsers hosts) Keeps xs ys alike (other_users hosts) well.one_for_each_user;
+      one_for_each_user = pairs_changed (AreOfOtherUsers hosts) f xs i well.one_for_each_user
+          (λ x is k z there. (other_users hosts z x z (f x) (keeps_self z) (good x is).0, other_users hosts x z (f x) z (good x is).0 (keeps_self z)));
       places = placed.places;
       in_range = placed.in_range;
-      bare = all_alike IsBare IsBare Keeps xs ys alike (λ x y keeps bare. keeps.bare bare) well.bare;
-      owners = all_alike (HasOwnerAmong hosts) (HasOwnerAmong hosts) Keeps xs ys alike (owner_among hosts) well.owners;
+      bare = all_changed IsBare f xs i well.bare (λ x is. (good x is).0.bare);
+      owners = all_changed (HasOwnerAmong hosts) f xs i well.owners (λ x is. owner_among hosts x (f x) (good x is).0);
       app = well.app;
       few = (let few : length xs ≤ most_instances = well.few in let same : length ys ≡ length xs = length_changed f xs i in omega arith);
       limits = well.limits;
-      instances = all_alike IsInstanceInLimits IsInstanceInLimits Keeps xs ys alike (λ x y keeps limits. keeps.limits limits) well.instances;
+      instances = all_changed IsInstanceInLimits f xs i well.instances (λ x is. (good x is).0.limits);
     }
 
 -- a world with the instance at a place changed
 pub changed_well : (f : Instance → Instance) (w : World) (p : Place) → IsWell w
     → ((b : UnitBook) (x : Instance) → IsWellUnit w.hosts w.apps b → unit_at w p.unit ≡ Some b → slice_get b.instances p.number ≡ Some x → IsGoodChange b x (f x))
     → IsWell (with_changed f w p)
-changed_well f w p well good =
-    let g : UnitBook → UnitBook = with_number f p.number in
-    let many : length (modify_nth g w.units p.unit) ≡ length w.units = length-modify_nth g w.units p.unit in
-    let row : UnitBook → UnitBook → Type 0 = λ b c. c.unit ≡ b.unit in
-    let carried : UnitBook → UnitBook → Type 0 = λ b c. IsWellUnit w.hosts w.apps b → IsWellUnit w.hosts w.apps c in
-    record {
-      rows = rows_kept w (modify_nth g w.units p.unit) well.rows
-          (pairs_alike (λ a b. a.unit.name ≢ b.unit.name) (λ a b. a.unit.name ≢ b.unit.name) row w.units (modify_nth g w.units p.unit)
-          (alike_changed_nth row (λ b. refl) g w.units p.unit (λ b stands. refl))
-          (λ x y a b first second apart same. apart (sym (ap (λ u. u.name) first) ∙ same ∙ ap (λ u. u.name) second))
-          well.rows.unit_names)
-          (let few : length w.units ≤ most_workunits = well.rows.unit_count in omega arith);
-      units = all_alike (IsWellUnit w.hosts w.apps) (IsWellUnit w.hosts w.apps) carried w.units (modify_nth g w.units p.unit)
-          (alike_changed_nth carried (λ b is. is) g w.units p.unit
-          (λ b stands unit. unit_well w.hosts w.apps f p.number b unit (λ x is. good b x unit stands is)))
-          (λ b c carry unit. carry unit) well.units;
-    }
+changed_well f w p well good = record {
+  rows = rows_changed w (with_number f p.number) p.unit (λ b. refl) well.rows;
+  units = all_changed_nth (IsWellUnit w.hosts w.apps) (with_number f p.number) w.units p.unit well.units
+      (λ b stands unit. unit_well w.hosts w.apps f p.number b unit (λ x is. good b x unit stands is));
+}
