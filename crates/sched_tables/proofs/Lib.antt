@@ -15,4 +15,5 @@ pub mod ToldByRows
 pub mod Upgraded
 pub mod UpgradedTexts
 pub mod TextsKept
+mod AppsBrought
 mod Memory

@@ -1,13 +1,13 @@
 -- What an upgrade leaves of a world, and what is told of it then.
-use Rattle.std.proofs.Common.{◌≡◌, ℕ, cond, eqb, Option, Some, None, option_map, option_to_list, refl, ap, ◌∙◌, inl, inr, IsTrue}
+use Rattle.std.proofs.Common.{◌≡◌, option_map, ap, IsTrue}
 use Rattle.sqlite.specs.Effect.{Database}
 use Rattle.sqlite.specs.State.{State, Survives}
-use Rattle.reply_register.specs.declared.kept.Kept.{Kept}
+use Rattle.sqlite.proofs.StateLemmas.{survives_weaker}
 use Rattle.sched_book.specs.Sound.{Sound}
 use Rattle.sched_book.specs.declared.world.World.{World}
 use Rattle.stores.specs.Held.{IsLeft}
 use Rattle.stores.specs.Kinds.{kind_name}
-use Rattle.table_meaning.specs.Upgrades.{HostCalls, in_first_slot, IsLeftBehind, IsLeftBehindWorld, UpgradesWorld}
+use Rattle.table_meaning.specs.Upgrades.{IsLeftBehind, IsLeftBehindWorld, UpgradesWorld}
 use Rattle.table_meaning.specs.Worlds.{SlotCalls, HoldWorld}
 use Rattle.table_meaning.proofs.UpgradedWorlds.{left_world}
 use Rattle.table_worlds.proofs.StaysReadable.{sound_is_readable}
@@ -16,36 +16,17 @@ use Rattle.sched_tables.specs.Commits.{Imports}
 use Rattle.sched_tables.specs.Entries.{kept_batch}
 use Rattle.sched_tables.specs.Laws.{UpgradedHold}
 use Rattle.sched_tables.specs.Slots.{calls_in_slots}
-use Rattle.sched_tables.specs.Upgrading.{second_held}
+use Rattle.sched_tables.specs.Upgrading.{held_with}
 use Rattle.sched_tables.specs.Views.{held_in}
 use Rattle.sched_tables.proofs.EntriesKept.{calls_back, batches_back}
 
 -- what a stop leaves of an upgrade carries a world over, too
 pub survives_world : (old new : State) → Survives old new (λ trees. IsTrue old.is_open × (db : Database) × IsLeftBehind old.now db × (trees ≡ db.trees))
     → Survives old new (λ trees. IsTrue old.is_open × (db : Database) × IsLeftBehindWorld old.now db × (trees ≡ db.trees))
-survives_world old new survives = record {
-  clean = survives.clean;
-  shield = survives.shield;
-  counts = survives.counts;
-  limit = survives.limit;
-  closes = survives.closes;
-  crash = λ clean trees left. elim (survives.crash clean trees left) [
-    | inl before ↦ inl before
-    | inr ahead ↦ inr (ahead.0, ahead.1, left_world old.now ahead.1 ahead.2, ahead.3)
-  ];
-}
-
--- ---- what a store says of it
-
-one_call : (calls : HostCalls) (host : ℕ) → calls_in_slots (in_first_slot calls host) ≡ option_to_list (calls host)
-one_call calls host = cases (calls host)
-  where
-    cases : (o : Option Kept) → calls_in_slots (λ slot. cond (eqb slot 0) o None) ≡ option_to_list o
-    cases None = refl
-    cases (Some k) = refl
+survives_world old new = survives_weaker old new _ _ (λ _ trees left. (left.0, left.1, left_world old.now left.1 left.2, left.3))
 
 -- tables that hold a sound world hold it as a store says it
-holds_as_left : (db : Database) (w : World) (calls : SlotCalls) (batches : Imports) → Sound w → HoldWorld db w calls batches → IsLeft (second_held w calls batches) (held_in db.trees)
+holds_as_left : (db : Database) (w : World) (calls : SlotCalls) (batches : Imports) → Sound w → HoldWorld db w calls batches → IsLeft (held_with w calls batches) (held_in db.trees)
 holds_as_left db w calls batches sound holds = record {
   world_is = held_is_read_back db w _ _ holds (sound_is_readable w sound);
   calls_are = λ host. ap calls_in_slots (λ i slot. calls_back db w calls batches holds host slot i);
@@ -53,9 +34,4 @@ holds_as_left db w calls batches sound holds = record {
 }
 
 pub upgraded_hold : (old new : Database) → UpgradesWorld old new → UpgradedHold old (held_in new.trees)
-upgraded_hold old new upgrades = record {
-  from_first = λ w calls batches sound unclassed held.
-      let left = holds_as_left new w (in_first_slot calls) batches sound (upgrades.from_first w calls batches unclassed held) in
-      record { world_is = left.world_is; calls_are = λ host. left.calls_are host ∙ one_call calls host; batches_are = left.batches_are };
-  from_second = λ w calls batches sound unclassed held. holds_as_left new w calls batches sound (upgrades.from_second w calls batches unclassed held);
-}
+upgraded_hold old new upgrades n is w calls batches sound fits held = holds_as_left new w calls batches sound (upgrades n is w calls batches fits held)

@@ -1,5 +1,5 @@
 -- Rule. What a commit makes of tables.
-use Rattle.std.specs.Prelude.{◌≡◌, ℕ, Bool, false, List, [], ◌∷◌, ◌++◌, fold, Option, Some}
+use Rattle.std.specs.Prelude.{◌≡◌, ℕ, Bool, true, false, List, [], ◌∷◌, ◌++◌, fold, Option, Some}
 use Rattle.std.specs.List.{AllByRecursion, list_any, cons_option}
 use Rattle.sqlite.specs.Effect.{Database}
 use Rattle.sched_book.specs.Delta.{applied}
@@ -47,6 +47,15 @@ pub record Makes (w : World) (cs : List Change) (more : Option StoredRow) (old n
   pub leads : LeadsTo w cs more old new
   pub readable : IsReadable (applied w cs)
   pub texts : KeepsUtf8 w old new
+
+abbrev pub brings_app : Change → Bool
+brings_app (change.Account a) = false
+brings_app (change.App a) = true
+brings_app (change.Version v) = false
+brings_app (change.Workunit u) = false
+brings_app (change.Host number h) = false
+brings_app (change.Instance p x) = false
+brings_app (change.Class unit class) = false
 
 -- the applications with one that a change brings, and with those of each change
 abbrev pub app_with : List App → Change → List App

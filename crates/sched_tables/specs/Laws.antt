@@ -2,20 +2,20 @@
 use Rattle.std.specs.Prelude.{◌≡◌, ℕ, true, IfSome}
 use Rattle.sqlite_trees.specs.Tree.{Trees}
 use Rattle.sqlite_trees.specs.declared.store.Store.{Ghosts}
-use Rattle.sched_book.specs.Former.{IsUnclassed}
 use Rattle.sched_book.specs.Sound.{Sound}
 use Rattle.sqlite.specs.Effect.{Database}
 use Rattle.sched_book.specs.declared.world.World.{World}
 use Rattle.stores.specs.Held.{Held, IsLeft}
 use Rattle.table_meaning.specs.Rows.{RowKey, table_at, look_up}
-use Rattle.table_meaning.specs.Schemas.{has_table}
-use Rattle.table_meaning.specs.Upgrades.{HostCalls, HoldFirstWorld, HoldSecondWorld, UpgradesWorld, former_call, in_first_slot}
+use Rattle.table_meaning.specs.Schemas.{IsSchema, has_table}
+use Rattle.table_meaning.specs.Fills.{former_call}
+use Rattle.table_meaning.specs.Upgrades.{FitsSchema, HoldWorldAt, UpgradesWorld}
 use Rattle.table_meaning.specs.Worlds.{SlotCalls, HoldWorld}
 use Rattle.table_reading.specs.Reading.{AreUtf8, MayStandBeside}
 use Rattle.table_rows.specs.Utf8.{HasUtf8}
 use Rattle.sched_tables.specs.Commits.{Imports}
 use Rattle.sched_tables.specs.Reopening.{AreTaken, CanBeOpened}
-use Rattle.sched_tables.specs.Upgrading.{first_held, second_held}
+use Rattle.sched_tables.specs.Upgrading.{held_with}
 use Rattle.sched_tables.specs.Stops.{MayBeFound}
 use Rattle.sched_tables.specs.Views.{state_of, world_of, held_of, AreKept}
 use Rattle.sched_tables.specs.declared.tables.Tables.{Tables}
@@ -34,16 +34,16 @@ HeldCanBeOpened = (db : Database) (w : World) (calls : SlotCalls) (batches : Imp
 abbrev pub OpenedAreTaken : Type 0
 OpenedAreTaken = (db : Database) → CanBeOpened db → AreTaken db
 
--- What tables of an earlier schema held is held: of the first one, with the last call of each host; of the second, with the calls in the slots.
-pub record UpgradedHold (old : Database) (held : Held) : Type 0 where
-  pub from_first : (w : World) (calls : HostCalls) (batches : Imports) → Sound w → IsUnclassed w → HoldFirstWorld old w calls batches → IsLeft (first_held w calls batches) held
-  pub from_second : (w : World) (calls : SlotCalls) (batches : Imports) → Sound w → IsUnclassed w → HoldSecondWorld old w calls batches → IsLeft (second_held w calls batches) held
+-- What tables of a schema held of a world is held: the world, the calls in the slots, and the imports.
+abbrev pub UpgradedHold : Database → Held → Type 0
+UpgradedHold old held =
+    (n : ℕ) → IsSchema n → (w : World) (calls : SlotCalls) (batches : Imports) → Sound w → FitsSchema n w → HoldWorldAt n old w calls batches → IsLeft (held_with w calls batches) held
 
 -- Tables that were upgraded hold what they held before.
 abbrev pub UpgradedHolds : {S : Type 0} → Ghosts S → Type 0
 UpgradedHolds {S} store = (old : Database) (t : Tables S) → UpgradesWorld old (state_of store t).now → UpgradedHold old (held_of store t)
 
--- Each text of the tables of an earlier schema is in UTF-8 (RFC 3629).
+-- Each text of the tables of a schema is in UTF-8 (RFC 3629).
 abbrev pub AreUtf8At : ℕ → Trees → Type 0
 AreUtf8At n trees = (key : RowKey) → has_table n (table_at key) ≡ true → IfSome (look_up trees key) HasUtf8
 
@@ -51,13 +51,11 @@ AreUtf8At n trees = (key : RowKey) → has_table n (table_at key) ≡ true → I
 abbrev pub AreCallsUtf8 : Trees → Type 0
 AreCallsUtf8 trees = (host : ℕ) → IfSome (former_call trees host) HasUtf8
 
--- Tables of an earlier schema that hold a sound world, with what may be kept beside it and with texts in UTF-8, can be opened once they are
--- upgraded.
-pub record UpgradedOpen (old new : Database) : Type 0 where
-  pub from_first : (w : World) (calls : HostCalls) (batches : Imports) → Sound w → IsUnclassed w → MayStandBeside w (in_first_slot calls) batches
-      → HoldFirstWorld old w calls batches → AreUtf8At 1 old.trees → AreCallsUtf8 old.trees → CanBeOpened new
-  pub from_second : (w : World) (calls : SlotCalls) (batches : Imports) → Sound w → IsUnclassed w → MayStandBeside w calls batches
-      → HoldSecondWorld old w calls batches → AreUtf8At 2 old.trees → CanBeOpened new
+-- Tables that hold a sound world, with what may be kept beside it and with texts in UTF-8, can be opened once they are upgraded.
+abbrev pub UpgradedOpen : Database → Database → Type 0
+UpgradedOpen old new =
+    (n : ℕ) → IsSchema n → (w : World) (calls : SlotCalls) (batches : Imports) → Sound w → FitsSchema n w → MayStandBeside w calls batches → HoldWorldAt n old w calls batches
+    → AreUtf8At n old.trees → (n ≡ 1 → AreCallsUtf8 old.trees) → CanBeOpened new
 
 abbrev pub UpgradedCanBeOpened : Type 0
 UpgradedCanBeOpened = (old new : Database) → UpgradesWorld old new → UpgradedOpen old new

@@ -1,8 +1,9 @@
 //! Changes of the world and what is kept of a message, put into the tables at once.
 
-ghost use Rattle.std.specs.Prelude.{◌≡◌, false, IsTrue, IfOk, OnOk, OnErr};
+ghost use Rattle.std.specs.Prelude.{◌≡◌, false, unwrap_or, IsTrue, IfOk, OnOk, OnErr};
+ghost use Rattle.std.specs.List.{list_any};
 ghost use Rattle.sqlite.specs.State.{HasCleanDisk, Survives};
-ghost use Rattle.sched_tables.specs.Commits.{apps_with as apps_then};
+ghost use Rattle.sched_tables.specs.Commits.{brings_app, apps_with as apps_then};
 ghost use Rattle.sched_tables.specs.Entries.{ArePutWith, IsRowOf, MakesWith};
 ghost use Rattle.sched_book.specs.Delta.{applied};
 ghost use Rattle.sched_book.specs.Sound.{Sound};
@@ -20,49 +21,80 @@ use sqlite::Alter;
 use std::alloc::Global;
 use stores::Entry;
 use table_changes::rows_of_changes;
-use table_meaning::rows::{StoredBatch, StoredCall, StoredRow};
+use table_meaning::rows::{RowChange, StoredBatch, StoredCall, StoredRow};
 use table_rows::put_rows;
 use texts::{Listed, Memory, Text};
 
-/// The applications with those that changes bring.
-fn apps_with(apps: &Listed<App>, delta: &Delta) -> Result<Listed<App>, Memory>
-    ensures { IfOk result (λ all. all ≡ apps_then apps.now delta.now) }
+fn brings_app(change: &Change) -> bool
+    ensures { result ≡ brings_app change.now }
 {
+    matches!(change, Change::App(_))
+}
+
+/// Whether one of the changes brings an application.
+fn bring_apps(changes: &[Change]) -> bool
+    ensures { result ≡ list_any brings_app changes.now }
+{
+    changes.iter().any(brings_app)
+}
+
+/// The applications with those that changes bring, where they bring any.
+fn apps_with(apps: &Listed<App>, delta: &Delta) -> Result<Option<Listed<App>>, Memory>
+    ensures { IfOk result (λ all. unwrap_or all apps.now ≡ apps_then apps.now delta.now) }
+{
+    if !bring_apps(delta.as_slice()) {
+        return Ok(None);
+    }
     let mut all = apps.clone()?;
     for change in delta.as_slice() {
         if let Change::App(app) = change {
             all.push(copy_of(app)?)?;
         }
     }
-    Ok(all)
+    Ok(Some(all))
+}
+
+/// Puts these applications in the place of others, where there are any.
+fn keep_apps(apps: &mut Listed<App>, all: Option<Listed<App>>)
+    ensures { apps.new ≡ unwrap_or all apps.old }
+{
+    if let Some(all) = all {
+        *apps = all;
+    }
 }
 
 impl<S: Alter> Tables<S> {
     /// The row that an entry puts, where it puts one.
-    fn row_of(&mut self, entry: &Entry) -> Result<Option<StoredRow>, Unavailable>
+    fn row_of(&mut self, entry: &Entry) -> Result<Option<RowChange>, Unavailable>
         ensures reads { AreReadOn S.Store self.old self.new }
         ensures row { IsHonest (state_of S.Store self.new) → AreKept S.Store self.old → IfOk result (IsRowOf (slots_of S.Store self.old) entry.now) }
     {
         match entry {
-            Entry::Kept(host, kept) => Ok(Some(StoredRow::Kept(StoredCall {
-                host_id: *host,
-                slot: self.next_slot(*host)?,
-                seqno: kept.seqno,
-                text: kept.text.clone()?,
-                reply: kept.reply.clone()?,
-            }))),
-            Entry::Batch(kind, name, kept) => Ok(Some(StoredRow::Batch(StoredBatch {
-                kind: Text::copied(self.alloc, kind.name())?,
-                name: name.clone()?,
-                text: Listed::of(kept.text.as_slice().to_vec(self.alloc)?),
-                answer: kept.answer.clone()?,
-            }))),
+            Entry::Kept(host, kept) => {
+                let call = StoredCall {
+                    host_id: *host,
+                    slot: self.next_slot(*host)?,
+                    seqno: kept.seqno,
+                    text: kept.text.clone()?,
+                    reply: kept.reply.clone()?,
+                };
+                Ok(Some(RowChange::update(StoredRow::Kept(call))))
+            }
+            Entry::Batch(kind, name, kept) => {
+                let batch = StoredBatch {
+                    kind: Text::copied(self.alloc, kind.name())?,
+                    name: name.clone()?,
+                    text: Listed::of(kept.text.as_slice().to_vec(self.alloc)?),
+                    answer: kept.answer.clone()?,
+                };
+                Ok(Some(RowChange::insert(StoredRow::Batch(batch))))
+            }
             Entry::Nothing => Ok(None),
         }
     }
 
     /// The rows that these changes put, and the row of an entry behind them.
-    fn rows_with(&mut self, delta: &Delta, entry: &Entry) -> Result<Listed<StoredRow>, Unavailable>
+    fn rows_with(&mut self, delta: &Delta, entry: &Entry) -> Result<Listed<RowChange>, Unavailable>
         ensures reads { AreReadOn S.Store self.old self.new }
         ensures rows { IsHonest (state_of S.Store self.new) → AreKept S.Store self.old
             → IfOk result (ArePutWith (world_of S.Store self.old) delta.now (slots_of S.Store self.old) entry.now) }
@@ -111,7 +143,7 @@ impl<S: Alter> Tables<S> {
             return Err(Unavailable);
         }
         self.remembered.note_put(self.alloc, put);
-        self.apps = apps;
+        keep_apps(&mut self.apps, apps);
         Ok(())
     }
 }

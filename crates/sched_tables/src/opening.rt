@@ -21,6 +21,7 @@ use crate::tables::Tables;
 use sched_book::{Settings, copy_of};
 use sqlite::{Alter, Connection, MemStore};
 use std::alloc::Global;
+use table_meaning::rows::RowChange;
 use table_reading::stored_world;
 use table_rows::{OpenFault, Refused, create, known, test_open};
 use table_worlds::setting_rows;
@@ -43,7 +44,7 @@ impl<S: Alter + Drop> Tables<S> {
         ensures reopens { Sound (empty_world settings.now) → IfOk result (λ t. Reopens (state_of S.Store t)) }
     {
         let kept = copy_of(settings)?;
-        let rows = setting_rows(alloc, settings)?;
+        let rows = RowChange::inserts(alloc, setting_rows(alloc, settings)?)?;
         create(alloc, &mut conn, rows.as_slice())?;
         Ok(Tables {
             alloc,
@@ -60,7 +61,7 @@ impl<S: Alter + Drop> Tables<S> {
     ///
     /// `OldSchema` where the tables are those of an older schema, whose number it tells; `NotTables` where they are those of
     /// no schema, or do not say of which; `BadRow` where the rows are not those of a sound world with what may be kept beside
-    /// it, as [`table_reading::stored_world`] says. These exclude one another. A connection that is given back is opened anew:
+    /// it, as [`table_reading::stored_world`] says. A connection that is given back is opened anew:
     /// it is at rest, and its file is as it was. Where memory or the disk failed, it is dropped. A stop that finds the tables
     /// opened leaves what they hold, and that can be opened again.
     pub fn adopt(alloc: Global, conn: Connection<S>) -> Result<Tables<S>, Refused<S>>

@@ -18,7 +18,7 @@ use sched_book::{Account, Instance, Placed, Version, Workunit, copy_of};
 use std::alloc::Global;
 use table_decoding::{host, instance};
 use table_desk::{CountedHost, KnownUnits, PageRead};
-use table_meaning::rows::{StoredHost, StoredInstance, StoredRow};
+use table_meaning::rows::{RowChange, StoredHost, StoredInstance, StoredRow};
 use texts::{Listed, Memory, Same, Text};
 
 /// The most versions that are remembered. At one more, those before it are forgotten.
@@ -355,13 +355,13 @@ impl Remembered {
 
     /// Takes note of rows that were put: what they tell of hosts and of instances is renewed, and what else was read of them is
     /// forgotten, with the slot for a call and the places that wait.
-    pub(crate) fn note_put(&mut self, alloc: Global, rows: &[StoredRow])
-        ensures carried { AreCarried (IsUnput rows.now) (IsPut rows.now) self.old self.new }
+    pub(crate) fn note_put(&mut self, alloc: Global, changes: &[RowChange])
+        ensures carried { AreCarried (IsUnput changes.now) (IsPut changes.now) self.old self.new }
         ensures slot { self.new.slot ≡ None }
         ensures page { self.new.page ≡ None }
     {
-        for row in rows {
-            self.note_row(alloc, row);
+        for change in changes {
+            self.note_row(alloc, change.row());
         }
         self.slot = None;
         self.page = None;

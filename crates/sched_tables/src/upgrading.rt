@@ -6,7 +6,7 @@ ghost use Rattle.sqlite.specs.State.{HasCleanDisk, Survives};
 ghost use Rattle.table_meaning.specs.Schema.{newest, schema_at, stored_schema};
 ghost use Rattle.table_meaning.specs.Schemas.{IsSchema, IsEarlier, AreKnownAt, AreEarlier, schema_said};
 ghost use Rattle.table_meaning.specs.Rows.{whole as sql_whole};
-ghost use Rattle.table_meaning.specs.Upgrades.{UpgradesWorld, IsLeftBehindWorld, StaysOrHalfwayWorld};
+ghost use Rattle.table_meaning.specs.Upgrades.{UpgradesWorld, IsLeftBehindWorld, StaysOrGoesWorld};
 
 use sqlite::{Alter, Connection};
 use std::alloc::Global;
@@ -37,7 +37,7 @@ CREATE INDEX instance_deadline ON instance (deadline);";
 ///
 /// `NotTables` where the tables are of no schema, or their row `schema` has not the number of theirs; `BadRow` where a row
 /// that is copied has a number past its range; `Unavailable` where memory or the disk failed. The tables are then as they
-/// were, or those of the first schema have become those of the second.
+/// were, or have become those of a later schema.
 pub fn upgrade<S: Alter>(alloc: Global, conn: &mut Connection<S>) -> Result<u32, OpenFault>
     ensures was_open { HasCleanDisk (state S.Store conn.new) → IsTrue (state S.Store conn.new).is_open → IsTrue (state S.Store conn.old).is_open }
     ensures open { HasCleanDisk (state S.Store conn.new) → OnOk result (IsTrue (state S.Store conn.new).is_open) }
@@ -52,7 +52,7 @@ pub fn upgrade<S: Alter>(alloc: Global, conn: &mut Connection<S>) -> Result<u32,
     ensures taken { HasCleanDisk (state S.Store conn.new) → IfErr result (λ e. e ≡ OpenFault.NotTables
         → ((state S.Store conn.old).now.schema ≢ stored_schema) × ((n : ℕ) → ¬ AreEarlier n (state S.Store conn.old).now)) }
     ensures never_old { IfErr result (λ e. (n : ℕ) → e ≢ OpenFault.OldSchema n) }
-    ensures neither { HasCleanDisk (state S.Store conn.new) → IsTrue (state S.Store conn.new).is_open → OnErr result (StaysOrHalfwayWorld (state S.Store conn.old) (state S.Store conn.new)) }
+    ensures neither { HasCleanDisk (state S.Store conn.new) → IsTrue (state S.Store conn.new).is_open → OnErr result (StaysOrGoesWorld (state S.Store conn.old) (state S.Store conn.new)) }
     ensures crash { Survives (state S.Store conn.old) (state S.Store conn.new)
         (λ trees. IsTrue (state S.Store conn.old).is_open × (db : _) × IsLeftBehindWorld (state S.Store conn.old).now db × (trees ≡ db.trees)) }
 {

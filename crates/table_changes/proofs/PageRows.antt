@@ -1,6 +1,6 @@
 -- The rows of a page's world beside those of the world that the call found.
-use Rattle.std.proofs.Common.{◌≡◌, ◌⊎◌, ℕ, pos, ◌+◌, ◌*◌, ◌≤◌, Bool, true, false, cond, eqb, ◌&&◌, List, [], ◌∷◌, length, Option, Some, None, option_map, option_and_then, refl, sym, ap, subst, ◌∙◌, inl, inr, arith, true≢false}
-use Rattle.std.specs.Prelude.{◌||◌, count_by, sum_by, slice_get, unwrap_or, is_none, is_some}
+use Rattle.std.proofs.Common.{◌≡◌, ℕ, ◌+◌, ◌*◌, ◌≤◌, Bool, true, false, eqb, ◌&&◌, List, [], ◌∷◌, length, Option, Some, None, option_map, option_and_then, refl, sym, ap, subst, ◌∙◌, inl, inr, arith, true≢false}
+use Rattle.std.specs.Prelude.{◌||◌, count_by, sum_by, slice_get, unwrap_or, is_some}
 use Rattle.std.proofs.lemmas.Bool.{eqb-true}
 use Rattle.std.proofs.lemmas.Option.{slice_get_past}
 use Rattle.std.specs.BTreeMap.{get}
@@ -19,7 +19,7 @@ use Rattle.sched_book.specs.declared.world.World.{World}
 use Rattle.call_sheet.specs.declared.leaf.Leaf.{Leaf}
 use Rattle.call_sheet.specs.declared.page.Page.{Page}
 use Rattle.call_sheet.specs.Sheets.{book_before, book_now, IsLeafOf, IsLeafAt, IsHostAt, IsPageOf, AreAllOf}
-use Rattle.table_meaning.specs.Worlds.{status_code, lapse_code, unit_row, mark_row, host_row, instance_row, app_place}
+use Rattle.table_meaning.specs.Worlds.{status_code, unit_row, mark_row, host_row, instance_row, app_place}
 use Rattle.table_meaning.specs.declared.rows.StoredRow.{StoredRow}
 use Rattle.table_meaning.specs.declared.rows.StoredRow.TheVariants as stored
 use Rattle.sched_book.proofs.PlaceLists.{places_counted}
@@ -124,24 +124,6 @@ instance_in w b unit number x = stored.Instance (instance_row w b unit number x)
 abbrev of_book : World → ℕ → ℕ → UnitBook → Option StoredRow
 of_book w unit number b = option_map (instance_in w b unit number) (slice_get b.instances number)
 
--- the row by its columns and whether it is queued
-abbrev queued_row : ℕ → ℕ → Job → Bool → StoredRow
-queued_row unit number x queued = stored.Instance (record {
-  unit_id = unit;
-  num = number;
-  host_id = option_map (λ o. o.host) x.owner;
-  sent = option_map (λ o. pos o.sent) x.owner;
-  deadline = option_map (λ o. pos o.deadline) x.owner;
-  lapse = lapse_code x.lapse;
-  outcome = option_map (λ r. cond r.success 1 3) x.report;
-  output = option_map (λ r. r.output) x.report;
-  place = option_and_then (λ r. r.place) x.report;
-  queued = queued;
-})
-
-abbrev waits : Job → Status → Bool
-waits x s = is_none x.owner && eqb (status_code s) 0
-
 module _ (w v : World) (unit number : ℕ) (k : Leaf) (apps : v.apps ≡ w.apps) (leaf : IsLeafOf w v unit k) where
   before_is : row_in w (Instance (record { unit = unit; number = number })) ≡ of_book w unit number (book_before k)
   before_is = ap (option_and_then (of_book w unit number)) leaf.before
@@ -158,17 +140,11 @@ module _ (w v : World) (unit number : ℕ) (k : Leaf) (apps : v.apps ≡ w.apps)
   none_now : slice_get k.present number ≡ None → row_in v (Instance (record { unit = unit; number = number })) ≡ None
   none_now none = now_is ∙ ap (option_map (instance_in v (book_now k) unit number)) none
 
-  rows_same : (x y : Job) (s t : Status) → slice_get k.before number ≡ Some x → slice_get k.present number ≡ Some y → x ≡ y
-      → s ≡ status k.agreement k.unit k.before → t ≡ status k.agreement k.unit k.present → waits x s ≡ waits y t
-      → row_in w (Instance (record { unit = unit; number = number })) ≡ row_in v (Instance (record { unit = unit; number = number }))
-  rows_same x y s t stood stands same old new waiting =
-      before_is
-      ∙ ap (option_map (instance_in w (book_before k) unit number)) stood
-      ∙ ap (λ u. Some (queued_row unit number x (waits x u))) (status_then ∙ sym old)
-      ∙ ap (λ q. Some (queued_row unit number x q)) waiting
-      ∙ ap (λ z. Some (queued_row unit number z (waits y t))) same
-      ∙ ap (λ u. Some (queued_row unit number y (waits y u))) (new ∙ sym status_now)
-      ∙ sym (now_is ∙ ap (option_map (instance_in v (book_now k) unit number)) stands)
+  row_then : (x : Job) (s : Status) (row : StoredRow) → slice_get k.before number ≡ Some x → s ≡ status k.agreement k.unit k.before
+      → ((u : World) (b : UnitBook) → s ≡ status_of u b → row ≡ stored.Instance (instance_row u b unit number x))
+      → Some row ≡ row_in w (Instance (record { unit = unit; number = number }))
+  row_then x s row stood old is =
+      ap Some (is w (book_before k) (old ∙ sym status_then)) ∙ sym (before_is ∙ ap (option_map (instance_in w (book_before k) unit number)) stood)
 
   row_now : (y : Job) (t : Status) (row : StoredRow) → slice_get k.present number ≡ Some y → t ≡ status k.agreement k.unit k.present
       → ((u : World) (b : UnitBook) → t ≡ status_of u b → row ≡ stored.Instance (instance_row u b unit number y))
@@ -183,12 +159,13 @@ instance_gone = none_now
 pub none_is_change : (before after : Option StoredRow) → after ≡ None → IsChange before after None
 none_is_change before after none = inl (refl, inl none)
 
-pub instance_stays : (w v : World) (unit number : ℕ) (k : Leaf) (x y : Job) (s t : Status) → v.apps ≡ w.apps → IsLeafOf w v unit k
-    → slice_get k.before number ≡ Some x → slice_get k.present number ≡ Some y → x ≡ y
-    → s ≡ status k.agreement k.unit k.before → t ≡ status k.agreement k.unit k.present → waits x s ≡ waits y t
+pub instance_stays : (w v : World) (unit number : ℕ) (k : Leaf) (x y : Job) (s t : Status) (row other : StoredRow) → v.apps ≡ w.apps → IsLeafOf w v unit k
+    → slice_get k.before number ≡ Some x → slice_get k.present number ≡ Some y → s ≡ status k.agreement k.unit k.before → t ≡ status k.agreement k.unit k.present
+    → ((u : World) (b : UnitBook) → t ≡ status_of u b → row ≡ stored.Instance (instance_row u b unit number y))
+    → ((u : World) (b : UnitBook) → s ≡ status_of u b → other ≡ stored.Instance (instance_row u b unit number x)) → row ≡ other
     → IsChange (row_in w (Instance (record { unit = unit; number = number }))) (row_in v (Instance (record { unit = unit; number = number }))) None
-instance_stays w v unit number k x y s t apps leaf stood stands same old new waiting =
-    same_is_change _ _ (rows_same w v unit number k apps leaf x y s t stood stands same old new waiting)
+instance_stays w v unit number k x y s t row other apps leaf stood stands old new is was same =
+    same_is_change _ _ (sym (row_then w v unit number k apps leaf x s other stood old was) ∙ ap Some (sym same) ∙ row_now w v unit number k apps leaf y t row stands new is)
 
 pub instance_changed : (w v : World) (unit number : ℕ) (k : Leaf) (y : Job) (t : Status) (row : StoredRow) → v.apps ≡ w.apps → IsLeafOf w v unit k
     → slice_get k.present number ≡ Some y → t ≡ status k.agreement k.unit k.present

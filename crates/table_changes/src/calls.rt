@@ -19,7 +19,7 @@ use crate::units::push_units;
 use call_sheet::{Page, Sheet, put_all};
 use sched_book::{Change, Delta, Desk, Unavailable};
 use std::alloc::Global;
-use table_meaning::rows::StoredRow;
+use table_meaning::rows::RowChange;
 use texts::{Listed, Text, is_word};
 
 fn is_word_text(text: &Text) -> bool
@@ -93,7 +93,7 @@ fn push_rows<D: Desk>(
     desk: &mut D,
     page: &Page,
     touched: &Touched,
-    rows: &mut Listed<StoredRow>,
+    rows: &mut Listed<RowChange>,
 ) -> Result<(), Unavailable>
     ensures reads { D.reads desk.old desk.new }
     ensures rows { Trusted D.Units desk.old desk.new (IsPageOf (D.world desk.old) page.now → AreTouched page.now touched.now → rows.old ≡ []
@@ -110,7 +110,7 @@ fn rows_of_page<D: Desk>(
     alloc: Global,
     desk: &mut D,
     page: &Page,
-) -> Result<Listed<StoredRow>, Unavailable>
+) -> Result<Listed<RowChange>, Unavailable>
     ensures reads { D.reads desk.old desk.new }
     ensures rows { Trusted D.Units desk.old desk.new (IsPageOf (D.world desk.old) page.now →
         IfOk result (AreChanges (D.world desk.old) (applied (D.world desk.old) page.now.delta))) }
@@ -126,7 +126,7 @@ pub(crate) fn rows_of_call<D: Desk>(
     alloc: Global,
     desk: &mut D,
     delta: &Delta,
-) -> Result<Listed<StoredRow>, Unavailable>
+) -> Result<Listed<RowChange>, Unavailable>
     ensures reads { D.reads desk.old desk.new }
     ensures rows { Trusted D.Units desk.old desk.new (
         IfOk result (AreChanges (D.world desk.old) (applied (D.world desk.old) delta.now))) }

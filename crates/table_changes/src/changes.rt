@@ -10,7 +10,7 @@ use crate::calls::rows_of_call;
 use crate::imports::rows_of_import;
 use sched_book::{Change, Delta, Desk, Unavailable};
 use std::alloc::Global;
-use table_meaning::rows::StoredRow;
+use table_meaning::rows::RowChange;
 use texts::Listed;
 
 /// The rows that these changes of the desk's world put, in an order in which each row comes behind those that it refers to.
@@ -26,7 +26,7 @@ pub fn rows_of_changes<D: Desk>(
     alloc: Global,
     desk: &mut D,
     delta: &Delta,
-) -> Result<Listed<StoredRow>, Unavailable>
+) -> Result<Listed<RowChange>, Unavailable>
     ensures reads { D.reads desk.old desk.new }
     ensures rows { Trusted D.Units desk.old desk.new (IsReadable (D.world desk.old) →
         IfOk result (AreChanges (D.world desk.old) (applied (D.world desk.old) delta.now))) }

@@ -21,7 +21,7 @@ use crate::touched::Touched;
 use call_sheet::Page;
 use sched_book::{Desk, HostRow, Unavailable, copy_of};
 use std::alloc::Global;
-use table_meaning::rows::StoredRow;
+use table_meaning::rows::{RowChange, StoredRow};
 use table_worlds::{Total, host_row};
 use texts::Listed;
 
@@ -73,18 +73,21 @@ fn host_now<D: Desk>(
     }
 }
 
-/// The row of a host, where it stands.
+/// The row of a host, where it stands. It is an update: only in its first call a host has no row yet.
 fn row_of(
     alloc: Global,
     id: u32,
     host: &Option<HostRow>,
     total: Total,
-) -> Result<Option<StoredRow>, Unavailable>
+) -> Result<Option<RowChange>, Unavailable>
     ensures { IfOk result (λ row. row ≡ option_map (λ h. stored.Host (specified_row total.held total.credit id h)) host.now) }
 {
     match host {
         None => Ok(None),
-        Some(host) => Ok(Some(host_row(alloc, id, host, total)?)),
+        Some(host) => {
+            let row = host_row(alloc, id, host, total)?;
+            Ok(Some(RowChange::update(StoredRow::Host(row))))
+        }
     }
 }
 
@@ -96,7 +99,7 @@ fn changed_host<D: Desk>(
     host: u32,
     share: Total,
     other: Total,
-) -> Result<Option<StoredRow>, Unavailable>
+) -> Result<Option<RowChange>, Unavailable>
     ensures reads { D.reads desk.old desk.new }
     ensures row { Trusted D.Units desk.old desk.new (IsPageOf (D.world desk.old) page.now
         → GoesFrom (D.world desk.old) (applied (D.world desk.old) page.now.delta) host share other
@@ -116,7 +119,7 @@ pub(crate) fn push_hosts<D: Desk>(
     desk: &mut D,
     page: &Page,
     touched: &Touched,
-    rows: &mut Listed<StoredRow>,
+    rows: &mut Listed<RowChange>,
 ) -> Result<(), Unavailable>
     ensures reads { D.reads desk.old desk.new }
     ensures rows { Trusted D.Units desk.old desk.new (IsPageOf (D.world desk.old) page.now → AreTouched page.now touched.now

@@ -22,7 +22,7 @@ use sched_book::{
     Version, Workunit, fresh_instances,
 };
 use std::alloc::Global;
-use table_meaning::rows::StoredRow;
+use table_meaning::rows::{RowChange, StoredRow};
 use table_worlds::{
     account_row, app_row, class_row, instance_row, mark_row, unit_row, version_row,
 };
@@ -39,21 +39,23 @@ fn next(count: u32) -> Result<u32, Unavailable>
 fn push_account(
     count: Counts,
     account: &Account,
-    rows: &mut Listed<StoredRow>,
+    rows: &mut Listed<RowChange>,
 ) -> Result<Counts, Unavailable>
     ensures { (w v : World) → AreImported w v count rows.old → IfOk result (λ counted. AreImported w (applied_one v (change.Account account.now)) counted rows.new) }
 {
     let accounts = next(count.accounts)?;
-    rows.push(account_row(accounts, account)?)?;
+    let row = account_row(accounts, account)?;
+    rows.push(RowChange::insert(StoredRow::Account(row)))?;
     Ok(Counts { accounts, ..count })
 }
 
 /// Puts the row of a new application, and counts it.
-fn push_app(count: Counts, app: &App, rows: &mut Listed<StoredRow>) -> Result<Counts, Unavailable>
+fn push_app(count: Counts, app: &App, rows: &mut Listed<RowChange>) -> Result<Counts, Unavailable>
     ensures { (w v : World) → AreImported w v count rows.old → IfOk result (λ counted. AreImported w (applied_one v (change.App app.now)) counted rows.new) }
 {
     let apps = next(count.apps)?;
-    rows.push(app_row(apps, app)?)?;
+    let row = app_row(apps, app)?;
+    rows.push(RowChange::insert(StoredRow::App(row)))?;
     Ok(Counts { apps, ..count })
 }
 
@@ -63,7 +65,7 @@ fn push_version<D: Desk>(
     desk: &mut D,
     count: Counts,
     version: &Version,
-    rows: &mut Listed<StoredRow>,
+    rows: &mut Listed<RowChange>,
 ) -> Result<Counts, Unavailable>
     ensures reads { D.reads desk.old desk.new }
     ensures rows { Trusted D.Units desk.old desk.new ((v : World) → AreImported (D.world desk.old) v count rows.old
@@ -71,8 +73,10 @@ fn push_version<D: Desk>(
 {
     let app = known_app(alloc, desk, version.app.as_str())?;
     let versions = next(count.versions)?;
-    rows.push(version_row(versions, app.place, version)?)?;
-    rows.push(class_row(versions, version)?)?;
+    let row = version_row(versions, app.place, version)?;
+    rows.push(RowChange::insert(StoredRow::Version(row)))?;
+    let class = class_row(versions, version)?;
+    rows.push(RowChange::insert(StoredRow::VersionClass(class)))?;
     Ok(Counts { versions, ..count })
 }
 
@@ -107,13 +111,14 @@ fn push_fresh(
     unit: u32,
     count: u32,
     status: Status,
-    rows: &mut Listed<StoredRow>,
+    rows: &mut Listed<RowChange>,
 ) -> Result<(), Unavailable>
     ensures { (w v : World) (b : UnitBook) → unit_at v unit ≡ Some b → b.instances ≡ replicate count fresh → status ≡ spec_status v b
         → OnOk result (AreAdded (is_instance_among (unit ∷ [])) w v rows.old rows.new) }
 {
     for number in 0..count {
-        rows.push(instance_row(Place { unit, number }, &fresh_instance(), status)?)?;
+        let row = instance_row(Place { unit, number }, &fresh_instance(), status)?;
+        rows.push(RowChange::insert(StoredRow::Instance(row)))?;
     }
     Ok(())
 }
@@ -124,7 +129,7 @@ fn push_unit<D: Desk>(
     desk: &mut D,
     count: Counts,
     unit: &Workunit,
-    rows: &mut Listed<StoredRow>,
+    rows: &mut Listed<RowChange>,
 ) -> Result<Counts, Unavailable>
     ensures reads { D.reads desk.old desk.new }
     ensures rows { Trusted D.Units desk.old desk.new ((v : World) → AreImported (D.world desk.old) v count rows.old
@@ -133,8 +138,10 @@ fn push_unit<D: Desk>(
     let app = known_app(alloc, desk, unit.app.as_str())?;
     let workunits = next(count.workunits)?;
     let status = first_status(alloc, &app.agreement, unit)?;
-    rows.push(unit_row(workunits, app.place, unit, status)?)?;
-    rows.push(mark_row(workunits, &unit.class_rule)?)?;
+    let row = unit_row(workunits, app.place, unit, status)?;
+    rows.push(RowChange::insert(StoredRow::Unit(row)))?;
+    let mark = mark_row(workunits, &unit.class_rule)?;
+    rows.push(RowChange::insert(StoredRow::UnitMark(mark)))?;
     push_fresh(workunits, unit.target_nresults, status, rows)?;
     Ok(Counts { workunits, ..count })
 }
@@ -145,7 +152,7 @@ fn push_change<D: Desk>(
     desk: &mut D,
     count: Counts,
     change: &Change,
-    rows: &mut Listed<StoredRow>,
+    rows: &mut Listed<RowChange>,
 ) -> Result<Counts, Unavailable>
     ensures reads { D.reads desk.old desk.new }
     ensures rows { Trusted D.Units desk.old desk.new ((v : World) → AreImported (D.world desk.old) v count rows.old
@@ -165,7 +172,7 @@ pub(crate) fn rows_of_import<D: Desk>(
     alloc: Global,
     desk: &mut D,
     delta: &Delta,
-) -> Result<Listed<StoredRow>, Unavailable>
+) -> Result<Listed<RowChange>, Unavailable>
     ensures reads { D.reads desk.old desk.new }
     ensures rows { Trusted D.Units desk.old desk.new (IsReadable (D.world desk.old) →
         IfOk result (AreChanges (D.world desk.old) (applied (D.world desk.old) delta.now))) }

@@ -1,12 +1,11 @@
 //! The rows of instances that a call changed, or whose workunit it opened or closed.
 
-ghost use Rattle.std.specs.Prelude.{◌≡◌, ◌&&◌, ◌==◌, [], ◌∷◌, is_none, slice_get, IsTrue, IfOk, OnOk};
+ghost use Rattle.std.specs.Prelude.{◌≡◌, [], ◌∷◌, IfOk, OnOk};
 ghost use Rattle.std.specs.Option.{option_copied};
 ghost use Rattle.sched_book.specs.Count as spec;
 ghost use Rattle.sched_book.specs.Delta.{applied};
 ghost use Rattle.sched_book.specs.declared.world.World.{World};
 ghost use Rattle.call_sheet.specs.Sheets.{IsLeafOf, IsLeafAt, IsPageOf};
-ghost use Rattle.table_meaning.specs.Worlds.{status_code};
 ghost use Rattle.table_worlds.specs.Changes.{IsChange};
 ghost use Rattle.table_worlds.specs.Keys.{row_in};
 ghost use Rattle.table_worlds.specs.declared.keys.WorldKey.TheVariants as key;
@@ -14,55 +13,10 @@ ghost use Rattle.table_changes.specs.Added.{is_instance_among, AreAdded};
 
 use crate::units::present_status;
 use call_sheet::{Leaf, Page};
-use sched_book::{Instance, Outcome, Owner, Place, Status, Unavailable};
-use table_meaning::rows::StoredRow;
+use sched_book::{Place, Status, Unavailable};
+use table_meaning::rows::{RowChange, StoredRow};
 use table_worlds::instance_row;
 use texts::Listed;
-
-/// Whether the two were given to one host at one moment, with one deadline, or both to none.
-fn same_owner(left: &Option<Owner>, right: &Option<Owner>) -> bool
-    ensures { IsTrue result → left.now ≡ right.now }
-{
-    match (left, right) {
-        (None, None) => true,
-        (Some(left), Some(right)) => {
-            left.host == right.host
-                && left.sent.seconds() == right.sent.seconds()
-                && left.deadline == right.deadline
-        }
-        (None, Some(_)) | (Some(_), None) => false,
-    }
-}
-
-/// Whether the same was reported of the two.
-fn same_report(left: &Option<Outcome>, right: &Option<Outcome>) -> bool
-    ensures { IsTrue result → left.now ≡ right.now }
-{
-    match (left, right) {
-        (None, None) => true,
-        (Some(left), Some(right)) => {
-            left.success == right.success
-                && left.output.is(right.output.as_str())
-                && left.place == right.place
-        }
-        (None, Some(_)) | (Some(_), None) => false,
-    }
-}
-
-fn same_instance(left: &Instance, right: &Instance) -> bool
-    ensures { IsTrue result → left.now ≡ right.now }
-{
-    same_owner(&left.owner, &right.owner)
-        && left.lapse == right.lapse
-        && same_report(&left.report, &right.report)
-}
-
-/// Whether an instance waits to be given out where its workunit has this status.
-fn is_queued(instance: &Instance, status: Status) -> bool
-    ensures { result ≡ (is_none instance.now.owner && (status_code status == 0)) }
-{
-    instance.owner.is_none() && status == Status::Open
-}
 
 /// The statuses of a workunit: before a call, and now.
 #[derive(Clone, Copy)]
@@ -71,21 +25,12 @@ struct Statuses {
     present: Status,
 }
 
-/// Whether two instances have the same row where these are the statuses of their workunit.
-fn same_row(before: &Instance, present: &Instance, statuses: Statuses) -> bool
-    ensures instance { IsTrue result → before.now ≡ present.now }
-    ensures queued { IsTrue result → (is_none before.now.owner && (status_code statuses.before == 0)) ≡ (is_none present.now.owner && (status_code statuses.present == 0)) }
-{
-    same_instance(before, present)
-        && is_queued(before, statuses.before) == is_queued(present, statuses.present)
-}
-
 /// The row of the instance at a place of a leaf, where it is another than before.
 fn changed_instance(
     leaf: &Leaf,
     statuses: Statuses,
     place: Place,
-) -> Result<Option<StoredRow>, Unavailable>
+) -> Result<Option<RowChange>, Unavailable>
     ensures { (w v : World) → v.apps ≡ w.apps → IsLeafOf w v place.unit leaf.now
         → statuses.before ≡ spec.status leaf.now.agreement leaf.now.unit leaf.now.before
         → statuses.present ≡ spec.status leaf.now.agreement leaf.now.unit leaf.now.present
@@ -95,19 +40,22 @@ fn changed_instance(
     let Some(instance) = leaf.present.as_slice().get(number) else {
         return Ok(None);
     };
-    if let Some(before) = leaf.before.as_slice().get(number) {
-        if same_row(before, instance, statuses) {
-            return Ok(None);
-        }
+    let row = instance_row(place, instance, statuses.present)?;
+    let Some(before) = leaf.before.as_slice().get(number) else {
+        return Ok(Some(RowChange::insert(StoredRow::Instance(row))));
+    };
+    let other = instance_row(place, before, statuses.before)?;
+    if row == other {
+        return Ok(None);
     }
-    Ok(Some(instance_row(place, instance, statuses.present)?))
+    Ok(Some(RowChange::update(StoredRow::Instance(row))))
 }
 
 /// Puts behind the others the rows of the workunit's instances that are others than before, where it was read.
 fn push_instances_of(
     unit: u32,
     leaf: Option<&Leaf>,
-    rows: &mut Listed<StoredRow>,
+    rows: &mut Listed<RowChange>,
 ) -> Result<(), Unavailable>
     ensures { (w v : World) → v.apps ≡ w.apps → IsLeafAt w v unit (option_copied leaf.entry)
         → OnOk result (AreAdded (is_instance_among (unit ∷ [])) w v rows.old rows.new) }
@@ -130,7 +78,7 @@ fn push_instances_of(
 pub(crate) fn push_instances(
     page: &Page,
     units: &[u32],
-    rows: &mut Listed<StoredRow>,
+    rows: &mut Listed<RowChange>,
 ) -> Result<(), Unavailable>
     ensures { (w : World) → IsPageOf w page.now
         → OnOk result (AreAdded (is_instance_among units.now) w (applied w page.now.delta) rows.old rows.new) }

@@ -12,7 +12,7 @@ ghost use Rattle.table_changes.specs.Added.{is_mark_among, AreAdded};
 
 use call_sheet::{Leaf, Page};
 use sched_book::{ClassRule, Unavailable};
-use table_meaning::rows::StoredRow;
+use table_meaning::rows::{RowChange, StoredRow};
 use table_worlds::mark_row;
 use texts::Listed;
 
@@ -27,7 +27,7 @@ fn same_rule(left: &ClassRule, right: &ClassRule) -> bool
 }
 
 /// The row of the mark of the workunit at a place, where its rule is another than before.
-fn changed_mark(unit: u32, leaf: Option<&Leaf>) -> Result<Option<StoredRow>, Unavailable>
+fn changed_mark(unit: u32, leaf: Option<&Leaf>) -> Result<Option<RowChange>, Unavailable>
     ensures { (w v : World) → IsLeafAt w v unit (option_copied leaf.entry)
         → IfOk result (IsChange (row_in w (key.Mark unit)) (row_in v (key.Mark unit))) }
 {
@@ -37,14 +37,15 @@ fn changed_mark(unit: u32, leaf: Option<&Leaf>) -> Result<Option<StoredRow>, Una
     if same_rule(&leaf.unit.class_rule, &leaf.rule) {
         return Ok(None);
     }
-    Ok(Some(mark_row(unit, &leaf.rule)?))
+    let row = mark_row(unit, &leaf.rule)?;
+    Ok(Some(RowChange::update(StoredRow::UnitMark(row))))
 }
 
 /// Puts behind the others the rows of the marks of those of the workunits whose rule is another than before.
 pub(crate) fn push_marks(
     page: &Page,
     units: &[u32],
-    rows: &mut Listed<StoredRow>,
+    rows: &mut Listed<RowChange>,
 ) -> Result<(), Unavailable>
     ensures { (w : World) → IsPageOf w page.now
         → OnOk result (AreAdded (is_mark_among units.now) w (applied w page.now.delta) rows.old rows.new) }

@@ -17,7 +17,7 @@ use call_sheet::{Leaf, Page};
 use sched_book::count::status;
 use sched_book::{Desk, Status, Unavailable};
 use std::alloc::Global;
-use table_meaning::rows::StoredRow;
+use table_meaning::rows::{RowChange, StoredRow};
 use table_worlds::unit_row;
 use texts::Listed;
 
@@ -34,7 +34,7 @@ fn changed_unit<D: Desk>(
     desk: &mut D,
     unit: u32,
     leaf: Option<&Leaf>,
-) -> Result<Option<StoredRow>, Unavailable>
+) -> Result<Option<RowChange>, Unavailable>
     ensures reads { D.reads desk.old desk.new }
     ensures row { Trusted D.Units desk.old desk.new ((after : World) → after.apps ≡ (D.world desk.old).apps
         → IsLeafAt (D.world desk.old) after unit (option_copied leaf.entry)
@@ -48,7 +48,8 @@ fn changed_unit<D: Desk>(
         return Ok(None);
     }
     let app = known_app(alloc, desk, leaf.unit.app.as_str())?;
-    Ok(Some(unit_row(unit, app.place, &leaf.unit, status)?))
+    let row = unit_row(unit, app.place, &leaf.unit, status)?;
+    Ok(Some(RowChange::update(StoredRow::Unit(row))))
 }
 
 /// Puts behind the others the rows of those of the workunits whose status is another than before.
@@ -57,7 +58,7 @@ pub(crate) fn push_units<D: Desk>(
     desk: &mut D,
     page: &Page,
     units: &[u32],
-    rows: &mut Listed<StoredRow>,
+    rows: &mut Listed<RowChange>,
 ) -> Result<(), Unavailable>
     ensures reads { D.reads desk.old desk.new }
     ensures rows { Trusted D.Units desk.old desk.new (IsPageOf (D.world desk.old) page.now →

@@ -1,6 +1,7 @@
 -- What is found of each table by computing with its layout: what its texts mean, and how they deal with any row.
-use Rattle.std.proofs.Common.{◌≡◌, ℕ, ◌+◌, ◌/◌, ℤ, Bool, true, false, ◌||◌, List, [], ◌∷◌, ◌++◌, length, find, slice_get, Some, refl}
+use Rattle.std.proofs.Common.{◌≡◌, ℕ, ◌+◌, ◌/◌, ℤ, Bool, true, false, ◌||◌, List, [], ◌∷◌, ◌++◌, length, find, slice_get, Some, None, Ok, Err, refl}
 use Rattle.std.specs.Prelude.{◌==◌, ⊤}
+use Rattle.std.specs.List.{list_any}
 use Rattle.sqlite_value.specs.declared.value.Value.{Value}
 use Rattle.sqlite_value.specs.declared.value.Value.TheVariants.{Int}
 use Rattle.sqlite_value.specs.Order.{Row, column}
@@ -12,6 +13,9 @@ use Rattle.sqlite_schema.specs.declared.command.Command.TheVariants.{Select}
 use Rattle.sqlite_schema.specs.declared.schema.Schema.{Schema}
 use Rattle.sqlite_schema.specs.Rules.{agree}
 use Rattle.sqlite_rules.specs.Keys.{conflicts}
+use Rattle.sqlite_syntax.specs.declared.statement.Parsed.{Parsed}
+use Rattle.sqlite_resolve.specs.Lowering.{Checked}
+use Rattle.sqlite_resolve.specs.Compile.{first, returning}
 use Rattle.sqlite_tied.specs.Compute.{everything}
 use Rattle.sqlite.specs.Effect.{value_rows}
 use Rattle.sqlite.specs.Rows.{stamped, shown as shown_by}
@@ -21,7 +25,7 @@ use Rattle.table_meaning.specs.declared.tables.TableName.{TableName}
 use Rattle.table_meaning.specs.declared.tables.TableName.TheVariants.{Setting, Account, App, Version, Unit, Host, Instance, Kept, Batch, VersionClass, UnitMark}
 use Rattle.table_meaning.specs.Kinds.{Kind, number}
 use Rattle.table_meaning.specs.Layouts.{Key, numbered, by_first, layout_of, names}
-use Rattle.table_meaning.specs.Schema.{newest, tables_at, stored_schema, table_by, place_of}
+use Rattle.table_meaning.specs.Schema.{newest, tables_at, layouts_at, stored_schema, table_by, place_of}
 use Rattle.table_meaning.specs.Texts.{read_text, key_text, put_text}
 use Rattle.table_meaning.specs.Rows.{tree_of, places_of, key_places, shown}
 use Rattle.table_meaning.specs.Formats.{kinds_of}
@@ -46,6 +50,11 @@ ReadsByKeyIn schema t places names text = (command_of (understood schema text) �
 abbrev pub ReadsByKey : TableName → List ℕ → List (List ℕ) → List ℕ → Type 0
 ReadsByKey = ReadsByKeyIn stored_schema
 
+-- a text has no RETURNING
+abbrev pub IsQuiet : Checked Parsed → Type 0
+IsQuiet (Ok p) = (schema : Schema) (base : ℕ) → returning schema base p.statement ≡ Ok None
+IsQuiet (Err e) = ⊤
+
 -- the first column is a number, where it is the number of the row
 abbrev pub BeginsBy : Key → List Kind → Type 0
 BeginsBy numbered kinds = (more : List Kind) × (kinds ≡ number ∷ more)
@@ -55,10 +64,12 @@ pub record Computed (t : TableName) : Type 0 where
   -- the table among the others
   pub listed : slice_get stored_schema.tables (place_of t) ≡ Some (table_by t)
   pub found : find (λ other. tree_of other == tree_of t) (tables_at newest) ≡ Some t
+  pub stands : list_any (λ l. l.tree == tree_of t) (layouts_at newest) ≡ true
   pub own : (db : Trees) → overlay db [] (tree_of t) ≡ db (tree_of t)
   pub starts : BeginsBy (key_by t) (kinds_of t)
   -- what its texts mean
   pub reads : IsRead t
+  pub quiet : IsQuiet (first (read_text t))
   pub reads_key : ReadsByKey t (places_of t) (names_of t) (key_text t)
   pub puts : command_of (understood stored_schema (put_text t)) ≡ put_command (place_of t) (put_terms (key_by t) (count_of t)) (count_of t + 1) (update_at (key_places t) (tree_of t) (count_of t) (set_terms (key_by t) (count_of t)))
   pub plain_text : IsPlain (understood stored_schema (put_text t))
@@ -80,15 +91,15 @@ or_false false = refl
 pub computed : (t : TableName) → Computed t
 unfolding understood everything
 computed t = elim t as Computed [
-  | Setting ↦ record { listed = refl; found = refl; own = λ db. refl; starts = tt; reads = (refl, (refl, refl), refl); reads_key = (refl, (refl, refl), refl); puts = refl; plain_text = (refl, refl); values = λ c. refl; meets = λ c id x. or_false _; slot_is = λ c v rest. refl; columns_are = λ c id r v. refl; shows = λ c id. refl }
-  | Account ↦ record { listed = refl; found = refl; own = λ db. refl; starts = (_, refl); reads = (refl, (refl, refl), refl); reads_key = (refl, (refl, refl), refl); puts = refl; plain_text = (refl, refl); values = λ c. refl; meets = λ c id x. or_false _; slot_is = λ c v rest. refl; columns_are = λ c id r v. refl; shows = λ c id. refl }
-  | App ↦ record { listed = refl; found = refl; own = λ db. refl; starts = (_, refl); reads = (refl, (refl, refl), refl); reads_key = (refl, (refl, refl), refl); puts = refl; plain_text = (refl, refl); values = λ c. refl; meets = λ c id x. or_false _; slot_is = λ c v rest. refl; columns_are = λ c id r v. refl; shows = λ c id. refl }
-  | Version ↦ record { listed = refl; found = refl; own = λ db. refl; starts = (_, refl); reads = (refl, (refl, refl), refl); reads_key = (refl, (refl, refl), refl); puts = refl; plain_text = (refl, refl); values = λ c. refl; meets = λ c id x. or_false _; slot_is = λ c v rest. refl; columns_are = λ c id r v. refl; shows = λ c id. refl }
-  | Unit ↦ record { listed = refl; found = refl; own = λ db. refl; starts = (_, refl); reads = (refl, (refl, refl), refl); reads_key = (refl, (refl, refl), refl); puts = refl; plain_text = (refl, refl); values = λ c. refl; meets = λ c id x. or_false _; slot_is = λ c v rest. refl; columns_are = λ c id r v. refl; shows = λ c id. refl }
-  | Host ↦ record { listed = refl; found = refl; own = λ db. refl; starts = (_, refl); reads = (refl, (refl, refl), refl); reads_key = (refl, (refl, refl), refl); puts = refl; plain_text = (refl, refl); values = λ c. refl; meets = λ c id x. or_false _; slot_is = λ c v rest. refl; columns_are = λ c id r v. refl; shows = λ c id. refl }
-  | Instance ↦ record { listed = refl; found = refl; own = λ db. refl; starts = tt; reads = (refl, (refl, refl), refl); reads_key = (refl, (refl, refl), refl); puts = refl; plain_text = (refl, refl); values = λ c. refl; meets = λ c id x. or_false _; slot_is = λ c v rest. refl; columns_are = λ c id r v. refl; shows = λ c id. refl }
-  | Kept ↦ record { listed = refl; found = refl; own = λ db. refl; starts = tt; reads = (refl, (refl, refl), refl); reads_key = (refl, (refl, refl), refl); puts = refl; plain_text = (refl, refl); values = λ c. refl; meets = λ c id x. or_false _; slot_is = λ c v rest. refl; columns_are = λ c id r v. refl; shows = λ c id. refl }
-  | Batch ↦ record { listed = refl; found = refl; own = λ db. refl; starts = tt; reads = (refl, (refl, refl), refl); reads_key = (refl, (refl, refl), refl); puts = refl; plain_text = (refl, refl); values = λ c. refl; meets = λ c id x. or_false _; slot_is = λ c v rest. refl; columns_are = λ c id r v. refl; shows = λ c id. refl }
-  | VersionClass ↦ record { listed = refl; found = refl; own = λ db. refl; starts = (_, refl); reads = (refl, (refl, refl), refl); reads_key = (refl, (refl, refl), refl); puts = refl; plain_text = (refl, refl); values = λ c. refl; meets = λ c id x. or_false _; slot_is = λ c v rest. refl; columns_are = λ c id r v. refl; shows = λ c id. refl }
-  | UnitMark ↦ record { listed = refl; found = refl; own = λ db. refl; starts = (_, refl); reads = (refl, (refl, refl), refl); reads_key = (refl, (refl, refl), refl); puts = refl; plain_text = (refl, refl); values = λ c. refl; meets = λ c id x. or_false _; slot_is = λ c v rest. refl; columns_are = λ c id r v. refl; shows = λ c id. refl }
+  | Setting ↦ record { listed = refl; found = refl; stands = refl; own = λ db. refl; starts = tt; reads = (refl, (refl, refl), refl); quiet = λ schema base. refl; reads_key = (refl, (refl, refl), refl); puts = refl; plain_text = (refl, refl); values = λ c. refl; meets = λ c id x. or_false _; slot_is = λ c v rest. refl; columns_are = λ c id r v. refl; shows = λ c id. refl }
+  | Account ↦ record { listed = refl; found = refl; stands = refl; own = λ db. refl; starts = (_, refl); reads = (refl, (refl, refl), refl); quiet = λ schema base. refl; reads_key = (refl, (refl, refl), refl); puts = refl; plain_text = (refl, refl); values = λ c. refl; meets = λ c id x. or_false _; slot_is = λ c v rest. refl; columns_are = λ c id r v. refl; shows = λ c id. refl }
+  | App ↦ record { listed = refl; found = refl; stands = refl; own = λ db. refl; starts = (_, refl); reads = (refl, (refl, refl), refl); quiet = λ schema base. refl; reads_key = (refl, (refl, refl), refl); puts = refl; plain_text = (refl, refl); values = λ c. refl; meets = λ c id x. or_false _; slot_is = λ c v rest. refl; columns_are = λ c id r v. refl; shows = λ c id. refl }
+  | Version ↦ record { listed = refl; found = refl; stands = refl; own = λ db. refl; starts = (_, refl); reads = (refl, (refl, refl), refl); quiet = λ schema base. refl; reads_key = (refl, (refl, refl), refl); puts = refl; plain_text = (refl, refl); values = λ c. refl; meets = λ c id x. or_false _; slot_is = λ c v rest. refl; columns_are = λ c id r v. refl; shows = λ c id. refl }
+  | Unit ↦ record { listed = refl; found = refl; stands = refl; own = λ db. refl; starts = (_, refl); reads = (refl, (refl, refl), refl); quiet = λ schema base. refl; reads_key = (refl, (refl, refl), refl); puts = refl; plain_text = (refl, refl); values = λ c. refl; meets = λ c id x. or_false _; slot_is = λ c v rest. refl; columns_are = λ c id r v. refl; shows = λ c id. refl }
+  | Host ↦ record { listed = refl; found = refl; stands = refl; own = λ db. refl; starts = (_, refl); reads = (refl, (refl, refl), refl); quiet = λ schema base. refl; reads_key = (refl, (refl, refl), refl); puts = refl; plain_text = (refl, refl); values = λ c. refl; meets = λ c id x. or_false _; slot_is = λ c v rest. refl; columns_are = λ c id r v. refl; shows = λ c id. refl }
+  | Instance ↦ record { listed = refl; found = refl; stands = refl; own = λ db. refl; starts = tt; reads = (refl, (refl, refl), refl); quiet = λ schema base. refl; reads_key = (refl, (refl, refl), refl); puts = refl; plain_text = (refl, refl); values = λ c. refl; meets = λ c id x. or_false _; slot_is = λ c v rest. refl; columns_are = λ c id r v. refl; shows = λ c id. refl }
+  | Kept ↦ record { listed = refl; found = refl; stands = refl; own = λ db. refl; starts = tt; reads = (refl, (refl, refl), refl); quiet = λ schema base. refl; reads_key = (refl, (refl, refl), refl); puts = refl; plain_text = (refl, refl); values = λ c. refl; meets = λ c id x. or_false _; slot_is = λ c v rest. refl; columns_are = λ c id r v. refl; shows = λ c id. refl }
+  | Batch ↦ record { listed = refl; found = refl; stands = refl; own = λ db. refl; starts = tt; reads = (refl, (refl, refl), refl); quiet = λ schema base. refl; reads_key = (refl, (refl, refl), refl); puts = refl; plain_text = (refl, refl); values = λ c. refl; meets = λ c id x. or_false _; slot_is = λ c v rest. refl; columns_are = λ c id r v. refl; shows = λ c id. refl }
+  | VersionClass ↦ record { listed = refl; found = refl; stands = refl; own = λ db. refl; starts = (_, refl); reads = (refl, (refl, refl), refl); quiet = λ schema base. refl; reads_key = (refl, (refl, refl), refl); puts = refl; plain_text = (refl, refl); values = λ c. refl; meets = λ c id x. or_false _; slot_is = λ c v rest. refl; columns_are = λ c id r v. refl; shows = λ c id. refl }
+  | UnitMark ↦ record { listed = refl; found = refl; stands = refl; own = λ db. refl; starts = (_, refl); reads = (refl, (refl, refl), refl); quiet = λ schema base. refl; reads_key = (refl, (refl, refl), refl); puts = refl; plain_text = (refl, refl); values = λ c. refl; meets = λ c id x. or_false _; slot_is = λ c v rest. refl; columns_are = λ c id r v. refl; shows = λ c id. refl }
 ]

@@ -1,19 +1,17 @@
 -- What the fills of an upgrade make of the tables, one row after another.
-use Rattle.std.proofs.Common.{◌≡◌, ◌≢◌, ℕ, zero, suc, ◌+◌, ◌≤◌, ◌<◌, ℤ, pos, negsuc, Bool, true, false, cond, List, [], ◌∷◌, map, filter, find, slice_get, Option, Some, None, option_map, unwrap_or, Ok, refl, sym, ap, subst, ◌∙◌, inl, inr, true≢false, arith, nat_lt, is_eq}
+use Rattle.std.proofs.Common.{◌≡◌, ◌≢◌, ℕ, ◌+◌, ◌≤◌, ◌<◌, ℤ, pos, negsuc, Bool, true, false, cond, List, [], ◌∷◌, map, filter, find, Option, Some, None, option_map, unwrap_or, Ok, refl, sym, ap, subst, ◌∙◌, inl, inr, true≢false, arith, nat_lt, is_eq}
 use Rattle.std.specs.Prelude.{◌==◌}
 use Rattle.std.specs.List.{AllByRecursion}
 use Rattle.std.proofs.lemmas.Bool.{cases_Bool, both_ways, false_from_ne_true, eqb-true, eq-eqb}
-use Rattle.std.proofs.lemmas.Option.{none-some, same_Some}
-use Rattle.sqlite_value.specs.declared.value.Value.TheVariants.{Null, Int}
+use Rattle.std.proofs.lemmas.Option.{none-some}
+use Rattle.sqlite_value.specs.declared.value.Value.TheVariants.{Int}
 use Rattle.sqlite_value.specs.declared.keys.Collation.TheVariants.{Binary}
 use Rattle.sqlite_value.specs.Order.{Row, column, value_cmp}
 use Rattle.sqlite_value.specs.Keys.{plain}
 use Rattle.sqlite_trees.specs.declared.store.Shape.TheVariants.{Table as TableTree}
 use Rattle.sqlite_trees.specs.Tree.{Trees, rowid}
 use Rattle.sqlite_trees.specs.View.{IsShaped}
-use Rattle.sqlite_sql.specs.Term.{Term, lit, col, eval_all}
-use Rattle.sqlite_sql.specs.Program.{overlay}
-use Rattle.sqlite_sql.specs.Query.{Query}
+use Rattle.sqlite_sql.specs.Term.{lit}
 use Rattle.sqlite_schema.specs.declared.schema.Keys.TheVariants.{Enforced}
 use Rattle.sqlite_schema.specs.Rules.{agree}
 use Rattle.sqlite_rules.specs.declared.error.Rowids.TheVariants.{Chosen}
@@ -23,81 +21,39 @@ use Rattle.sqlite_rules.proofs.KeyLemmas.{agree_back}
 use Rattle.sqlite_rules.proofs.ListLemmas.{all_from}
 use Rattle.sqlite_keyed.proofs.ListLemmas.{filter_none, map_same}
 use Rattle.sqlite_value.proofs.OrderLemmas.{value_cmp-Int}
-use Rattle.sqlite_tied.specs.Compute.{everything}
 use Rattle.sqlite.specs.Effect.{Database, IsDatabase}
-use Rattle.sqlite.specs.Rows.{stamped}
 use Rattle.sqlite.specs.State.{State, Executes}
-use Rattle.sqlite.specs.Listing.{understood}
-use Rattle.sqlite.proofs.Callers.{IsPlain, command_of}
 use Rattle.table_meaning.specs.declared.tables.Fill.{Fill}
-use Rattle.table_meaning.specs.declared.tables.Fill.TheVariants.{Calls, Classes, Marks}
 use Rattle.table_meaning.specs.declared.tables.TableName.{TableName}
 use Rattle.table_meaning.specs.declared.rows.StoredRow.{StoredRow}
-use Rattle.table_meaning.specs.Layouts.{Layout, places_in}
+use Rattle.table_meaning.specs.Layouts.{Layout, former_kept, places_in}
 use Rattle.table_meaning.specs.Schema.{schema_at, table_by, place_of}
-use Rattle.table_meaning.specs.Rows.{tree_of, key_places, shown, table_of, columns_of, RowKey, kept_key, class_key, mark_key, whole, table_at, key_of, slots_of, key_columns, has_key, same_key, look_up}
+use Rattle.table_meaning.specs.Rows.{tree_of, key_places, shown, table_of, columns_of, RowKey, whole, table_at, key_of, slots_of, key_columns, has_key, same_key, look_up}
 use Rattle.table_meaning.specs.ByKey.{key_tests}
 use Rattle.table_meaning.specs.Holding.{AreApart, Contents, HaveKeys, with_row}
-use Rattle.table_meaning.specs.Schemas.{IsSchema, has_tree, has_table, HoldAt}
-use Rattle.table_meaning.specs.Fills.{source_of, target_of, schema_with, filled_key, filled_from, filled_row, filled_columns, fill_text, NumberedRows, Keeps, AreFit, below, IsNextRow, with_filled, Filled, Fills, FillsAll}
+use Rattle.table_meaning.specs.Schemas.{has_tree, has_table, HoldAt}
+use Rattle.table_meaning.specs.Fills.{source_of, target_of, schema_with, filled_key, filled_from, filled_row, filled_columns, fill_text, NumberedRows, Keeps, AreFit, below, IsNextRow, with_filled, OthersStay, Filled, Fills, FillsAll, HostCalls, former_columns, KeepCalls}
 use Rattle.table_meaning.proofs.Columns.{key_by, source_by}
-use Rattle.table_meaning.proofs.Inserting.{copy_command, inserts, one_inserted}
+use Rattle.table_meaning.proofs.EachSchema.{fill_terms, fill_query, of_fill, key_back}
+use Rattle.table_meaning.proofs.Inserting.{inserts, one_inserted}
 use Rattle.table_meaning.proofs.Keys.{one_key, key_itself}
 use Rattle.table_meaning.proofs.LookUps.{hold_put_at}
 use Rattle.table_meaning.proofs.NextRows.{is_of, int_number, is_of_int, number_is}
 use Rattle.table_meaning.proofs.PutFacts.{facts}
 use Rattle.table_meaning.proofs.Putting.{behind, IsNumbered}
 use Rattle.table_meaning.proofs.PutRows.{agree_from, only}
-use Rattle.table_meaning.proofs.Reading.{as_row, projecting_query, projected_rows, tests_key}
+use Rattle.table_meaning.proofs.Reading.{as_row, projected_rows, tests_key}
 use Rattle.table_meaning.proofs.RowsHeld.{found}
 use Rattle.table_meaning.proofs.SchemaTables.{at_tree, each_tree, hold_at_same}
 use Rattle.table_meaning.proofs.Statements.{no_acts}
-use Rattle.table_meaning.proofs.TypedRows.{typed, row_key_shown}
+use Rattle.table_meaning.proofs.EachRow.{typed}
+use Rattle.table_meaning.proofs.TypedRows.{row_key_shown}
 
--- ---- what is found of each fill by computing
+-- ---- the key of a row that is filled in
 
--- what is put of a row of the source
-abbrev fill_terms : Fill → List Term
-fill_terms Calls = lit Null ∷ col 1 0 ∷ lit (Int (pos 0)) ∷ col 1 2 ∷ col 1 3 ∷ col 1 4 ∷ []
-fill_terms Classes = col 1 0 ∷ lit Null ∷ col 1 3 ∷ []
-fill_terms Marks = col 1 0 ∷ lit Null ∷ lit (Int (pos 0)) ∷ lit Null ∷ []
-
-abbrev fill_query : Fill → Query
-fill_query f = projecting_query (source_of f).tree (key_tests 0 (0 ∷ [])) (fill_terms f) (map (λ _. Binary) (fill_terms f)) (lit (Int (negsuc 0)))
-
-record Computed (f : Fill) : Type 0 where
-  fills : command_of (understood (schema_at (schema_with f)) (fill_text f)) ≡ copy_command (place_of (target_of f)) (fill_query f)
-  plain_text : IsPlain (understood (schema_at (schema_with f)) (fill_text f))
-  listed : slice_get (schema_at (schema_with f)).tables (place_of (target_of f)) ≡ Some (table_by (target_of f))
-  own : (trees : Trees) → overlay trees [] (source_of f).tree ≡ trees (source_of f).tree
-  unstamped : (n : ℕ) → stamped (table_by (target_of f)) (whole n ∷ []) ≡ whole n ∷ []
-  shows : (params r : Row) → eval_all (fill_terms f) (params ∷ r ∷ []) ≡ source_by (key_by (target_of f)) (filled_columns f (map (column r) (places_in (source_of f))))
-  is_schema : IsSchema (schema_with f)
-  source_stands : has_tree (schema_with f) (source_of f).tree ≡ true
-  apart : (source_of f).tree ≢ tree_of (target_of f)
-  from_key : (n : ℕ) → filled_from f (filled_key f n) ≡ Some n
-  row_key : (n : ℕ) (c : Row) → key_of (filled_row f n c) ≡ filled_key f n
-  row_table : (n : ℕ) (c : Row) → table_of (filled_row f n c) ≡ target_of f
-  target_stands : has_table (schema_with f) (target_of f) ≡ true
-
-computed : (f : Fill) → Computed f
-unfolding understood everything
-computed f = elim f as Computed [
-  | Calls ↦ record { fills = refl; plain_text = (refl, refl); listed = refl; own = λ trees. refl; unstamped = λ n. refl; shows = λ params r. refl; is_schema = (omega arith, omega arith); source_stands = refl; apart = λ same. absurd (omega (arith, same)); from_key = λ n. refl; row_key = λ n c. refl; row_table = λ n c. refl; target_stands = refl }
-  | Classes ↦ record { fills = refl; plain_text = (refl, refl); listed = refl; own = λ trees. refl; unstamped = λ n. refl; shows = λ params r. refl; is_schema = (omega arith, omega arith); source_stands = refl; apart = λ same. absurd (omega (arith, same)); from_key = λ n. refl; row_key = λ n c. refl; row_table = λ n c. refl; target_stands = refl }
-  | Marks ↦ record { fills = refl; plain_text = (refl, refl); listed = refl; own = λ trees. refl; unstamped = λ n. refl; shows = λ params r. refl; is_schema = (omega arith, omega arith); source_stands = refl; apart = λ same. absurd (omega (arith, same)); from_key = λ n. refl; row_key = λ n c. refl; row_table = λ n c. refl; target_stands = refl }
-]
-
--- a key is filled from one number
-pub key_back : (f : Fill) (key : RowKey) (n : ℕ) → filled_from f key ≡ Some n → key ≡ filled_key f n
-key_back Calls (kept_key host slot) n is = go slot is
-  where
-    go : (s : ℕ) → cond (s == 0) (Some host) None ≡ Some n → kept_key host s ≡ kept_key n 0
-    go zero is = ap (λ h. kept_key h 0) (same_Some _ _ is)
-    go (suc s) is = let past : (suc s == 0) ≡ false = grind arith in absurd (none-some n (rw past at is))
-key_back Classes (class_key id) n is = ap class_key (same_Some _ _ is)
-key_back Marks (mark_key id) n is = ap mark_key (same_Some _ _ is)
-key_back _ _ n is = absurd (none-some n is)
+-- it is one of the table that is filled
+pub key_target : (f : Fill) (key : RowKey) (n : ℕ) → filled_from f key ≡ Some n → table_at key ≡ target_of f
+key_target f key n is = ap table_at (key_back f key n is ∙ sym ((of_fill f).row_key n [])) ∙ (of_fill f).row_table n []
 
 -- ---- which rows are there
 
@@ -129,29 +85,33 @@ all_below from rows none n = go (nat_lt n from) refl
     go false high = rw high (sym (none n (grind arith)))
 
 pub skipped : (f : Fill) (from next : ℕ) (db : Database) → IsNextRow (source_of f) db.trees from (Some next) → Fills f from next db db
-skipped f from next db is contents rows fit filled = record {
+skipped f from next db is start contents rows fit filled = record {
   holds = hold_rows f contents db (below from rows) (below next rows) (below_same from next rows is.0 (λ n le lt. sym (filled.kept.kept n) ∙ is.1 n le lt)) filled.holds;
   kept = filled.kept;
+  others = filled.others;
 }
 
 pub all_filled : (f : Fill) (from : ℕ) (db : Database) → IsNextRow (source_of f) db.trees from None → FillsAll f from db db
-all_filled f from db is contents rows fit filled = hold_rows f contents db (below from rows) rows (all_below from rows (λ n le. sym (filled.kept.kept n) ∙ is n le)) filled.holds
+all_filled f from db is start contents rows fit filled = record {
+  holds = hold_rows f contents db (below from rows) rows (all_below from rows (λ n le. sym (filled.kept.kept n) ∙ is n le)) filled.holds;
+  others = filled.others;
+}
 
 -- ---- before the first
 
 pub begun : (f : Fill) (db : Database) (contents : Contents) (rows : NumberedRows) → HoldAt (schema_with f) db contents → ((key : RowKey) → table_at key ≡ target_of f → contents key ≡ None) → Keeps (source_of f) db.trees rows
-    → Filled f 0 db contents rows
+    → Filled f 0 db db contents rows
 begun f db contents rows holds none kept = record {
   holds = hold_at_same (schema_with f) db _ _ (λ key is. go key (filled_from f key) refl) holds;
   kept = kept;
+  others = λ tree has apart. refl;
 }
   where
     go : (key : RowKey) (o : Option ℕ) → filled_from f key ≡ o → contents key ≡ unwrap_or (option_map (λ n. option_map (filled_row f n) (below 0 rows n)) o) (contents key)
     go key None is = refl
     go key (Some n) is =
         let low : nat_lt n 0 ≡ false = grind arith in
-        let at : table_at key ≡ target_of f = ap table_at (key_back f key n is ∙ sym ((computed f).row_key n [])) ∙ (computed f).row_table n [] in
-        rw low (none key at)
+        rw low (none key (key_target f key n is))
 
 -- ---- one row
 
@@ -160,6 +120,12 @@ keeps_rows l old new rows same kept = record {
   ordered = subst (IsShaped TableTree) (sym same) kept.ordered;
   kept = λ n. ap (λ all. option_map (λ row. map (column row) (places_in l)) (find (is_of n) all)) same ∙ kept.kept n;
 }
+
+-- a fill leaves the calls of the first schema
+pub calls_stay : (f : Fill) (start now : Trees) → OthersStay f start now → (calls : HostCalls) → KeepCalls start calls → KeepCalls now calls
+calls_stay f start now others calls kept =
+    let stays = keeps_rows former_kept start now (λ host. option_map (former_columns host) (calls host)) (others former_kept.tree (of_fill f).calls_stand (of_fill f).calls_apart) (record { ordered = kept.ordered; kept = kept.kept }) in
+    record { ordered = stays.ordered; kept = stays.kept }
 
 -- no row is put
 hold_unchanged : (m : ℕ) (t : TableName) (old new : Database) → new.schema ≡ schema_at m → IsDatabase new → Applies (schema_at m) Enforced old.trees (edit_of old.trees (table_by t) [] Chosen 0 []) new.trees → (contents : Contents)
@@ -191,10 +157,10 @@ module _ (f : Fill) (contents : Contents) (rows : NumberedRows) (n : ℕ) (c : R
     where
       go : (put : Bool) → same_key key (key_of (filled_row f n c)) ≡ put → cond put (Some (filled_row f n c)) (with_filled f contents (below n rows) key) ≡ with_filled f contents (below (n + 1) rows) key
       go true here =
-          let one : key ≡ filled_key f n = one_key key (key_of (filled_row f n c)) here ∙ (computed f).row_key n c in
+          let one : key ≡ filled_key f n = one_key key (key_of (filled_row f n c)) here ∙ (of_fill f).row_key n c in
           let low : nat_lt n (n + 1) ≡ true = grind arith in
           sym (ap (with_filled f contents (below (n + 1) rows)) one
-          ∙ ap (λ o. unwrap_or (option_map (λ k. option_map (filled_row f k) (below (n + 1) rows k)) o) (contents (filled_key f n))) ((computed f).from_key n)
+          ∙ ap (λ o. unwrap_or (option_map (λ k. option_map (filled_row f k) (below (n + 1) rows k)) o) (contents (filled_key f n))) ((of_fill f).from_key n)
           ∙ ap (option_map (filled_row f n)) (ap (λ b. cond b (rows n) None) low ∙ is))
       go false apart = turn (filled_from f key) refl
         where
@@ -202,11 +168,11 @@ module _ (f : Fill) (contents : Contents) (rows : NumberedRows) (n : ℕ) (c : R
               → unwrap_or (option_map (λ k. option_map (filled_row f k) (below n rows k)) o) (contents key) ≡ unwrap_or (option_map (λ k. option_map (filled_row f k) (below (n + 1) rows k)) o) (contents key)
           turn None none = refl
           turn (Some k) from =
-              let elsewhere : k ≢ n = λ same. both_ways _ apart (subst (λ at. same_key at (key_of (filled_row f n c)) ≡ true) ((computed f).row_key n c ∙ ap (filled_key f) (sym same) ∙ sym (key_back f key k from)) (key_itself (key_of (filled_row f n c)))) in
+              let elsewhere : k ≢ n = λ same. both_ways _ apart (subst (λ at. same_key at (key_of (filled_row f n c)) ≡ true) ((of_fill f).row_key n c ∙ ap (filled_key f) (sym same) ∙ sym (key_back f key k from)) (key_itself (key_of (filled_row f n c)))) in
               let same : nat_lt k n ≡ nat_lt k (n + 1) = grind (arith, elsewhere) in
               ap (option_map (filled_row f k)) (ap (λ b. cond b (rows k) None) same)
 
-module _ (f : Fill) (n : ℕ) (old new : State) (count : ℕ) (h : Executes (fill_text f) (whole n ∷ []) old new (Ok count)) (contents : Contents) (rows : NumberedRows) (fit : AreFit f rows) (filled : Filled f n old.now contents rows) where
+module _ (f : Fill) (n : ℕ) (old new : State) (count : ℕ) (h : Executes (fill_text f) (whole n ∷ []) old new (Ok count)) (start : Database) (contents : Contents) (rows : NumberedRows) (fit : AreFit f rows) (filled : Filled f n start old.now contents rows) where
   abbrev trees : Trees
   trees = old.now.trees
 
@@ -226,9 +192,9 @@ module _ (f : Fill) (n : ℕ) (old new : State) (count : ℕ) (h : Executes (fil
   ran : (new.now.schema ≡ schema_at m) × IsDatabase new.now × (all : List Row) × (all ≡ map put_of (filter (is_of n) (trees l.tree)))
       × Applies (schema_at m) Enforced trees (edit_of trees (table_by t) [] Chosen 0 all) new.now.trees
   ran =
-      let it = computed f in
+      let it = of_fill f in
       let params = whole n ∷ [] in
-      let went = inserts (schema_at m) (no_acts m it.is_schema) (fill_text f) params old new filled.holds.known.schema (place_of t) (table_by t) (fill_query f) it.fills it.plain_text it.listed refl (it.unstamped n) count h in
+      let went = inserts (schema_at m) (no_acts m) (fill_text f) params old new filled.holds.known.schema (place_of t) (table_by t) (fill_query f) it.fills it.plain_text it.listed refl (it.unstamped n) count h in
       let all = projected_rows trees l.tree (key_tests 0 (0 ∷ [])) params (is_of n) (it.own trees) filled.kept.ordered (λ x. tests_key (0 ∷ []) 0 params (as_row x)) (fill_terms f)
       (map (λ _. Binary) (fill_terms f)) (lit (Int (negsuc 0))) went.2 went.3 in
       (went.0, went.1, went.2, all ∙ map_same _ put_of (it.shows params) (filter (is_of n) (trees l.tree)), went.4)
@@ -236,10 +202,14 @@ module _ (f : Fill) (n : ℕ) (old new : State) (count : ℕ) (h : Executes (fil
   -- the rows of the source stay where they are
   still_kept : AllByRecursion (λ s. s.tree ≢ tree_of t → new.now.trees s.tree ≡ trees s.tree) (schema_at m).tables → Keeps l new.now.trees rows
   still_kept others =
-      let it = computed f in
+      let it = of_fill f in
       keeps_rows l trees new.now.trees rows (at_tree m (λ tree. tree ≢ tree_of t → new.now.trees tree ≡ trees tree) others l.tree it.source_stands it.apart) filled.kept
 
-  filled_none : find (is_of n) (trees l.tree) ≡ None → ((x : Row) → Has (trees l.tree) x → is_of n x ≡ false) → Filled f (n + 1) new.now contents rows
+  -- and so do all but those of the table that is filled
+  others_stay : AllByRecursion (λ s. s.tree ≢ tree_of t → new.now.trees s.tree ≡ trees s.tree) (schema_at m).tables → OthersStay f start.trees new.now.trees
+  others_stay others tree has other = at_tree m (λ tree. tree ≢ tree_of t → new.now.trees tree ≡ trees tree) others tree has other ∙ filled.others tree has other
+
+  filled_none : find (is_of n) (trees l.tree) ≡ None → ((x : Row) → Has (trees l.tree) x → is_of n x ≡ false) → Filled f (n + 1) start new.now contents rows
   filled_none none each =
       let all : ran.2 ≡ [] = ran.3 ∙ ap (map put_of) (filter_none (is_of n) _ (all_from (λ x. is_of n x ≡ false) _ each)) in
       let applies = subst (λ rs. Applies (schema_at m) Enforced trees (edit_of trees (table_by t) [] Chosen 0 rs) new.now.trees) all ran.4 in
@@ -248,6 +218,7 @@ module _ (f : Fill) (n : ℕ) (old new : State) (count : ℕ) (h : Executes (fil
         holds = hold_rows f contents new.now (below n rows) (below (n + 1) rows)
             (below_same n (n + 1) rows (omega arith) (λ k le lt. let here : k ≡ n = omega (arith, le, lt) in ap rows here ∙ no)) (hold_unchanged m t old.now new.now ran.0 ran.1 applies _ filled.holds);
         kept = still_kept applies.tables;
+        others = others_stay applies.tables;
       }
 
   -- no row of the table that is filled has the key yet
@@ -265,9 +236,9 @@ module _ (f : Fill) (n : ℕ) (old new : State) (count : ℕ) (h : Executes (fil
         let here : has_key key x ≡ true = agree_back plain (slots_of key) (key_places u) (key_columns key) x
         (sym (agree_from plain (key_places u) (slots_of key) (key_places u) raw (key_columns key) x (row_key_shown row raw shows)) ∙ agree_back plain (key_places u) (key_places u) x raw same) in
         let low : nat_lt n n ≡ false = grind arith in
-        let stands : has_table m u ≡ true = ap (has_table m) ((computed f).row_table n c) ∙ (computed f).target_stands in
+        let stands : has_table m u ≡ true = ap (has_table m) ((of_fill f).row_table n c) ∙ (of_fill f).target_stands in
         let empty : with_filled f contents (below n rows) key ≡ None =
-        ap (with_filled f contents (below n rows)) ((computed f).row_key n c) ∙ ap (λ o. unwrap_or (option_map (λ k. option_map (filled_row f k) (below n rows k)) o) (contents (filled_key f n))) ((computed f).from_key n)
+        ap (with_filled f contents (below n rows)) ((of_fill f).row_key n c) ∙ ap (λ o. unwrap_or (option_map (λ k. option_map (filled_row f k) (below n rows k)) o) (contents (filled_key f n))) ((of_fill f).from_key n)
         ∙ ap (λ b. option_map (filled_row f n) (cond b (rows n) None)) low in
         let none : look_up trees key ≡ None = filled.holds.rows key stands ∙ ap (option_map columns_of) empty in
         elim (found (has_key key) (trees (tree_of u))) [
@@ -275,21 +246,22 @@ module _ (f : Fill) (n : ℕ) (old new : State) (count : ℕ) (h : Executes (fil
           | inr one ↦ none-some _ (sym none ∙ ap (option_map (shown u)) one.1)
         ])
 
-    filled_one : ran.2 ≡ source_by (key_by t) (columns_of row) ∷ [] → Filled f (n + 1) new.now contents rows
+    filled_one : ran.2 ≡ source_by (key_by t) (columns_of row) ∷ [] → Filled f (n + 1) start new.now contents rows
     filled_one one =
         let u = table_of row in
-        let at = (computed f).row_table n c in
+        let at = (of_fill f).row_table n c in
         let applies = subst (λ rs. Applies (schema_at m) Enforced trees (edit_of trees (table_by t) [] Chosen 0 rs) new.now.trees) one ran.4 in
         let applied = subst (λ v. Applies (schema_at m) Enforced trees (edit_of trees (table_by v) [] Chosen 0 (source_by (key_by v) (columns_of row) ∷ [])) new.now.trees) (sym at) applies in
-        let stands : has_table m u ≡ true = ap (has_table m) at ∙ (computed f).target_stands in
+        let stands : has_table m u ≡ true = ap (has_table m) at ∙ (of_fill f).target_stands in
         let shaped = at_tree m (λ tree. IsShaped TableTree (trees tree)) filled.holds.known.ordered (tree_of u) stands in
         let puts = one_inserted m u (columns_of row) (facts u (columns_of row) (typed row)) trees shaped new.now.trees applied is_free in
         record {
           holds = hold_at_same m new.now _ _ (λ key _. filled_more f contents rows n c is key) (hold_put_at m row old.now new.now ran.0 ran.1 puts _ filled.holds);
           kept = still_kept applies.tables;
+          others = others_stay applies.tables;
         }
 
-  filled_found : (r : Row) → find (is_of n) (trees l.tree) ≡ Some r → Has (trees l.tree) r → is_of n r ≡ true → Filled f (n + 1) new.now contents rows
+  filled_found : (r : Row) → find (is_of n) (trees l.tree) ≡ Some r → Has (trees l.tree) r → is_of n r ≡ true → Filled f (n + 1) start new.now contents rows
   filled_found r first has same =
       let c = map (column r) (places_in l) in
       let is : rows n ≡ Some c = sym (filled.kept.kept n) ∙ ap (option_map (λ row. map (column row) (places_in l))) first in
@@ -302,5 +274,5 @@ module _ (f : Fill) (n : ℕ) (old new : State) (count : ℕ) (h : Executes (fil
           is_of_int (trees l.tree) filled.kept.ordered n x has ∙ ap is_eq (sym (value_cmp-Int (id_in (rowid x)) (pos n)))
           ∙ ap (λ v. is_eq (value_cmp v (whole n))) (sym (int_number (trees l.tree) filled.kept.ordered n x has)) ∙ ap (λ v. is_eq (value_cmp (rowid x) v)) (sym number)
 
-  pub filled_next : Filled f (n + 1) new.now contents rows
+  pub filled_next : Filled f (n + 1) start new.now contents rows
   filled_next = elim (found (is_of n) (trees l.tree)) [ inl none ↦ filled_none none.0 none.1 | inr one ↦ filled_found one.0 one.1 one.2 one.3 ]

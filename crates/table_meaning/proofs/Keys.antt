@@ -1,5 +1,5 @@
 -- Keys that SQL finds equal are one, so rows put are told by their keys.
-use Rattle.std.proofs.Common.{◌≡◌, ℕ, pos, Bool, true, false, ◌&&◌, List, [], ◌∷◌, length, Some, refl, sym, ap, ap₂, ◌∙◌, true≢false}
+use Rattle.std.proofs.Common.{◌≡◌, Bool, true, false, List, [], ◌∷◌, length, Some, refl, sym, ap, ap₂, ◌∙◌, true≢false}
 use Rattle.std.specs.Prelude.{◌==◌}
 use Rattle.std.specs.List.{AllByRecursion, list_any, range_with_len}
 use Rattle.std.proofs.lemmas.Bool.{and_parts, and_from, or_from, eqb-true, eq-eqb}
@@ -7,27 +7,20 @@ use Rattle.std.proofs.lemmas.Bool.Decides.{Decides-int_eq}
 use Rattle.sqlite_value.specs.declared.value.Value.{Value}
 use Rattle.sqlite_value.specs.declared.value.Value.TheVariants.{Null, Int, Real, Text, Blob}
 use Rattle.sqlite_value.specs.declared.keys.Collation.TheVariants.{Binary}
-use Rattle.sqlite_value.specs.Order.{Row, column, value_cmp}
+use Rattle.sqlite_value.specs.Order.{Row, value_cmp}
 use Rattle.sqlite_value.specs.Keys.{plain, first_key}
 use Rattle.sqlite_sql.specs.declared.ops.CompareOp.TheVariants.{Eq}
 use Rattle.sqlite_sql.specs.Ops.{binary}
 use Rattle.sqlite_schema.specs.Rules.{agree, equal}
 use Rattle.sqlite_keyed.proofs.KeyedLemmas.{same_int}
-use Rattle.sqlite_typed.specs.Columns.{bytes_of}
 use Rattle.sqlite_typed.proofs.TestLemmas.{at_ints, at_texts, same_bytes, bytes_eq_refl}
-use Rattle.table_meaning.specs.declared.tables.TableName.{TableName}
-use Rattle.table_meaning.specs.declared.tables.TableName.TheVariants.{Setting, Account, App, Version, Unit, Host, Instance, Kept, Batch, VersionClass, UnitMark}
 use Rattle.table_meaning.specs.declared.rows.StoredRow.{StoredRow}
-use Rattle.table_meaning.specs.Rows.{tree_of, key_places, RowKey, setting_key, account_key, app_key, version_key, unit_key, host_key, instance_key, kept_key, batch_key, class_key, mark_key, table_at, key_columns, key_of, same_key}
+use Rattle.table_meaning.specs.Rows.{tree_of, RowKey, table_at, key_columns, key_of, same_key}
 use Rattle.table_meaning.specs.Holding.{Contents, with_row, with_rows}
+use Rattle.table_meaning.proofs.EachRow.{is_cell, is_key_row, key_from, key_is}
 use Rattle.table_meaning.proofs.EachTable.{same_table}
 
 -- ---- columns of keys: numbers and texts
-
-abbrev pub is_cell : Value → Bool
-is_cell (Int n) = true
-is_cell (Text t) = true
-is_cell _ = false
 
 pub same_cell : (v u : Value) → is_cell v ≡ true → is_cell u ≡ true → equal Binary v u ≡ true → v ≡ u
 unfolding value_cmp binary
@@ -45,13 +38,6 @@ same_cell (Text t) Null p q h = absurd (true≢false (sym q))
 same_cell (Text t) (Real x) p q h = absurd (true≢false (sym q))
 same_cell (Text t) (Blob b) p q h = absurd (true≢false (sym q))
 
--- one column or two
-abbrev is_key_row : Row → Bool
-is_key_row [] = false
-is_key_row (v ∷ []) = is_cell v
-is_key_row (v ∷ u ∷ []) = is_cell v && is_cell u
-is_key_row (v ∷ u ∷ w ∷ more) = false
-
 same_columns : (xs ys : Row) → is_key_row xs ≡ true → is_key_row ys ≡ true → agree plain (range_with_len 0 (length xs)) xs (range_with_len 0 (length ys)) ys ≡ true → xs ≡ ys
 unfolding first_key
 same_columns (v ∷ []) (u ∷ []) p q h = ap (λ x. x ∷ []) (same_cell v u p q (and_parts _ _ h).0)
@@ -68,39 +54,6 @@ same_columns (v ∷ []) [] p q h = absurd (true≢false (sym q))
 same_columns (v ∷ v' ∷ []) [] p q h = absurd (true≢false (sym q))
 same_columns (v ∷ []) (u ∷ u' ∷ u'' ∷ more) p q h = absurd (true≢false (sym q))
 same_columns (v ∷ v' ∷ []) (u ∷ u' ∷ u'' ∷ more) p q h = absurd (true≢false (sym q))
-
--- ---- a key from its table and columns
-
-abbrev pub number_in : Value → ℕ
-number_in (Int (pos n)) = n
-number_in _ = 0
-
-abbrev pub key_from : TableName → Row → RowKey
-key_from Setting cols = setting_key (bytes_of (column cols 0))
-key_from Account cols = account_key (number_in (column cols 0))
-key_from App cols = app_key (number_in (column cols 0))
-key_from Version cols = version_key (number_in (column cols 0))
-key_from Unit cols = unit_key (number_in (column cols 0))
-key_from Host cols = host_key (number_in (column cols 0))
-key_from Instance cols = instance_key (number_in (column cols 0)) (number_in (column cols 1))
-key_from Kept cols = kept_key (number_in (column cols 0)) (number_in (column cols 1))
-key_from Batch cols = batch_key (bytes_of (column cols 0)) (bytes_of (column cols 1))
-key_from VersionClass cols = class_key (number_in (column cols 0))
-key_from UnitMark cols = mark_key (number_in (column cols 0))
-
--- what is found of each key by computing: the form of its columns, that it is told by them, and how many there are
-pub key_is : (key : RowKey) → (is_key_row (key_columns key) ≡ true) × (key_from (table_at key) (key_columns key) ≡ key) × (length (key_places (table_at key)) ≡ length (key_columns key))
-key_is (setting_key name) = (refl, refl, refl)
-key_is (account_key id) = (refl, refl, refl)
-key_is (app_key id) = (refl, refl, refl)
-key_is (version_key id) = (refl, refl, refl)
-key_is (unit_key id) = (refl, refl, refl)
-key_is (host_key id) = (refl, refl, refl)
-key_is (instance_key unit num) = (refl, refl, refl)
-key_is (kept_key host slot) = (refl, refl, refl)
-key_is (batch_key kind name) = (refl, refl, refl)
-key_is (class_key id) = (refl, refl, refl)
-key_is (mark_key id) = (refl, refl, refl)
 
 pub one_key : (a b : RowKey) → same_key a b ≡ true → a ≡ b
 one_key a b h =

@@ -1,8 +1,9 @@
 pub mod ByComputing
 pub mod ByKey
 pub mod Columns
-pub mod ColumnsTold
 pub mod Definitions
+pub mod EachRow
+pub mod EachSchema
 pub mod EachTable
 pub mod Filling
 pub mod FormatLemmas

@@ -23,7 +23,8 @@ use Rattle.table_meaning.proofs.Putting.{behind, IsNumbered, PutsColumns}
 use Rattle.table_meaning.proofs.PutFacts.{facts}
 use Rattle.table_meaning.proofs.EachTable.{same_table}
 use Rattle.table_meaning.proofs.SchemaTables.{at_tree, each_tree, newest_has}
-use Rattle.table_meaning.proofs.TypedRows.{typed, row_key_shown}
+use Rattle.table_meaning.proofs.EachRow.{typed}
+use Rattle.table_meaning.proofs.TypedRows.{row_key_shown}
 
 -- ---- a row put, and all that it leaves
 

@@ -1,5 +1,5 @@
 -- The rows of a table by their numbers, one after another: which is next.
-use Rattle.std.proofs.Common.{◌≡◌, ℕ, ◌≤◌, pos, ◌<ℤ◌, Bool, true, false, cond, List, [], ◌∷◌, map, find, slice_get, codes, Option, Some, None, option_map, unwrap_or, refl, sym, ap, subst, ◌∙◌, arith, int_eq, int_le}
+use Rattle.std.proofs.Common.{◌≡◌, ℕ, ◌≤◌, pos, ◌<ℤ◌, Bool, true, false, cond, List, [], ◌∷◌, map, find, slice_get, Option, Some, None, option_map, unwrap_or, refl, sym, ap, subst, ◌∙◌, arith, int_eq, int_le}
 use Rattle.std.proofs.lemmas.Int.{ints}
 use Rattle.std.proofs.lemmas.Option.{none-some}
 use Rattle.sqlite_value.specs.declared.value.Value.TheVariants.{Null, Int}
@@ -9,11 +9,8 @@ use Rattle.sqlite_value.specs.Keys.{plain, first_key}
 use Rattle.sqlite_trees.specs.declared.store.Shape.TheVariants.{Table as TableTree}
 use Rattle.sqlite_trees.specs.Tree.{Trees, rowid, IsTable}
 use Rattle.sqlite_trees.specs.View.{IsShaped}
-use Rattle.sqlite_sql.specs.declared.ops.BinaryOp.TheVariants.{Compare}
 use Rattle.sqlite_sql.specs.declared.ops.CompareOp.TheVariants.{Eq, Ge}
-use Rattle.sqlite_sql.specs.Term.{Term, lit, col, op2}
-use Rattle.sqlite_sql.specs.Program.{overlay}
-use Rattle.sqlite_schema.specs.declared.command.Command.TheVariants.{Select}
+use Rattle.sqlite_sql.specs.Term.{lit, col}
 use Rattle.sqlite_schema.specs.Rules.{agree, equal}
 use Rattle.sqlite_rules.specs.Edit.{id_in}
 use Rattle.sqlite_rules.specs.Lists.{Has}
@@ -24,17 +21,16 @@ use Rattle.sqlite_keyed.proofs.ListLemmas.{all_weaker}
 use Rattle.sqlite_keyed.proofs.KeyedLemmas.{none_past, same_int}
 use Rattle.sqlite_typed.proofs.AnswerLemmas.{first_shown}
 use Rattle.sqlite_typed.proofs.TestLemmas.{at_ints, last_term}
-use Rattle.sqlite_tied.specs.Compute.{everything}
 use Rattle.sqlite.specs.State.{State, Shown}
-use Rattle.sqlite.specs.Listing.{understood, reads_listing}
-use Rattle.sqlite.proofs.Callers.{IsPlain, command_of, reads_as}
+use Rattle.sqlite.specs.Listing.{understood}
+use Rattle.sqlite.proofs.Callers.{IsPlain, reads_as}
 use Rattle.table_meaning.specs.declared.tables.Fill.{Fill}
-use Rattle.table_meaning.specs.declared.tables.Fill.TheVariants.{Calls, Classes, Marks}
 use Rattle.table_meaning.specs.Layouts.{Layout, places_in}
 use Rattle.table_meaning.specs.Schema.{schema_at}
 use Rattle.table_meaning.specs.Rows.{whole}
 use Rattle.table_meaning.specs.Fills.{source_of, schema_with, next_text, numbered_row, IsNextRow}
-use Rattle.table_meaning.proofs.Reading.{Numbered, as_row, parted, as_rows, numbers_rise, projecting_query, projected_rows}
+use Rattle.table_meaning.proofs.EachSchema.{next_terms, of_fill}
+use Rattle.table_meaning.proofs.Reading.{Numbered, as_row, parted, as_rows, numbers_rise, projected_rows}
 use Rattle.table_meaning.proofs.Listings.{find-map}
 use Rattle.table_meaning.proofs.StepLemmas.{unchanged_shown}
 
@@ -124,30 +120,6 @@ module _ (l : Layout) (trees : Trees) (shaped : IsShaped TableTree (trees l.tree
             subst (λ (z : Numbered). pos host <ℤ z.0) one (omega (arith, ints, lt, is_next))),
       )
 
-abbrev next_terms : List Term
-next_terms = op2 (Compare Ge Binary) (col 1 0) (col 0 0) ∷ []
-
--- the name of the number
-abbrev number_name : Fill → List ℕ
-number_name Calls = codes "host_id"
-number_name Classes = codes "id"
-number_name Marks = codes "id"
-
-record Computed (f : Fill) : Type 0 where
-  reads : command_of (understood (schema_at (schema_with f)) (next_text f))
-      ≡ Select (record { lets = []; body = projecting_query (source_of f).tree next_terms (col 1 0 ∷ []) [] (lit (Int (pos 1))) }) (number_name f ∷ [])
-  plain_text : IsPlain (understood (schema_at (schema_with f)) (next_text f))
-  unlisted : reads_listing (schema_at (schema_with f)) (next_text f) ≡ false
-  own : (trees : Trees) → overlay trees [] (source_of f).tree ≡ trees (source_of f).tree
-
-computed : (f : Fill) → Computed f
-unfolding understood everything
-computed f = elim f as Computed [
-  | Calls ↦ record { reads = refl; plain_text = (refl, refl); unlisted = refl; own = λ trees. refl }
-  | Classes ↦ record { reads = refl; plain_text = (refl, refl); unlisted = refl; own = λ trees. refl }
-  | Marks ↦ record { reads = refl; plain_text = (refl, refl); unlisted = refl; own = λ trees. refl }
-]
-
 first_number : (first : Option Numbered) → option_map (λ r. column r 0) (option_map (λ r. column r 0 ∷ []) (option_map as_row first)) ≡ option_map (λ (x : Numbered). Int x.0) first
 first_number None = refl
 first_number (Some x) = refl
@@ -158,10 +130,10 @@ pub next_told : (f : Fill) (old new : State) → old.now.schema ≡ schema_at (s
 next_told f old new known shaped from rows h next told =
     let l = source_of f in
     let trees = old.now.trees in
-    let it = computed f in
+    let it = of_fill f in
     let show = λ (r : Row). column r 0 ∷ [] in
-    let read = reads_as (next_text f) (whole from ∷ []) old new (schema_at (schema_with f)) known _ it.reads it.plain_text it.unlisted rows h in
+    let read = reads_as (next_text f) (whole from ∷ []) old new (schema_at (schema_with f)) known _ it.next it.plain_next it.unlisted rows h in
     let paged = projected_rows trees l.tree next_terms (whole from ∷ []) (is_from from) (it.own trees) shaped (λ n. last_term (at_ints false Ge n.0 (pos from))) (col 1 0 ∷ []) [] (lit (Int (pos 1))) rows (read.answer Null) in
     let first = first_shown show (is_from from) (trees l.tree) paged ∙ ap (option_map show) (found_from l trees shaped from) in
-    let plain = subst (λ s. IsPlain (understood s (next_text f))) (sym known) it.plain_text in
+    let plain = subst (λ s. IsPlain (understood s (next_text f))) (sym known) it.plain_next in
     ((unchanged_shown (next_text f) (whole from ∷ []) old new rows plain h).0.now_is, next_found l trees shaped from _ next refl (told ∙ ap (option_map (λ r. column r 0)) first ∙ first_number _))

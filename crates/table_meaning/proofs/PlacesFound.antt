@@ -1,5 +1,5 @@
 -- The rows that stand at places, in the order of the places, are those of the table that have a place.
-use Rattle.std.proofs.Common.{◌≡◌, ◌⊎◌, ℕ, ℤ, pos, negsuc, ◌≤◌, ◌<◌, Bool, true, false, ◌&&◌, List, [], ◌∷◌, map, filter, find, Option, Some, None, option_map, refl, sym, ap, ap₂, ◌∙◌, inl, inr, arith, true≢false, Less, Equal, IsPermutation}
+use Rattle.std.proofs.Common.{◌≡◌, ℕ, pos, negsuc, ◌≤◌, Bool, true, false, ◌&&◌, List, [], ◌∷◌, map, filter, find, Option, Some, None, option_map, refl, sym, ap, ap₂, ◌∙◌, inl, inr, arith, true≢false, Less, Equal, IsPermutation}
 use Rattle.std.specs.Prelude.{filter_map}
 use Rattle.std.specs.Ordering.{int_cmp, ordering_then}
 use Rattle.std.proofs.lemmas.Bool.{and_parts, and_from}
@@ -31,7 +31,7 @@ use Rattle.table_meaning.specs.Places.{instance_at, place_row, IsBefore, AreAllP
 use Rattle.table_meaning.proofs.Listings.{map-filter_map}
 use Rattle.table_meaning.proofs.PlacesLists.{one_found, same_members, has_given, given_by, ascending-filter_map, filter-filter_map, shown_for_each}
 use Rattle.table_meaning.proofs.Typed.{is_real, no_reals}
-use Rattle.table_meaning.proofs.TypedRows.{typed}
+use Rattle.table_meaning.proofs.EachRow.{typed}
 
 -- ---- numbers in columns
 

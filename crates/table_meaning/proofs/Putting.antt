@@ -138,6 +138,6 @@ module _ (n : ℕ) (stands : IsSchema n) (t : TableName) (c : Row) (f : Facts n 
   pub puts : (count : ℕ) → Executes (put_text t) c old new (Ok count) → (new.now.schema ≡ schema_at n) × IsDatabase new.now × PutsColumns n t c db new.now.trees
   puts count h =
       let first = f.begins rows in
-      let ran = settles (schema_at n) (no_acts n stands) (put_text t) c old new schema (place_of t) (table_by t) (put_terms (key_by t) (count_of t)) (count_of t + 1) (key_places t) (count_of t) columns f.at.is f.at.plain_text f.at.listed refl
+      let ran = settles (schema_at n) (no_acts n) (put_text t) c old new schema (place_of t) (table_by t) (put_terms (key_by t) (count_of t)) (count_of t + 1) (key_places t) (count_of t) columns f.at.is f.at.plain_text f.at.listed refl
       (source_by (key_by t) c) f.values count h in
       (ran.0, ran.1, ends new.now.trees first.0 first.1 (subst (λ m. Settles (schema_at n) db (table_by t) (key_places t) c clause m new.now.trees) first.2 ran.2))

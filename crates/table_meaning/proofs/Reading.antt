@@ -39,7 +39,7 @@ use Rattle.table_meaning.specs.Holding.{AreKnown}
 use Rattle.table_meaning.proofs.ByComputing.{names_of, ReadsByKeyIn, computed}
 use Rattle.table_meaning.proofs.ByKey.{status_is_read}
 use Rattle.table_meaning.proofs.FormatLemmas.{whole_row as whole_columns}
-use Rattle.table_meaning.proofs.Keys.{key_is}
+use Rattle.table_meaning.proofs.EachRow.{key_is}
 
 -- a row of a tree as its number and its columns
 abbrev pub Numbered : Type 0

@@ -11,7 +11,7 @@ use Rattle.table_meaning.specs.declared.tables.TableName.{TableName}
 use Rattle.table_meaning.specs.declared.rows.StoredRow.{StoredRow}
 use Rattle.table_meaning.specs.Holding.{AreKnown, Contents, Hold}
 use Rattle.table_meaning.specs.Rows.{RowKey, tree_of, key_places, shown, rows_in, columns_of, table_at, key_columns, slots_of, has_key, look_up}
-use Rattle.table_meaning.proofs.ColumnsTold.{columns_told}
+use Rattle.table_meaning.proofs.EachRow.{columns_told}
 use Rattle.table_meaning.proofs.RowsHeld.{found, mapped, source}
 
 -- the one member that passes is found

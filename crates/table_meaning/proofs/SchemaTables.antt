@@ -1,13 +1,14 @@
 -- The tables of a schema by its number: each by its tree, and what they are once the newest schema is made of them.
-use Rattle.std.proofs.Common.{◌≡◌, ℕ, zero, suc, Bool, true, false, cond, List, [], ◌∷◌, map, length, find, slice_get, Some, None, option_map, refl, sym, ap, subst, ◌∙◌, inl, inr, true≢false, arith}
+use Rattle.std.proofs.Common.{◌≡◌, ◌+◌, ℕ, suc, Bool, true, false, not, cond, List, [], ◌∷◌, ◌++◌, map, drop, length, find, slice_get, Some, None, option_map, refl, sym, ap, subst, ◌∙◌, inl, inr, true≢false, arith}
 use Rattle.std.specs.Prelude.{◌==◌, ◌||◌}
-use Rattle.std.specs.List.{AllByRecursion, list_any}
+use Rattle.std.specs.List.{AllByRecursion, list_any, position_or_len, range_with_len}
+use Rattle.std.proofs.lemmas.Option.{same_Some}
 use Rattle.std.proofs.lemmas.Bool.{cases_Bool, eqb-true, eq-eqb}
 use Rattle.sqlite_trees.specs.declared.store.Shape.TheVariants.{Table as TableTree}
 use Rattle.sqlite_trees.specs.View.{IsShaped}
 use Rattle.sqlite.specs.Effect.{Database, IsDatabase}
 use Rattle.table_meaning.specs.declared.tables.TableName.{TableName}
-use Rattle.table_meaning.specs.declared.tables.TableName.TheVariants.{Setting, Account, App, Version, Unit, Host, Instance, Kept, Batch, VersionClass, UnitMark}
+use Rattle.table_meaning.specs.declared.tables.TableName.TheVariants.{Setting}
 use Rattle.table_meaning.specs.Layouts.{Layout}
 use Rattle.table_meaning.specs.Schema.{newest, layouts_at, sql_table, schema_at, table_by, place_of}
 use Rattle.table_meaning.specs.Rows.{tree_of, key_places, shown, columns_of, RowKey, table_at, has_key}
@@ -15,6 +16,7 @@ use Rattle.table_meaning.specs.Holding.{AreApart, AreKnown, Contents, HaveKeys, 
 use Rattle.table_meaning.specs.Schemas.{IsSchema, has_tree, has_table, AreKnownAt, HoldAt, only_at}
 use Rattle.table_meaning.specs.Making.{IsLeft, rows_at}
 use Rattle.table_meaning.proofs.ByComputing.{computed}
+use Rattle.table_meaning.proofs.EachSchema.{of_schema}
 
 -- what holds of the tree of each table of the schema holds of each tree that it has
 pub at_tree : (n : ℕ) (P : ℕ → Type 0) → AllByRecursion (λ t. P t.tree) (schema_at n).tables → (tree : ℕ) → has_tree n tree ≡ true → P tree
@@ -41,56 +43,48 @@ each_tree n P each = go (layouts_at n) each
     go [] each = tt
     go (l ∷ ls) each = (each l.tree (here l.tree ls), go ls (λ tree has. each tree (later l tree ls has)))
 
+-- ---- the tables of a schema among those of the newest
+
+-- what is found among the first ones is found there among all
+found_in_front : (p : Layout → Bool) (xs ys : List Layout) → list_any p xs ≡ true → slice_get (map sql_table xs) (position_or_len p (xs ++ ys)) ≡ slice_get (map sql_table (xs ++ ys)) (position_or_len p (xs ++ ys))
+found_in_front p [] ys any = absurd (true≢false (sym any))
+found_in_front p (x ∷ xs) ys any = go (p x) refl (found_in_front p xs ys)
+  where
+    go : (b : Bool) → p x ≡ b → (list_any p xs ≡ true → slice_get (map sql_table xs) (position_or_len p (xs ++ ys)) ≡ slice_get (map sql_table (xs ++ ys)) (position_or_len p (xs ++ ys)))
+        → slice_get (map sql_table (x ∷ xs)) (cond (not b) (1 + position_or_len p (xs ++ ys)) 0) ≡ slice_get (map sql_table (x ∷ xs ++ ys)) (cond (not b) (1 + position_or_len p (xs ++ ys)) 0)
+    go true here later = refl
+    go false other later =
+        let next : 1 + position_or_len p (xs ++ ys) ≡ suc (position_or_len p (xs ++ ys)) = omega arith in
+        rw next (later (sym (ap (λ b. b || list_any p xs) other) ∙ any))
+
 -- the tables of a schema have their places among those of the newest
-in_first : (t : TableName) → has_table 1 t ≡ true → slice_get (schema_at 1).tables (place_of t) ≡ Some (table_by t)
-in_first t = elim t as (λ t. has_table 1 t ≡ true → slice_get (schema_at 1).tables (place_of t) ≡ Some (table_by t)) [
-  | Setting ↦ λ h. refl
-  | Account ↦ λ h. refl
-  | App ↦ λ h. refl
-  | Version ↦ λ h. refl
-  | Unit ↦ λ h. refl
-  | Host ↦ λ h. refl
-  | Instance ↦ λ h. refl
-  | Kept ↦ λ h. absurd (true≢false (sym h))
-  | Batch ↦ λ h. refl
-  | VersionClass ↦ λ h. absurd (true≢false (sym h))
-  | UnitMark ↦ λ h. absurd (true≢false (sym h))
-]
-
-in_second : (t : TableName) → has_table 2 t ≡ true → slice_get (schema_at 2).tables (place_of t) ≡ Some (table_by t)
-in_second t = elim t as (λ t. has_table 2 t ≡ true → slice_get (schema_at 2).tables (place_of t) ≡ Some (table_by t)) [
-  | Setting ↦ λ h. refl
-  | Account ↦ λ h. refl
-  | App ↦ λ h. refl
-  | Version ↦ λ h. refl
-  | Unit ↦ λ h. refl
-  | Host ↦ λ h. refl
-  | Instance ↦ λ h. refl
-  | Kept ↦ λ h. refl
-  | Batch ↦ λ h. refl
-  | VersionClass ↦ λ h. absurd (true≢false (sym h))
-  | UnitMark ↦ λ h. absurd (true≢false (sym h))
-]
-
 pub listed_at : (n : ℕ) → IsSchema n → (t : TableName) → has_table n t ≡ true → slice_get (schema_at n).tables (place_of t) ≡ Some (table_by t)
-listed_at zero is t has = absurd (omega (arith, is.0))
-listed_at (suc zero) is t has = in_first t has
-listed_at (suc (suc zero)) is t has = in_second t has
-listed_at (suc (suc (suc zero))) is t has = (computed t).listed
-listed_at (suc (suc (suc (suc n)))) is t has = absurd (omega (arith, is.1))
+listed_at n is t has =
+    let p = λ (l : Layout). l.tree == tree_of t in
+    let front = (of_schema n is).front in
+    let more = drop (length (layouts_at n)) (layouts_at newest) in
+    ap (λ ls. slice_get (map sql_table (layouts_at n)) (position_or_len p ls)) front ∙ found_in_front p (layouts_at n) more has
+    ∙ sym (ap (λ ls. slice_get (map sql_table ls) (position_or_len p ls)) front) ∙ (computed t).listed
 
--- every schema has settings
+any_in_front : {X : Type 0} (p : X → Bool) (xs ys : List X) → list_any p xs ≡ true → list_any p (xs ++ ys) ≡ true
+any_in_front p [] ys any = absurd (true≢false (sym any))
+any_in_front p (x ∷ xs) ys any = go (p x) refl (any_in_front p xs ys)
+  where
+    go : (b : Bool) → p x ≡ b → (list_any p xs ≡ true → list_any p (xs ++ ys) ≡ true) → (b || list_any p (xs ++ ys)) ≡ true
+    go true here later = refl
+    go false other later = later (sym (ap (λ b. b || list_any p xs) other) ∙ any)
+
+-- every schema has the tables of the first one
+pub stands_since_first : (n : ℕ) → IsSchema n → (t : TableName) → has_table 1 t ≡ true → has_table n t ≡ true
+stands_since_first n is t has = ap (list_any (λ l. l.tree == tree_of t)) (of_schema n is).since_first ∙ any_in_front (λ l. l.tree == tree_of t) (layouts_at 1) (drop (length (layouts_at 1)) (layouts_at n)) has
+
 pub has_settings : (n : ℕ) → IsSchema n → has_table n Setting ≡ true
-has_settings zero is = absurd (omega (arith, is.0))
-has_settings (suc zero) is = refl
-has_settings (suc (suc zero)) is = refl
-has_settings (suc (suc (suc zero))) is = refl
-has_settings (suc (suc (suc (suc n)))) is = absurd (omega (arith, is.1))
+has_settings n is = stands_since_first n is Setting refl
 
 -- ---- the newest schema
 
 pub newest_has : (t : TableName) → has_table newest t ≡ true
-newest_has t = elim t as (λ t. has_table newest t ≡ true) [ Setting ↦ refl | Account ↦ refl | App ↦ refl | Version ↦ refl | Unit ↦ refl | Host ↦ refl | Instance ↦ refl | Kept ↦ refl | Batch ↦ refl | VersionClass ↦ refl | UnitMark ↦ refl ]
+newest_has t = (computed t).stands
 
 pub known_newest : (db : Database) → AreKnownAt newest db → AreKnown db
 known_newest db known = record {
@@ -156,19 +150,5 @@ hold_newest db contents holds = record {
 -- ---- schemas have different numbers
 
 pub same_number : (n m : ℕ) → IsSchema n → IsSchema m → schema_at n ≡ schema_at m → n ≡ m
-same_number n m is_n is_m same = go n m is_n is_m (ap (λ s. length s.tables) same)
-  where
-    go : (n m : ℕ) → IsSchema n → IsSchema m → length (schema_at n).tables ≡ length (schema_at m).tables → n ≡ m
-    go (suc zero) (suc zero) is_n is_m same = refl
-    go (suc (suc zero)) (suc (suc zero)) is_n is_m same = refl
-    go (suc (suc (suc zero))) (suc (suc (suc zero))) is_n is_m same = refl
-    go (suc zero) (suc (suc zero)) is_n is_m same = absurd (omega (arith, same))
-    go (suc zero) (suc (suc (suc zero))) is_n is_m same = absurd (omega (arith, same))
-    go (suc (suc zero)) (suc zero) is_n is_m same = absurd (omega (arith, same))
-    go (suc (suc zero)) (suc (suc (suc zero))) is_n is_m same = absurd (omega (arith, same))
-    go (suc (suc (suc zero))) (suc zero) is_n is_m same = absurd (omega (arith, same))
-    go (suc (suc (suc zero))) (suc (suc zero)) is_n is_m same = absurd (omega (arith, same))
-    go zero m is_n is_m same = absurd (omega (arith, is_n.0))
-    go (suc (suc (suc (suc n)))) m is_n is_m same = absurd (omega (arith, is_n.1))
-    go n zero is_n is_m same = absurd (omega (arith, is_m.0))
-    go n (suc (suc (suc (suc m)))) is_n is_m same = absurd (omega (arith, is_m.1))
+same_number n m is_n is_m same =
+    same_Some n m (sym (of_schema n is_n).number ∙ ap (λ s. find (λ k. length (schema_at k).tables == length s.tables) (range_with_len 1 newest)) same ∙ (of_schema m is_m).number)

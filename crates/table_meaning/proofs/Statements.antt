@@ -1,7 +1,8 @@
 -- What a statement of the form of `put_command` does: it puts its row where no row has the key, or updates the one that has it.
-use Rattle.std.proofs.Common.{◌≡◌, ◌⊎◌, ℕ, zero, suc, arith, ◌/◌, ℤ, Bool, true, false, cond, List, [], ◌∷◌, ◌++◌, map, filter, flat_map, length, slice_get, Option, Some, None, Result, Ok, Err, IfSome, refl, sym, ap, subst, ◌∙◌, inl, inr, is_eq, is_lt, int_cmp, MatchBool}
+use Rattle.std.proofs.Common.{◌≡◌, ◌⊎◌, ℕ, arith, ◌/◌, ℤ, Bool, true, false, cond, List, [], ◌∷◌, ◌++◌, map, filter, flat_map, length, slice_get, Option, Some, None, option_map, Result, Ok, Err, IfSome, refl, sym, ap, ap₂, subst, ◌∙◌, inl, inr, is_eq, is_lt, int_cmp, MatchBool}
 use Rattle.std.specs.Prelude.{◌==◌}
-use Rattle.std.specs.List.{list_all, filter_map}
+use Rattle.std.specs.Prelude.{zip, filter_map}
+use Rattle.std.specs.List.{list_all, cons_option}
 use Rattle.std.specs.List.Sorted.{IsPermutation}
 use Rattle.std.proofs.lemmas.List.Sorted.{length_permutation}
 use Rattle.sqlite_value.specs.declared.value.Value.TheVariants.{Int}
@@ -24,7 +25,7 @@ use Rattle.sqlite_rules.specs.declared.error.Rowids.TheVariants.{Chosen, Above, 
 use Rattle.sqlite_rules.specs.Cast.{cast_row}
 use Rattle.sqlite_rules.specs.Keys.{AreConflicts}
 use Rattle.sqlite_rules.specs.Edit.{Edit, id_in, with_rowid, edit_of, taken_by, Applies}
-use Rattle.sqlite_rules.specs.Action.{pairs, work_by, works, deed_for, Writes}
+use Rattle.sqlite_rules.specs.Action.{pairs, work_by, work_for, works, deed_for, Writes}
 use Rattle.sqlite_rules.specs.Calls.{ids_of}
 use Rattle.sqlite_rules.specs.Lists.{Has}
 use Rattle.sqlite_rules.proofs.ListLemmas.{all_has}
@@ -37,8 +38,9 @@ use Rattle.sqlite.specs.Rows.{Task, Written, Tries, TriesEach, Upserts, Puts as 
 use Rattle.sqlite.specs.State.{State, mode_of, Executes}
 use Rattle.sqlite.specs.Listing.{understood}
 use Rattle.sqlite.proofs.Callers.{IsPlain, command_of, statement_of, runs_as, one_step, one_permutation}
-use Rattle.table_meaning.specs.Schema.{schema_at}
-use Rattle.table_meaning.specs.Schemas.{IsSchema}
+use Rattle.table_meaning.specs.declared.tables.TableName.{TableName}
+use Rattle.table_meaning.specs.Layouts.{Column, Layout, places_in}
+use Rattle.table_meaning.specs.Schema.{reference_at, sql_table, layouts_at, schema_at}
 use Rattle.table_meaning.specs.Upserts.{change_query, update_query, update_at, put_command}
 use Rattle.table_meaning.proofs.PutRows.{only}
 
@@ -55,15 +57,28 @@ same_value e = cc
 abbrev pub HasNoActs : Schema → Type 0
 HasNoActs stored = (tree : ℕ) (olds news : List Row) → works stored Enforced 0 tree olds news ≡ []
 
-pub no_acts : (n : ℕ) → IsSchema n → HasNoActs (schema_at n)
-no_acts zero is tree olds news = absurd (omega (arith, is.0))
-no_acts (suc zero) is tree olds news = elim (length news == 0) as (λ b.
-    flat_map (λ child. filter_map (λ ref. work_by 0 tree (pairs olds news) child ref (deed_for Enforced b ref) (parent_key (schema_at 1).tables ref)) child.references) (schema_at 1).tables ≡ []) [ true ↦ refl | false ↦ refl ]
-no_acts (suc (suc zero)) is tree olds news = elim (length news == 0) as (λ b.
-    flat_map (λ child. filter_map (λ ref. work_by 0 tree (pairs olds news) child ref (deed_for Enforced b ref) (parent_key (schema_at 2).tables ref)) child.references) (schema_at 2).tables ≡ []) [ true ↦ refl | false ↦ refl ]
-no_acts (suc (suc (suc zero))) is tree olds news = elim (length news == 0) as (λ b.
-    flat_map (λ child. filter_map (λ ref. work_by 0 tree (pairs olds news) child ref (deed_for Enforced b ref) (parent_key (schema_at 3).tables ref)) child.references) (schema_at 3).tables ≡ []) [ true ↦ refl | false ↦ refl ]
-no_acts (suc (suc (suc (suc n)))) is tree olds news = absurd (omega (arith, is.1))
+module _ (stored : Schema) (tree : ℕ) (olds news : List Row) where
+  -- a reference that a layout names does nothing
+  no_act : (child : Table) (at : ℕ) (parent : TableName) → work_for stored Enforced 0 tree olds news child (reference_at at parent) ≡ None
+  no_act child at parent =
+      elim (length news == 0) as (λ b. work_by 0 tree (pairs olds news) child (reference_at at parent) (deed_for Enforced b (reference_at at parent)) (parent_key stored.tables (reference_at at parent)) ≡ None)
+      [ true ↦ refl | false ↦ refl ]
+
+  none_act : (child : Table) (columns : List (ℕ × Column)) → filter_map (work_for stored Enforced 0 tree olds news child) (filter_map (λ p. option_map (reference_at p.0) p.1.parent) columns) ≡ []
+  none_act child [] = refl
+  none_act child (p ∷ columns) = go p.1.parent (none_act child columns)
+    where
+      go : (o : Option TableName) → filter_map (work_for stored Enforced 0 tree olds news child) (filter_map (λ p. option_map (reference_at p.0) p.1.parent) columns) ≡ []
+          → filter_map (work_for stored Enforced 0 tree olds news child) (cons_option (option_map (reference_at p.0) o) (filter_map (λ p. option_map (reference_at p.0) p.1.parent) columns)) ≡ []
+      go None later = later
+      go (Some parent) later = ap₂ cons_option (no_act child p.0 parent) later
+
+  none_of_tables : (ls : List Layout) → flat_map (λ child. filter_map (work_for stored Enforced 0 tree olds news child) child.references) (map sql_table ls) ≡ []
+  none_of_tables [] = refl
+  none_of_tables (l ∷ ls) = ap₂ (λ xs ys. xs ++ ys) (none_act (sql_table l) (zip (places_in l) l.columns)) (none_of_tables ls)
+
+pub no_acts : (n : ℕ) → HasNoActs (schema_at n)
+no_acts n tree olds news = none_of_tables (schema_at n) tree olds news (layouts_at n)
 
 -- ---- the rows that an update finds
 

@@ -33,7 +33,7 @@ use Rattle.table_meaning.specs.Holding.{Contents, Hold, with_row, with_rows}
 use Rattle.table_meaning.specs.Reads.{Reads}
 use Rattle.table_meaning.specs.Steps.{Moves, AreNew}
 use Rattle.table_meaning.proofs.EachTable.{of_each}
-use Rattle.table_meaning.proofs.TypedRows.{typed}
+use Rattle.table_meaning.proofs.EachRow.{typed}
 use Rattle.table_meaning.proofs.PutFacts.{facts, written_whole}
 use Rattle.table_meaning.proofs.Putting.{puts}
 use Rattle.table_meaning.proofs.LookUps.{hold_put, hold_left}

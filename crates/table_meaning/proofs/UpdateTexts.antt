@@ -8,7 +8,7 @@ use Rattle.sqlite_tied.specs.Compute.{everything}
 use Rattle.sqlite.specs.Listing.{understood}
 use Rattle.sqlite.proofs.Callers.{IsPlain, command_of}
 use Rattle.table_meaning.specs.declared.tables.TableName.{TableName}
-use Rattle.table_meaning.specs.declared.tables.TableName.TheVariants.{Setting, Account, App, Version, Unit, Host, Instance, Kept, Batch, VersionClass, UnitMark}
+use Rattle.table_meaning.specs.declared.tables.TableName.TheVariants.{Unit, Host, Instance}
 use Rattle.table_meaning.specs.Layouts.{layout_of, of_key}
 use Rattle.table_meaning.specs.Schema.{stored_schema, place_of}
 use Rattle.table_meaning.specs.Texts.{update_text, mostly_stand, update_first}
@@ -24,22 +24,12 @@ pub record ChangesRow (t : TableName) : Type 0 where
   pub columns_are : (c r : Row) → eval_all (given_terms (key_by t) (count_of t)) (written_out t c ∷ r ∷ []) ≡ behind_by (key_by t) (written_out t c)
   pub key_is : (c : Row) → map (column (written_out t c)) (range_with_len 0 (length (key_places t))) ≡ of_key (layout_of t) (written_out t c)
 
--- (one `elim`, as in `computed`)
 pub changes_row : (t : TableName) → mostly_stand t ≡ true → ChangesRow t
 unfolding understood everything
-changes_row t = elim t as (λ t. mostly_stand t ≡ true → ChangesRow t) [
-  | Setting ↦ λ h. absurd (true≢false (sym h))
-  | Account ↦ λ h. absurd (true≢false (sym h))
-  | App ↦ λ h. absurd (true≢false (sym h))
-  | Version ↦ λ h. absurd (true≢false (sym h))
-  | Unit ↦ λ h. record { is = refl; plain_text = (refl, refl); columns_are = λ c r. refl; key_is = λ c. refl }
-  | Host ↦ λ h. record { is = refl; plain_text = (refl, refl); columns_are = λ c r. refl; key_is = λ c. refl }
-  | Instance ↦ λ h. record { is = refl; plain_text = (refl, refl); columns_are = λ c r. refl; key_is = λ c. refl }
-  | Kept ↦ λ h. absurd (true≢false (sym h))
-  | Batch ↦ λ h. absurd (true≢false (sym h))
-  | VersionClass ↦ λ h. absurd (true≢false (sym h))
-  | UnitMark ↦ λ h. absurd (true≢false (sym h))
-]
+changes_row Unit h = record { is = refl; plain_text = (refl, refl); columns_are = λ c r. refl; key_is = λ c. refl }
+changes_row Host h = record { is = refl; plain_text = (refl, refl); columns_are = λ c r. refl; key_is = λ c. refl }
+changes_row Instance h = record { is = refl; plain_text = (refl, refl); columns_are = λ c r. refl; key_is = λ c. refl }
+changes_row _ h = absurd (true≢false (sym h))
 
 -- what is tried first is such a text
 pub tried_first : (t : TableName) (text : List ℕ) → Some text ≡ update_first t → (mostly_stand t ≡ true) × (text ≡ update_text t)

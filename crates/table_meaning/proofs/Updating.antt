@@ -133,7 +133,7 @@ module _ (t : TableName) (c : Row) (f : Facts newest t c) (it : ChangesRow t) (w
 
   pub updated : (count : ℕ) → Executes (update_text t) c old new (Ok count) → (new.now.schema ≡ stored_schema) × IsDatabase new.now × Updated t c db new.now.trees count
   updated count h =
-      let ran = updates stored_schema (no_acts newest (omega arith, omega arith)) (update_text t) c old new schema (place_of t) (table_by t) (keyed_query (tree_of t) places columns) it.is it.plain_text f.at.listed count h in (
+      let ran = updates stored_schema (no_acts newest) (update_text t) c old new schema (place_of t) (table_by t) (keyed_query (tree_of t) places columns) it.is it.plain_text f.at.listed count h in (
         ran.0,
         ran.1,
         elim (found passes rows) [

@@ -1,6 +1,6 @@
--- Rule. How an upgrade fills a table that a schema gains: for each row of another table, by its number, it puts one row.
-use Rattle.std.specs.Prelude.{◌≡◌, ℕ, ◌≤◌, ◌<◌, ◌==◌, nat_lt, false, if◌then◌else◌, List, [], ◌∷◌, map, find, codes, Option, Some, None, option_map, unwrap_or}
-use Rattle.sqlite_value.specs.declared.value.Value.TheVariants.{Null}
+-- Rule. How an upgrade fills a table that a schema gains: for each row of another table, by its number, it inserts one row.
+use Rattle.std.specs.Prelude.{option_and_then, ◌≡◌, ◌≢◌, ℕ, ◌≤◌, ◌<◌, ◌==◌, nat_lt, true, false, if◌then◌else◌, List, [], ◌∷◌, map, find, codes, slice_index_or, Option, Some, None, option_map, unwrap_or}
+use Rattle.sqlite_value.specs.declared.value.Value.TheVariants.{Null, Text}
 use Rattle.sqlite_value.specs.Order.{Row, column}
 use Rattle.sqlite_value.specs.Keys.{plain}
 use Rattle.sqlite_trees.specs.declared.store.Shape.TheVariants.{Table as TableTree}
@@ -9,17 +9,29 @@ use Rattle.sqlite_trees.specs.View.{IsShaped}
 use Rattle.sqlite_schema.specs.Rules.{agree}
 use Rattle.sqlite_typed.specs.Columns.{bytes_of}
 use Rattle.sqlite.specs.Effect.{Database}
+use Rattle.reply_register.specs.declared.kept.Kept.{Kept as Call}
 use Rattle.table_meaning.specs.declared.tables.Fill.{Fill}
 use Rattle.table_meaning.specs.declared.tables.Fill.TheVariants.{Calls, Classes, Marks}
 use Rattle.table_meaning.specs.declared.tables.TableName.{TableName}
 use Rattle.table_meaning.specs.declared.tables.TableName.TheVariants as table
 use Rattle.table_meaning.specs.declared.rows.StoredRow.{StoredRow}
-use Rattle.table_meaning.specs.declared.rows.StoredRow.TheVariants.{Kept, VersionClass, UnitMark}
+use Rattle.table_meaning.specs.declared.rows.StoredRow.TheVariants.{Version, Kept, VersionClass, UnitMark}
 use Rattle.table_meaning.specs.Layouts.{Layout, layout_of, former_kept, places_in}
-use Rattle.table_meaning.specs.Rows.{whole, columns_of, RowKey, kept_key, class_key, mark_key}
+use Rattle.table_meaning.specs.Rows.{whole, tree_of, columns_of, RowKey, version_key, unit_key, kept_key, class_key, mark_key, table_at}
 use Rattle.table_meaning.specs.Kept.{number_of}
 use Rattle.table_meaning.specs.Holding.{Contents}
-use Rattle.table_meaning.specs.Schemas.{HoldAt}
+use Rattle.table_meaning.specs.Worlds.{call_row}
+use Rattle.table_meaning.specs.Schemas.{has_tree, HoldAt}
+
+-- ---- which fills lead from one schema to the next
+
+-- by the number of the schema that they lead from; there is none of number 0
+abbrev fills_by_schema : List (List Fill)
+fills_by_schema = [] ∷ (Calls ∷ []) ∷ (Classes ∷ Marks ∷ []) ∷ []
+
+-- in the order in which they are made
+abbrev pub fills_of : ℕ → List Fill
+fills_of schema = slice_index_or fills_by_schema schema []
 
 -- ---- from which rows, and into which
 
@@ -107,30 +119,80 @@ abbrev pub IsNextRow : Layout → Trees → ℕ → Option ℕ → Type 0
 IsNextRow l trees from None = (n : ℕ) → from ≤ n → numbered_row l trees n ≡ None
 IsNextRow l trees from (Some next) = (from ≤ next) × HasNoRow l trees from next
 
+-- ---- the calls of the first schema
+
+-- the row of the call that the first schema keeps of the host of a number
+abbrev pub former_call : Trees → ℕ → Option Row
+former_call = numbered_row former_kept
+
+abbrev pub former_columns : ℕ → Call → Row
+former_columns host call = whole host ∷ whole call.seqno ∷ Text call.text ∷ Text call.reply ∷ []
+
+-- the calls of the first schema, by the number of their host
+abbrev pub HostCalls : Type 0
+HostCalls = ℕ → Option Call
+
+-- The tables keep just these calls, each under the number of its host.
+pub record KeepCalls (trees : Trees) (calls : HostCalls) : Type 0 where
+  pub ordered : IsShaped TableTree (trees former_kept.tree)
+  pub kept : (host : ℕ) → former_call trees host ≡ option_map (former_columns host) (calls host)
+
+-- ---- what a fill brings
+
+-- a version is of the class that its platform names
+abbrev pub platform_class : ℕ → StoredRow → Option StoredRow
+platform_class id (Version v) = Some (VersionClass (record { version_id = id; class = v.platform }))
+platform_class id _ = None
+
+-- a workunit that is not marked
+abbrev pub no_mark : ℕ → StoredRow
+no_mark id = UnitMark (record { unit_id = id; marked = false; class = None })
+
+-- what it brings to a key of the table that it fills
+abbrev pub brought : Fill → HostCalls → Contents → RowKey → Option StoredRow
+brought Calls calls contents (kept_key host slot) = if slot == 0 then option_map (λ k. Kept (call_row host slot k)) (calls host) else None
+brought Classes calls contents (class_key id) = option_and_then (platform_class id) (contents (version_key id))
+brought Marks calls contents (mark_key id) = option_map (λ _. no_mark id) (contents (unit_key id))
+brought _ _ _ _ = None
+
+-- these contents, but in the table that is filled what the fill brings
+abbrev pub with_brought : HostCalls → Contents → Fill → Contents
+with_brought calls contents f key = if tree_of (table_at key) == tree_of (target_of f) then brought f calls contents key else contents key
+
 -- ---- what is held on the way
 
 -- these contents, with what comes from rows in the table that is filled
 abbrev pub with_filled : Fill → Contents → NumberedRows → Contents
 with_filled f contents rows key = unwrap_or (option_map (λ n. option_map (filled_row f n) (rows n)) (filled_from f key)) (contents key)
 
+-- Each tree of the schema is as it was at the start, but that of the table which is filled.
+abbrev pub OthersStay : Fill → Trees → Trees → Type 0
+OthersStay f start now = (tree : ℕ) → has_tree (schema_with f) tree ≡ true → tree ≢ tree_of (target_of f) → now tree ≡ start tree
+
 -- what comes from the rows below a number is there
-pub record Filled (f : Fill) (end : ℕ) (db : Database) (contents : Contents) (rows : NumberedRows) : Type 0 where
+pub record Filled (f : Fill) (end : ℕ) (start db : Database) (contents : Contents) (rows : NumberedRows) : Type 0 where
   pub holds : HoldAt (schema_with f) db (with_filled f contents (below end rows))
   pub kept : Keeps (source_of f) db.trees rows
+  pub others : OthersStay f start.trees db.trees
 
 -- where that of those below one number was there, that of those below the other is
 abbrev pub Fills : Fill → ℕ → ℕ → Database → Database → Type 0
-Fills f from end old new = (contents : Contents) (rows : NumberedRows) → AreFit f rows → Filled f from old contents rows → Filled f end new contents rows
+Fills f from end old new = (start : Database) (contents : Contents) (rows : NumberedRows) → AreFit f rows → Filled f from start old contents rows → Filled f end start new contents rows
+
+-- what comes from all rows is there
+pub record AllFilled (f : Fill) (start db : Database) (contents : Contents) (rows : NumberedRows) : Type 0 where
+  pub holds : HoldAt (schema_with f) db (with_filled f contents rows)
+  pub others : OthersStay f start.trees db.trees
 
 -- where that of those below a number was there, all is
 abbrev pub FillsAll : Fill → ℕ → Database → Database → Type 0
-FillsAll f from old new = (contents : Contents) (rows : NumberedRows) → AreFit f rows → Filled f from old contents rows → HoldAt (schema_with f) new (with_filled f contents rows)
+FillsAll f from old new = (start : Database) (contents : Contents) (rows : NumberedRows) → AreFit f rows → Filled f from start old contents rows → AllFilled f start new contents rows
 
 abbrev pub FillsNext : Fill → ℕ → Option ℕ → Database → Database → Type 0
 FillsNext f from None old new = FillsAll f from old new
 FillsNext f from (Some end) old new = Fills f from end old new
 
--- what the tables are filled with that the schema behind that of a number gains
-pub record FillsNew (n : ℕ) (old new : Database) : Type 0 where
-  pub second : n ≡ 1 → FillsAll Calls 0 old new
-  pub third : n ≡ 2 → (mid : Database) × FillsAll Classes 0 old mid × FillsAll Marks 0 mid new
+-- each of these fills was made, one after another
+abbrev pub FillsEach : List Fill → Database → Database → Type 0
+FillsEach [] old new = new ≡ old
+FillsEach (f ∷ more) old new = (mid : Database) × FillsAll f 0 old mid × FillsEach more mid new

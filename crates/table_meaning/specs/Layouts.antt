@@ -1,5 +1,6 @@
--- Rule. The layouts of the stored tables. What differs between two tables stands here: a name, a tree, a key and columns. All else that is said of a table follows.
-use Rattle.std.specs.Prelude.{ℕ, List, [], ◌∷◌, map, take, drop, length, codes, Option, Some, None}
+-- Rule. The layouts of the stored tables, and of which tables each schema is. What differs between two tables stands here: a name, a tree, a key and columns.
+-- All else that is said of a table follows. A schema is the front of one list of tables and indexes; what is new stands behind all that is there.
+use Rattle.std.specs.Prelude.{ℕ, List, [], ◌∷◌, map, take, drop, length, codes, slice_index, Option, Some, None}
 use Rattle.std.specs.List.{range_with_len}
 use Prim.Native.String.{String}
 use Rattle.table_meaning.specs.declared.tables.TableName.{TableName}
@@ -137,7 +138,56 @@ former_kept = record {
   uniques = [];
 }
 
--- ---- its columns
+-- ---- the schemas
+
+-- an index over the instances
+pub record Indexing : Type 0 where
+  pub name : List ℕ
+  pub tree : ℕ
+  -- places among the columns of an instance
+  pub columns : List ℕ
+
+pub data Part : Type 0 where
+  a_table : TableName → Part
+  -- a table that is looked at no more
+  a_former : Layout → Part
+  an_index : Indexing → Part
+
+-- in the order in which they came
+abbrev pub parts : List Part
+parts =
+    a_table table.Setting
+    ∷ a_table table.Account
+    ∷ a_table table.App
+    ∷ a_table table.Version
+    ∷ a_table table.Unit
+    ∷ a_table table.Host
+    ∷ a_table table.Instance
+    ∷ a_former former_kept
+    ∷ a_table table.Batch
+    -- the waiting instances by place
+    ∷ an_index (record { name = codes "instance_queue"; tree = 17; columns = 9 ∷ 0 ∷ 1 ∷ [] })
+    -- those of a host by place, and by the moment of sending
+    ∷ an_index (record { name = codes "instance_owner"; tree = 18; columns = 2 ∷ 0 ∷ 1 ∷ [] })
+    ∷ an_index (record { name = codes "instance_sent"; tree = 19; columns = 2 ∷ 3 ∷ [] })
+    ∷ an_index (record { name = codes "instance_deadline"; tree = 20; columns = 4 ∷ [] })
+    ∷ a_table table.Kept
+    ∷ a_table table.VersionClass
+    ∷ a_table table.UnitMark
+    ∷ []
+
+-- how many of them each schema has, by its number; there is none of number 0
+abbrev sizes : List ℕ
+sizes = 0 ∷ 13 ∷ 14 ∷ 16 ∷ []
+
+abbrev pub parts_at : ℕ → List Part
+parts_at schema = take (slice_index sizes schema) parts
+
+-- the number of the schema that is worked on
+abbrev pub newest : ℕ
+newest = 3
+
+-- ---- the columns of a table
 
 abbrev pub names : Layout → List (List ℕ)
 names l = map (λ c. c.name) l.columns

@@ -1,5 +1,5 @@
--- Rule. The schema of the stored tables as SQL has it, by their layouts. A schema is the front of one list of tables and indexes; what is new stands behind all that is there.
-use Rattle.std.specs.Prelude.{ℕ, ◌+◌, Bool, true, false, not, ◌&&◌, ◌||◌, ◌==◌, if◌then◌else◌, List, [], ◌∷◌, map, take, zip, filter_map, flat_map, codes, slice_index, Some, None, option_map}
+-- Rule. The schema of the stored tables as SQL has it, by their layouts.
+use Rattle.std.specs.Prelude.{ℕ, ◌+◌, Bool, true, false, not, ◌&&◌, ◌||◌, ◌==◌, if◌then◌else◌, List, [], ◌∷◌, map, zip, filter_map, flat_map, slice_index, Some, None, option_map}
 use Rattle.std.specs.List.{enumerate_from, position_or_len}
 use Rattle.sqlite_value.specs.declared.value.Value.TheVariants.{Null}
 use Rattle.sqlite_value.specs.declared.keys.Collation.TheVariants.{Binary}
@@ -14,9 +14,10 @@ use Rattle.sqlite_schema.specs.declared.schema.Index.{Index}
 use Rattle.sqlite_schema.specs.declared.schema.Schema.{Schema}
 use Rattle.sqlite_catalog.specs.Change.{automatics}
 use Rattle.table_meaning.specs.declared.tables.TableName.{TableName}
-use Rattle.table_meaning.specs.declared.tables.TableName.TheVariants.{Setting, Account, App, Version, Unit, Host, Instance, Kept, Batch, VersionClass, UnitMark}
+use Rattle.table_meaning.specs.declared.tables.TableName.TheVariants.{Instance}
 use Rattle.table_meaning.specs.Kinds.{Kind, number, integer, words, flag, octets, optional, either}
-use Rattle.table_meaning.specs.Layouts.{Column, Key, numbered, by_first, Layout, layout_of, former_kept, places_in, of_key}
+use Rattle.table_meaning.specs.Layouts.{Column, Key, numbered, by_first, Layout, layout_of, places_in, of_key}
+pub use Rattle.table_meaning.specs.Layouts.{Indexing, Part, a_table, a_former, an_index, parts, parts_at, newest}
 
 -- ---- a table
 
@@ -47,7 +48,7 @@ sql_column key at c = record { name = c.name; kind = type_of c.kind; is_strict =
 abbrev pub sql_columns : Key → List Column → List SqlColumn
 sql_columns key columns = map (λ p. sql_column key p.0 p.1) (enumerate_from 0 columns)
 
-abbrev reference_at : ℕ → TableName → Reference
+abbrev pub reference_at : ℕ → TableName → Reference
 reference_at place parent = record { columns = place ∷ []; parent = (layout_of parent).name; parent_columns = []; on_delete = NoAction; on_update = NoAction; is_deferred = false }
 
 -- places among the columns as places in a row of the tree
@@ -83,56 +84,10 @@ table_by t = sql_table (layout_of t)
 
 -- ---- an index over the instances
 
-pub record Indexing : Type 0 where
-  pub name : List ℕ
-  pub tree : ℕ
-  -- places among the columns of an instance
-  pub columns : List ℕ
-
 abbrev pub index_by : Indexing → Index
 index_by i = record { name = i.name; tree = i.tree; table = (layout_of Instance).tree; columns = in_row (layout_of Instance) i.columns; order = plain; is_unique = false }
 
 -- ---- the schemas
-
-pub data Part : Type 0 where
-  a_table : TableName → Part
-  -- a table that is looked at no more
-  a_former : Layout → Part
-  an_index : Indexing → Part
-
--- in the order in which they came
-abbrev pub parts : List Part
-parts =
-    a_table Setting
-    ∷ a_table Account
-    ∷ a_table App
-    ∷ a_table Version
-    ∷ a_table Unit
-    ∷ a_table Host
-    ∷ a_table Instance
-    ∷ a_former former_kept
-    ∷ a_table Batch
-    -- the waiting instances by place
-    ∷ an_index (record { name = codes "instance_queue"; tree = 17; columns = 9 ∷ 0 ∷ 1 ∷ [] })
-    -- those of a host by place, and by the moment of sending
-    ∷ an_index (record { name = codes "instance_owner"; tree = 18; columns = 2 ∷ 0 ∷ 1 ∷ [] })
-    ∷ an_index (record { name = codes "instance_sent"; tree = 19; columns = 2 ∷ 3 ∷ [] })
-    ∷ an_index (record { name = codes "instance_deadline"; tree = 20; columns = 4 ∷ [] })
-    ∷ a_table Kept
-    ∷ a_table VersionClass
-    ∷ a_table UnitMark
-    ∷ []
-
--- how many of them each schema has, by its number; there is none of number 0
-abbrev sizes : List ℕ
-sizes = 0 ∷ 13 ∷ 14 ∷ 16 ∷ []
-
-abbrev pub parts_at : ℕ → List Part
-parts_at schema = take (slice_index sizes schema) parts
-
--- the number of the schema that is worked on
-abbrev pub newest : ℕ
-newest = 3
 
 abbrev tables_in : Part → List TableName
 tables_in (a_table t) = t ∷ []

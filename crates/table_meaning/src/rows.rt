@@ -1,28 +1,32 @@
-//! The rows of the tables, each with its columns in order.
+//! The rows of the tables, each with its columns in order, and rows to put.
 
-use texts::{Listed, Text};
+ghost use Rattle.std.specs.Prelude.{◌≡◌, IfOk};
+
+use std::alloc::Global;
+use std::marker::Model;
+use texts::{Listed, Memory, Text};
 
 /// The value of a setting.
-#[derive(Drop)]
+#[derive(PartialEq, Drop)]
 pub enum SettingValue {
     Number(u32),
     Word(Text),
 }
 
-#[derive(Drop)]
+#[derive(PartialEq, Drop)]
 pub struct StoredSetting {
     pub name: Text,
     pub value: SettingValue,
 }
 
-#[derive(Drop)]
+#[derive(PartialEq, Drop)]
 pub struct StoredAccount {
     pub id: u32,
     pub auth: Text,
     pub name: Text,
 }
 
-#[derive(Drop)]
+#[derive(PartialEq, Drop)]
 pub struct StoredApp {
     pub id: u32,
     pub name: Text,
@@ -30,7 +34,7 @@ pub struct StoredApp {
     pub agreement: Option<u32>,
 }
 
-#[derive(Drop)]
+#[derive(PartialEq, Drop)]
 pub struct StoredVersion {
     pub id: u32,
     pub app_id: u32,
@@ -38,7 +42,7 @@ pub struct StoredVersion {
     pub num: u32,
 }
 
-#[derive(Drop)]
+#[derive(PartialEq, Drop)]
 pub struct StoredUnit {
     pub id: u32,
     pub name: Text,
@@ -57,7 +61,7 @@ pub struct StoredUnit {
     pub status: u32,
 }
 
-#[derive(Drop)]
+#[derive(PartialEq, Drop)]
 pub struct StoredHost {
     pub id: u32,
     pub account_id: u32,
@@ -74,7 +78,7 @@ pub struct StoredHost {
     pub credit: i64,
 }
 
-#[derive(Drop)]
+#[derive(PartialEq, Drop)]
 pub struct StoredInstance {
     pub unit_id: u32,
     pub num: u32,
@@ -93,7 +97,7 @@ pub struct StoredInstance {
 }
 
 /// A kept call of a host, in one of its slots.
-#[derive(Drop)]
+#[derive(PartialEq, Drop)]
 pub struct StoredCall {
     pub host_id: u32,
     /// 0 to 3.
@@ -111,15 +115,33 @@ pub struct StoredBatch {
     pub answer: Text,
 }
 
+impl PartialEq for StoredBatch {
+    ghost use Rattle.std.specs.Str.{bytes_eq};
+    ghost use Rattle.std.specs.Ordering.{on, eq_of_both};
+    ghost use Rattle.std.specs.Cmp.Rules.{comparing};
+    ghost use Rattle.std.proofs.Common.{rules};
+
+    ghost eq = { eq_of_both (on (λ b. b.kind) bytes_eq) (eq_of_both (on (λ b. b.name) bytes_eq) (eq_of_both (on (λ b. b.text) bytes_eq) (on (λ b. b.answer) bytes_eq))) };
+
+    ghost laws = { Prim.search (comparing, rules) };
+
+    fn eq(&self, other: &StoredBatch) -> bool {
+        self.kind == other.kind
+            && self.name == other.name
+            && self.text.as_slice() == other.text.as_slice()
+            && self.answer == other.answer
+    }
+}
+
 /// The class of a version.
-#[derive(Drop)]
+#[derive(PartialEq, Drop)]
 pub struct StoredVersionClass {
     pub version_id: u32,
     pub class: Text,
 }
 
 /// Whether a workunit is marked, and the class that it keeps to, if it has one by now.
-#[derive(Drop)]
+#[derive(PartialEq, Drop)]
 pub struct StoredUnitMark {
     pub unit_id: u32,
     pub marked: bool,
@@ -140,4 +162,63 @@ pub enum StoredRow {
     Batch(StoredBatch),
     VersionClass(StoredVersionClass),
     UnitMark(StoredUnitMark),
+}
+
+/// A row to put at its key, and whether it is to take the place of one that is stored there. That only says which statement is
+/// tried first, and what is stored then does not depend on it: so contracts see the row alone.
+#[derive(Drop)]
+pub struct RowChange {
+    row: StoredRow,
+    is_update: bool,
+}
+
+impl Model for RowChange {
+    ghost use Rattle.table_meaning.specs.declared.rows.StoredRow.{StoredRow};
+
+    ghost Value = { StoredRow };
+
+    ghost view = { λ c. c.row };
+}
+
+impl RowChange {
+    /// A row whose key has none yet.
+    pub fn insert(row: StoredRow) -> RowChange
+        ensures { result ≡ row }
+    {
+        RowChange {
+            row,
+            is_update: false,
+        }
+    }
+
+    /// A row in the place of one that is stored.
+    pub fn update(row: StoredRow) -> RowChange
+        ensures { result ≡ row }
+    {
+        RowChange {
+            row,
+            is_update: true,
+        }
+    }
+
+    /// These rows, of whose keys none has one yet.
+    pub fn inserts(alloc: Global, rows: Listed<StoredRow>) -> Result<Listed<RowChange>, Memory>
+        ensures { IfOk result (λ changes. changes ≡ rows) }
+    {
+        let mut changes = Listed::new(alloc);
+        for row in rows.into_vec() {
+            changes.push(RowChange::insert(row))?;
+        }
+        Ok(changes)
+    }
+
+    pub fn row(&self) -> &StoredRow
+        ensures { result.now ≡ self.now }
+    {
+        &self.row
+    }
+
+    pub fn is_update(&self) -> bool {
+        self.is_update
+    }
 }

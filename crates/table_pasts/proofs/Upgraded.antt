@@ -1,34 +1,48 @@
--- Six laws in a row: what was held has no classes, is held after the upgrade, and stands in the next eras, and so does the store.
-use Rattle.std.proofs.Common.{ℕ, ◌<◌, refl, arith}
+-- What was held has no classes, is held after the upgrade, and stands in each of the next eras, and so does the store.
+use Rattle.std.proofs.Common.{◌≡◌, ◌+◌, ◌-◌, ◌<◌, ℕ, zero, suc, List, [], ◌∷◌, ◌++◌, length, replicate, refl, sym, ap, subst, ◌∙◌, arith}
+use Rattle.std.proofs.lemmas.List.{append-nil, append_assoc}
 use Rattle.sqlite_trees.specs.declared.store.Store.{Ghosts}
 use Rattle.stores.specs.Acting.{Parts}
 use Rattle.stores.specs.Eras.{era_of_classes}
 use Rattle.stores.specs.Held.{Held, IsLeft}
+use Rattle.table_meaning.specs.Schema.{newest}
 use Rattle.sched_tables.specs.Laws.{UpgradedHolds}
-use Rattle.sched_tables.specs.Upgrading.{first_held, second_held}
+use Rattle.sched_tables.specs.Upgrading.{held_with}
 use Rattle.sched_tables.specs.Views.{held_of}
 use Rattle.sched_tables.specs.declared.tables.Tables.{Tables}
+use Rattle.sched_server.specs.Arrivals.{Came, answered, StandsIn}
 use Rattle.sched_server.specs.Laws.{FormerWorldsAreUnclassed, ReopenedStands, UpgradedStands}
-use Rattle.table_pasts.specs.Laws.{UpgradedTablesStand, with_mark}
+use Rattle.table_pasts.specs.Laws.{UpgradedTablesStand, with_marks}
 
 left_as_it_is : (held : Held) → IsLeft held held
 left_as_it_is held = record { world_is = refl; calls_are = λ host. refl; batches_are = λ kind batch. refl }
 
+-- what is left of one is left of another of which it is left
+left_back : (one other last : Held) → IsLeft one last → IsLeft other last → IsLeft one other
+left_back one other last from to = record {
+  world_is = sym to.world_is ∙ from.world_is;
+  calls_are = λ host. sym (to.calls_are host) ∙ from.calls_are host;
+  batches_are = λ kind batch. sym (to.batches_are kind batch) ∙ from.batches_are kind batch;
+}
+
+-- so many upgrades, one after another
+stand_in_later_eras : UpgradedStands → (upgrades era : ℕ) (key : List ℕ) (held : Held) (marks : List ℕ) (before : List Came) → StandsIn era key held marks before
+    → StandsIn (era + upgrades) key held (with_marks upgrades marks before) before
+stand_in_later_eras stands zero era key held marks before st =
+    let same : era ≡ era + zero = omega arith in
+    subst (λ e. StandsIn e key held (marks ++ []) before) same (subst (λ ms. StandsIn era key held ms before) (sym (append-nil marks)) st)
+stand_in_later_eras stands (suc upgrades) era key held marks before st =
+    let next = stands era key held held marks before (left_as_it_is held) st in
+    let later = stand_in_later_eras stands upgrades (suc era) key held (marks ++ length (answered before) ∷ []) before next in
+    let last : suc era + upgrades ≡ era + suc upgrades = omega arith in
+    subst (λ e. StandsIn e key held (with_marks (suc upgrades) marks before) before) last
+    (subst (λ ms. StandsIn (suc era + upgrades) key held ms before) (append_assoc marks (length (answered before) ∷ []) (replicate upgrades (length (answered before)))) later)
+
 pub stand_upgraded : {S : Type 0} (store : Ghosts S) (parts : Parts (Tables S)) → FormerWorldsAreUnclassed → UpgradedStands → UpgradedHolds store → ReopenedStands parts
     → ((t : Tables S) → IsLeft (parts.holds t) (held_of store t)) → UpgradedTablesStand store parts
-stand_upgraded store parts unclassed stands holds reopened same old t honest kept upgrades =
-    let held = holds old t upgrades in record {
-      from_first = λ w calls batches key marks before first st.
-          let was = first_held w calls batches in
-          let early : 0 < era_of_classes = omega arith in
-          let left = held.from_first w calls batches st.sound.world (unclassed 0 key was marks before early st) first in
-          let second = stands 0 key was was marks before (left_as_it_is was) st in
-          let third = stands 1 key was (held_of store t) (with_mark marks before) before left second in
-          reopened t honest kept (held_of store t) (same t) key (with_mark (with_mark marks before) before) before third;
-      from_second = λ w calls batches key marks before second st.
-          let was = second_held w calls batches in
-          let early : 1 < era_of_classes = omega arith in
-          let left = held.from_second w calls batches st.sound.world (unclassed 1 key was marks before early st) second in
-          let third = stands 1 key was (held_of store t) marks before left st in
-          reopened t honest kept (held_of store t) (same t) key (with_mark marks before) before third;
-    }
+stand_upgraded store parts unclassed stands holds reopened same old t honest kept upgrades n is w calls batches key marks before held st =
+    let was = held_with w calls batches in
+    let left = holds old t upgrades n is w calls batches st.sound.world (λ less. let early : n - 1 < era_of_classes = omega (arith, less, is.0) in unclassed (n - 1) key was marks before early st) held in
+    let last : n - 1 + (newest - n) ≡ newest - 1 = omega (arith, is.0, is.1) in
+    let later = subst (λ e. StandsIn e key was (with_marks (newest - n) marks before) before) last (stand_in_later_eras stands (newest - n) (n - 1) key was marks before st) in
+    reopened t honest kept was (left_back (parts.holds t) was (held_of store t) (same t) left) key (with_marks (newest - n) marks before) before later

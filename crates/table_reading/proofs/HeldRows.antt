@@ -18,8 +18,7 @@ use Rattle.table_meaning.specs.Holding.{Contents, Hold}
 use Rattle.table_meaning.specs.Kept.{call_of, batch_of, calls_in, batches_in}
 use Rattle.table_meaning.specs.Rows.{RowKey, kept_key, batch_key, table_at, key_columns, columns_of, rows_in, look_up}
 use Rattle.table_meaning.specs.Worlds.{BatchText, SlotCalls, call_row, contents_of, HoldWorld}
-use Rattle.table_meaning.proofs.ColumnsTold.{columns_told}
-use Rattle.table_meaning.proofs.Keys.{number_in}
+use Rattle.table_meaning.proofs.EachRow.{columns_told, number_in}
 use Rattle.table_meaning.proofs.RowsHeld.{source, held_row}
 use Rattle.table_meaning.proofs.RowsKeyed.{rows_told, rows_stand}
 use Rattle.table_rows.specs.Utf8.{HasUtf8}

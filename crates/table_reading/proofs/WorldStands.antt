@@ -22,7 +22,7 @@ use Rattle.table_meaning.specs.Holding.{AreKnown}
 use Rattle.table_meaning.specs.Kept.{calls_in, batches_in}
 use Rattle.table_meaning.specs.Rows.{RowKey, unit_key, mark_key, instance_key, columns_of, table_of, table_at, key_of, look_up}
 use Rattle.table_meaning.specs.Worlds.{HoldWorld, unit_row, mark_row, instance_row}
-use Rattle.table_meaning.proofs.ColumnsTold.{columns_told}
+use Rattle.table_meaning.proofs.EachRow.{columns_told}
 use Rattle.table_meaning.proofs.RowsHeld.{held_row}
 use Rattle.table_worlds.specs.Keys.{row_in, row_beside, keyed, numbered}
 use Rattle.table_worlds.specs.RowsOf.{AreRowsBeside, having, rows_beside, rows_of_unit}

@@ -1,40 +1,17 @@
 -- The texts that read a table whole write nothing, whatever the schema is.
-use Rattle.std.proofs.Common.{◌≡◌, ℕ, ◌+◌, Bool, if◌then◌else◌, true, false, List, None, Ok, Err, refl, sym, true≢false}
-use Rattle.std.specs.Prelude.{⊤}
+use Rattle.std.proofs.Common.{ℕ, ◌+◌, Bool, if◌then◌else◌, true, false, List, None, Ok, Err, sym, true≢false}
 use Rattle.sqlite_schema.specs.declared.command.Command.{Command}
 use Rattle.sqlite_schema.specs.declared.schema.Schema.{Schema}
 use Rattle.sqlite_resolve.specs.declared.compiled.Compiled.{Compiled}
 use Rattle.sqlite_resolve.specs.declared.error.CompileError.TheVariants.{NoSuchTable}
 use Rattle.sqlite_resolve.specs.Lowering.{Checked, and_then}
 use Rattle.sqlite_syntax.specs.declared.statement.Parsed.{Parsed}
-use Rattle.sqlite_resolve.specs.Compile.{first, planned, meaning, returning, command, compiled, with_command, small, timed}
-use Rattle.sqlite_tied.specs.Compute.{everything}
+use Rattle.sqlite_resolve.specs.Compile.{first, planned, meaning, command, compiled, with_command, small, timed}
 use Rattle.sqlite.specs.Given.{Returns}
 use Rattle.sqlite.specs.Listing.{understood, reads_listing, if_select, listing_schema, is_select}
 use Rattle.table_meaning.specs.declared.tables.TableName.{TableName}
-use Rattle.table_meaning.specs.declared.tables.TableName.TheVariants.{Setting, Account, App, Version, Unit, Host, Instance, Kept, Batch, VersionClass, UnitMark}
 use Rattle.table_meaning.specs.Texts.{read_text}
-
--- it has no RETURNING
-abbrev pub IsQuiet : Checked Parsed → Type 0
-IsQuiet (Ok p) = (schema : Schema) (base : ℕ) → returning schema base p.statement ≡ Ok None
-IsQuiet (Err e) = ⊤
-
-pub are_quiet : (t : TableName) → IsQuiet (first (read_text t))
-unfolding everything
-are_quiet t = elim t as (λ t. IsQuiet (first (read_text t))) [
-  | Setting ↦ λ schema base. refl
-  | Account ↦ λ schema base. refl
-  | App ↦ λ schema base. refl
-  | Version ↦ λ schema base. refl
-  | Unit ↦ λ schema base. refl
-  | Host ↦ λ schema base. refl
-  | Instance ↦ λ schema base. refl
-  | Kept ↦ λ schema base. refl
-  | Batch ↦ λ schema base. refl
-  | VersionClass ↦ λ schema base. refl
-  | UnitMark ↦ λ schema base. refl
-]
+use Rattle.table_meaning.proofs.ByComputing.{IsQuiet, computed}
 
 quiet_plan : (schema : Schema) (p : Parsed) → IsQuiet (Ok p) → ¬ Returns (and_then (planned schema p) (λ plan. Ok (with_command p plan)))
 unfolding planned meaning
@@ -68,5 +45,5 @@ unfolding understood
 never_returns schema t = go (reads_listing schema (read_text t))
   where
     go : (b : Bool) → ¬ Returns (if b then if_select (compiled listing_schema (read_text t)) else compiled schema (read_text t))
-    go true = selected (compiled listing_schema (read_text t)) (quiet_compiled listing_schema (read_text t) (are_quiet t))
-    go false = quiet_compiled schema (read_text t) (are_quiet t)
+    go true = selected (compiled listing_schema (read_text t)) (quiet_compiled listing_schema (read_text t) (computed t).quiet)
+    go false = quiet_compiled schema (read_text t) (computed t).quiet

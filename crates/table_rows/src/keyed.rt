@@ -11,9 +11,9 @@ ghost use Rattle.table_meaning.specs.Formats.{columns_in};
 ghost use Rattle.table_meaning.specs.Reads.{Reads};
 ghost use Rattle.table_meaning.specs.Holding.{AreKnown};
 
+use crate::columns;
 use crate::opening::OpenFault;
 use crate::read::{first_number, first_shown, shown_by};
-use crate::typed;
 use crate::values::whole;
 use sqlite::types::ValueRef;
 use sqlite::{Alter, Connection, Row};
@@ -30,7 +30,7 @@ fn calls(alloc: Global, rows: &[Row]) -> Result<Listed<StoredCall>, OpenFault>
 {
     let mut all = Listed::new(alloc);
     for row in rows {
-        all.push(typed::call(alloc, row)?)?;
+        all.push(columns::call(alloc, row)?)?;
     }
     Ok(all)
 }
@@ -72,7 +72,7 @@ pub fn batch_of<S: Alter>(
             ValueRef::Text(kind.as_bytes()),
             ValueRef::Text(name.as_bytes()),
         ],
-        typed::batch,
+        columns::batch,
     )
 }
 
@@ -91,7 +91,7 @@ pub fn unit_of<S: Alter>(
         conn,
         "SELECT id, name, app_id, min_quorum, target_nresults, max_error_results, max_total_results, max_success_results, delay_bound, rsc_fpops_est, rsc_memory_bound, rsc_disk_bound, credit, status FROM unit WHERE id = ?1 ORDER BY id",
         &[whole(unit)],
-        typed::unit,
+        columns::unit,
     )
 }
 
@@ -110,7 +110,7 @@ pub fn host_of<S: Alter>(
         conn,
         "SELECT id, account_id, cpid, platforms, fpops, memory, disk, quota, held, credit FROM host WHERE id = ?1 ORDER BY id",
         &[whole(host)],
-        typed::host,
+        columns::host,
     )
 }
 
@@ -130,7 +130,7 @@ pub fn instance_of<S: Alter>(
         conn,
         "SELECT unit_id, num, host_id, sent, deadline, lapse, outcome, output, place, queued FROM instance WHERE unit_id = ?1 AND num = ?2 ORDER BY rowid",
         &[whole(unit), whole(number)],
-        typed::instance,
+        columns::instance,
     )
 }
 
@@ -149,7 +149,7 @@ pub fn class_of<S: Alter>(
         conn,
         "SELECT version_id, class FROM version_class WHERE version_id = ?1 ORDER BY version_id",
         &[whole(version)],
-        typed::version_class,
+        columns::version_class,
     )
 }
 
@@ -168,7 +168,7 @@ pub fn mark_of<S: Alter>(
         conn,
         "SELECT unit_id, marked, class FROM unit_mark WHERE unit_id = ?1 ORDER BY unit_id",
         &[whole(unit)],
-        typed::unit_mark,
+        columns::unit_mark,
     )
 }
 

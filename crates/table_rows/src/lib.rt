@@ -2,6 +2,7 @@
 #![tactic(auto)]
 
 pub mod alike;
+pub mod columns;
 pub mod connection;
 pub mod definitions;
 pub mod fields;
@@ -13,7 +14,7 @@ pub mod places;
 pub mod put;
 pub mod read;
 pub mod schemas;
-pub mod typed;
+pub mod statements;
 pub mod values;
 pub mod visiting;
 

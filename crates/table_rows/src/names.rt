@@ -12,9 +12,9 @@ ghost use Rattle.table_meaning.specs.Reads.{Reads};
 ghost use Rattle.table_meaning.specs.Holding.{AreKnown};
 ghost use Rattle.table_rows.specs.Counted.{counted_table, last_text as sql_last};
 
+use crate::columns;
 use crate::opening::OpenFault;
 use crate::read::{first_number, first_shown};
-use crate::typed;
 use crate::values::whole;
 use sqlite::types::ValueRef;
 use sqlite::{Alter, Connection};
@@ -36,7 +36,7 @@ pub fn account_with<S: Alter>(
         conn,
         "SELECT id, auth, name FROM account WHERE id > 0 AND auth = ?1 ORDER BY id",
         &[ValueRef::Text(authenticator.as_bytes())],
-        typed::account,
+        columns::account,
     )
 }
 

@@ -16,10 +16,10 @@ ghost use Rattle.table_meaning.specs.Formats.{columns_in};
 ghost use Rattle.table_meaning.specs.Reads.{Reads};
 ghost use Rattle.table_meaning.specs.Holding.{Contents, Hold};
 
+use crate::columns::stored_row;
 use crate::fields;
 use crate::opening::OpenFault;
 use crate::read::shown_by;
-use crate::typed::stored_row;
 use crate::values::whole;
 use sched_book::Place;
 use sqlite::types::ValueRef;

@@ -7,38 +7,15 @@ ghost use Rattle.table_meaning.specs.Formats.{HasBadRow};
 ghost use Rattle.table_meaning.specs.Holding.{AreKnown};
 ghost use Rattle.table_meaning.specs.Reads.{Reads};
 ghost use Rattle.table_meaning.specs.Rows.{rows_in};
-ghost use Rattle.table_meaning.specs.Texts.{read_text as sql_read};
 ghost use Rattle.table_rows.specs.Visits.{VisitsRows, RefusesRow};
 
+use crate::columns::stored_row;
 use crate::opening::OpenFault;
-use crate::typed::stored_row;
+use crate::statements::read_text;
 use sqlite::{Alter, Connection};
 use std::alloc::Global;
 use table_meaning::rows::StoredRow;
 use table_meaning::tables::TableName;
-
-/// The statement that reads the table whole.
-fn read_text(table: TableName) -> &'static str
-    ensures { result.now ≡ sql_read table }
-{
-    match table {
-        TableName::Setting => "SELECT name, value FROM setting ORDER BY rowid",
-        TableName::Account => "SELECT id, auth, name FROM account ORDER BY id",
-        TableName::App => "SELECT id, name, agreement FROM app ORDER BY id",
-        TableName::Version => "SELECT id, app_id, platform, num FROM version ORDER BY id",
-        TableName::Unit =>
-            "SELECT id, name, app_id, min_quorum, target_nresults, max_error_results, max_total_results, max_success_results, delay_bound, rsc_fpops_est, rsc_memory_bound, rsc_disk_bound, credit, status FROM unit ORDER BY id",
-        TableName::Host =>
-            "SELECT id, account_id, cpid, platforms, fpops, memory, disk, quota, held, credit FROM host ORDER BY id",
-        TableName::Instance =>
-            "SELECT unit_id, num, host_id, sent, deadline, lapse, outcome, output, place, queued FROM instance ORDER BY rowid",
-        TableName::Kept => "SELECT host_id, slot, seqno, text, reply FROM kept4 ORDER BY rowid",
-        TableName::Batch => "SELECT kind, name, text, answer FROM batch ORDER BY rowid",
-        TableName::VersionClass =>
-            "SELECT version_id, class FROM version_class ORDER BY version_id",
-        TableName::UnitMark => "SELECT unit_id, marked, class FROM unit_mark ORDER BY unit_id",
-    }
-}
 
 /// Who is given the rows of a table, one at a time.
 pub trait RowVisitor {

@@ -1,1 +1,2 @@
 pub mod Upgraded
+pub mod Within

@@ -1,14 +1,14 @@
--- What is left of a step of an upgrade, and of an upgrade that took two steps, or looked at the tables first.
-use Rattle.std.proofs.Common.{◌≡◌, ℕ, IsTrue, refl, sym, ap, subst, ◌∙◌, inl, inr, arith}
-use Rattle.sqlite_trees.specs.Tree.{Trees}
+-- What is left of a step of an upgrade, and of an upgrade that took several steps, or looked at the tables first.
+use Rattle.std.proofs.Common.{◌≡◌, ◌⊎◌, ◌+◌, ◌-◌, ◌≤◌, ◌<◌, ℕ, suc, false, IsTrue, refl, sym, subst, ◌∙◌, inl, inr, arith}
 use Rattle.sqlite.specs.Effect.{Database}
 use Rattle.sqlite.specs.State.{State, HasCleanDisk, Survives}
-use Rattle.sqlite.proofs.StateLemmas.{survives_then}
-use Rattle.table_meaning.specs.Schema.{schema_at}
-use Rattle.table_meaning.specs.Schemas.{IsEarlier}
+use Rattle.sqlite.proofs.StateLemmas.{survives_then, survives_weaker}
+use Rattle.table_meaning.specs.Schema.{newest, schema_at}
+use Rattle.table_meaning.specs.Schemas.{IsSchema, IsEarlier}
 use Rattle.table_meaning.specs.Reads.{Reads}
-use Rattle.table_meaning.specs.Upgrades.{MakesSecond, MakesNext, Upgrades, IsHalfway, IsLeftBehind, StaysOrHalfway}
-use Rattle.table_meaning.proofs.Upgrading.{upgraded_first, upgraded_second}
+use Rattle.table_meaning.specs.Upgrades.{MakesNext, Goes, IsLeftFrom, IsLeftBehind, StopsWithin, StaysOrGoes}
+use Rattle.table_meaning.proofs.StepLemmas.{survives_itself}
+use Rattle.table_upgrades.specs.Frames.{IsCommitted, OutsideTransaction}
 
 -- ---- one step
 
@@ -20,72 +20,99 @@ step_stopped n old mid new made one two = survives_then old mid new _ _ _ (λ _ 
     let early : HasCleanDisk mid = omega (arith, two.clean) in
     ((made early).0, mid.now, (made early).1, is)) one two
 
--- ---- two steps
+-- ---- several steps
 
-module _ (old mid new : State) (made : HasCleanDisk mid → MakesNext 1 old.now mid.committed) (rests : HasCleanDisk mid → mid.now ≡ mid.committed) (clean : HasCleanDisk mid) where
-  -- the first of them
-  second_stands : MakesSecond old.now mid.now
-  second_stands = subst (MakesSecond old.now) (sym (rests clean)) ((made clean).second refl)
+-- Tables of a schema have become those of another one, each step committed.
+pub record HasGone (n next : ℕ) (old now : State) : Type 0 where
+  pub from : n ≤ next
+  pub within : next ≤ newest
+  pub survives : Survives old now (λ trees. IsTrue old.is_open × (db : Database) × IsLeftFrom n old.now db × (trees ≡ db.trees))
+  pub outside : OutsideTransaction old now
+  pub goes : HasCleanDisk now → Goes n (next - n) old.now now.now
+  pub first : next ≡ n → HasCleanDisk now → now.committed ≡ old.committed
+  pub later : n < next → HasCleanDisk now → IsCommitted now
 
-  pub both_made : old.now.schema ≡ schema_at 1 → (db : Database) → MakesNext 2 mid.now db → Upgrades old.now db
-  both_made is db next = upgraded_first old.now mid.now db is second_stands (next.third refl)
-
-  -- the second is refused
-  pub halfway : old.now.schema ≡ schema_at 1 → (new.now ≡ mid.now) × (new.committed ≡ mid.committed) → StaysOrHalfway old new
-  halfway is same = inr (record { was = is; makes = subst (MakesSecond old.now) (sym same.1) ((made clean).second refl) }, same.0 ∙ rests clean ∙ sym same.1)
-
-module _ (old mid new : State) (made : HasCleanDisk mid → MakesNext 1 old.now mid.committed) (rests : HasCleanDisk mid → mid.now ≡ mid.committed) (was_open : HasCleanDisk mid → IsTrue mid.is_open → IsTrue old.is_open)
-    (one : Survives old mid (λ trees. IsTrue old.is_open × (db : Database) × MakesNext 1 old.now db × (trees ≡ db.trees))) (two : Survives mid new (λ trees. IsTrue mid.is_open × (db : Database) × MakesNext 2 mid.now db × (trees ≡ db.trees))) where
-  pub two_stopped : Survives old new (λ trees. IsTrue old.is_open × (db : Database) × (old.now.schema ≡ schema_at 1 → IsLeftBehind old.now db) × (trees ≡ db.trees))
-  two_stopped = survives_then old mid new _ _ _ (λ _ db it. (it.0, it.1, λ is. inl (record { was = is; makes = it.2.second refl }), it.3))
-      (λ clean db it.
-      let early : HasCleanDisk mid = omega (arith, two.clean) in
-      (was_open early it.0, it.1, λ is. inr (1, (omega arith, omega arith), is, both_made old mid new made rests early is it.1 it.2), it.3)) one two
-
--- what a stop may leave, said otherwise
-left_otherwise : (old new : State) (one other : Trees → Type 0) → ((trees : Trees) → one trees → other trees) → Survives old new one → Survives old new other
-left_otherwise old new one other says stop = record {
-  clean = stop.clean;
-  shield = stop.shield;
-  counts = stop.counts;
-  limit = stop.limit;
-  closes = stop.closes;
-  crash = λ clean db h. elim (stop.crash clean db h) [ inl was ↦ inl was | inr made ↦ inr (says _ made) ];
+pub gone_nowhere : (n : ℕ) → IsEarlier n → (old : State) → HasGone n n old old
+gone_nowhere n earlier old = record {
+  from = omega arith;
+  within = omega (arith, earlier.1);
+  survives = survives_weaker old old _ _ (λ _ db none. absurd none) (survives_itself old);
+  outside = record { was_open = λ clean is_open. is_open; idle = λ is. is };
+  goes = λ clean. let none : 0 ≡ n - n = omega arith in subst (λ k. Goes n k old.now old.now) none refl;
+  first = λ same clean. refl;
+  later = λ less. absurd (omega (arith, less));
 }
 
--- the first is refused
-pub first_stopped : (old new : State) → Survives old new (λ trees. IsTrue old.is_open × (db : Database) × MakesNext 1 old.now db × (trees ≡ db.trees))
-    → Survives old new (λ trees. IsTrue old.is_open × (db : Database) × (old.now.schema ≡ schema_at 1 → IsLeftBehind old.now db) × (trees ≡ db.trees))
-first_stopped old new = left_otherwise old new _ _ (λ trees made. (made.0, made.1, λ is. inl (record { was = is; makes = made.2.second refl }), made.3))
+at_or_past : (n next : ℕ) → n ≤ next → (next ≡ n) ⊎ (n < next)
+at_or_past n next le = grind (arith, le)
 
--- ---- the last step alone
+module _ (n next : ℕ) (old mid new : State) (gone : HasGone n next old mid) (less : next < newest)
+    (step : Survives mid new (λ trees. IsTrue mid.is_open × (db : Database) × MakesNext next mid.now db × (trees ≡ db.trees))) where
+  -- the next step is made
+  one_more : HasCleanDisk mid → (db : Database) → MakesNext next mid.now db → Goes n (suc (next - n)) old.now db
+  one_more clean db makes = let at : next ≡ n + (next - n) = omega (arith, gone.from) in (mid.now, gone.goes clean, subst (λ m. MakesNext m mid.now db) at makes)
 
-pub third_alone : (n : ℕ) → IsEarlier n → ¬ (n ≡ 1) → (old new : Database) → old.schema ≡ schema_at n → MakesNext n old new → Upgrades old new
-third_alone n earlier later old new is made =
-    let two : n ≡ 2 = omega (arith, earlier, later) in
-    upgraded_second old new (is ∙ ap schema_at two) (made.third two)
+  pub gone_survives : Survives old new (λ trees. IsTrue old.is_open × (db : Database) × IsLeftFrom n old.now db × (trees ≡ db.trees))
+  gone_survives = survives_then old mid new _ _ _ (λ _ db it. it)
+      (λ clean db it.
+      let early : HasCleanDisk mid = omega (arith, step.clean) in
+      (gone.outside.was_open early it.0, it.1, (next - n, omega (arith, gone.from, less), one_more early it.1 it.2), it.3)) gone.survives step
 
-pub one_stopped : (n : ℕ) → IsEarlier n → ¬ (n ≡ 1) → (old new : State) → Survives old new (λ trees. IsTrue old.is_open × (db : Database) × MakesNext n old.now db × (trees ≡ db.trees))
-    → Survives old new (λ trees. IsTrue old.is_open × (db : Database) × (old.now.schema ≡ schema_at n → IsLeftBehind old.now db) × (trees ≡ db.trees))
-one_stopped n earlier later old new = left_otherwise old new _ _ (λ trees made. (made.0, made.1, λ is. inr (n, earlier, is, third_alone n earlier later old.now made.1 is made.2), made.3))
+  pub gone_further : OutsideTransaction mid new → (HasCleanDisk new → MakesNext next mid.now new.committed) → (HasCleanDisk new → IsCommitted new) → HasGone n (next + 1) old new
+  gone_further outside makes committed = record {
+    from = omega (arith, gone.from);
+    within = omega (arith, less);
+    survives = gone_survives;
+    outside = record { was_open = λ clean is_open. gone.outside.was_open (early clean) (outside.was_open clean is_open); idle = λ is. outside.idle (gone.outside.idle is) };
+    goes = λ clean.
+        let further : suc (next - n) ≡ next + 1 - n = omega (arith, gone.from) in
+        subst (λ k. Goes n k old.now new.now) further (one_more (early clean) new.now (subst (MakesNext next mid.now) (sym (committed clean).rest) (makes clean)));
+    first = λ same. absurd (omega (arith, same, gone.from));
+    later = λ less. committed;
+  }
+    where
+      early : HasCleanDisk new → HasCleanDisk mid
+      early clean = omega (arith, step.clean)
+
+  -- the next step is refused
+  pub gone_no_further : HasCleanDisk new → (new.now ≡ mid.now) × (new.committed ≡ mid.committed) → StopsWithin n old new
+  gone_no_further clean same = elim (at_or_past n next gone.from) [
+    | inl at ↦
+        let none : next - n ≡ 0 = omega (arith, at) in
+        inl (same.0 ∙ subst (λ k. Goes n k old.now mid.now) none (gone.goes early), same.1 ∙ gone.first at early)
+    | inr past ↦
+        let rests = (gone.later past early).rest in
+        let some : next - n ≡ suc (next - n - 1) = omega (arith, past) in
+        let goes = subst (λ k. Goes n k old.now mid.now) some (gone.goes early) in
+        inr ((next - n - 1, omega (arith, past, less), subst (λ (db : Database). Goes n (suc (next - n - 1)) old.now db) (rests ∙ sym same.1) goes), same.0 ∙ rests ∙ sym same.1)
+  ]
+    where
+      early : HasCleanDisk mid
+      early = omega (arith, step.clean)
+
+-- the last step is made
+pub gone_all : (n next : ℕ) → IsEarlier n → (old now : State) → HasGone n next old now → newest ≤ next → HasCleanDisk now → Goes n (newest - n) old.now now.committed × IsCommitted now
+gone_all n next earlier old now gone past clean =
+    let last : next ≡ newest = omega (arith, past, gone.within) in
+    let committed = gone.later (omega (arith, past, earlier.1)) clean in
+    (subst (λ m. Goes n (m - n) old.now now.committed) last (subst (λ (db : Database). Goes n (next - n) old.now db) committed.rest (gone.goes clean)), committed)
 
 -- ---- the tables were looked at first
 
-module _ (n : ℕ) (old mid new : State) (is : old.now.schema ≡ schema_at n) (reads : Reads old mid) (rests : IsTrue old.is_open → old.now ≡ old.committed) where
+module _ (n : ℕ) (is_n : IsSchema n) (old mid new : State) (is : old.now.schema ≡ schema_at n) (reads : Reads old mid) (rests : IsTrue old.is_open → old.now ≡ old.committed) where
   -- what was looked at is as it was
-  pub looked_at : HasCleanDisk mid → IsTrue mid.is_open → mid.now ≡ old.now
-  looked_at clean is_open = (reads.same clean is_open (rests (reads.was_open clean is_open))).0
+  pub looked_at : HasCleanDisk mid → IsTrue mid.is_open → (mid.now ≡ old.now) × (mid.committed ≡ old.committed)
+  looked_at clean is_open = reads.same clean is_open (rests (reads.was_open clean is_open))
 
-  pub upgrade_stopped : Survives mid new (λ trees. IsTrue mid.is_open × (db : Database) × (mid.now.schema ≡ schema_at n → IsLeftBehind mid.now db) × (trees ≡ db.trees))
+  pub upgrade_stopped : Survives mid new (λ trees. IsTrue mid.is_open × (db : Database) × IsLeftFrom n mid.now db × (trees ≡ db.trees))
       → Survives old new (λ trees. IsTrue old.is_open × (db : Database) × IsLeftBehind old.now db × (trees ≡ db.trees))
   upgrade_stopped stop = survives_then old mid new _ _ _ (λ _ db none. absurd none)
       (λ clean db it.
       let early : HasCleanDisk mid = omega (arith, stop.clean) in
-      let same = looked_at early it.0 in
-      (reads.was_open early it.0, it.1, subst (λ (before : Database). IsLeftBehind before it.1) same (it.2 (ap (λ (d : Database). d.schema) same ∙ is)), it.3)) reads.survives stop
+      (reads.was_open early it.0, it.1, (n, is_n, is, subst (λ (before : Database). IsLeftFrom n before it.1) (looked_at early it.0).0 it.2), it.3)) reads.survives stop
 
   -- a refusal leaves what was looked at
-  pub refused_then : HasCleanDisk mid → IsTrue mid.is_open → StaysOrHalfway mid new → StaysOrHalfway old new
+  pub refused_then : HasCleanDisk mid → IsTrue mid.is_open → StopsWithin n mid new → StaysOrGoes old new
   refused_then clean is_open left =
-      let same = reads.same clean is_open (rests (reads.was_open clean is_open)) in
-      elim left [ inl stays ↦ inl (stays.0 ∙ same.0, stays.1 ∙ same.1) | inr half ↦ inr (subst (λ (before : Database). IsHalfway before new.committed) same.0 half.0, half.1) ]
+      let same = looked_at clean is_open in
+      elim left [ inl stays ↦ inl (stays.0 ∙ same.0, stays.1 ∙ same.1) | inr gone ↦ inr ((n, is_n, is, subst (λ (before : Database). IsLeftFrom n before new.committed) same.0 gone.0), gone.1) ]

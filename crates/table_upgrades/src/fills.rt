@@ -1,45 +1,21 @@
-//! What a schema behind another gains is filled from the tables that it had: one row at a time.
+//! What a schema gains is filled from the tables of the schema before it: one row at a time.
 
 ghost use Rattle.std.specs.Prelude.{◌≡◌, ◌+◌, ℕ, IsTrue, IfOk, IfErr, OnOk};
 ghost use Rattle.sqlite_trees.specs.declared.store.Shape.TheVariants.{Table as TableTree};
 ghost use Rattle.sqlite_trees.specs.View.{IsShaped};
 ghost use Rattle.sqlite.specs.Held.{state};
-ghost use Rattle.sqlite.specs.State.{HasCleanDisk, KeepsCommit, Survives};
+ghost use Rattle.sqlite.specs.State.{HasCleanDisk};
 ghost use Rattle.table_meaning.specs.Schema.{schema_at};
-ghost use Rattle.table_meaning.specs.Schemas.{IsEarlier};
-ghost use Rattle.table_meaning.specs.Fills.{source_of, schema_with, next_text as sql_next, fill_text as sql_fill, IsNextRow, Fills, FillsNext, FillsAll, FillsNew};
+ghost use Rattle.table_meaning.specs.Fills.{source_of, schema_with, fills_of as sql_fills, IsNextRow, Fills, FillsNext, FillsAll, FillsEach};
 ghost use Rattle.table_rows.specs.Refusing.{SparesSchema};
+ghost use Rattle.table_upgrades.specs.Frames.{WithinTransaction, StaysWithin};
 
 use sqlite::{Alter, Error, Transaction};
 use std::alloc::Global;
 use table_meaning::tables::Fill;
+use table_rows::statements::{fill_text, fills_of, next_text};
 use table_rows::values::whole;
 use table_rows::{OpenFault, fields};
-
-/// The statement that reads the next number of a row from which the fill takes one.
-fn next_text(fill: Fill) -> &'static str
-    ensures { result.now ≡ sql_next fill }
-{
-    match fill {
-        Fill::Calls => "SELECT host_id FROM kept WHERE host_id >= ?1 ORDER BY host_id LIMIT 1",
-        Fill::Classes => "SELECT id FROM version WHERE id >= ?1 ORDER BY id LIMIT 1",
-        Fill::Marks => "SELECT id FROM unit WHERE id >= ?1 ORDER BY id LIMIT 1",
-    }
-}
-
-/// The statement that puts what the fill takes from the row of a number.
-fn fill_text(fill: Fill) -> &'static str
-    ensures { result.now ≡ sql_fill fill }
-{
-    match fill {
-        Fill::Calls =>
-            "INSERT INTO kept4 (host_id, slot, seqno, text, reply) SELECT host_id, 0, seqno, text, reply FROM kept WHERE host_id = ?1 ORDER BY host_id",
-        Fill::Classes =>
-            "INSERT INTO version_class (version_id, class) SELECT id, platform FROM version WHERE id = ?1 ORDER BY id",
-        Fill::Marks =>
-            "INSERT INTO unit_mark (unit_id, marked, class) SELECT id, 0, NULL FROM unit WHERE id = ?1 ORDER BY id",
-    }
-}
 
 /// The next number, from this one on, of a row from which the fill takes one. `BadRow` where it is out of range.
 fn next_number<S: Alter>(
@@ -48,10 +24,8 @@ fn next_number<S: Alter>(
     fill: Fill,
     from: u32,
 ) -> Result<Option<u32>, OpenFault>
-    ensures same_reference { tx.new.conn.ghost_name ≡ tx.old.conn.ghost_name }
-    ensures survives { Survives (state S.Store tx.old.conn.now) (state S.Store tx.new.conn.now) (λ _. ⊥) }
-    ensures kept { HasCleanDisk (state S.Store tx.new.conn.now) → IsTrue (state S.Store tx.old.conn.now).in_transaction → KeepsCommit (state S.Store tx.old.conn.now) (state S.Store tx.new.conn.now) }
-    ensures inside { HasCleanDisk (state S.Store tx.new.conn.now) → IsTrue (state S.Store tx.old.conn.now).in_transaction → OnOk result (IsTrue (state S.Store tx.new.conn.now).in_transaction) }
+    ensures within { WithinTransaction S.Store tx.old.conn tx.new.conn }
+    ensures inside { OnOk result (StaysWithin S.Store tx.old.conn tx.new.conn) }
     ensures next { HasCleanDisk (state S.Store tx.new.conn.now) → (state S.Store tx.old.conn.now).now.schema ≡ schema_at (schema_with fill)
         → IsShaped TableTree ((state S.Store tx.old.conn.now).now.trees (source_of fill).tree)
         → IfOk result (λ next. ((state S.Store tx.new.conn.now).now ≡ (state S.Store tx.old.conn.now).now) × IsNextRow (source_of fill) (state S.Store tx.old.conn.now).now.trees from next) }
@@ -69,10 +43,8 @@ fn next_number<S: Alter>(
 
 /// Puts what the fill takes from the row of this number, if there is one.
 fn fill_one<S: Alter>(tx: &mut Transaction<'_, S>, fill: Fill, number: u32) -> Result<(), Error>
-    ensures same_reference { tx.new.conn.ghost_name ≡ tx.old.conn.ghost_name }
-    ensures survives { Survives (state S.Store tx.old.conn.now) (state S.Store tx.new.conn.now) (λ _. ⊥) }
-    ensures kept { HasCleanDisk (state S.Store tx.new.conn.now) → KeepsCommit (state S.Store tx.old.conn.now) (state S.Store tx.new.conn.now) }
-    ensures inside { HasCleanDisk (state S.Store tx.new.conn.now) → IsTrue (state S.Store tx.old.conn.now).in_transaction → OnOk result (IsTrue (state S.Store tx.new.conn.now).in_transaction) }
+    ensures within { WithinTransaction S.Store tx.old.conn tx.new.conn }
+    ensures inside { OnOk result (StaysWithin S.Store tx.old.conn tx.new.conn) }
     ensures fills { HasCleanDisk (state S.Store tx.new.conn.now) → IsTrue (state S.Store tx.old.conn.now).in_transaction
         → OnOk result (Fills fill number (number + 1) (state S.Store tx.old.conn.now).now (state S.Store tx.new.conn.now).now) }
 {
@@ -87,10 +59,8 @@ fn fill_next<S: Alter>(
     fill: Fill,
     from: u32,
 ) -> Result<Option<u32>, OpenFault>
-    ensures same_reference { tx.new.conn.ghost_name ≡ tx.old.conn.ghost_name }
-    ensures survives { Survives (state S.Store tx.old.conn.now) (state S.Store tx.new.conn.now) (λ _. ⊥) }
-    ensures kept { HasCleanDisk (state S.Store tx.new.conn.now) → IsTrue (state S.Store tx.old.conn.now).in_transaction → KeepsCommit (state S.Store tx.old.conn.now) (state S.Store tx.new.conn.now) }
-    ensures inside { HasCleanDisk (state S.Store tx.new.conn.now) → IsTrue (state S.Store tx.old.conn.now).in_transaction → OnOk result (IsTrue (state S.Store tx.new.conn.now).in_transaction) }
+    ensures within { WithinTransaction S.Store tx.old.conn tx.new.conn }
+    ensures inside { OnOk result (StaysWithin S.Store tx.old.conn tx.new.conn) }
     ensures fills { HasCleanDisk (state S.Store tx.new.conn.now) → IsTrue (state S.Store tx.old.conn.now).in_transaction
         → IfOk result (λ next. FillsNext fill from next (state S.Store tx.old.conn.now).now (state S.Store tx.new.conn.now).now) }
     ensures fault { IfErr result SparesSchema }
@@ -111,10 +81,8 @@ fn fill_all<S: Alter>(
     tx: &mut Transaction<'_, S>,
     fill: Fill,
 ) -> Result<(), OpenFault>
-    ensures same_reference { tx.new.conn.ghost_name ≡ tx.old.conn.ghost_name }
-    ensures survives { Survives (state S.Store tx.old.conn.now) (state S.Store tx.new.conn.now) (λ _. ⊥) }
-    ensures kept { HasCleanDisk (state S.Store tx.new.conn.now) → IsTrue (state S.Store tx.old.conn.now).in_transaction → KeepsCommit (state S.Store tx.old.conn.now) (state S.Store tx.new.conn.now) }
-    ensures inside { HasCleanDisk (state S.Store tx.new.conn.now) → IsTrue (state S.Store tx.old.conn.now).in_transaction → OnOk result (IsTrue (state S.Store tx.new.conn.now).in_transaction) }
+    ensures within { WithinTransaction S.Store tx.old.conn tx.new.conn }
+    ensures inside { OnOk result (StaysWithin S.Store tx.old.conn tx.new.conn) }
     ensures fills { HasCleanDisk (state S.Store tx.new.conn.now) → IsTrue (state S.Store tx.old.conn.now).in_transaction
         → OnOk result (FillsAll fill 0 (state S.Store tx.old.conn.now).now (state S.Store tx.new.conn.now).now) }
     ensures fault { IfErr result SparesSchema }
@@ -129,24 +97,20 @@ fn fill_all<S: Alter>(
     Err(OpenFault::Unavailable)
 }
 
-/// Fills the tables that the schema behind this one gains.
+/// Fills the tables that the schema after this one gains.
 pub(crate) fn fill_tables<S: Alter>(
     alloc: Global,
     tx: &mut Transaction<'_, S>,
     schema: u32,
 ) -> Result<(), OpenFault>
-    requires { IsEarlier schema }
-    ensures same_reference { tx.new.conn.ghost_name ≡ tx.old.conn.ghost_name }
-    ensures survives { Survives (state S.Store tx.old.conn.now) (state S.Store tx.new.conn.now) (λ _. ⊥) }
-    ensures kept { HasCleanDisk (state S.Store tx.new.conn.now) → IsTrue (state S.Store tx.old.conn.now).in_transaction → KeepsCommit (state S.Store tx.old.conn.now) (state S.Store tx.new.conn.now) }
-    ensures inside { HasCleanDisk (state S.Store tx.new.conn.now) → IsTrue (state S.Store tx.old.conn.now).in_transaction → OnOk result (IsTrue (state S.Store tx.new.conn.now).in_transaction) }
+    ensures within { WithinTransaction S.Store tx.old.conn tx.new.conn }
+    ensures inside { OnOk result (StaysWithin S.Store tx.old.conn tx.new.conn) }
     ensures fills { HasCleanDisk (state S.Store tx.new.conn.now) → IsTrue (state S.Store tx.old.conn.now).in_transaction
-        → OnOk result (FillsNew schema (state S.Store tx.old.conn.now).now (state S.Store tx.new.conn.now).now) }
+        → OnOk result (FillsEach (sql_fills schema) (state S.Store tx.old.conn.now).now (state S.Store tx.new.conn.now).now) }
     ensures fault { IfErr result SparesSchema }
 {
-    if schema == 1 {
-        return fill_all(alloc, tx, Fill::Calls);
+    for fill in fills_of(schema) {
+        fill_all(alloc, tx, *fill)?;
     }
-    fill_all(alloc, tx, Fill::Classes)?;
-    fill_all(alloc, tx, Fill::Marks)
+    Ok(())
 }

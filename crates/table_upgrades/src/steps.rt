@@ -1,13 +1,14 @@
 //! One schema after another, each in one transaction.
 
-ghost use Rattle.std.specs.Prelude.{◌≡◌, ◌≢◌, ◌+◌, ℕ, false, Some, IsTrue, IfOk, IfErr, OnOk, OnErr};
+ghost use Rattle.std.specs.Prelude.{◌≡◌, ◌≢◌, ◌+◌, ◌-◌, ℕ, false, Some, IsTrue, IfOk, IfErr, OnOk, OnErr};
 ghost use Rattle.sqlite.specs.Held.{state};
 ghost use Rattle.sqlite.specs.State.{HasCleanDisk, KeepsCommit, Survives};
 ghost use Rattle.table_meaning.specs.Schema.{newest, schema_at, stored_schema};
 ghost use Rattle.table_meaning.specs.Schemas.{IsSchema, IsEarlier, AreKnownAt, AreEarlier, schema_said};
 ghost use Rattle.table_meaning.specs.Rows.{whole as sql_whole};
-ghost use Rattle.table_meaning.specs.Upgrades.{PutsSchema, MakesNext, Upgrades, IsLeftBehind, StaysOrHalfway};
+ghost use Rattle.table_meaning.specs.Upgrades.{PutsSchema, MakesNext, Goes, IsLeftFrom, StopsWithin, Upgrades, IsLeftBehind, StaysOrGoes};
 ghost use Rattle.table_rows.specs.Refusing.{SparesSchema};
+ghost use Rattle.table_upgrades.specs.Frames.{IsCommitted, OutsideTransaction, StaysWithin, WithinTransaction};
 
 use crate::fills::fill_tables;
 use sqlite::types::ValueRef;
@@ -15,18 +16,16 @@ use sqlite::{Alter, Connection, Error, Transaction};
 use std::alloc::Global;
 use table_meaning::tables::NEWEST_SCHEMA;
 use table_rows::definitions::define;
-use table_rows::put::PUT_SETTING;
 use table_rows::schemas::{says_schema, schema_number};
+use table_rows::statements::PUT_SETTING;
 use table_rows::values::whole;
 use table_rows::{OpenFault, test_open};
 
 /// Puts the row that says of which schema the tables are.
 fn put_schema<S: Alter>(tx: &mut Transaction<'_, S>, schema: u32) -> Result<(), Error>
     requires { IsSchema schema }
-    ensures same_reference { tx.new.conn.ghost_name ≡ tx.old.conn.ghost_name }
-    ensures survives { Survives (state S.Store tx.old.conn.now) (state S.Store tx.new.conn.now) (λ _. ⊥) }
-    ensures kept { HasCleanDisk (state S.Store tx.new.conn.now) → KeepsCommit (state S.Store tx.old.conn.now) (state S.Store tx.new.conn.now) }
-    ensures inside { HasCleanDisk (state S.Store tx.new.conn.now) → IsTrue (state S.Store tx.old.conn.now).in_transaction → OnOk result (IsTrue (state S.Store tx.new.conn.now).in_transaction) }
+    ensures within { WithinTransaction S.Store tx.old.conn tx.new.conn }
+    ensures inside { OnOk result (StaysWithin S.Store tx.old.conn tx.new.conn) }
     ensures puts { HasCleanDisk (state S.Store tx.new.conn.now) → IsTrue (state S.Store tx.old.conn.now).in_transaction
         → OnOk result (PutsSchema schema (state S.Store tx.old.conn.now).now (state S.Store tx.new.conn.now).now) }
 {
@@ -44,8 +43,7 @@ fn upgrade_tables<S: Alter>(
     schema: u32,
 ) -> Result<(), OpenFault>
     requires { IsEarlier schema }
-    ensures same_reference { tx.new.conn.ghost_name ≡ tx.old.conn.ghost_name }
-    ensures survives { Survives (state S.Store tx.old.conn.now) (state S.Store tx.new.conn.now) (λ _. ⊥) }
+    ensures within { WithinTransaction S.Store tx.old.conn tx.new.conn }
     ensures kept { HasCleanDisk (state S.Store tx.new.conn.now) → KeepsCommit (state S.Store tx.old.conn.now) (state S.Store tx.new.conn.now) }
     ensures makes { HasCleanDisk (state S.Store tx.new.conn.now) → IsTrue (state S.Store tx.old.conn.now).in_transaction
         → OnOk result (MakesNext schema (state S.Store tx.old.conn.now).now (state S.Store tx.new.conn.now).now) }
@@ -66,11 +64,9 @@ fn upgrade_step<S: Alter>(
     schema: u32,
 ) -> Result<(), OpenFault>
     requires { IsEarlier schema }
-    ensures was_open { HasCleanDisk (state S.Store conn.new) → IsTrue (state S.Store conn.new).is_open → IsTrue (state S.Store conn.old).is_open }
-    ensures open { HasCleanDisk (state S.Store conn.new) → OnOk result (IsTrue (state S.Store conn.new).is_open) }
-    ensures idle { (state S.Store conn.old).in_transaction ≡ false → (state S.Store conn.new).in_transaction ≡ false }
+    ensures outside { OutsideTransaction (state S.Store conn.old) (state S.Store conn.new) }
+    ensures committed { HasCleanDisk (state S.Store conn.new) → OnOk result (IsCommitted (state S.Store conn.new)) }
     ensures makes { HasCleanDisk (state S.Store conn.new) → OnOk result (MakesNext schema (state S.Store conn.old).now (state S.Store conn.new).committed) }
-    ensures rest { HasCleanDisk (state S.Store conn.new) → OnOk result ((state S.Store conn.new).now ≡ (state S.Store conn.new).committed) }
     ensures neither { HasCleanDisk (state S.Store conn.new) → IsTrue (state S.Store conn.new).is_open
         → OnErr result (((state S.Store conn.new).now ≡ (state S.Store conn.old).now) × ((state S.Store conn.new).committed ≡ (state S.Store conn.old).committed)) }
     ensures crash { Survives (state S.Store conn.old) (state S.Store conn.new)
@@ -85,23 +81,6 @@ fn upgrade_step<S: Alter>(
     tx.commit().map_err(OpenFault::from)
 }
 
-/// Makes tables of the first schema into those of the second, and these into those of the third.
-fn upgrade_first<S: Alter>(alloc: Global, conn: &mut Connection<S>) -> Result<(), OpenFault>
-    ensures was_open { HasCleanDisk (state S.Store conn.new) → IsTrue (state S.Store conn.new).is_open → IsTrue (state S.Store conn.old).is_open }
-    ensures open { HasCleanDisk (state S.Store conn.new) → OnOk result (IsTrue (state S.Store conn.new).is_open) }
-    ensures idle { (state S.Store conn.old).in_transaction ≡ false → (state S.Store conn.new).in_transaction ≡ false }
-    ensures upgrades { HasCleanDisk (state S.Store conn.new) → (state S.Store conn.old).now.schema ≡ schema_at 1 → OnOk result (Upgrades (state S.Store conn.old).now (state S.Store conn.new).committed) }
-    ensures rest { HasCleanDisk (state S.Store conn.new) → OnOk result ((state S.Store conn.new).now ≡ (state S.Store conn.new).committed) }
-    ensures neither { HasCleanDisk (state S.Store conn.new) → IsTrue (state S.Store conn.new).is_open → (state S.Store conn.old).now.schema ≡ schema_at 1
-        → OnErr result (StaysOrHalfway (state S.Store conn.old) (state S.Store conn.new)) }
-    ensures crash { Survives (state S.Store conn.old) (state S.Store conn.new)
-        (λ trees. IsTrue (state S.Store conn.old).is_open × (db : _) × ((state S.Store conn.old).now.schema ≡ schema_at 1 → IsLeftBehind (state S.Store conn.old).now db) × (trees ≡ db.trees)) }
-    ensures fault { IfErr result SparesSchema }
-{
-    upgrade_step(alloc, conn, 1)?;
-    upgrade_step(alloc, conn, 2)
-}
-
 /// Makes tables of the schema of this number into those of the newest, one schema after another.
 fn upgrade_from<S: Alter>(
     alloc: Global,
@@ -109,43 +88,38 @@ fn upgrade_from<S: Alter>(
     schema: u32,
 ) -> Result<(), OpenFault>
     requires { IsEarlier schema }
-    ensures was_open { HasCleanDisk (state S.Store conn.new) → IsTrue (state S.Store conn.new).is_open → IsTrue (state S.Store conn.old).is_open }
-    ensures open { HasCleanDisk (state S.Store conn.new) → OnOk result (IsTrue (state S.Store conn.new).is_open) }
-    ensures idle { (state S.Store conn.old).in_transaction ≡ false → (state S.Store conn.new).in_transaction ≡ false }
-    ensures upgrades { HasCleanDisk (state S.Store conn.new) → (state S.Store conn.old).now.schema ≡ schema_at schema → OnOk result (Upgrades (state S.Store conn.old).now (state S.Store conn.new).committed) }
-    ensures rest { HasCleanDisk (state S.Store conn.new) → OnOk result ((state S.Store conn.new).now ≡ (state S.Store conn.new).committed) }
-    ensures neither { HasCleanDisk (state S.Store conn.new) → IsTrue (state S.Store conn.new).is_open → (state S.Store conn.old).now.schema ≡ schema_at schema
-        → OnErr result (StaysOrHalfway (state S.Store conn.old) (state S.Store conn.new)) }
+    ensures outside { OutsideTransaction (state S.Store conn.old) (state S.Store conn.new) }
+    ensures committed { HasCleanDisk (state S.Store conn.new) → OnOk result (IsCommitted (state S.Store conn.new)) }
+    ensures goes { HasCleanDisk (state S.Store conn.new) → OnOk result (Goes schema (newest - schema) (state S.Store conn.old).now (state S.Store conn.new).committed) }
+    ensures neither { HasCleanDisk (state S.Store conn.new) → IsTrue (state S.Store conn.new).is_open → OnErr result (StopsWithin schema (state S.Store conn.old) (state S.Store conn.new)) }
     ensures crash { Survives (state S.Store conn.old) (state S.Store conn.new)
-        (λ trees. IsTrue (state S.Store conn.old).is_open × (db : _) × ((state S.Store conn.old).now.schema ≡ schema_at schema → IsLeftBehind (state S.Store conn.old).now db) × (trees ≡ db.trees)) }
+        (λ trees. IsTrue (state S.Store conn.old).is_open × (db : _) × IsLeftFrom schema (state S.Store conn.old).now db × (trees ≡ db.trees)) }
     ensures fault { IfErr result SparesSchema }
 {
-    if schema == 1 {
-        return upgrade_first(alloc, conn);
+    for next in schema..NEWEST_SCHEMA {
+        upgrade_step(alloc, conn, next)?;
     }
-    upgrade_step(alloc, conn, schema)
+    Ok(())
 }
 
 /// Makes tables of an earlier schema into those of the newest one, with what they hold, and gives the number of that: one
 /// schema after another, each of them all or not at all. Tables of the newest schema stay as they are. `NotTables` where they
-/// are those of no schema, or say that they are of another one. A refusal leaves them as they were, or, where they were of
-/// the first schema, as those of the second that it made of them. A stop at any moment leaves what a stop could leave before,
-/// or the tables of the second schema, or the upgraded ones.
+/// are those of no schema, or say that they are of another one. A refusal leaves them as they were, or as those of a later
+/// schema that were made of them. A stop at any moment leaves what a stop could leave before, or whole tables of a later
+/// schema.
 pub fn upgrade<S: Alter>(alloc: Global, conn: &mut Connection<S>) -> Result<u32, OpenFault>
-    ensures was_open { HasCleanDisk (state S.Store conn.new) → IsTrue (state S.Store conn.new).is_open → IsTrue (state S.Store conn.old).is_open }
-    ensures open { HasCleanDisk (state S.Store conn.new) → OnOk result (IsTrue (state S.Store conn.new).is_open) }
-    ensures idle { (state S.Store conn.old).in_transaction ≡ false → (state S.Store conn.new).in_transaction ≡ false }
+    ensures outside { OutsideTransaction (state S.Store conn.old) (state S.Store conn.new) }
+    ensures committed { HasCleanDisk (state S.Store conn.new) → OnOk result (IsCommitted (state S.Store conn.new)) }
     ensures number { IfOk result (λ n. n ≡ newest) }
     ensures of_schema { OnOk result ((n : ℕ) × IsSchema n × ((state S.Store conn.old).now.schema ≡ schema_at n)) }
     ensures upgrades { HasCleanDisk (state S.Store conn.new) → OnOk result (Upgrades (state S.Store conn.old).now (state S.Store conn.new).committed) }
     ensures said { HasCleanDisk (state S.Store conn.new) → OnOk result ((n : ℕ) → IsEarlier n → AreKnownAt n (state S.Store conn.old).now → schema_said (state S.Store conn.old).now.trees ≡ Some (sql_whole n)) }
     ensures newest { HasCleanDisk (state S.Store conn.new) → (state S.Store conn.old).now.schema ≡ stored_schema
         → OnOk result (((state S.Store conn.new).now ≡ (state S.Store conn.old).now) × ((state S.Store conn.new).committed ≡ (state S.Store conn.old).committed)) }
-    ensures rest { HasCleanDisk (state S.Store conn.new) → OnOk result ((state S.Store conn.new).now ≡ (state S.Store conn.new).committed) }
     ensures taken { HasCleanDisk (state S.Store conn.new) → IfErr result (λ e. e ≡ OpenFault.NotTables
         → ((state S.Store conn.old).now.schema ≢ stored_schema) × ((n : ℕ) → ¬ AreEarlier n (state S.Store conn.old).now)) }
     ensures never_old { IfErr result (λ e. (n : ℕ) → e ≢ OpenFault.OldSchema n) }
-    ensures neither { HasCleanDisk (state S.Store conn.new) → IsTrue (state S.Store conn.new).is_open → OnErr result (StaysOrHalfway (state S.Store conn.old) (state S.Store conn.new)) }
+    ensures neither { HasCleanDisk (state S.Store conn.new) → IsTrue (state S.Store conn.new).is_open → OnErr result (StaysOrGoes (state S.Store conn.old) (state S.Store conn.new)) }
     ensures crash { Survives (state S.Store conn.old) (state S.Store conn.new)
         (λ trees. IsTrue (state S.Store conn.old).is_open × (db : _) × IsLeftBehind (state S.Store conn.old).now db × (trees ≡ db.trees)) }
 {

@@ -7,7 +7,7 @@ use Rattle.table_meaning.specs.declared.rows.StoredRow.{StoredRow}
 use Rattle.table_meaning.specs.declared.rows.StoredRow.TheVariants as stored
 use Rattle.table_meaning.specs.declared.tables.TableName.TheVariants as name
 use Rattle.table_meaning.specs.Rows.{columns_of, table_of}
-use Rattle.table_meaning.proofs.ColumnsTold.{columns_told}
+use Rattle.table_meaning.proofs.EachRow.{columns_told}
 
 pub one_unit : (u v : StoredUnit) → columns_of (stored.Unit u) ≡ columns_of (stored.Unit v) → u ≡ v
 one_unit u v same = ap (unit_in u) (columns_told (stored.Unit u) (stored.Unit v) same)

@@ -14,7 +14,9 @@ pub mod ReadBack
 pub mod RowsAre
 pub mod RowsFound
 pub mod RowsHold
+pub mod SameRows
 pub mod StaysReadable
+pub mod TablesBeside
 pub mod TotalsCounted
 pub mod UnitRowsRead
 pub mod WorldReadBack

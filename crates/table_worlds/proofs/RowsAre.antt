@@ -22,7 +22,7 @@ use Rattle.table_meaning.specs.Holding.{Contents}
 use Rattle.table_meaning.specs.Listings.{is_numbered, standing}
 use Rattle.table_meaning.specs.Rows.{RowKey, tree_of, shown, rows_in, columns_of, table_at, key_columns, key_of, whole}
 use Rattle.table_meaning.specs.Worlds.{BatchText, SlotCalls, contents_of, HoldWorld}
-use Rattle.table_meaning.proofs.Keys.{key_from, key_is, number_in}
+use Rattle.table_meaning.proofs.EachRow.{key_from, key_is, number_in}
 use Rattle.table_meaning.proofs.Listings.{IsByNumber, all_listed, accounts_by_number, apps_by_number, versions_by_number, classes_by_number, units_by_number, marks_by_number, hosts_by_number}
 use Rattle.table_meaning.proofs.RowsHeld.{mapped, source}
 use Rattle.table_meaning.proofs.RowsKeyed.{all_told, shown_stands, rows_stand, all_are_read}

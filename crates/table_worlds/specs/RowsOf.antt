@@ -14,6 +14,7 @@ use Rattle.table_meaning.specs.Rows.{columns_of, rows_in}
 use Rattle.table_meaning.specs.Worlds.{setting_in, unit_row, mark_row, instance_row}
 use Rattle.table_worlds.specs.declared.matching.TableRows.{TableRows}
 use Rattle.table_worlds.specs.declared.unit_rows.UnitRows.{UnitRows}
+use Rattle.table_worlds.specs.declared.keys.NumberedTable.{NumberedTable}
 use Rattle.table_worlds.specs.declared.keys.NumberedTable.TheVariants as table
 use Rattle.table_worlds.specs.declared.keys.WorldKey.TheVariants.{Instance}
 use Rattle.table_worlds.specs.Keys.{row_in, row_beside, numbered}
@@ -95,6 +96,29 @@ pub record AreRowsBeside (w : World) (rows : TableRows) : Type 0 where
   pub versions : rows.versions ≡ filter_map (row_beside w) (numbered table.Version (length w.versions))
   pub classes : rows.classes ≡ filter_map (row_beside w) (numbered table.Class (length w.versions))
   pub hosts : rows.hosts ≡ filter_map (row_beside w) (numbered table.Host (length w.hosts))
+
+-- the rows of a table that were read, and how many of them a world has: none of workunits and their marks
+abbrev pub rows_of_table : TableRows → NumberedTable → List StoredRow
+rows_of_table rows table.Account = rows.accounts
+rows_of_table rows table.App = rows.apps
+rows_of_table rows table.Version = rows.versions
+rows_of_table rows table.Class = rows.classes
+rows_of_table rows table.Unit = []
+rows_of_table rows table.Mark = []
+rows_of_table rows table.Host = rows.hosts
+
+abbrev pub count_beside : World → NumberedTable → ℕ
+count_beside w table.Account = length w.accounts
+count_beside w table.App = length w.apps
+count_beside w table.Version = length w.versions
+count_beside w table.Class = length w.versions
+count_beside w table.Unit = 0
+count_beside w table.Mark = 0
+count_beside w table.Host = length w.hosts
+
+-- these are the rows of a table of a world
+abbrev pub IsTableBeside : World → TableRows → NumberedTable → Type 0
+IsTableBeside w rows t = rows_of_table rows t ≡ filter_map (row_beside w) (numbered t (count_beside w t))
 
 -- the rows of a workunit of a number, of its mark, and of its instances in their order, where these are the applications of the world
 abbrev pub rows_of_unit : World → ℕ → UnitBook → UnitRows

@@ -5,7 +5,6 @@ pub mod keys;
 pub mod laws;
 pub mod matching;
 mod rows;
-mod sameness;
 mod settings;
 pub mod totals;
 pub mod unit_rows;

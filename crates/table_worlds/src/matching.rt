@@ -5,13 +5,12 @@ ghost use Rattle.std.specs.Bool.{Decides};
 ghost use Rattle.std.specs.List.{cons_option};
 ghost use Rattle.sqlite_rules.specs.Lists.{Has};
 ghost use Rattle.sched_book.specs.declared.instance.UnitBook.{UnitBook as Book};
-ghost use Rattle.table_worlds.specs.Keys.{numbered, row_beside};
-ghost use Rattle.table_worlds.specs.RowsOf.{setting_rows as specified_settings, having, HaveSame, AreRowsBeside};
+ghost use Rattle.table_worlds.specs.Keys.{row_beside};
+ghost use Rattle.table_worlds.specs.RowsOf.{setting_rows as specified_settings, having, HaveSame, rows_of_table, count_beside, IsTableBeside, AreRowsBeside};
 ghost use Rattle.table_worlds.specs.Totals.{totals_of as specified_totals};
 
 use crate::keys::{NumberedTable, WorldKey, push_numbered};
 use crate::rows::row_at;
-use crate::sameness::same_row;
 use crate::settings::setting_rows;
 use crate::totals::Total;
 use sched_book::{Settings, Unavailable, World};
@@ -28,6 +27,51 @@ pub struct TableRows {
     pub versions: Listed<StoredRow>,
     pub classes: Listed<StoredRow>,
     pub hosts: Listed<StoredRow>,
+}
+
+impl TableRows {
+    /// The rows of a table; none of workunits and their marks.
+    fn rows_of(&self, table: NumberedTable) -> &[StoredRow]
+        ensures { result.now ≡ rows_of_table self.now table }
+    {
+        match table {
+            NumberedTable::Account => self.accounts.as_slice(),
+            NumberedTable::App => self.apps.as_slice(),
+            NumberedTable::Version => self.versions.as_slice(),
+            NumberedTable::Class => self.classes.as_slice(),
+            NumberedTable::Host => self.hosts.as_slice(),
+            NumberedTable::Unit | NumberedTable::Mark => &[],
+        }
+    }
+}
+
+/// The tables whose rows are named by a number, without those of workunits and their marks.
+const TABLES_BESIDE: [NumberedTable; 5] = [
+    NumberedTable::Account,
+    NumberedTable::App,
+    NumberedTable::Version,
+    NumberedTable::Class,
+    NumberedTable::Host,
+];
+
+#[tactic(auto, using(crate::proofs::SameRows::same_rows))]
+fn same_row(left: &StoredRow, right: &StoredRow) -> bool
+    ensures { Decides result (left.now ≡ right.now) }
+{
+    match (left, right) {
+        (StoredRow::Setting(left), StoredRow::Setting(right)) => left == right,
+        (StoredRow::Account(left), StoredRow::Account(right)) => left == right,
+        (StoredRow::App(left), StoredRow::App(right)) => left == right,
+        (StoredRow::Version(left), StoredRow::Version(right)) => left == right,
+        (StoredRow::Unit(left), StoredRow::Unit(right)) => left == right,
+        (StoredRow::Host(left), StoredRow::Host(right)) => left == right,
+        (StoredRow::Instance(left), StoredRow::Instance(right)) => left == right,
+        (StoredRow::Kept(left), StoredRow::Kept(right)) => left == right,
+        (StoredRow::Batch(left), StoredRow::Batch(right)) => left == right,
+        (StoredRow::VersionClass(left), StoredRow::VersionClass(right)) => left == right,
+        (StoredRow::UnitMark(left), StoredRow::UnitMark(right)) => left == right,
+        _ => false,
+    }
 }
 
 /// Whether the row is among these.
@@ -96,21 +140,51 @@ fn are_rows_at(
     Ok(left.is_empty())
 }
 
-/// Whether these are the rows of a table whose rows are so many.
-fn are_table_rows(
+/// How many rows of a table a world has, whatever its workunits are; none of workunits and their marks.
+fn count_of(world: &World, table: NumberedTable) -> usize
+    ensures { (books : List Book) → result ≡ count_beside (having world.now books) table }
+{
+    match table {
+        NumberedTable::Account => world.accounts.len(),
+        NumberedTable::App => world.apps.len(),
+        NumberedTable::Version | NumberedTable::Class => world.versions.len(),
+        NumberedTable::Host => world.hosts.len(),
+        NumberedTable::Unit | NumberedTable::Mark => 0,
+    }
+}
+
+/// Whether the rows of a table are those of the world.
+fn is_table(
     alloc: Global,
     world: &World,
     totals: &[Total],
     table: NumberedTable,
-    count: usize,
-    rows: &[StoredRow],
+    rows: &TableRows,
 ) -> Result<bool, Unavailable>
-    ensures { (books : List Book) → totals.now ≡ specified_totals (having world.now books)
-        → IfOk result (λ same. Decides same (rows.now ≡ filter_map (row_beside (having world.now books)) (numbered table count))) }
+    ensures { (books : List Book) → totals.now ≡ specified_totals (having world.now books) → IfOk result (λ same. Decides same (IsTableBeside (having world.now books) rows.now table)) }
 {
     let mut keys = Listed::new(alloc);
-    push_numbered(&mut keys, table, count)?;
-    are_rows_at(alloc, world, totals, keys.as_slice(), rows)
+    push_numbered(&mut keys, table, count_of(world, table))?;
+    are_rows_at(alloc, world, totals, keys.as_slice(), rows.rows_of(table))
+}
+
+/// Whether the rows of each of these tables are those of the world.
+fn are_tables(
+    alloc: Global,
+    world: &World,
+    totals: &[Total],
+    tables: &[NumberedTable],
+    rows: &TableRows,
+) -> Result<bool, Unavailable>
+    ensures { (books : List Book) → totals.now ≡ specified_totals (having world.now books)
+        → IfOk result (λ same. Decides same ((t : NumberedTable) → Has tables.now t → IsTableBeside (having world.now books) rows.now t)) }
+{
+    for table in tables {
+        if !is_table(alloc, world, totals, *table, rows)? {
+            return Ok(false);
+        }
+    }
+    Ok(true)
 }
 
 /// Whether these are the rows of a world, whatever its workunits are, whose hosts have these totals. It is unavailable where
@@ -124,45 +198,6 @@ pub fn are_rows_beside(
     ensures { (books : List Book) → totals.now ≡ specified_totals (having world.now books) → IfOk result (λ same. Decides same (AreRowsBeside (having world.now books) rows.now)) }
 {
     let settings = are_setting_rows(alloc, &world.settings, rows.settings.as_slice())?;
-    let accounts = are_table_rows(
-        alloc,
-        world,
-        totals,
-        NumberedTable::Account,
-        world.accounts.len(),
-        rows.accounts.as_slice(),
-    )?;
-    let apps = are_table_rows(
-        alloc,
-        world,
-        totals,
-        NumberedTable::App,
-        world.apps.len(),
-        rows.apps.as_slice(),
-    )?;
-    let versions = are_table_rows(
-        alloc,
-        world,
-        totals,
-        NumberedTable::Version,
-        world.versions.len(),
-        rows.versions.as_slice(),
-    )?;
-    let classes = are_table_rows(
-        alloc,
-        world,
-        totals,
-        NumberedTable::Class,
-        world.versions.len(),
-        rows.classes.as_slice(),
-    )?;
-    let hosts = are_table_rows(
-        alloc,
-        world,
-        totals,
-        NumberedTable::Host,
-        world.hosts.len(),
-        rows.hosts.as_slice(),
-    )?;
-    Ok(settings && accounts && apps && versions && classes && hosts)
+    let tables = are_tables(alloc, world, totals, &TABLES_BESIDE, rows)?;
+    Ok(settings && tables)
 }

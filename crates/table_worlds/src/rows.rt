@@ -7,7 +7,6 @@ ghost use Rattle.sched_book.specs.Places.{status_of};
 ghost use Rattle.sched_book.specs.declared.instance.UnitBook.{UnitBook};
 ghost use Rattle.sched_book.specs.declared.rows.ClassRule.{ClassRule as Rule};
 ghost use Rattle.sched_book.specs.declared.world.World.{World};
-ghost use Rattle.table_meaning.specs.declared.rows.StoredRow.TheVariants as stored;
 ghost use Rattle.table_meaning.specs.Worlds.{agreement_limit, status_code, lapse_code, joined, app_place, is_queued, is_marked, account_row, app_row, version_row, class_row, unit_row, mark_row, host_row, instance_row};
 ghost use Rattle.table_worlds.specs.Keys.{row_in, row_beside};
 ghost use Rattle.table_worlds.specs.RowsOf.{having};
@@ -101,47 +100,47 @@ pub(crate) fn app_place(world: &World, name: &str) -> Result<u32, Unavailable>
 }
 
 /// The row of an account. It is unavailable where memory is wanting.
-pub fn account_row(id: u32, account: &Account) -> Result<StoredRow, Unavailable>
-    ensures { IfOk result (λ row. row ≡ stored.Account (account_row id account.now)) }
+pub fn account_row(id: u32, account: &Account) -> Result<StoredAccount, Unavailable>
+    ensures { IfOk result (λ row. row ≡ account_row id account.now) }
 {
-    Ok(StoredRow::Account(StoredAccount {
+    Ok(StoredAccount {
         id,
         auth: account.authenticator.clone()?,
         name: account.name.clone()?,
-    }))
+    })
 }
 
 /// The row of an application. It is unavailable where memory is wanting.
-pub fn app_row(id: u32, app: &App) -> Result<StoredRow, Unavailable>
-    ensures { IfOk result (λ row. row ≡ stored.App (app_row id app.now)) }
+pub fn app_row(id: u32, app: &App) -> Result<StoredApp, Unavailable>
+    ensures { IfOk result (λ row. row ≡ app_row id app.now) }
 {
-    Ok(StoredRow::App(StoredApp {
+    Ok(StoredApp {
         id,
         name: app.name.clone()?,
         agreement: agreement_limit(app.agreement),
-    }))
+    })
 }
 
 /// The row of a version in each world where its application is at this place. It is unavailable where memory is wanting.
-pub fn version_row(id: u32, app: u32, version: &Version) -> Result<StoredRow, Unavailable>
-    ensures { IfOk result (λ row. (w : World) → app ≡ app_place w version.now.app → row ≡ stored.Version (version_row w id version.now)) }
+pub fn version_row(id: u32, app: u32, version: &Version) -> Result<StoredVersion, Unavailable>
+    ensures { IfOk result (λ row. (w : World) → app ≡ app_place w version.now.app → row ≡ version_row w id version.now) }
 {
-    Ok(StoredRow::Version(StoredVersion {
+    Ok(StoredVersion {
         id,
         app_id: app,
         platform: version.platform.clone()?,
         num: version.version_num,
-    }))
+    })
 }
 
 /// The row of a version's class. It is unavailable where memory is wanting.
-pub fn class_row(id: u32, version: &Version) -> Result<StoredRow, Unavailable>
-    ensures { IfOk result (λ row. row ≡ stored.VersionClass (class_row id version.now)) }
+pub fn class_row(id: u32, version: &Version) -> Result<StoredVersionClass, Unavailable>
+    ensures { IfOk result (λ row. row ≡ class_row id version.now) }
 {
-    Ok(StoredRow::VersionClass(StoredVersionClass {
+    Ok(StoredVersionClass {
         version_id: id,
         class: version.class.clone()?,
-    }))
+    })
 }
 
 fn is_marked(rule: &ClassRule) -> bool
@@ -164,14 +163,14 @@ fn class_of(rule: &ClassRule) -> Result<Option<Text>, Memory>
 }
 
 /// The row of the mark of each workunit of this rule. It is unavailable where memory is wanting.
-pub fn mark_row(id: u32, rule: &ClassRule) -> Result<StoredRow, Unavailable>
-    ensures { IfOk result (λ row. (b : UnitBook) → b.unit.class_rule ≡ rule.now → row ≡ stored.UnitMark (mark_row id b)) }
+pub fn mark_row(id: u32, rule: &ClassRule) -> Result<StoredUnitMark, Unavailable>
+    ensures { IfOk result (λ row. (b : UnitBook) → b.unit.class_rule ≡ rule.now → row ≡ mark_row id b) }
 {
-    Ok(StoredRow::UnitMark(StoredUnitMark {
+    Ok(StoredUnitMark {
         unit_id: id,
         marked: is_marked(rule),
         class: class_of(rule)?,
-    }))
+    })
 }
 
 /// Where a workunit of the world stands; one with more instances than it may have is not told.
@@ -191,11 +190,11 @@ pub fn unit_row(
     app: u32,
     unit: &Workunit,
     status: Status,
-) -> Result<StoredRow, Unavailable>
+) -> Result<StoredUnit, Unavailable>
     ensures { IfOk result (λ row. (w : World) (b : UnitBook) (rule : Rule) → b.unit ≡ record unit.now { class_rule = rule } → app ≡ app_place w unit.now.app → status ≡ status_of w b
-        → row ≡ stored.Unit (unit_row w id b)) }
+        → row ≡ unit_row w id b) }
 {
-    Ok(StoredRow::Unit(StoredUnit {
+    Ok(StoredUnit {
         id,
         name: unit.name.clone()?,
         app_id: app,
@@ -210,7 +209,7 @@ pub fn unit_row(
         rsc_disk_bound: written(unit.rsc_disk_bound)?,
         credit: unit.credit,
         status: status_code(status),
-    }))
+    })
 }
 
 /// The row of a host, with what is counted of it. It is unavailable where memory is wanting, or a number is not one that a
@@ -220,10 +219,10 @@ pub fn host_row(
     id: u32,
     host: &HostRow,
     total: Total,
-) -> Result<StoredRow, Unavailable>
-    ensures { IfOk result (λ row. row ≡ stored.Host (host_row total.held total.credit id host.now)) }
+) -> Result<StoredHost, Unavailable>
+    ensures { IfOk result (λ row. row ≡ host_row total.held total.credit id host.now) }
 {
-    Ok(StoredRow::Host(StoredHost {
+    Ok(StoredHost {
         id,
         account_id: host.account,
         cpid: host.cpid.clone()?,
@@ -234,7 +233,7 @@ pub fn host_row(
         quota: host.quota,
         held: total.held,
         credit: written(total.credit)?,
-    }))
+    })
 }
 
 /// The moment of sending and the deadline.
@@ -272,13 +271,12 @@ pub fn instance_row(
     place: Place,
     instance: &Instance,
     status: Status,
-) -> Result<StoredRow, Unavailable>
-    ensures { IfOk result (λ row. (w : World) (b : UnitBook) → status ≡ status_of w b
-        → row ≡ stored.Instance (instance_row w b place.unit place.number instance.now)) }
+) -> Result<StoredInstance, Unavailable>
+    ensures { IfOk result (λ row. (w : World) (b : UnitBook) → status ≡ status_of w b → row ≡ instance_row w b place.unit place.number instance.now) }
 {
     let (sent, deadline) = times(instance)?;
     let (outcome, output, report_place) = report_columns(&instance.report)?;
-    Ok(StoredRow::Instance(StoredInstance {
+    Ok(StoredInstance {
         unit_id: place.unit,
         num: place.number,
         host_id: instance.owner.as_ref().map(|owner| owner.host),
@@ -289,7 +287,7 @@ pub fn instance_row(
         output,
         place: report_place,
         queued: instance.owner.is_none() && status_code(status) == 0,
-    }))
+    })
 }
 
 /// The row of a host, with what is counted of it.
@@ -306,7 +304,7 @@ fn host_at(
     };
     match nth(totals, id) {
         None => Err(Unavailable),
-        Some(total) => Ok(Some(host_row(alloc, id, host, *total)?)),
+        Some(total) => Ok(Some(StoredRow::Host(host_row(alloc, id, host, *total)?))),
     }
 }
 
@@ -323,23 +321,22 @@ pub(crate) fn row_at(
     match key {
         WorldKey::Account(id) => match nth(world.accounts.as_slice(), id) {
             None => Ok(None),
-            Some(account) => Ok(Some(account_row(id, account)?)),
+            Some(account) => Ok(Some(StoredRow::Account(account_row(id, account)?))),
         },
         WorldKey::App(id) => match nth(world.apps.as_slice(), id) {
             None => Ok(None),
-            Some(app) => Ok(Some(app_row(id, app)?)),
+            Some(app) => Ok(Some(StoredRow::App(app_row(id, app)?))),
         },
         WorldKey::Version(id) => match nth(world.versions.as_slice(), id) {
             None => Ok(None),
-            Some(version) => Ok(Some(version_row(
-                id,
-                app_place(world, version.app.as_str())?,
-                version,
-            )?)),
+            Some(version) => {
+                let app = app_place(world, version.app.as_str())?;
+                Ok(Some(StoredRow::Version(version_row(id, app, version)?)))
+            }
         },
         WorldKey::Class(id) => match nth(world.versions.as_slice(), id) {
             None => Ok(None),
-            Some(version) => Ok(Some(class_row(id, version)?)),
+            Some(version) => Ok(Some(StoredRow::VersionClass(class_row(id, version)?))),
         },
         WorldKey::Host(id) => host_at(alloc, world, totals, id),
         WorldKey::Unit(_) | WorldKey::Mark(_) | WorldKey::Instance(_) => Ok(None),

@@ -7,13 +7,11 @@ ghost use Rattle.sched_book.specs.Places.{status_of};
 ghost use Rattle.sched_book.specs.declared.instance.UnitBook.{UnitBook};
 ghost use Rattle.sched_book.specs.declared.world.World.{World};
 ghost use Rattle.table_meaning.specs.Worlds.{unit_row, mark_row, instance_row};
-ghost use Rattle.table_meaning.specs.declared.rows.StoredRow.TheVariants as stored;
 ghost use Rattle.table_worlds.specs.RowsOf.{rows_of_unit};
 
 use crate::rows::{app_place, instance_row, mark_row, status_of, unit_row};
-use crate::sameness::{same_instance, same_mark, same_unit};
 use sched_book::{ClassRule, Instance, Place, Status, Unavailable, UnitBook, World};
-use table_meaning::rows::{StoredInstance, StoredRow, StoredUnit, StoredUnitMark};
+use table_meaning::rows::{StoredInstance, StoredUnit, StoredUnitMark};
 use texts::Listed;
 
 /// The rows of a workunit, of its mark, and of its instances in their order, as they were read.
@@ -22,36 +20,6 @@ pub struct UnitRows {
     pub unit: StoredUnit,
     pub mark: StoredUnitMark,
     pub instances: Listed<StoredInstance>,
-}
-
-/// Whether the row is this one of a workunit.
-fn is_unit(own: &StoredRow, row: &StoredUnit) -> bool
-    ensures { Decides result (stored.Unit row.now ≡ own.now) }
-{
-    match own {
-        StoredRow::Unit(own) => same_unit(row, own),
-        _ => false,
-    }
-}
-
-/// Whether the row is this one of a mark.
-fn is_mark(own: &StoredRow, row: &StoredUnitMark) -> bool
-    ensures { Decides result (stored.UnitMark row.now ≡ own.now) }
-{
-    match own {
-        StoredRow::UnitMark(own) => same_mark(row, own),
-        _ => false,
-    }
-}
-
-/// Whether the row is this one of an instance.
-fn is_instance(own: &StoredRow, row: &StoredInstance) -> bool
-    ensures { Decides result (stored.Instance row.now ≡ own.now) }
-{
-    match own {
-        StoredRow::Instance(own) => same_instance(row, own),
-        _ => false,
-    }
 }
 
 /// Whether the row is that of an instance whose workunit has this status.
@@ -65,7 +33,7 @@ fn is_row_of(
         → IfOk result (λ same. Decides same (row.now ≡ instance_row w b place.unit place.number instance.now)) }
 {
     let own = instance_row(place, instance, status)?;
-    Ok(is_instance(&own, row))
+    Ok(*row == own)
 }
 
 /// Whether these are the rows of the instances of a workunit that has this status.
@@ -102,7 +70,7 @@ fn is_row_of_unit(
 {
     let app = app_place(world, book.unit.app.as_str())?;
     let own = unit_row(id, app, &book.unit, status)?;
-    Ok(is_unit(&own, row))
+    Ok(*row == own)
 }
 
 /// Whether the row is that of the mark of a workunit of this number and of this rule.
@@ -110,7 +78,7 @@ fn is_row_of_mark(id: u32, rule: &ClassRule, row: &StoredUnitMark) -> Result<boo
     ensures { (b : UnitBook) → b.unit.class_rule ≡ rule.now → IfOk result (λ same. Decides same (row.now ≡ mark_row id b)) }
 {
     let own = mark_row(id, rule)?;
-    Ok(is_mark(&own, row))
+    Ok(*row == own)
 }
 
 /// Whether these are the rows of a workunit of this number with its mark and its instances, where these are the applications of the

@@ -1,4 +1,5 @@
-use Rattle.std.proofs.Common.{rules, ◌+◌, ◌<◌, ◌≤◌, [], ◌∷◌, Some}
+use Rattle.std.proofs.Common.{rules, ap, ◌+◌, ◌<◌, ◌≤◌, [], ◌∷◌, ◌∙◌, Some}
+use Rattle.table_meaning.specs.declared.rows.StoredRow.TheVariants as stored
 use Rattle.table_worlds.specs.declared.keys.WorldKey.TheVariants.{Instance}
 use Rattle.table_changes.specs.Added.{is_instance_among}
 use Rattle.table_changes.proofs.Adding.{none_added, one_added, added_at}
@@ -13,11 +14,12 @@ pub loop-number-preserved : goal.loop-number-preserved
 loop-number-preserved c = λ w v b stands begins told.
     let unit = c.args.unit in
     let i = c.loop-number.number in
-    let row = c.in_ok-instance_row.field-0 in
+    let row = c.insert.result in
     let within : i < c.args.count = search rules in
     one_added (is_instance_below unit i) (is_instance_below unit (i + 1)) (Instance (record { unit = unit; number = i })) w v c.args.rows.now c.loop-number.rows c.push.new.self
     (Some row) (instances_next unit i)
-    (fresh_change w v b unit c.args.count i c.args.status c.fresh_instance.result row stands begins within told c.fresh_instance.ensures c.in_ok-instance_row.ensures)
+    (fresh_change w v b unit c.args.count i c.args.status c.fresh_instance.result row stands begins within told c.fresh_instance.ensures
+    (λ y d of. c.insert.ensures ∙ ap stored.Instance (c.in_ok-row.ensures y d of)))
     c.in_ok-push.ensures.ok (c.loop-number.invariant w v b stands begins told)
 
 pub returns : goal.returns

@@ -4,6 +4,8 @@ use Rattle.std.specs.Prelude.{slice_get}
 use Rattle.std.specs.Slice.{IsItemAt}
 use Rattle.std.proofs.lemmas.Option.{slice_get_past, slice_get_read}
 use Rattle.sched_book.specs.declared.instance.Instance.{Instance as Job}
+use Rattle.table_meaning.specs.declared.rows.StoredRow.TheVariants as stored
+use Rattle.table_worlds.proofs.SameRows.{instance_same}
 use Rattle.table_changes.proofs.PageRows.{instance_gone, instance_stays, instance_changed, none_is_change}
 use Rattle.table_changes.proofs.instances.changed_instance.Goals as goal
 
@@ -21,19 +23,29 @@ returns-in_default c = λ w v apps leaf old new.
     none_is_change _ _ (instance_gone w v c.args.place.unit c.args.place.number k apps leaf
     (got c.as_slice.result.now k.present c.args.place.number c.get.result c.get.ensures.lookup c.as_slice.ensures.value ∙ ap option_copied c.in_default.is))
 
-pub returns-then-same_row : goal.returns-then-same_row
-returns-then-same_row c = λ w v apps leaf old new.
+pub returns-in_default-get : goal.returns-in_default-get
+returns-in_default-get c = λ w v apps leaf old new.
     let k = c.args.leaf.now in
     let number = c.args.place.number in
-    instance_stays w v c.args.place.unit number k c.in-Some-get.before.now c.in-Some.instance.now c.args.statuses.before c.args.statuses.present apps leaf
+    instance_changed w v c.args.place.unit number k c.in-Some.instance.now c.args.statuses.present c.insert.result apps leaf
+    (got c.as_slice.result.now k.present number c.get.result c.get.ensures.lookup c.as_slice.ensures.value ∙ ap option_copied c.in-Some.is)
+    new (λ u b told. c.insert.ensures ∙ ap stored.Instance (c.in_ok-row.ensures u b told))
+
+pub returns-then-eq : goal.returns-then-eq
+returns-then-eq c = λ w v apps leaf old new.
+    let k = c.args.leaf.now in
+    let number = c.args.place.number in
+    let same : c.in_ok-row.row ≡ c.in_ok-other.other = (instance_same c.in_ok-row.row c.in_ok-other.other).0 (sym c.eq.ensures ∙ c.if-eq.true) in
+    instance_stays w v c.args.place.unit number k c.in-Some-get.before.now c.in-Some.instance.now c.args.statuses.before c.args.statuses.present
+    (stored.Instance c.in_ok-row.row) (stored.Instance c.in_ok-other.other) apps leaf
     (got c.as_slice-2.result.now k.before number c.get-2.result c.get-2.ensures.lookup c.as_slice-2.ensures.value ∙ ap option_copied c.in-Some-get.is)
     (got c.as_slice.result.now k.present number c.get.result c.get.ensures.lookup c.as_slice.ensures.value ∙ ap option_copied c.in-Some.is)
-    (c.same_row.ensures.instance c.if-same_row.true) old new (c.same_row.ensures.queued c.if-same_row.true)
+    old new (λ u b told. ap stored.Instance (c.in_ok-row.ensures u b told)) (λ u b told. ap stored.Instance (c.in_ok-other.ensures u b told)) (ap stored.Instance same)
 
 pub returns : goal.returns
 returns c = λ w v apps leaf old new.
     let k = c.args.leaf.now in
     let number = c.args.place.number in
-    instance_changed w v c.args.place.unit number k c.in-Some.instance.now c.args.statuses.present c.in_ok-instance_row.field-0 apps leaf
+    instance_changed w v c.args.place.unit number k c.in-Some.instance.now c.args.statuses.present c.update.result apps leaf
     (got c.as_slice.result.now k.present number c.get.result c.get.ensures.lookup c.as_slice.ensures.value ∙ ap option_copied c.in-Some.is)
-    new c.in_ok-instance_row.ensures
+    new (λ u b told. c.update.ensures ∙ ap stored.Instance (c.in_ok-row.ensures u b told))

@@ -1,6 +1,7 @@
-use Rattle.std.proofs.Common.{rules, subst}
+use Rattle.std.proofs.Common.{ap, subst, ◌∙◌}
 use Rattle.std.specs.Option.{option_copied}
 use Rattle.call_sheet.specs.Sheets.{IsLeafAt}
+use Rattle.table_meaning.specs.declared.rows.StoredRow.TheVariants as stored
 use Rattle.table_changes.proofs.PageRows.{mark_changed, mark_stays, mark_unread}
 use Rattle.table_changes.proofs.marks.changed_mark.Goals as goal
 
@@ -13,4 +14,5 @@ returns-then-same_rule c = λ w v at.
 
 pub returns : goal.returns
 returns c = λ w v at.
-    mark_changed w v c.args.unit c.in-Some.leaf.now c.in_ok-mark_row.field-0 (subst (λ o. IsLeafAt w v c.args.unit (option_copied o)) c.in-Some.is at) c.in_ok-mark_row.ensures
+    mark_changed w v c.args.unit c.in-Some.leaf.now c.update.result (subst (λ o. IsLeafAt w v c.args.unit (option_copied o)) c.in-Some.is at)
+    (λ b of. c.update.ensures ∙ ap stored.UnitMark (c.in_ok-row.ensures b of))

@@ -2,6 +2,7 @@ use Rattle.std.proofs.Common.{rules, ap, subst, ◌∙◌}
 use Rattle.std.specs.Option.{option_copied}
 use Rattle.call_sheet.specs.Sheets.{IsLeafAt}
 use Rattle.table_meaning.specs.Worlds.{app_place}
+use Rattle.table_meaning.specs.declared.rows.StoredRow.TheVariants as stored
 use Rattle.table_changes.proofs.PageRows.{unit_changed, unit_stays, unit_unread}
 use Rattle.table_changes.proofs.units.changed_unit.Goals as goal
 
@@ -9,10 +10,10 @@ pub returns-clause-row : goal.returns-clause-row
 returns-clause-row g c = λ honest kept after apps at.
     let w = g.D.Units.world c.args.desk.now in
     let k = c.in-Some.leaf.now in
-    unit_changed w after c.args.unit c.in_ok-app.app.place k c.present_status-status.result c.in_ok-unit_row.field-0 apps
+    unit_changed w after c.args.unit c.in_ok-app.app.place k c.present_status-status.result c.update.result apps
     (subst (λ o. IsLeafAt w after c.args.unit (option_copied o)) c.in-Some.is at)
     (c.in_ok-app.ensures.place honest kept ∙ ap (app_place w) c.as_str.ensures)
-    c.present_status-status.ensures c.in_ok-unit_row.ensures
+    c.present_status-status.ensures (λ u b rule of at told. c.update.ensures ∙ ap stored.Unit (c.in_ok-row.ensures u b rule of at told))
 
 pub returns-in_default-clause-row : goal.returns-in_default-clause-row
 returns-in_default-clause-row g c = λ honest kept after apps at.

@@ -5,7 +5,7 @@ use Rattle.sqlite.specs.State.{HasCleanDisk}
 use Rattle.table_meaning.specs.Schema.{newest}
 use Rattle.table_meaning.specs.Schemas.{AreKnownAt, AreEarlier}
 use Rattle.table_meaning.proofs.Knowing.{known_at_from}
-use Rattle.table_meaning.proofs.SchemaTables.{known_newest}
+use Rattle.table_meaning.proofs.SchemaTables.{known_newest, same_number}
 use Rattle.table_rows.proofs.Reopening.{one_refused}
 use Rattle.table_rows.proofs.opening.known.Goals as goal
 
@@ -32,3 +32,13 @@ returns-in_default-found-clause-other g c refused is clean schema =
     let clean_here = subst (λ h. HasCleanDisk (state g.S.Store h)) (sym (one_refused c.in-Some.conn refused is)) clean in
     let same = ap (λ (db : Database). db.schema) (c.in-Some.ensures.same clean_here) in
     c.in-Ok.ensures.none (search rules) newest (omega arith, omega arith) (same ∙ schema)
+
+pub returns-then-schema-lt-NEWEST_SCHEMA-clause-neither : goal.returns-then-schema-lt-NEWEST_SCHEMA-clause-neither
+returns-then-schema-lt-NEWEST_SCHEMA-clause-neither g c refused is clean n earlier =
+    let m = c.in-Some-found.schema in
+    let now = (state g.S.Store c.in-Some.conn).now in
+    let found = rw c.in-Some-found.is at c.in-Ok.ensures.found in
+    let told = c.refusal.ensures.other refused is clean in
+    let same = c.in-Some.ensures.same told.0 in
+    let one : n ≡ m = same_number n m (earlier.earlier.0, omega (arith, earlier.earlier.1)) found.0 (sym earlier.known.schema ∙ sym (ap (λ (db : Database). db.schema) same) ∙ found.1) in
+    told.1 (subst (AreEarlier m) (sym same) (subst (λ k. AreEarlier k (state g.S.Store c.args.conn).committed) one earlier))

@@ -20,8 +20,8 @@ returns-clause-both g c clean _ =
     let late : HasCleanDisk (state g.S.Store end) = search rules in
     let early : HasCleanDisk (state g.S.Store mid) = omega (arith, c.commit.ensures.survives.clean) in
     let moved = (rw begun at c.in_ok-put_each.ensures.moves) early refl in
-    on_ok_weaker c.commit.result (λ done. subst (λ h. PutsRows (state g.S.Store old).now (state g.S.Store h).committed c.args.rows.now) same
-    (subst (λ db. PutsRows (state g.S.Store old).now db c.args.rows.now) (sym done.1.committed_is) moved.puts)) (c.commit.ensures.ok late)
+    on_ok_weaker c.commit.result (λ done. subst (λ h. PutsRows (state g.S.Store old).now (state g.S.Store h).committed c.args.changes.now) same
+    (subst (λ db. PutsRows (state g.S.Store old).now db c.args.changes.now) (sym done.1.committed_is) moved.puts)) (c.commit.ensures.ok late)
 
 pub returns-clause-crash : goal.returns-clause-crash
 returns-clause-crash g c =
@@ -30,8 +30,8 @@ returns-clause-crash g c =
     let end = c.commit.new.self.0 in
     let begun = c.transaction-tx.ensures.begun in
     let same : end ≡ c.conn-2-1.given.0 = search rules in
-    let some : c.args.rows.now ≢ [] = search rules in
-    let P = λ (trees : Trees). IsTrue (state g.S.Store old).is_open × HaveUtf8 c.args.rows.now × (db : Database) × PutsRows (state g.S.Store old).now db c.args.rows.now × (trees ≡ db.trees) in
+    let some : c.args.changes.now ≢ [] = search rules in
+    let P = λ (trees : Trees). IsTrue (state g.S.Store old).is_open × HaveUtf8 c.args.changes.now × (db : Database) × PutsRows (state g.S.Store old).now db c.args.changes.now × (trees ≡ db.trees) in
     let whole = survives_then (state g.S.Store old) (state g.S.Store mid) (state g.S.Store end) _ _ P (λ _ db none. absurd none)
     (λ clean db is.
     let early : HasCleanDisk (state g.S.Store mid) = omega (arith, c.commit.ensures.survives.clean) in

@@ -1,27 +1,37 @@
-use Rattle.std.proofs.Common.{◌≡◌, IsTrue, sym, subst, rules}
-use Rattle.std.proofs.lemmas.Result.{on_ok_weaker}
-use Rattle.sqlite_trees.specs.Tree.{Trees}
-use Rattle.sqlite.specs.Effect.{Database}
+use Rattle.std.proofs.Common.{◌<◌, ◌≤◌, rules}
 use Rattle.sqlite.specs.Held.{state}
-use Rattle.sqlite.specs.State.{Survives}
-use Rattle.table_meaning.specs.Schema.{schema_at}
-use Rattle.table_meaning.specs.Upgrades.{IsLeftBehind}
-use Rattle.table_upgrades.proofs.Upgraded.{third_alone, one_stopped}
+use Rattle.table_meaning.specs.Schema.{newest}
+use Rattle.table_upgrades.proofs.Upgraded.{gone_nowhere, gone_survives, gone_further, gone_no_further, gone_all}
 use Rattle.table_upgrades.proofs.steps.upgrade_from.Goals as goal
 
-pub returns-then-schema-eq1-clause-crash : goal.returns-then-schema-eq1-clause-crash
-returns-then-schema-eq1-clause-crash g c =
+pub loop-next-init : goal.loop-next-init
+loop-next-init g c = gone_nowhere c.args.schema c.requires (state g.S.Store c.args.conn.now)
+
+pub loop-next-preserved : goal.loop-next-preserved
+loop-next-preserved g c =
     let old = state g.S.Store c.args.conn.now in
-    let new = state g.S.Store c.upgrade_first.new.conn in
-    let one : c.args.schema ≡ 1 = search rules in
-    subst (λ n. Survives old new (λ (trees : Trees). IsTrue old.is_open × (db : Database) × (old.now.schema ≡ schema_at n → IsLeftBehind old.now db) × (trees ≡ db.trees))) (sym one) c.upgrade_first.ensures.crash
+    let mid = state g.S.Store c.loop-next.conn in
+    let new = state g.S.Store c.upgrade_step.new.conn in
+    let less : c.loop-next.next < newest = search rules in
+    gone_further c.args.schema c.loop-next.next old mid new c.loop-next.invariant less c.upgrade_step.ensures.crash c.upgrade_step.ensures.outside c.in_ok-upgrade_step.ensures.makes c.in_ok-upgrade_step.ensures.committed
 
-pub returns-clause-upgrades : goal.returns-clause-upgrades
-returns-clause-upgrades g c clean is =
-    let later : ¬ (c.args.schema ≡ 1) = search rules in
-    on_ok_weaker c.upgrade_step.result (third_alone c.args.schema c.requires later (state g.S.Store c.args.conn.now).now (state g.S.Store c.upgrade_step.new.conn).committed is) (c.upgrade_step.ensures.makes clean)
+pub returns-in_err-upgrade_step-clause-neither : goal.returns-in_err-upgrade_step-clause-neither
+returns-in_err-upgrade_step-clause-neither g c clean opened =
+    let less : c.loop-next.next < newest = search rules in
+    let stops = gone_no_further c.args.schema c.loop-next.next (state g.S.Store c.args.conn.now) (state g.S.Store c.loop-next.conn) (state g.S.Store c.upgrade_step.new.conn) c.loop-next.invariant less c.upgrade_step.ensures.crash clean (c.in_err-upgrade_step.ensures.neither clean opened) in
+    search rules
 
-pub returns-clause-crash : goal.returns-clause-crash
-returns-clause-crash g c =
-    let later : ¬ (c.args.schema ≡ 1) = search rules in
-    one_stopped c.args.schema c.requires later (state g.S.Store c.args.conn.now) (state g.S.Store c.upgrade_step.new.conn) c.upgrade_step.ensures.crash
+pub returns-in_err-upgrade_step-clause-crash : goal.returns-in_err-upgrade_step-clause-crash
+returns-in_err-upgrade_step-clause-crash g c =
+    let less : c.loop-next.next < newest = search rules in
+    gone_survives c.args.schema c.loop-next.next (state g.S.Store c.args.conn.now) (state g.S.Store c.loop-next.conn) (state g.S.Store c.upgrade_step.new.conn) c.loop-next.invariant less c.upgrade_step.ensures.crash
+
+pub returns-clause-goes : goal.returns-clause-goes
+returns-clause-goes g c clean =
+    let past : newest ≤ c.loop-next.next = search rules in
+    (gone_all c.args.schema c.loop-next.next c.requires (state g.S.Store c.args.conn.now) (state g.S.Store c.loop-next.conn) c.loop-next.invariant past clean).0
+
+pub returns-clause-committed : goal.returns-clause-committed
+returns-clause-committed g c clean =
+    let past : newest ≤ c.loop-next.next = search rules in
+    (gone_all c.args.schema c.loop-next.next c.requires (state g.S.Store c.args.conn.now) (state g.S.Store c.loop-next.conn) c.loop-next.invariant past clean).1

@@ -33,5 +33,5 @@ returns-clause-crash g c =
     let same : end ≡ c.conn-2-1.given.0 = search rules in
     let stopped = step_stopped c.args.schema (state g.S.Store old) (state g.S.Store mid) (state g.S.Store end)
     (λ early. ((rw begun at c.in_ok-upgrade_tables.ensures.was_open) early, (rw begun at c.in_ok-upgrade_tables.ensures.makes) early refl))
-    (survives_begin g.S.Store old (state g.S.Store mid) _ (rw begun at c.upgrade_tables.ensures.survives)) c.commit.ensures.survives in
+    (survives_begin g.S.Store old (state g.S.Store mid) _ (rw begun at c.upgrade_tables.ensures.within.survives)) c.commit.ensures.survives in
     subst (λ h. Survives (state g.S.Store old) (state g.S.Store h) (λ (trees : Trees). IsTrue (state g.S.Store old).is_open × (db : Database) × MakesNext c.args.schema (state g.S.Store old).now db × (trees ≡ db.trees))) same stopped

@@ -1,7 +1,7 @@
 use Rattle.std.proofs.Common.{sym, ap}
 use Rattle.table_meaning.specs.Texts.{put_text as sql_put}
 use Rattle.table_meaning.specs.Rows.{table_at, key_of}
-use Rattle.table_rows.proofs.put.put_text.Goals as goal
+use Rattle.table_rows.proofs.statements.put_text.Goals as goal
 
 pub returns-in-Host : goal.returns-in-Host
 returns-in-Host c = sym (ap (λ r. sql_put (table_at (key_of r))) c.in-Host.is)

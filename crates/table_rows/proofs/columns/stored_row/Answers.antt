@@ -2,7 +2,7 @@ use Rattle.std.proofs.Common.{◌≡◌, length, ◌∙◌, rules}
 use Rattle.table_meaning.specs.Rows.{columns_of}
 use Rattle.table_meaning.specs.Formats.{kinds_of, columns_in}
 use Rattle.table_meaning.proofs.FormatLemmas.{whole_row}
-use Rattle.table_rows.proofs.typed.stored_row.Goals as goal
+use Rattle.table_rows.proofs.columns.stored_row.Goals as goal
 
 pub returns-clause-exact : goal.returns-clause-exact
 returns-clause-exact c =

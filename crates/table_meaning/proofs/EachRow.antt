@@ -1,5 +1,5 @@
--- A row is told by its columns: two with the same columns are one.
-use Rattle.std.proofs.Common.{◌≡◌, ℕ, ℤ, pos, Bool, true, false, cond, Option, Some, None, length, refl, sym, ap, ◌∙◌}
+-- What is found of each row by computing: its columns tell it, they have the types of its table, and its key is the first of them.
+use Rattle.std.proofs.Common.{◌≡◌, ℕ, ℤ, pos, Bool, true, false, cond, Option, Some, None, length, refl, sym, ap, ◌∙◌, ◌&&◌, List, [], ◌∷◌}
 use Rattle.std.specs.Prelude.{◌==◌, if◌then◌else◌}
 use Rattle.sqlite.specs.Values.{or_null}
 use Rattle.sqlite_typed.specs.Columns.{bytes_of}
@@ -14,7 +14,13 @@ use Rattle.table_meaning.specs.declared.rows.StoredUnit.{StoredUnit}
 use Rattle.table_meaning.specs.declared.rows.StoredRow.{StoredRow}
 use Rattle.table_meaning.specs.declared.rows.StoredRow.TheVariants.{Setting, Account, App, Version, Unit, Host, Instance, Kept, Batch, VersionClass, UnitMark}
 use Rattle.table_meaning.specs.Kept.{number_of}
-use Rattle.table_meaning.specs.Rows.{columns_of, setting_value, whole}
+use Rattle.table_meaning.specs.Rows.{columns_of, setting_value, whole, key_places, table_of, key_columns, key_of, RowKey, setting_key, account_key, app_key, version_key, unit_key, host_key, instance_key, kept_key, batch_key, class_key, mark_key, table_at}
+use Rattle.table_meaning.specs.Kinds.{number, integer, words, optional, either}
+use Rattle.table_meaning.specs.Layouts.{layout_of, of_key}
+use Rattle.table_meaning.specs.Formats.{kinds_of}
+use Rattle.table_meaning.proofs.Typed.{has_type, have_types}
+use Rattle.table_meaning.specs.declared.tables.TableName.{TableName}
+use Rattle.table_meaning.specs.declared.tables.TableName.TheVariants as table
 
 -- ---- what a column tells
 
@@ -144,3 +150,93 @@ is_told (UnitMark m) = λ i. UnitMark (record { unit_id = m.unit_id; marked = fl
 
 pub columns_told : (r s : StoredRow) → columns_of r ≡ columns_of s → r ≡ s
 columns_told r s same = sym (is_told r) ∙ ap row_told same ∙ is_told s
+
+-- ---- the types of its columns, and its key
+
+setting : (v : SettingValue) → has_type (either number words) (setting_value v) ≡ true
+setting (Number n) = refl
+setting (Word w) = refl
+
+or_number : (o : Option ℕ) → has_type (optional number) (or_null whole o) ≡ true
+or_number None = refl
+or_number (Some n) = refl
+
+or_integer : (o : Option ℤ) → has_type (optional integer) (or_null Int o) ≡ true
+or_integer None = refl
+or_integer (Some n) = refl
+
+or_words : (o : Option (List ℕ)) → has_type (optional words) (or_null Text o) ≡ true
+or_words None = refl
+or_words (Some t) = refl
+
+pub typed : (row : StoredRow) → have_types (kinds_of (table_of row)) (columns_of row) ≡ true
+typed (Setting s) = λ i. setting s.value i && true
+typed (Account a) = refl
+typed (App a) = λ i. or_number a.agreement i && true
+typed (Version v) = refl
+typed (Unit u) = refl
+typed (Host h) = refl
+typed (Instance x) = λ i. or_number x.host_id i && (or_integer x.sent i && (or_integer x.deadline i && (or_number x.outcome i && (or_words x.output i && (or_number x.place i && true)))))
+typed (Kept k) = refl
+typed (Batch b) = refl
+typed (VersionClass c) = refl
+typed (UnitMark m) = λ i. or_words m.class i && true
+
+pub key_first : (row : StoredRow) → of_key (layout_of (table_of row)) (columns_of row) ≡ key_columns (key_of row)
+key_first (Setting s) = refl
+key_first (Account a) = refl
+key_first (App a) = refl
+key_first (Version v) = refl
+key_first (Unit u) = refl
+key_first (Host h) = refl
+key_first (Instance x) = refl
+key_first (Kept k) = refl
+key_first (Batch b) = refl
+key_first (VersionClass c) = refl
+key_first (UnitMark m) = refl
+
+-- ---- the columns of a key: one or two, each a number or a text
+
+abbrev pub is_cell : Value → Bool
+is_cell (Int n) = true
+is_cell (Text t) = true
+is_cell _ = false
+
+abbrev pub is_key_row : Row → Bool
+is_key_row [] = false
+is_key_row (v ∷ []) = is_cell v
+is_key_row (v ∷ u ∷ []) = is_cell v && is_cell u
+is_key_row (v ∷ u ∷ w ∷ more) = false
+
+-- ---- a key from its table and columns
+
+abbrev pub number_in : Value → ℕ
+number_in (Int (pos n)) = n
+number_in _ = 0
+
+abbrev pub key_from : TableName → Row → RowKey
+key_from table.Setting cols = setting_key (bytes_of (column cols 0))
+key_from table.Account cols = account_key (number_in (column cols 0))
+key_from table.App cols = app_key (number_in (column cols 0))
+key_from table.Version cols = version_key (number_in (column cols 0))
+key_from table.Unit cols = unit_key (number_in (column cols 0))
+key_from table.Host cols = host_key (number_in (column cols 0))
+key_from table.Instance cols = instance_key (number_in (column cols 0)) (number_in (column cols 1))
+key_from table.Kept cols = kept_key (number_in (column cols 0)) (number_in (column cols 1))
+key_from table.Batch cols = batch_key (bytes_of (column cols 0)) (bytes_of (column cols 1))
+key_from table.VersionClass cols = class_key (number_in (column cols 0))
+key_from table.UnitMark cols = mark_key (number_in (column cols 0))
+
+-- what is found of each key by computing: the form of its columns, that it is told by them, and how many there are
+pub key_is : (key : RowKey) → (is_key_row (key_columns key) ≡ true) × (key_from (table_at key) (key_columns key) ≡ key) × (length (key_places (table_at key)) ≡ length (key_columns key))
+key_is (setting_key name) = (refl, refl, refl)
+key_is (account_key id) = (refl, refl, refl)
+key_is (app_key id) = (refl, refl, refl)
+key_is (version_key id) = (refl, refl, refl)
+key_is (unit_key id) = (refl, refl, refl)
+key_is (host_key id) = (refl, refl, refl)
+key_is (instance_key unit num) = (refl, refl, refl)
+key_is (kept_key host slot) = (refl, refl, refl)
+key_is (batch_key kind name) = (refl, refl, refl)
+key_is (class_key id) = (refl, refl, refl)
+key_is (mark_key id) = (refl, refl, refl)

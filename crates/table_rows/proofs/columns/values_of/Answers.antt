@@ -4,7 +4,7 @@ use Rattle.sqlite_value.specs.declared.value.Value.{Value}
 use Rattle.sqlite_value.specs.declared.value.Value.TheVariants.{Int as SqlInt}
 use Rattle.table_meaning.specs.Rows.{columns_of, whole as sql_whole}
 use Rattle.table_rows.specs.Utf8.{IsUtf8Value, HasUtf8}
-use Rattle.table_rows.proofs.values.values_of.Goals as goal
+use Rattle.table_rows.proofs.columns.values_of.Goals as goal
 
 -- where nothing that stands is a text, what may be missing is none
 none_is_text : {X : Type 0} (value : X → Value) → ((x : X) → IsUtf8Value (value x)) → (o : Option X) → IsUtf8Value (or_null value o)

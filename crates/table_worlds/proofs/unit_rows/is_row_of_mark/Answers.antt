@@ -1,0 +1,8 @@
+use Rattle.std.proofs.Common.{◌≡◌, subst}
+use Rattle.std.specs.Bool.{Decides}
+use Rattle.std.proofs.lemmas.Bool.Decides.{Decides-at}
+use Rattle.table_worlds.proofs.SameRows.{mark_same}
+use Rattle.table_worlds.proofs.unit_rows.is_row_of_mark.Goals as goal
+
+pub returns : goal.returns
+returns c = λ b told. subst (λ own. Decides c.eq.result (c.args.row.now ≡ own)) (c.in_ok-own.ensures b told) (Decides-at _ _ c.eq.ensures (mark_same c.args.row.now c.in_ok-own.own))
