@@ -36,7 +36,7 @@ def copies(tmp_path: Path) -> Path:
 
 
 @pytest.fixture
-def small_disk(tmp_path):
+def small_disk(tmp_path: Path) -> Iterator[Path]:
     """A file system with little room."""
     folder = tmp_path / "small"
     folder.mkdir()

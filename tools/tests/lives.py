@@ -1,5 +1,7 @@
 """Random lives of a project, over the plain scheduler and over its twin with tables in a file."""
 import random
+from collections.abc import Iterable
+from pathlib import Path
 
 import plain
 import plain_tables
@@ -8,7 +10,7 @@ import project as bench_project
 CALLS = 300
 
 
-def life_of(seed, calls=CALLS, made=bench_project.Project):
+def life_of(seed: int, calls: int = CALLS, made: type[bench_project.Project] = bench_project.Project) -> bench_project.Project:
     """A project of the plain scheduler that lived so many calls. Its lines are those of the life."""
     chosen = bench_project.random
     try:
@@ -23,27 +25,27 @@ def life_of(seed, calls=CALLS, made=bench_project.Project):
 class Stored:
     """The twin over tables in a file, which answers lines."""
 
-    def __init__(self, path, settings=bench_project.SETTINGS):
+    def __init__(self, path: Path, settings: dict[str, int] = bench_project.SETTINGS) -> None:
         plain_tables.create(path, {**plain.SETTINGS, **settings, "operator_key": "opkey-01"})
         self.path, self.tables = path, plain_tables.Tables(path, synchronous="OFF")
         self.service = plain_tables.Service(self.tables)
 
-    def answer(self, lines):
+    def answer(self, lines: Iterable[bytes]) -> list[str]:
         """Answers lines."""
         return [self.service.answer(line.removesuffix(b"\n")) for line in lines]
 
-    def copy(self, path):
+    def copy(self, path: Path) -> Path:
         """A copy as `copy` makes it: one file."""
         self.tables.connection.execute("VACUUM INTO ?", (str(path),))
         return path
 
-    def close(self):
+    def close(self) -> Path:
         """Closes the tables."""
         self.tables.connection.close()
         return self.path
 
 
-def stored_life(lived, path):
+def stored_life(lived: bench_project.Project, path: Path) -> Path:
     """The tables that the lines of a life leave."""
     stored = Stored(path)
     stored.answer(lived.lines)
