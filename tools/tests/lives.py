@@ -30,8 +30,8 @@ class Stored:
         self.path, self.tables = path, plain_tables.Tables(path, synchronous="OFF")
         self.service = plain_tables.Service(self.tables)
 
-    def answer(self, lines: Iterable[bytes]) -> list[str]:
-        """Answers lines."""
+    def answer(self, lines: Iterable[bytes]) -> list[tuple[int, str]]:
+        """The status and the body for each line."""
         return [self.service.answer(line.removesuffix(b"\n")) for line in lines]
 
     def copy(self, path: Path) -> Path:
