@@ -2,6 +2,7 @@
 import random
 from collections.abc import Iterable
 from pathlib import Path
+from typing import Any
 
 import plain
 import plain_tables
@@ -52,7 +53,7 @@ def stored_life(lived: bench_project.Project, path: Path) -> Path:
     return stored.close()
 
 
-def decided_by(lived):
+def decided_by(lived: bench_project.Project) -> list[tuple[Any, ...]]:
     """What the plain scheduler says of workunits that are done or have failed: for each its name, the reason
     or the canonical result, and the verdicts."""
     machine, told = lived.service.machine, []

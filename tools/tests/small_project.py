@@ -6,6 +6,7 @@ import subprocess
 import sys
 import urllib.request
 from pathlib import Path
+from typing import Any
 
 import plain_tables
 from plain_formats import KINDS
@@ -22,7 +23,7 @@ LIMITS = "2,2,3,8,6,7200,3600000000000,1000,1000,5000"
 END = 10  # seconds
 
 
-def make_tables(path, units=20, users=4, settings=SETTINGS):
+def make_tables(path: Path, units: int = 20, users: int = 4, settings: dict[str, Any] = SETTINGS) -> Path:
     """A small project in a file."""
     plain_tables.create(path, settings)
     tables = plain_tables.Tables(path, synchronous="OFF")
@@ -37,7 +38,7 @@ def make_tables(path, units=20, users=4, settings=SETTINGS):
     return path
 
 
-def request(user, seqno, host="h", **more):
+def request(user: int, seqno: int, host: str = "h", **more: Any) -> bytes:
     """The body of a call."""
     return json.dumps({
         "authenticator": f"k{user}", "rpc_seqno": seqno, "platform_name": "linux",
@@ -48,19 +49,19 @@ def request(user, seqno, host="h", **more):
 class Twin:
     """The plain twin, which serves tables as a process of its own."""
 
-    def __init__(self, path):
+    def __init__(self, path: Path) -> None:
         words = [sys.executable, str(BENCH / "plain_tables.py"), str(path), "0"]
         self.process = subprocess.Popen(words, stdout=subprocess.PIPE, text=True)
         self.port = int(self.process.stdout.readline())
 
-    def call(self, user, seqno, **more):
+    def call(self, user: int, seqno: int, **more: Any) -> Any:
         """The reply to a call."""
         url = f"http://127.0.0.1:{self.port}/scheduler"
         message = urllib.request.Request(url, request(user, seqno, **more))
         with urllib.request.urlopen(message, timeout=END) as told:
             return json.load(told)
 
-    def end(self):
+    def end(self) -> None:
         """Kills it."""
         self.process.kill()
         self.process.communicate(timeout=END)
