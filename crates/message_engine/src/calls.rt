@@ -19,7 +19,7 @@ use pasts::Answer;
 use reply_register::{Heard, Kept, classify};
 use rpc_records::{Fault, Reply, Request, reply_text, request_text};
 use sched_book::{Caller, Delta, Moment, Unavailable};
-use sched_machine::{Refused, admit, step_call};
+use sched_machine::{AdmissionError, StepError, caller_of, step_call};
 use std::alloc::Global;
 use stores::{Entry, Store, confirmed};
 use texts::{Listed, Memory, Text};
@@ -121,8 +121,8 @@ fn call_fresh<S: Store>(
 {
     match step_call(alloc, store, caller, request, now) {
         Ok((delta, reply)) => keep(alloc, store, &delta, &reply, request.rpc_seqno, text),
-        Err(Refused::HostsFull) => confirmed(store, Answer::Refusal(Fault::HostsFull)),
-        Err(Refused::BadAccount | Refused::BadHost | Refused::Unavailable) => Err(Unavailable),
+        Err(StepError::HostsFull) => confirmed(store, Answer::Refusal(Fault::HostsFull)),
+        Err(StepError::Unavailable) => Err(Unavailable),
     }
 }
 
@@ -165,10 +165,10 @@ pub fn call<S: Store>(
     ensures exact { Trusted S.Units store.old store.new (IfOk result (λ answer.
         ServesCall request now answer (S.holds store.old) (S.holds store.new))) }
 {
-    match admit(alloc, store, &request) {
+    match caller_of(alloc, store, &request) {
         Ok(caller) => call_admitted(alloc, store, &caller, &request, now),
-        Err(Refused::BadAccount) => confirmed(store, Answer::Refusal(Fault::BadAccount)),
-        Err(Refused::BadHost) => confirmed(store, Answer::Refusal(Fault::BadHost)),
-        Err(Refused::HostsFull | Refused::Unavailable) => Err(Unavailable),
+        Err(AdmissionError::BadAccount) => confirmed(store, Answer::Refusal(Fault::BadAccount)),
+        Err(AdmissionError::BadHost) => confirmed(store, Answer::Refusal(Fault::BadHost)),
+        Err(AdmissionError::Unavailable) => Err(Unavailable),
     }
 }

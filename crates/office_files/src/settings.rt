@@ -11,27 +11,14 @@ ghost use Rattle.sched_book.specs.declared.settings.Settings.{Settings};
 ghost use Rattle.office_files.specs.SettingsTexts as spec;
 
 use sched_book::Settings;
-use sched_book::limits::MOST_HOSTS;
+use sched_book::limits::{
+    LEAST_KEY_BYTES, MOST_HOSTS, MOST_IN_PROGRESS, MOST_QUOTA, MOST_REQUEST_DELAY, MOST_TO_SEND,
+};
 use std::alloc::Global;
 use std::error::Error;
 use std::fmt;
 use texts::{Memory, Text, is_word};
 use toml::Table;
-
-/// The most jobs on one day that settings may allow a host.
-const MOST_QUOTA: u32 = 1_000_000;
-
-/// The most jobs in progress that settings may allow a host.
-const MOST_IN_PROGRESS: u32 = 1_000;
-
-/// The most new jobs of one reply that settings may allow.
-const MOST_TO_SEND: u32 = 100;
-
-/// The longest time, in seconds, that settings may have a client wait.
-const MOST_REQUEST_DELAY: u32 = 2_592_000;
-
-/// The fewest bytes of the operator's word.
-const LEAST_KEY_BYTES: usize = 8;
 
 /// Why a text is not that of settings.
 #[derive(Clone, Copy, Debug, PartialEq, Eq)]

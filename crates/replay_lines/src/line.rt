@@ -4,14 +4,14 @@ ghost use Rattle.std.specs.Prelude.{◌≡◌, ◌<◌, ◌==◌, length, positi
 ghost use Rattle.std.specs.String.{string_bytes};
 ghost use Rattle.serde_json.specs.Find.{as_str};
 ghost use Rattle.serde_json.specs.View.{view};
-ghost use Rattle.rpc_records.specs.Reading.{json_of};
 ghost use Rattle.replay_lines.specs.ReplayLines as spec;
 
 use http_requests::{call_request, import_request, statement_request, tick_request};
 use instants::moment_of;
+use rpc_records::json_value;
 use sched_book::Moment;
 use serde_json::Value;
-use std::alloc::{AllocError, Global};
+use std::alloc::Global;
 use texts::{Listed, Memory, word_of};
 
 /// A line of a replay: a message of HTTP, and the moment at which it comes.
@@ -182,20 +182,9 @@ fn text_in(alloc: Global, body: Option<&[u8]>) -> Result<Option<String>, Memory>
 fn text_told(alloc: Global, body: &[u8]) -> Result<Option<String>, Memory>
     ensures { IfOk result (λ text. option_map string_bytes text ≡ spec.text_told body.now) }
 {
-    match value_of(alloc, body)? {
+    match json_value(alloc, body)? {
         None => Ok(None),
         Some(value) => Ok(text_of(value)),
-    }
-}
-
-/// The value that a JSON text is, where it is one.
-fn value_of(alloc: Global, body: &[u8]) -> Result<Option<Value>, Memory>
-    ensures { IfOk result (λ value. option_map view value ≡ json_of body.now) }
-{
-    match Value::from_slice(alloc, body) {
-        Ok(value) => Ok(Some(value)),
-        Err(error) if error.is_memory() => Err(AllocError),
-        Err(_) => Ok(None),
     }
 }
 

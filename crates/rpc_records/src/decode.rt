@@ -1,6 +1,6 @@
 //! From the body of a scheduler call to its request.
 
-ghost use Rattle.std.specs.Prelude.{[], None, IfOk, ok_or};
+ghost use Rattle.std.specs.Prelude.{◌≡◌, [], None, IfOk, ok_or, option_map};
 ghost use Rattle.std.specs.Result.{result_map_both};
 ghost use Rattle.serde_json.specs.View.{view, items_view};
 ghost use Rattle.rpc_records.specs.Values.{all_in, alternatives_in, listed_in, report_in, reports_in};
@@ -14,8 +14,8 @@ use crate::request::{HostInfo, MOST_NUMBER, Report, Request};
 use crate::text_kind::TextKind;
 use crate::values::{items_in, status_in, text_in};
 use serde_json::Value;
-use std::alloc::Global;
-use texts::{Listed, Text};
+use std::alloc::{AllocError, Global};
+use texts::{Listed, Memory, Text};
 
 /// 10^18: the most operations a second and the most bytes that a host tells.
 const MOST_AMOUNT: u64 = 1_000_000_000_000_000_000;
@@ -37,18 +37,32 @@ pub fn decode_request(alloc: Global, body: &[u8]) -> Result<Request, Fault>
     ensures exact { GivesUnless Fault.Unavailable result (meaning body.now) }
     ensures in_range { IfOk result IsInRange }
 {
-    let value = value_of(alloc, body)?;
+    let value = value_in(alloc, body)?;
     request_in(alloc, &value)
 }
 
-/// The value that a body is.
-fn value_of(alloc: Global, body: &[u8]) -> Result<Value, Fault>
+/// The JSON value that a text is (RFC 8259), or `None` if it is none.
+///
+/// # Errors
+///
+/// Out of memory.
+pub fn json_value(alloc: Global, text: &[u8]) -> Result<Option<Value>, Memory>
+    ensures { IfOk result (λ value. option_map view value ≡ json_of text.now) }
+{
+    match Value::from_slice(alloc, text) {
+        Ok(value) => Ok(Some(value)),
+        Err(error) if error.is_memory() => Err(AllocError),
+        Err(_) => Ok(None),
+    }
+}
+
+/// The value that a body is. A body that is none is refused with [`Fault::BadJson`].
+fn value_in(alloc: Global, body: &[u8]) -> Result<Value, Fault>
     ensures { GivesUnless Fault.Unavailable (result_map_both view (λ fault. fault) result) (ok_or (json_of body.now) Fault.BadJson) }
 {
-    match Value::from_slice(alloc, body) {
-        Ok(value) => Ok(value),
-        Err(error) if error.is_memory() => Err(Fault::Unavailable),
-        Err(_) => Err(Fault::BadJson),
+    match json_value(alloc, body)? {
+        Some(value) => Ok(value),
+        None => Err(Fault::BadJson),
     }
 }
 

@@ -1,8 +1,8 @@
-//! The refusals of the profile, each with its name, its number and its HTTP status.
+//! The refusals of the profile, each with its name and its number.
 
 ghost use Rattle.std.specs.Prelude.{◌≡◌};
 ghost use Rattle.rpc_records.specs.Members.{key_of, path_of};
-ghost use Rattle.rpc_records.specs.Replies.{name_of, number_of, status_of};
+ghost use Rattle.rpc_records.specs.Replies.{name_of, number_of};
 ghost use Rattle.rpc_records.specs.declared.fault.Fault.TheVariants.{Unavailable};
 
 use std::alloc::{AllocError, AllocFailed};
@@ -170,29 +170,6 @@ impl Fault {
             Fault::TableFull => 18,
             Fault::NoSuchHost => 19,
             Fault::Unavailable => 20,
-        }
-    }
-
-    /// The status code of the HTTP response that tells it.
-    pub fn status(self) -> u16
-        ensures { result ≡ status_of self }
-    {
-        match self {
-            Fault::BadHttp | Fault::BadJson | Fault::BadMember(_) | Fault::BadCsv { .. } => 400,
-            Fault::BadAccount | Fault::NotOperator => 403,
-            Fault::NoRoute | Fault::NoSuchHost => 404,
-            Fault::WrongMethod => 405,
-            Fault::LengthRequired => 411,
-            Fault::TooLarge => 413,
-            Fault::Unavailable => 503,
-            Fault::BadHost
-            | Fault::Stale(_)
-            | Fault::Reused(_)
-            | Fault::HostsFull
-            | Fault::DuplicateName(_)
-            | Fault::UnknownReference(_)
-            | Fault::BatchReused
-            | Fault::TableFull => 409,
         }
     }
 }

@@ -19,7 +19,7 @@ mod values;
 
 pub use answers::{fault_text, reply_text, unavailable_text};
 pub use canonical::request_text;
-pub use decode::decode_request;
+pub use decode::{decode_request, json_value};
 pub use fault::{Fault, Member};
 pub use reply::{EndWord, Job, Reply};
 pub use request::{HostInfo, MOST_NUMBER, Report, Request};

@@ -1,5 +1,5 @@
-//! The most that the values of a world may be, and those of what is told to it. The ranges of a world that cite these are in
-//! `specs/Limits.antt`.
+//! The limits of a world's values, of settings, and of what a call or an import brings. `specs/Limits.antt` has the ranges
+//! of a world's values and of settings.
 
 pub use rpc_records::MOST_NUMBER;
 
@@ -35,6 +35,21 @@ pub const MOST_VERSION_NUM: u32 = 1_000_000;
 
 /// How far apart two outputs may be that still agree.
 pub const MOST_DISTANCE: u64 = 1_000_000_000;
+
+/// The most jobs on one day that settings may allow a host.
+pub const MOST_QUOTA: u32 = 1_000_000;
+
+/// The most jobs in progress that settings may allow a host.
+pub const MOST_IN_PROGRESS: u32 = 1_000;
+
+/// The most new jobs of one reply that settings may allow.
+pub const MOST_TO_SEND: u32 = 100;
+
+/// The longest time, in seconds, that settings may have a client wait.
+pub const MOST_REQUEST_DELAY: u32 = 2_592_000;
+
+/// The fewest bytes of the operator's word.
+pub const LEAST_KEY_BYTES: usize = 8;
 
 /// The longest text of an import, in bytes.
 pub const MOST_IMPORT_BYTES: usize = 1_048_576;

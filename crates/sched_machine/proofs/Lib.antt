@@ -17,6 +17,7 @@ pub mod RowsFresh
 pub mod RowsNamed
 pub mod RowsImport
 pub mod RowsAdmitted
+pub mod Refusals
 pub mod StepsSound
 pub mod AlikeLists
 pub mod AlikeUnits

@@ -5,7 +5,7 @@ ghost use Rattle.sched_book.specs.Places.{account_place};
 ghost use Rattle.sched_book.specs.Step.{IsCaller};
 ghost use Rattle.sched_book.specs.Trusted.{Trusted};
 ghost use Rattle.sched_machine.specs.Admission.{names_host, TellsWrongNumber};
-ghost use Rattle.sched_machine.specs.declared.admission.Refused.TheVariants as refused;
+ghost use Rattle.sched_machine.specs.declared.admission.AdmissionError.TheVariants as error;
 
 use rpc_records::Request;
 use sched_book::{Caller, Desk, Unavailable};
@@ -13,37 +13,34 @@ use std::alloc::Global;
 use std::error::Error;
 use std::fmt;
 
-/// Why a call is refused before it is acted on.
+/// Why a call is not admitted.
 #[derive(Clone, Copy, Debug, PartialEq, Eq)]
-pub enum Refused {
-    /// No account has the authenticator.
+pub enum AdmissionError {
+    /// No account has its authenticator.
     BadAccount,
-    /// It tells a number that is not its host's.
+    /// Its host number is neither 0 nor that of the caller's host.
     BadHost,
-    /// No more hosts may stand.
-    HostsFull,
-    /// Memory, size or disk is wanting.
+    /// Out of memory, or the desk is unavailable.
     Unavailable,
 }
 
-impl fmt::Display for Refused {
+impl fmt::Display for AdmissionError {
     fn fmt<W: fmt::Write>(&self, f: &mut fmt::Formatter<W>) -> fmt::Result {
         match self {
-            Refused::BadAccount => write!(f, "no account has the authenticator"),
-            Refused::BadHost => write!(f, "the number is not that of the caller's host"),
-            Refused::HostsFull => write!(f, "no more hosts may stand"),
-            Refused::Unavailable => write!(f, "unavailable"),
+            AdmissionError::BadAccount => write!(f, "no account has the authenticator"),
+            AdmissionError::BadHost => write!(f, "the number is not that of the caller's host"),
+            AdmissionError::Unavailable => write!(f, "unavailable"),
         }
     }
 }
 
-impl Error for Refused {}
+impl Error for AdmissionError {}
 
-impl From<Unavailable> for Refused {
-    ghost from_gives = { λ _ why. why ≡ refused.Unavailable };
+impl From<Unavailable> for AdmissionError {
+    ghost from_gives = { λ _ why. why ≡ error.Unavailable };
 
-    fn from(_unavailable: Unavailable) -> Refused {
-        Refused::Unavailable
+    fn from(_unavailable: Unavailable) -> AdmissionError {
+        AdmissionError::Unavailable
     }
 }
 
@@ -56,23 +53,26 @@ fn names_host(hostid: u32, number: Option<u32>) -> bool
 
 /// Who makes a call: the account that it names, and the number of its host, where the host is known.
 #[tactic(auto, using(crate::proofs::RowsAdmitted::account_is))]
-pub fn admit<D: Desk>(alloc: Global, desk: &mut D, request: &Request) -> Result<Caller, Refused>
+pub fn caller_of<D: Desk>(
+    alloc: Global,
+    desk: &mut D,
+    request: &Request,
+) -> Result<Caller, AdmissionError>
     ensures reads { D.reads desk.old desk.new }
     ensures caller { Trusted D.Units desk.old desk.new (IfOk result (λ caller.
         IsCaller (D.world desk.old) caller request.now × (names_host request.now.hostid caller.host ≡ true))) }
-    ensures bad_account { Trusted D.Units desk.old desk.new (IsErrOf result refused.BadAccount →
+    ensures bad_account { Trusted D.Units desk.old desk.new (IsErrOf result error.BadAccount →
         account_place (D.world desk.old) request.now.authenticator ≡ None) }
-    ensures bad_host { Trusted D.Units desk.old desk.new (IsErrOf result refused.BadHost →
+    ensures bad_host { Trusted D.Units desk.old desk.new (IsErrOf result error.BadHost →
         TellsWrongNumber (D.world desk.old) request.now) }
-    ensures never_full { IsErrOf result refused.HostsFull → ⊥ }
 {
     let found = desk.account_by_key(alloc, request.authenticator.as_str())?;
     let Some(account) = found.map(|account| account.place) else {
-        return Err(Refused::BadAccount);
+        return Err(AdmissionError::BadAccount);
     };
     let host = desk.host_by_key(account, request.host.host_cpid.as_str())?;
     if !names_host(request.hostid, host) {
-        return Err(Refused::BadHost);
+        return Err(AdmissionError::BadHost);
     }
     Ok(Caller { account, host })
 }

@@ -5,9 +5,9 @@ ghost use Rattle.sched_book.specs.Sound.{Sound};
 ghost use Rattle.sched_book.specs.Step.{HasRoom, row_of_call};
 ghost use Rattle.sched_book.specs.Trusted.{Trusted};
 ghost use Rattle.sched_machine.specs.Calling.{IsAdmitted, IsEntered, LacksRoom};
-ghost use Rattle.sched_machine.specs.declared.admission.Refused.TheVariants as refused;
+ghost use Rattle.sched_machine.specs.declared.step_error.StepError.TheVariants as error;
 
-use crate::admission::Refused;
+use crate::step_error::StepError;
 use call_sheet::Draft;
 use rpc_records::Request;
 use sched_book::{Caller, HostRow, Unavailable};
@@ -69,22 +69,21 @@ fn make_host<S: Draft>(
     sheet: &mut S,
     caller: &Caller,
     request: &Request,
-) -> Result<Calling, Refused>
+) -> Result<Calling, StepError>
     ensures works { S.works sheet.old sheet.new }
     ensures entered { Trusted S.Units sheet.old sheet.new (IfOk result (λ call. S.delta sheet.old ≡ [] → Sound (S.entry sheet.old) →
         IsAdmitted (S.entry sheet.old) caller.now request.now → caller.now.host ≡ None →
         IsEntered (S.entry sheet.old) request.now call (S.world sheet.new) (S.delta sheet.new))) }
     ensures caller { IfOk result (λ call. call.caller ≡ caller.now) }
     ensures room { Trusted S.Units sheet.old sheet.new (IfOk result (λ call. HasRoom (S.entry sheet.old) caller.now)) }
-    ensures full { Trusted S.Units sheet.old sheet.new (IsErrOf result refused.HostsFull →
+    ensures full { Trusted S.Units sheet.old sheet.new (IsErrOf result error.HostsFull →
         caller.now.host ≡ None → LacksRoom (S.entry sheet.old) caller.now) }
-    ensures known { (IsErrOf result refused.BadAccount → ⊥) × (IsErrOf result refused.BadHost → ⊥) }
 {
     let quota = sheet.settings().daily_result_quota;
     let most = sheet.settings().max_hosts;
     let host = row_of_call(caller, request, quota)?;
     match sheet.add_host(&host, most)? {
-        None => Err(Refused::HostsFull),
+        None => Err(StepError::HostsFull),
         Some(number) => Ok(Calling {
             caller: *caller,
             number,
@@ -100,15 +99,14 @@ pub(crate) fn enter<S: Draft>(
     sheet: &mut S,
     caller: &Caller,
     request: &Request,
-) -> Result<Calling, Refused>
+) -> Result<Calling, StepError>
     ensures works { S.works sheet.old sheet.new }
     ensures entered { Trusted S.Units sheet.old sheet.new (IfOk result (λ call. S.delta sheet.old ≡ [] → Sound (S.entry sheet.old) →
         IsAdmitted (S.entry sheet.old) caller.now request.now →
         IsEntered (S.entry sheet.old) request.now call (S.world sheet.new) (S.delta sheet.new))) }
     ensures caller { IfOk result (λ call. call.caller ≡ caller.now) }
     ensures room { Trusted S.Units sheet.old sheet.new (IfOk result (λ call. HasRoom (S.entry sheet.old) caller.now)) }
-    ensures full { Trusted S.Units sheet.old sheet.new (IsErrOf result refused.HostsFull → LacksRoom (S.entry sheet.old) caller.now) }
-    ensures known { (IsErrOf result refused.BadAccount → ⊥) × (IsErrOf result refused.BadHost → ⊥) }
+    ensures full { Trusted S.Units sheet.old sheet.new (IsErrOf result error.HostsFull → LacksRoom (S.entry sheet.old) caller.now) }
 {
     match caller.host {
         Some(number) => Ok(renew_host(alloc, sheet, caller, number, request)?),

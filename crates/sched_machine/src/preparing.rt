@@ -11,11 +11,11 @@ ghost use Rattle.lost_jobs.specs.Holding.{HoldsNoMore};
 ghost use Rattle.sched_machine.specs.Asked.{still_holds};
 ghost use Rattle.sched_machine.specs.Calling.{IsAdmitted, LacksRoom};
 ghost use Rattle.sched_machine.specs.Prepared.{IsReady};
-ghost use Rattle.sched_machine.specs.declared.admission.Refused.TheVariants as refused;
+ghost use Rattle.sched_machine.specs.declared.step_error.StepError.TheVariants as error;
 
-use crate::admission::Refused;
 use crate::caller::{Calling, enter};
 use crate::settlement::{SettledCall, settle_call};
+use crate::step_error::StepError;
 use call_sheet::{Draft, Leaf};
 use job_choice::seconds_at;
 use lost_jobs::aborts;
@@ -139,15 +139,14 @@ pub(crate) fn prepare<S: Draft>(
     caller: &Caller,
     request: &Request,
     now: Moment,
-) -> Result<Ready, Refused>
+) -> Result<Ready, StepError>
     ensures works { S.works sheet.old sheet.new }
     ensures ready { Trusted S.Units sheet.old sheet.new (IfOk result (λ ready. S.delta sheet.old ≡ [] → Sound (S.entry sheet.old) →
         IsAdmitted (S.entry sheet.old) caller.now request.now →
         IsReady (S.entry sheet.old) request.now now ready (S.world sheet.new) (S.delta sheet.new))) }
     ensures caller { IfOk result (λ ready. ready.call.caller ≡ caller.now) }
     ensures room { Trusted S.Units sheet.old sheet.new (IfOk result (λ ready. HasRoom (S.entry sheet.old) caller.now)) }
-    ensures full { Trusted S.Units sheet.old sheet.new (IsErrOf result refused.HostsFull → LacksRoom (S.entry sheet.old) caller.now) }
-    ensures known { (IsErrOf result refused.BadAccount → ⊥) × (IsErrOf result refused.BadHost → ⊥) }
+    ensures full { Trusted S.Units sheet.old sheet.new (IsErrOf result error.HostsFull → LacksRoom (S.entry sheet.old) caller.now) }
 {
     let call = enter(alloc, sheet, caller, request)?;
     let held = sheet.held_before(alloc, call.number)?;

@@ -5,23 +5,23 @@ ghost use Rattle.sched_book.specs.Delta.{applied, Fits};
 ghost use Rattle.sched_book.specs.Imports.{AreChecked};
 ghost use Rattle.sched_book.specs.Sound.{Sound};
 ghost use Rattle.sched_book.specs.declared.world.World.{World};
-ghost use Rattle.sched_book.specs.Step.{HasRoom, RpcStep, TickStep, ImportStep, Step};
+ghost use Rattle.sched_book.specs.Step.{HasRoom, RpcStep, TickStep, ImportStep};
 ghost use Rattle.sched_book.specs.Trusted.{Trusted};
 ghost use Rattle.call_sheet.specs.Sheets.{IsPageOf};
-ghost use Rattle.sched_machine.specs.Calling.{LacksRoom, IsAdmitted, IsFull, MayBeHeard};
+ghost use Rattle.sched_machine.specs.Calling.{LacksRoom, IsAdmitted};
 ghost use Rattle.sched_machine.specs.Prepared.{IsReady};
 ghost use Rattle.sched_machine.specs.Replying.{IsGranted};
-ghost use Rattle.sched_machine.specs.declared.admission.Refused.TheVariants as refused;
+ghost use Rattle.sched_machine.specs.declared.step_error.StepError.TheVariants as error;
 
-use crate::admission::Refused;
 use crate::imports::{changes_of, row_count};
 use crate::preparing::{Ready, prepare};
 use crate::reply::{Told, conclude, reply_of};
+use crate::step_error::StepError;
 use call_sheet::{Page, Sheet};
 use job_choice::choose;
 use quorum_credit::lapse_places;
 use rpc_records::{EndWord, Reply, Request};
-use sched_book::{Answered, Call, Caller, Delta, Desk, Moment, Rows, Unavailable};
+use sched_book::{Caller, Delta, Desk, Moment, Rows, Unavailable};
 use std::alloc::Global;
 
 /// Chooses new jobs for the host of a call and gives them to it: what the reply says of them, and why there are no more. The
@@ -70,7 +70,7 @@ fn act<D: Desk>(
     caller: &Caller,
     request: &Request,
     now: Moment,
-) -> Result<Reply, Refused>
+) -> Result<Reply, StepError>
     ensures reads { D.reads desk.old desk.new }
     ensures step { Trusted D.Units desk.old desk.new (IsPageOf (D.world desk.old) page.old → IfOk result (λ reply. page.old.delta ≡ [] →
         Sound (D.world desk.old) → IsAdmitted (D.world desk.old) caller.now request.now →
@@ -78,9 +78,8 @@ fn act<D: Desk>(
     ensures fits { Trusted D.Units desk.old desk.new (IsPageOf (D.world desk.old) page.old → IfOk result (λ reply. page.old.delta ≡ [] →
         Sound (D.world desk.old) → IsAdmitted (D.world desk.old) caller.now request.now → Fits (D.world desk.old) page.new.delta)) }
     ensures room { Trusted D.Units desk.old desk.new (IsPageOf (D.world desk.old) page.old → IfOk result (λ reply. HasRoom (D.world desk.old) caller.now)) }
-    ensures full { Trusted D.Units desk.old desk.new (IsPageOf (D.world desk.old) page.old → IsErrOf result refused.HostsFull →
+    ensures full { Trusted D.Units desk.old desk.new (IsPageOf (D.world desk.old) page.old → IsErrOf result error.HostsFull →
         LacksRoom (D.world desk.old) caller.now) }
-    ensures known { (IsErrOf result refused.BadAccount → ⊥) × (IsErrOf result refused.BadHost → ⊥) }
 {
     let request_delay = page.settings.request_delay;
     let mut sheet = Sheet { desk, page };
@@ -90,20 +89,20 @@ fn act<D: Desk>(
     Ok(reply_of(ready, told, end_word, request, request_delay))
 }
 
-/// The step of a first-heard call, of the caller that [`admit`](crate::admit) names: its changes and its reply. The desk is
-/// only read. The machine knows nothing of sequence numbers, nor of calls before.
+/// The step of a first-heard call, of the caller that [`caller_of`](crate::caller_of) names: its changes and its reply. The desk
+/// is only read. The machine knows nothing of sequence numbers, nor of calls before.
 ///
 /// # Errors
 ///
-/// [`Refused::HostsFull`] where the call is of a new host and no more may stand; [`Refused::Unavailable`] where memory
-/// is wanting or the desk is unavailable. No other refusal is given here.
+/// [`StepError::HostsFull`] if the host is new and the project has as many hosts as its settings allow;
+/// [`StepError::Unavailable`] if memory ran out or the desk is unavailable.
 pub fn step_call<D: Desk>(
     alloc: Global,
     desk: &mut D,
     caller: &Caller,
     request: &Request,
     now: Moment,
-) -> Result<(Delta, Reply), Refused>
+) -> Result<(Delta, Reply), StepError>
     ensures reads { D.reads desk.old desk.new }
     ensures step { Trusted D.Units desk.old desk.new (IfOk result (λ done.
         Sound (D.world desk.old) → IsAdmitted (D.world desk.old) caller.now request.now →
@@ -113,8 +112,7 @@ pub fn step_call<D: Desk>(
     ensures fits { Trusted D.Units desk.old desk.new (IfOk result (λ done.
         Sound (D.world desk.old) → IsAdmitted (D.world desk.old) caller.now request.now → Fits (D.world desk.old) done.0)) }
     ensures room { Trusted D.Units desk.old desk.new (IfOk result (λ done. HasRoom (D.world desk.old) caller.now)) }
-    ensures full { Trusted D.Units desk.old desk.new (IsErrOf result refused.HostsFull → LacksRoom (D.world desk.old) caller.now) }
-    ensures known { (IsErrOf result refused.BadAccount → ⊥) × (IsErrOf result refused.BadHost → ⊥) }
+    ensures full { Trusted D.Units desk.old desk.new (IsErrOf result error.HostsFull → LacksRoom (D.world desk.old) caller.now) }
 {
     let mut page = Page::new(alloc, desk.settings(alloc)?);
     let reply = act(alloc, desk, &mut page, caller, request, now)?;
@@ -160,40 +158,4 @@ pub fn step_tick<D: Desk>(
     };
     let delta = lapse_places(alloc, desk, places.as_slice())?;
     Ok((delta, count))
-}
-
-/// One step of the job machine, of whichever kind: [`step_call`], [`step_import`] or [`step_tick`]. It is what the laws of a
-/// step are said of; the program calls these three.
-pub fn step<D: Desk>(
-    alloc: Global,
-    desk: &mut D,
-    call: &Call,
-    now: Moment,
-) -> Result<(Delta, Answered), Refused>
-    ensures reads { D.reads desk.old desk.new }
-    ensures step { Trusted D.Units desk.old desk.new (IfOk result (λ done.
-        Sound (D.world desk.old) → MayBeHeard (D.world desk.old) call.now →
-        Step (D.world desk.old) call.now now (applied (D.world desk.old) done.0) done.1)) }
-    ensures sound { Trusted D.Units desk.old desk.new (IfOk result (λ done.
-        Sound (D.world desk.old) → MayBeHeard (D.world desk.old) call.now → Sound (applied (D.world desk.old) done.0))) }
-    ensures fits { Trusted D.Units desk.old desk.new (IfOk result (λ done.
-        Sound (D.world desk.old) → MayBeHeard (D.world desk.old) call.now → Fits (D.world desk.old) done.0)) }
-    ensures full { Trusted D.Units desk.old desk.new (IsErrOf result refused.HostsFull → IsFull (D.world desk.old) call.now) }
-    ensures room { Trusted D.Units desk.old desk.new (IfOk result (λ done. IsFull (D.world desk.old) call.now → ⊥)) }
-    ensures known { (IsErrOf result refused.BadAccount → ⊥) × (IsErrOf result refused.BadHost → ⊥) }
-{
-    match call {
-        Call::Rpc(caller, request) => {
-            let (delta, reply) = step_call(alloc, desk, caller, request, now)?;
-            Ok((delta, Answered::Rpc(reply)))
-        }
-        Call::Import(rows) => {
-            let (delta, count) = step_import(alloc, rows)?;
-            Ok((delta, Answered::Imported(count)))
-        }
-        Call::Tick => {
-            let (delta, count) = step_tick(alloc, desk, now)?;
-            Ok((delta, Answered::Lapsed(count)))
-        }
-    }
 }

@@ -22,11 +22,12 @@ ghost use Rattle.table_decoding.specs.Decoding.{Gives, of_account, of_app, of_ve
 use crate::fault::RowFault;
 use crate::listed_rows::each;
 use crate::platforms::platforms;
+use sched_book::limits::MOST_QUOTA;
 use sched_book::{Account, Agreement, App, HostRow, Version, nth};
 use std::alloc::Global;
 use table_meaning::rows::{StoredAccount, StoredHost, StoredRow, StoredVersionClass};
 use texts::{Listed, Text, is_word};
-use world_soundness::in_limits::{MOST_QUOTA, is_account_in_limits, is_host_in_limits};
+use world_soundness::in_limits::{is_account_in_limits, is_host_in_limits};
 
 /// The number that a table writes, which is negative in no world's row.
 pub(crate) fn amount(written: i64) -> Result<u64, RowFault>

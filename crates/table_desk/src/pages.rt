@@ -4,7 +4,6 @@ ghost use Rattle.std.specs.Prelude.{◌≡◌, ◌<◌, ◌++◌, length, slice_
 ghost use Rattle.sqlite.specs.Held.{state};
 ghost use Rattle.sched_book.specs.Offers.{unsent};
 ghost use Rattle.sched_book.specs.declared.world.World.{World};
-ghost use Rattle.table_meaning.specs.Places.{page_size};
 ghost use Rattle.table_meaning.specs.Reads.{Reads};
 ghost use Rattle.table_meaning.specs.declared.tables.Page.TheVariants.{First};
 ghost use Rattle.table_desk.specs.Asked.{Asked};
@@ -18,21 +17,11 @@ use table_meaning::tables::Page;
 use table_rows::queued_from;
 use texts::Listed;
 
-/// How many places a page has at most.
-fn size(page: Page) -> usize
-    ensures { result ≡ page_size page }
-{
-    match page {
-        Page::First => 8,
-        Page::Further => 64,
-    }
-}
-
 /// Where the next page begins, if this one is full. Refused where the number of the last place is the greatest one.
 pub(crate) fn next_page(page: Page, places: &[Place]) -> Result<Option<Place>, Unavailable>
     ensures { IfOk result (λ next. next ≡ next_page page places.now) }
 {
-    match places.get(size(page) - 1) {
+    match places.get(page.size() as usize - 1) {
         None => Ok(None),
         Some(last) => match last.number.checked_add(1) {
             None => Err(Unavailable),

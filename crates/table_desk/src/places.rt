@@ -6,21 +6,22 @@ ghost use Rattle.sched_book.specs.Places.{held_by as held_in, owned_by as owned_
 ghost use Rattle.table_meaning.specs.Reads.{Reads};
 ghost use Rattle.table_desk.specs.Asked.{Asked};
 
+use sched_book::moment::DAY;
 use sched_book::{Place, Unavailable};
 use sqlite::{Alter, Connection};
 use std::alloc::Global;
 use table_rows::{places_due, places_held, places_owned, sent_between};
 use texts::Listed;
 
-/// The seconds of a day.
-const DAY: i64 = 86_400;
+/// The seconds of a day, as the columns of moments are held.
+const DAY_SECONDS: i64 = DAY as i64;
 
 /// The first moment of a day, and that of the next.
 fn bounds_of(day: u64) -> Option<(i64, i64)>
     ensures { IfSome result (λ r. (r.0 ≡ pos (day * 86400)) × (r.1 ≡ pos (day * 86400 + 86400))) }
 {
-    let from = i64::try_from(day).ok()?.checked_mul(DAY)?;
-    Some((from, from.checked_add(DAY)?))
+    let from = i64::try_from(day).ok()?.checked_mul(DAY_SECONDS)?;
+    Some((from, from.checked_add(DAY_SECONDS)?))
 }
 
 /// The places of the instances that the host holds, in order, if it holds so many at most: the more instances were sent to

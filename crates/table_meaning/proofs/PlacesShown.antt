@@ -19,17 +19,16 @@ use Rattle.sqlite_typed.proofs.TestLemmas.{at_or, then_term, last_term}
 use Rattle.sqlite.specs.Effect.{Database}
 use Rattle.sqlite.specs.State.{State, Shown}
 use Rattle.sqlite.proofs.Callers.{reads_as}
-use Rattle.table_meaning.specs.declared.tables.Page.{Page}
 use Rattle.table_meaning.specs.declared.tables.TableName.TheVariants.{Instance}
 use Rattle.table_meaning.specs.Schema.{stored_schema}
 use Rattle.table_meaning.specs.Rows.{shown, whole}
 use Rattle.table_meaning.specs.Formats.{columns_in}
 use Rattle.table_meaning.specs.Holding.{Contents, Hold}
 use Rattle.table_meaning.specs.Kept.{number_of}
-use Rattle.table_meaning.specs.Places.{place_row, AreAllPlaces, places_where, compares, is_of_host, is_running, is_held_by, waits_from, is_sent_between, is_due, by_place, newest_first, held_text, owned_text, page_size, queued_text, sent_text, due_text, running_terms, held_terms, owned_terms, queued_terms, sent_terms, due_terms}
+use Rattle.table_meaning.specs.Places.{place_row, AreAllPlaces, places_where, compares, is_of_host, is_running, is_held_by, waits_from, is_sent_between, is_due, by_place, newest_first, held_text, owned_text, queued_text, sent_text, due_text, running_terms, held_terms, owned_terms, queued_terms, sent_terms, due_terms}
 use Rattle.table_meaning.proofs.PlacesFound.{standing, standing_places}
 use Rattle.table_meaning.proofs.PlacesListed.{limited-map, shows_place, picked, listed_somehow, listed_most, listed_in_order}
-use Rattle.table_meaning.proofs.PlacesTexts.{all, first_of, place_columns, held_is_listed, owned_is_listed, queued_is_listed, sent_is_listed, due_is_listed}
+use Rattle.table_meaning.proofs.PlacesTexts.{all, place_columns, held_is_listed, owned_is_listed, queued_is_listed, sent_is_listed, due_is_listed}
 
 -- ---- places that are read of the rows that are shown
 
@@ -83,8 +82,8 @@ at_null (Blob b) = refl
 running : (params r : Row) → list_all (holds (params ∷ r ∷ [])) running_terms ≡ is_running (shown Instance r)
 running params r = then_term refl (last_term (at_null (column r 7)))
 
-queued : (p : Place) (r : Row) → list_all (holds (place_row p ∷ r ∷ [])) queued_terms ≡ waits_from p (shown Instance r)
-queued p r = then_term refl (then_term refl (last_term (at_or false _ _ refl refl)))
+queued : (p : Place) (most : ℕ) (r : Row) → list_all (holds ((whole p.unit ∷ whole p.number ∷ whole most ∷ []) ∷ r ∷ [])) queued_terms ≡ waits_from p (shown Instance r)
+queued p most r = then_term refl (then_term refl (last_term (at_or false _ _ refl refl)))
 
 sent : (host : ℕ) (from until : ℤ) (r : Row) → list_all (holds ((whole host ∷ Int from ∷ Int until ∷ []) ∷ r ∷ [])) sent_terms ≡ is_sent_between host from until (shown Instance r)
 sent host from until r = ap (λ (b : Bool). compares Eq (column r 3) (whole host) && (compares Ge (column r 4) (Int from) && b)) (last_term {x = compares Lt (column r 4) (Int until)} refl)
@@ -120,13 +119,13 @@ module _ (old new : State) (contents : Contents) (held : Hold old.now contents) 
       in_order old.now contents held places are owned_terms params (is_of_host host) tests ps rows None read
       (listed_in_order old.now contents held places are owned_terms params (is_of_host host) tests [] by_place all rows answer refl (all_places ps rows read))
 
-  pub queued_shown : (page : Page) (from : Place) (rows : List Row) → Shown (queued_text page) (place_row from) old new rows → (ps : List Place) → ArePlaces ps rows
-      → ps ≡ take (page_size page) (places_where contents (waits_from from) places)
-  queued_shown page from rows h ps read =
-      let means = queued_is_listed page in
-      let answer = (reads_as (queued_text page) (place_row from) old new stored_schema held.known.schema _ means.0 means.1 means.2 rows h).answer Null in
-      in_order old.now contents held places are queued_terms (place_row from) (waits_from from) (queued from) ps rows (Some (page_size page)) read
-      (listed_in_order old.now contents held places are queued_terms (place_row from) (waits_from from) (queued from) [] by_place (first_of (page_size page)) rows answer refl (all_places ps rows read))
+  pub queued_shown : (from : Place) (most : ℕ) (rows : List Row) → Shown queued_text (whole from.unit ∷ whole from.number ∷ whole most ∷ []) old new rows → (ps : List Place) → ArePlaces ps rows
+      → ps ≡ take most (places_where contents (waits_from from) places)
+  queued_shown from most rows h ps read =
+      let params = whole from.unit ∷ whole from.number ∷ whole most ∷ [] in
+      let answer = (reads_as queued_text params old new stored_schema held.known.schema _ queued_is_listed.0 queued_is_listed.1 queued_is_listed.2 rows h).answer Null in
+      in_order old.now contents held places are queued_terms params (waits_from from) (queued from most) ps rows (Some most) read
+      (listed_in_order old.now contents held places are queued_terms params (waits_from from) (queued from most) [] by_place (col 0 2) rows answer refl (all_places ps rows read))
 
   pub sent_shown : (host : ℕ) (from until : ℤ) (rows : List Row) → Shown sent_text (whole host ∷ Int from ∷ Int until ∷ []) old new rows → (ps : List Place) → ArePlaces ps rows
       → length ps ≡ length (places_where contents (is_sent_between host from until) places)

@@ -1,5 +1,5 @@
 -- What the statements that list instances by place mean.
-use Rattle.std.proofs.Common.{◌≡◌, ℕ, pos, negsuc, false, List, [], ◌∷◌, codes, refl}
+use Rattle.std.proofs.Common.{◌≡◌, ℕ, negsuc, false, List, [], ◌∷◌, codes, refl}
 use Rattle.sqlite_value.specs.declared.value.Value.TheVariants.{Int}
 use Rattle.sqlite_value.specs.declared.keys.Collation.TheVariants.{Binary}
 use Rattle.sqlite_value.specs.declared.keys.Key.{Key}
@@ -9,20 +9,15 @@ use Rattle.sqlite_schema.specs.declared.command.Command.TheVariants.{Select}
 use Rattle.sqlite_tied.specs.Compute.{everything}
 use Rattle.sqlite.specs.Listing.{understood, reads_listing}
 use Rattle.sqlite.proofs.Callers.{IsPlain, command_of}
-use Rattle.table_meaning.specs.declared.tables.Page.{Page}
-use Rattle.table_meaning.specs.declared.tables.Page.TheVariants.{First, Further}
 use Rattle.table_meaning.specs.declared.tables.TableName.TheVariants.{Instance}
 use Rattle.table_meaning.specs.Schema.{stored_schema}
 use Rattle.table_meaning.specs.Rows.{places_of}
-use Rattle.table_meaning.specs.Places.{by_place, newest_first, instance_query, within_text, held_text, owned_text, page_size, queued_text, sent_text, due_text, within_terms, held_terms, owned_terms, queued_terms, sent_terms, due_terms}
+use Rattle.table_meaning.specs.Places.{by_place, newest_first, instance_query, within_text, held_text, owned_text, queued_text, sent_text, due_text, within_terms, held_terms, owned_terms, queued_terms, sent_terms, due_terms}
 use Rattle.table_meaning.proofs.ByComputing.{names_of}
 
--- no limit, and one of so many rows
+-- no limit
 abbrev pub all : Term
 all = lit (Int (negsuc 0))
-
-abbrev pub first_of : ℕ → Term
-first_of n = lit (Int (pos n))
 
 -- the columns of the place, and what they are called
 abbrev pub place_columns : List ℕ
@@ -48,10 +43,9 @@ pub owned_is_listed : ListsInstances owned_terms place_columns by_place all plac
 unfolding understood everything
 owned_is_listed = (refl, (refl, refl), refl)
 
-pub queued_is_listed : (page : Page) → ListsInstances queued_terms place_columns by_place (first_of (page_size page)) place_names (queued_text page)
+pub queued_is_listed : ListsInstances queued_terms place_columns by_place (col 0 2) place_names queued_text
 unfolding understood everything
-queued_is_listed First = (refl, (refl, refl), refl)
-queued_is_listed Further = (refl, (refl, refl), refl)
+queued_is_listed = (refl, (refl, refl), refl)
 
 pub sent_is_listed : ListsInstances sent_terms place_columns ((col 1 4, ascending Binary) ∷ []) all place_names sent_text
 unfolding understood everything

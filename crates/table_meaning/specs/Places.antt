@@ -139,9 +139,8 @@ abbrev pub page_size : Page → ℕ
 page_size First = 8
 page_size Further = 64
 
-abbrev pub queued_text : Page → List ℕ
-queued_text First = codes "SELECT unit_id, num FROM instance WHERE unit_id > 0 AND num >= 0 AND queued = 1 AND unit_id >= ?1 AND (unit_id > ?1 OR num >= ?2) ORDER BY unit_id, num LIMIT 8"
-queued_text Further = codes "SELECT unit_id, num FROM instance WHERE unit_id > 0 AND num >= 0 AND queued = 1 AND unit_id >= ?1 AND (unit_id > ?1 OR num >= ?2) ORDER BY unit_id, num LIMIT 64"
+abbrev pub queued_text : List ℕ
+queued_text = codes "SELECT unit_id, num FROM instance WHERE unit_id > 0 AND num >= 0 AND queued = 1 AND unit_id >= ?1 AND (unit_id > ?1 OR num >= ?2) ORDER BY unit_id, num LIMIT ?3"
 
 abbrev pub sent_text : List ℕ
 sent_text = codes "SELECT unit_id, num FROM instance WHERE unit_id > 0 AND num >= 0 AND host_id = ?1 AND sent >= ?2 AND sent < ?3 ORDER BY sent"

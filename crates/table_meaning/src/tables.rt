@@ -1,5 +1,8 @@
 //! The names of the stored tables, the number of their schema, and what an upgrade fills them with.
 
+ghost use Rattle.std.specs.Prelude.{◌≡◌};
+ghost use Rattle.table_meaning.specs.Places.{page_size};
+
 /// The number of the newest schema, which is the one that is worked on.
 pub const NEWEST_SCHEMA: u32 = 3;
 
@@ -37,4 +40,16 @@ pub enum Page {
     /// The first one, which is short: most calls take one job or few.
     First,
     Further,
+}
+
+impl Page {
+    /// How many places it has at most.
+    pub fn size(self) -> u32
+        ensures { result ≡ page_size self }
+    {
+        match self {
+            Page::First => 8,
+            Page::Further => 64,
+        }
+    }
 }

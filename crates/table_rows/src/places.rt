@@ -10,7 +10,7 @@ ghost use Rattle.sqlite_value.specs.Order.{Row as SqlRow};
 ghost use Rattle.sqlite_value.specs.Value.{owned};
 ghost use Rattle.sqlite_value.specs.declared.value.Value.TheVariants.{Int as SqlInt};
 ghost use Rattle.table_meaning.specs.declared.rows.StoredRow.TheVariants as stored;
-ghost use Rattle.table_meaning.specs.Places.{place_row, AreAllPlaces, ShowsPlaces, places_where, instances_within, is_of_host, is_held_by, page_size, queued_text as sql_queued, waits_from, is_sent_between, is_due};
+ghost use Rattle.table_meaning.specs.Places.{place_row, AreAllPlaces, ShowsPlaces, places_where, instances_within, is_of_host, is_held_by, page_size, waits_from, is_sent_between, is_due};
 ghost use Rattle.table_meaning.specs.Rows.{columns_of};
 ghost use Rattle.table_meaning.specs.Formats.{columns_in};
 ghost use Rattle.table_meaning.specs.Reads.{Reads};
@@ -159,18 +159,6 @@ pub fn places_owned<S: Alter>(
     )
 }
 
-/// The statement that shows a page of what waits.
-fn queued_text(page: Page) -> &'static str
-    ensures { result.now ≡ sql_queued page }
-{
-    match page {
-        Page::First =>
-            "SELECT unit_id, num FROM instance WHERE unit_id > 0 AND num >= 0 AND queued = 1 AND unit_id >= ?1 AND (unit_id > ?1 OR num >= ?2) ORDER BY unit_id, num LIMIT 8",
-        Page::Further =>
-            "SELECT unit_id, num FROM instance WHERE unit_id > 0 AND num >= 0 AND queued = 1 AND unit_id >= ?1 AND (unit_id > ?1 OR num >= ?2) ORDER BY unit_id, num LIMIT 64",
-    }
-}
-
 /// A page of the places of the instances that wait to be given out, from this place on: the first of them, so many as the
 /// page has at most. The connection shows what it showed.
 pub fn queued_from<S: Alter>(
@@ -186,8 +174,8 @@ pub fn queued_from<S: Alter>(
     places_shown(
         alloc,
         conn,
-        queued_text(page),
-        &[whole(from.unit), whole(from.number)],
+        "SELECT unit_id, num FROM instance WHERE unit_id > 0 AND num >= 0 AND queued = 1 AND unit_id >= ?1 AND (unit_id > ?1 OR num >= ?2) ORDER BY unit_id, num LIMIT ?3",
+        &[whole(from.unit), whole(from.number), whole(page.size())],
     )
 }
 

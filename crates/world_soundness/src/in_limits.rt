@@ -8,28 +8,14 @@ ghost use Rattle.rpc_records.specs.Members.{is_output};
 ghost use Rattle.rpc_records.specs.Ranges.{IsWord};
 
 use sched_book::limits::{
-    MOST_AMOUNT, MOST_CREDIT, MOST_DELAY, MOST_DISTANCE, MOST_HOSTS, MOST_INSTANCES,
+    LEAST_KEY_BYTES, MOST_AMOUNT, MOST_CREDIT, MOST_DELAY, MOST_DISTANCE, MOST_HOSTS,
+    MOST_IN_PROGRESS, MOST_INSTANCES, MOST_QUOTA, MOST_REQUEST_DELAY, MOST_TO_SEND,
     MOST_VERSION_NUM,
 };
 use sched_book::{
     Account, Agreement, App, ClassRule, HostRow, Instance, Outcome, Settings, Version, Workunit,
 };
 use texts::{Text, is_word};
-
-/// The most jobs on one day that settings may allow a host.
-pub const MOST_QUOTA: u32 = 1_000_000;
-
-/// The most jobs in progress that settings may allow a host.
-const MOST_IN_PROGRESS: u32 = 1_000;
-
-/// The most new jobs of one reply that settings may allow.
-const MOST_TO_SEND: u32 = 100;
-
-/// The longest time, in seconds, that settings may have a client wait.
-const MOST_REQUEST_DELAY: u32 = 2_592_000;
-
-/// The fewest bytes of the operator's word.
-const LEAST_KEY_BYTES: usize = 8;
 
 /// The most bytes of a volunteer's name.
 const MOST_NAME_BYTES: usize = 64;

@@ -11,9 +11,9 @@ use Rattle.message_engine.proofs.calls.call.Goals as goal
 
 pub returns-in-Ok-clause-acts : goal.returns-in-Ok-clause-acts
 returns-in-Ok-clause-acts g c =
-    let reads = c.admit.ensures.reads in
+    let reads = c.caller_of.ensures.reads in
     let old = c.args.store.now in
-    acts_on (parts_of g.S.Units g.S.Store.holds g.S.Store.clean g.S.Store.lasting g.S.Store.may_leave g.S.Store.reopens) old c.admit.new.desk
+    acts_on (parts_of g.S.Units g.S.Store.holds g.S.Store.clean g.S.Store.lasting g.S.Store.may_leave g.S.Store.reopens) old c.caller_of.new.desk
     (g.met.S.Store.stays_clean _ _ reads) (g.met.S.Units.stays_honest _ _ reads) (g.met.S.Units.stays_kept _ _ reads)
     (λ lasting honest. g.met.S.Store.stays_open _ _ lasting reads honest) (g.met.S.Store.stays_held _ _ reads) (g.met.S.Store.stays_left _ _ reads) (g.met.S.Store.stays_reopened _ _ reads)
     (is_ok c.call_admitted.result) (λ held h. IsNamed held.world c.in-Ok.caller c.args.request → IsCallServed c.args.request c.args.now held h) _ c.call_admitted.new.store
@@ -22,14 +22,14 @@ returns-in-Ok-clause-acts g c =
 
 pub returns-in-Ok-clause-exact : goal.returns-in-Ok-clause-exact
 returns-in-Ok-clause-exact g c = λ honest kept.
-    let reads = c.admit.ensures.reads in
+    let reads = c.caller_of.ensures.reads in
     let old = c.args.store.now in
     let new = c.call_admitted.new.store in
     let honest_1 = c.call_admitted.ensures.acts.acts.was_honest honest in
     let kept_1 = g.met.S.Units.stays_kept _ _ reads honest_1 kept in
     given c.call_admitted.result (IsNamed (g.S.Store.holds old).world c.in-Ok.caller c.args.request) (λ a. ServesCall c.args.request c.args.now a (g.S.Store.holds old) (g.S.Store.holds new))
     (subst (λ w. IsNamed w c.in-Ok.caller c.args.request) (sym (g.met.S.Store.world_held old)) (c.in-Ok.ensures.caller honest_1 kept))
-    (said_on (parts_of g.S.Units g.S.Store.holds g.S.Store.clean g.S.Store.lasting g.S.Store.may_leave g.S.Store.reopens) old c.admit.new.desk
+    (said_on (parts_of g.S.Units g.S.Store.holds g.S.Store.clean g.S.Store.lasting g.S.Store.may_leave g.S.Store.reopens) old c.caller_of.new.desk
     (g.met.S.Store.stays_clean _ _ reads) (g.met.S.Units.stays_honest _ _ reads) (g.met.S.Units.stays_kept _ _ reads)
     (λ lasting honest. g.met.S.Store.stays_open _ _ lasting reads honest) (g.met.S.Store.stays_held _ _ reads) (g.met.S.Store.stays_left _ _ reads) (g.met.S.Store.stays_reopened _ _ reads)
     (λ held. IfOk c.call_admitted.result (λ a. IsNamed held.world c.in-Ok.caller c.args.request → ServesCall c.args.request c.args.now a held (g.S.Store.holds new)))
@@ -37,7 +37,7 @@ returns-in-Ok-clause-exact g c = λ honest kept.
 
 pub returns-in-Err-BadAccount-clause-acts : goal.returns-in-Err-BadAccount-clause-acts
 returns-in-Err-BadAccount-clause-acts g c =
-    let reads = g.met.S.Units.reads_on _ _ _ c.admit.ensures.reads c.confirmed.ensures.reads in
+    let reads = g.met.S.Units.reads_on _ _ _ c.caller_of.ensures.reads c.confirmed.ensures.reads in
     reads_act (parts_of g.S.Units g.S.Store.holds g.S.Store.clean g.S.Store.lasting g.S.Store.may_leave g.S.Store.reopens) c.args.store.now c.confirmed.new.store
     (g.met.S.Store.stays_clean _ _ reads) (g.met.S.Units.stays_honest _ _ reads) (g.met.S.Units.stays_kept _ _ reads)
     (λ lasting honest. g.met.S.Store.stays_open _ _ lasting reads honest) (g.met.S.Store.stays_held _ _ reads) (g.met.S.Store.stays_left _ _ reads) (g.met.S.Store.stays_reopened _ _ reads)
@@ -45,7 +45,7 @@ returns-in-Err-BadAccount-clause-acts g c =
 
 pub returns-in-Err-BadAccount-clause-exact : goal.returns-in-Err-BadAccount-clause-exact
 returns-in-Err-BadAccount-clause-exact g c = λ honest kept.
-    let reads = g.met.S.Units.reads_on _ _ _ c.admit.ensures.reads c.confirmed.ensures.reads in
+    let reads = g.met.S.Units.reads_on _ _ _ c.caller_of.ensures.reads c.confirmed.ensures.reads in
     let old = c.args.store.now in
     let new = c.confirmed.new.store in
     only c.confirmed.result (Refusal fault.BadAccount) (λ a. ServesCall c.args.request c.args.now a (g.S.Store.holds old) (g.S.Store.holds new)) c.confirmed.ensures.answer
@@ -54,7 +54,7 @@ returns-in-Err-BadAccount-clause-exact g c = λ honest kept.
 
 pub returns-in-Err-BadHost-clause-acts : goal.returns-in-Err-BadHost-clause-acts
 returns-in-Err-BadHost-clause-acts g c =
-    let reads = g.met.S.Units.reads_on _ _ _ c.admit.ensures.reads c.confirmed-in-Err-BadHost.ensures.reads in
+    let reads = g.met.S.Units.reads_on _ _ _ c.caller_of.ensures.reads c.confirmed-in-Err-BadHost.ensures.reads in
     reads_act (parts_of g.S.Units g.S.Store.holds g.S.Store.clean g.S.Store.lasting g.S.Store.may_leave g.S.Store.reopens) c.args.store.now c.confirmed-in-Err-BadHost.new.store
     (g.met.S.Store.stays_clean _ _ reads) (g.met.S.Units.stays_honest _ _ reads) (g.met.S.Units.stays_kept _ _ reads)
     (λ lasting honest. g.met.S.Store.stays_open _ _ lasting reads honest) (g.met.S.Store.stays_held _ _ reads) (g.met.S.Store.stays_left _ _ reads) (g.met.S.Store.stays_reopened _ _ reads)
@@ -62,7 +62,7 @@ returns-in-Err-BadHost-clause-acts g c =
 
 pub returns-in-Err-BadHost-clause-exact : goal.returns-in-Err-BadHost-clause-exact
 returns-in-Err-BadHost-clause-exact g c = λ honest kept.
-    let reads = g.met.S.Units.reads_on _ _ _ c.admit.ensures.reads c.confirmed-in-Err-BadHost.ensures.reads in
+    let reads = g.met.S.Units.reads_on _ _ _ c.caller_of.ensures.reads c.confirmed-in-Err-BadHost.ensures.reads in
     let old = c.args.store.now in
     let new = c.confirmed-in-Err-BadHost.new.store in
     only c.confirmed-in-Err-BadHost.result (Refusal fault.BadHost) (λ a. ServesCall c.args.request c.args.now a (g.S.Store.holds old) (g.S.Store.holds new)) c.confirmed-in-Err-BadHost.ensures.answer
@@ -71,8 +71,8 @@ returns-in-Err-BadHost-clause-exact g c = λ honest kept.
 
 pub returns-clause-acts : goal.returns-clause-acts
 returns-clause-acts g c =
-    let reads = c.admit.ensures.reads in
-    reads_act (parts_of g.S.Units g.S.Store.holds g.S.Store.clean g.S.Store.lasting g.S.Store.may_leave g.S.Store.reopens) c.args.store.now c.admit.new.desk
+    let reads = c.caller_of.ensures.reads in
+    reads_act (parts_of g.S.Units g.S.Store.holds g.S.Store.clean g.S.Store.lasting g.S.Store.may_leave g.S.Store.reopens) c.args.store.now c.caller_of.new.desk
     (g.met.S.Store.stays_clean _ _ reads) (g.met.S.Units.stays_honest _ _ reads) (g.met.S.Units.stays_kept _ _ reads)
     (λ lasting honest. g.met.S.Store.stays_open _ _ lasting reads honest) (g.met.S.Store.stays_held _ _ reads) (g.met.S.Store.stays_left _ _ reads) (g.met.S.Store.stays_reopened _ _ reads)
     false _ (λ clean good. absurd (true≢false (sym good)))

@@ -1,12 +1,10 @@
 -- `from_slice` speaks of UTF-8 as a fact, and the definition as a test.
-use Rattle.std.proofs.Common.{◌≡◌, Bool, true, false, cond, Option, None, refl, ap, rules}
+use Rattle.std.proofs.Common.{◌≡◌, Bool, true, false, cond, Option, None, refl, sym, rules}
 use Rattle.std.proofs.lemmas.Str.{is_utf8-from_IsUtf8, IsUtf8-from_is_utf8}
-use Rattle.std.specs.Option.{ok_or}
 use Rattle.std.specs.Str.{is_utf8}
 use Rattle.serde_json.specs.Data.{Data}
 use Rattle.rpc_records.specs.Reading.{json_of}
-use Rattle.rpc_records.specs.declared.fault.Fault.TheVariants.{BadJson}
-use Rattle.rpc_records.proofs.decode.value_of.Goals as goal
+use Rattle.rpc_records.proofs.decode.json_value.Goals as goal
 
 pub returns-in-Ok : goal.returns-in-Ok
 unfolding json_of
@@ -18,6 +16,5 @@ unread false o none = refl
 
 pub returns-in-Err-2 : goal.returns-in-Err-2
 unfolding json_of
-returns-in-Err-2 c = λ _.
-    ap (λ o. ok_or o BadJson)
-    (unread (is_utf8 c.args.body.now) _ (λ utf8. c.in-Err-2.ensures.err (grind (rules, c.is_memory.ensures, c.if-is_memory.false)) (IsUtf8-from_is_utf8 _ utf8)))
+returns-in-Err-2 c =
+    sym (unread (is_utf8 c.args.text.now) _ (λ utf8. c.in-Err-2.ensures.err (grind (rules, c.is_memory.ensures, c.if-is_memory.false)) (IsUtf8-from_is_utf8 _ utf8)))
