@@ -194,49 +194,6 @@ const CALL_START: &str =
 const REPLY: &str =
     "200 {\"end_word\":\"enough\",\"host_total_credit\":0,\"hostid\":1,\"request_delay\":60,\"result_abort\":[],\"result_ack\":[],\"results\":[],\"rpc_seqno\":1,\"user_name\":\"Ann\",\"user_total_credit\":0}\n";
 
-/// Its reply, where it reports the result `a_0` of no job.
-const REPLY_TO_REPORTS: &str =
-    "200 {\"end_word\":\"enough\",\"host_total_credit\":0,\"hostid\":1,\"request_delay\":60,\"result_abort\":[],\"result_ack\":[\"a_0\"],\"results\":[],\"rpc_seqno\":1,\"user_name\":\"Ann\",\"user_total_credit\":0}\n";
-
-/// Whether this call with a further member gets this answer.
-fn is_told(alloc: Global, member: &str, told: &str) -> Result<bool, Fail> {
-    let line = format!(in alloc; "{CALL_START}{member}}}\n")?;
-    answers_in_project(alloc, 3, line.as_str(), told)
-}
-
-/// A list of so many items of this text, at least one, as a member of a request.
-fn list_of(alloc: Global, name: &str, item: &str, count: usize) -> Result<String, Fail> {
-    let mut member = format!(in alloc; ",\"{name}\":[{item}")?;
-    for _ in 1..count {
-        member.push_str(",")?;
-        member.push_str(item)?;
-    }
-    member.push_str("]")?;
-    Ok(member)
-}
-
-/// Whether a call with so many items in this list gets this answer.
-fn list_is_told(
-    alloc: Global,
-    name: &str,
-    item: &str,
-    count: usize,
-    told: &str,
-) -> Result<bool, Fail> {
-    let member = list_of(alloc, name, item, count)?;
-    is_told(alloc, member.as_str(), told)
-}
-
-#[test]
-fn a_request_may_have_256_reports(rt: HostRuntime) -> Result<(), Fail> {
-    let alloc = rt.alloc();
-    let item = "{\"name\":\"a_0\",\"exit_status\":0}";
-    let refused = "400 {\"error\":\"bad_member\",\"member\":\"results\",\"number\":7}\n";
-    assert!(rt; list_is_told(alloc, "results", item, 256, REPLY_TO_REPORTS)?);
-    assert!(rt; list_is_told(alloc, "results", item, 257, refused)?);
-    Ok(())
-}
-
 #[test]
 fn lines_that_are_none_end_the_run(rt: HostRuntime) -> Result<(), Fail> {
     let alloc = rt.alloc();
@@ -396,19 +353,5 @@ fn a_broken_writer_ends_the_run(rt: HostRuntime) -> Result<(), Fail> {
         let run = replayed_into(alloc, new_store(alloc)?, length, lines.as_bytes())?;
         assert!(rt; broke(&run, told.as_bytes()), "{length}");
     }
-    Ok(())
-}
-
-#[test]
-fn bytes_that_are_no_text_are_refused(rt: HostRuntime) -> Result<(), Fail> {
-    let alloc = rt.alloc();
-    let request = b"1970-01-01T00:00:00Z scheduler {\"x\":\"\xff\"}\n";
-    let (printed, ended) = replayed(alloc, request.as_slice())?;
-    assert_eq!(rt; ended, Ended::Good);
-    assert!(rt; printed.as_slice() == b"400 {\"error\":\"bad_json\",\"number\":6}\n".as_slice());
-    let import = b"1970-01-01T00:00:00Z import/accounts/a0 \"authenticator,name\\nk1,\xff\"\n";
-    let (printed, ended) = replayed(alloc, import.as_slice())?;
-    assert_eq!(rt; ended, Ended::Line(1));
-    assert!(rt; printed.is_empty());
     Ok(())
 }

@@ -2,7 +2,7 @@
 use Rattle.std.proofs.Common.{◌≡◌, ℕ, [], Option, Some, None, sym, ap, ◌∙◌}
 use Rattle.std.specs.Prelude.{option_map, option_and_then, unwrap_or, slice_get}
 use Rattle.sched_book.specs.Count.{status}
-use Rattle.sched_book.specs.Places.{unit_at, instance_at, status_at, status_of, standing}
+use Rattle.sched_book.specs.Places.{instance_at, status_at, status_of, standing}
 use Rattle.sched_book.specs.Desk.{instances_at}
 use Rattle.sched_book.specs.declared.instance.Instance.{Instance}
 use Rattle.sched_book.specs.declared.instance.Place.{Place}

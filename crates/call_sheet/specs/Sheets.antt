@@ -1,5 +1,5 @@
 -- Words. What a page holds of a world, and what a sheet may be asked.
-use Rattle.std.specs.Prelude.{◌≡◌, ℕ, ◌+◌, ◌<◌, ◌≤◌, ◌==◌, if◌then◌else◌, List, [], ◌∷◌, length, Option, None, Some, option_map, is_some, IsSome, slice_get}
+use Rattle.std.specs.Prelude.{◌≡◌, ℕ, ◌+◌, ◌<◌, ◌≤◌, ◌==◌, if◌then◌else◌, List, [], ◌∷◌, length, Option, None, Some, option_map, is_some, IsSome, slice_get, Bool}
 use Rattle.std.specs.BTreeMap.{BTreeMap, get}
 use Rattle.std.specs.List.{list_any}
 use Rattle.std.specs.Ordering.{nat_cmp}
@@ -76,12 +76,16 @@ abbrev pub AreClassed : BTreeMap ℕ Leaf → BTreeMap ℕ Leaf → ℕ → List
 AreClassed old new place class = IsSome (get nat_cmp old place)
     × ((unit : ℕ) → get nat_cmp new unit ≡ if place == unit then option_map (with_granted class) (get nat_cmp old unit) else get nat_cmp old unit)
 
+-- the number is one of these
+abbrev pub is_among : List ℕ → ℕ → Bool
+is_among numbers number = list_any (λ n. n == number) numbers
+
 -- all of these are greater than m
 abbrev pub AreAbove : ℕ → List ℕ → Type 0
 AreAbove m [] = Unit {0}
 AreAbove m (n ∷ ns) = (m < n) × AreAbove m ns
 
--- each is less than all behind it
+-- each is less than all after it
 abbrev pub AreRising : List ℕ → Type 0
 AreRising [] = Unit {0}
 AreRising (n ∷ ns) = AreAbove n ns × AreRising ns

@@ -15,10 +15,10 @@ use Rattle.http_messages.specs.Deciding.{Asked, Decision, call, import, tick, st
 use Rattle.http_messages.specs.Fields.{Told, absent, once, often, told, is_told}
 use Rattle.http_messages.specs.Meaning.{Means}
 use Rattle.http_messages.specs.Numbers.{length_in, host_in}
-use Rattle.http_messages.specs.Places.{method_text, method_of, needs_key}
+use Rattle.http_messages.specs.RouteKinds.{method_text, method_of, needs_key}
 use Rattle.http_messages.specs.Routing as routing
-use Rattle.http_messages.specs.Routing.{Route, place_of, path_of, is_slash, is_part, hosts_of, import_with, import_at, import_of, route_of}
-use Rattle.http_messages.specs.declared.place.Place.TheVariants as at
+use Rattle.http_messages.specs.Routing.{Route, kind_of_route, path_of, is_slash, is_part, import_with, import_at, route_of}
+use Rattle.http_messages.specs.declared.route_kind.RouteKind.TheVariants as at
 
 -- an import with a word for its name, and of at most 1,048,576 bytes
 abbrev Fits : Asked → Type 0
@@ -107,16 +107,16 @@ body_fits route word (Ok bytes) short rest = either Fits (nat_lt (length rest) b
     on routing.tick word short = tt
     on (routing.hosts id) word short = hosts_fit (host_in id)
 
-length_fits : (route : Route) (fields : List (List ℕ × List ℕ)) (kind : Kind) (batch : List ℕ) → route ≡ routing.import kind batch → IsWithin (body_length (place_of route) fields)
-length_fits route fields kind batch is = subst (λ (r : Route). IsWithin (body_length (place_of r) fields)) (sym is) (import_within fields)
+length_fits : (route : Route) (fields : List (List ℕ × List ℕ)) (kind : Kind) (batch : List ℕ) → route ≡ routing.import kind batch → IsWithin (body_length (kind_of_route route) fields)
+length_fits route fields kind batch is = subst (λ (r : Route). IsWithin (body_length (kind_of_route r) fields)) (sym is) (import_within fields)
 
 route_fits : (key method : List ℕ) (fields : List (List ℕ × List ℕ)) (o : Option Route) → HasWord o → (rest : List ℕ) → Fits (asked_with (decided_for key method fields o) rest)
 route_fits key method fields None word rest = tt
 route_fits key method fields (Some route) word rest =
     let P : Decision → Type 0 = λ d. Fits (asked_with d rest) in
-    either P (not (bytes_eq method (method_text (method_of (place_of route))))) _ _ tt
-    (either P (needs_key (place_of route) && not (is_operator key fields)) _ _ tt
-    (body_fits route word (body_length (place_of route) fields) (length_fits route fields) rest))
+    either P (not (bytes_eq method (method_text (method_of (kind_of_route route))))) _ _ tt
+    (either P (needs_key (kind_of_route route) && not (is_operator key fields)) _ _ tt
+    (body_fits route word (body_length (kind_of_route route) fields) (length_fits route fields) rest))
 
 -- What bytes ask to import has a word for its name, and is not too long.
 pub import_fits : (key bytes : List ℕ) (kind : Kind) (batch text : List ℕ) → Means key bytes (import kind batch text) → IsTrue (is_word batch) × (length text ≤ 1048576)

@@ -1,5 +1,5 @@
 -- What bytes mean, by a head that was read; that they mean one thing, and when they mean it whatever follows.
-use Rattle.std.proofs.Common.{◌≡◌, ℕ, ◌≤◌, ◌<◌, true, false, List, [], ◌∷◌, ◌++◌, length, map, refl, sym, ap, ◌∙◌, subst, arith, inl, inr, append-nil, length-append, rules, Option, Some, None}
+use Rattle.std.proofs.Common.{◌≡◌, ℕ, ◌≤◌, ◌<◌, true, false, List, [], ◌++◌, length, map, refl, sym, ap, ◌∙◌, subst, arith, inl, inr, append-nil, length-append, rules, Option, Some, None}
 use Rattle.std.proofs.lemmas.Bool.Decides.{nat_tests}
 use Rattle.std.proofs.lemmas.List.{take-append-le}
 use Rattle.std.proofs.lemmas.Str.{is_utf8-from_IsUtf8}
@@ -8,8 +8,8 @@ use Rattle.std.specs.Str.{IsUtf8, is_utf8}
 use Rattle.httparse.specs.Grammar.{RequestHead}
 use Rattle.httparse.specs.Spans.{name_and_value}
 use Rattle.http_messages.specs.Deciding.{Asked, Decision, at_once, with_body, decided, decided_for, asked_with, is_cut, missing}
-use Rattle.http_messages.specs.Heads.{IsHead, HasNoHead, NeverHasHead, AwaitsHead}
-use Rattle.http_messages.specs.Meaning.{Means, IsSettled, Awaits, Misses, MissesNoMore, MessagesHaveOneMeaning}
+use Rattle.http_messages.specs.Heads.{IsHead}
+use Rattle.http_messages.specs.Meaning.{Means, IsSettled, Misses, MissesNoMore, MessagesHaveOneMeaning}
 use Rattle.http_messages.specs.Routing.{Route, path_of, route_of}
 use Rattle.http_messages.proofs.HeadLemmas.{head_more, head_unique}
 
@@ -62,21 +62,6 @@ pub none_missing : (decision : Decision) (rest : List ℕ) (count : ℕ) → cou
 none_missing decision rest count told none =
     subst (λ (xs : List ℕ). is_cut decision xs ≡ false) (append-nil rest)
     (whole_body decision rest [] (omega (arith, told, none)))
-
--- a head that is not whole misses a byte at the least
-pub misses_head : (key bytes : List ℕ) → AwaitsHead bytes → Misses key bytes 1
-misses_head key bytes awaits [] few = subst (Awaits key) (sym (append-nil bytes)) (inl awaits)
-misses_head key bytes awaits (b ∷ more) few = absurd (omega (arith, few))
-
--- bytes with no head have none that is whole
-pub no_whole_head : (key bytes : List ℕ) (count : ℕ) → HasNoHead bytes → MissesNoMore key bytes count
-no_whole_head key bytes count none h rest more head enough = absurd (none h rest head)
-
-pub none_awaited : (key bytes : List ℕ) → Misses key bytes 0
-none_awaited key bytes more few = absurd (omega (arith, few))
-
-pub no_head_now : (bytes : List ℕ) → NeverHasHead bytes → HasNoHead bytes
-no_head_now bytes never = subst HasNoHead (append-nil bytes) (never [])
 
 -- bytes of UTF-8 are read as text
 pub text_is : (bytes text : List ℕ) → Some text ≡ (if is_utf8 bytes then Some bytes else None) → IsUtf8 bytes → text ≡ bytes

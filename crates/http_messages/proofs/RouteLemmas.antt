@@ -14,9 +14,9 @@ use Rattle.stores.specs.Kinds.{kind_of}
 use Rattle.stores.specs.declared.kind.Kind.{Kind}
 use Rattle.texts.specs.Words.{is_word, is_word_byte}
 use Rattle.http_messages.specs.Routing.{Route, scheduler, tick, hosts, is_slash, is_part, import_of, import_with, hosts_of, route_of}
-use Rattle.http_messages.specs.Routers.{the_routes, found_place, found_route, route_at}
-use Rattle.http_messages.specs.declared.place.Place.{Place}
-use Rattle.http_messages.specs.declared.place.Place.TheVariants.{Scheduler, Import, Tick, Hosts}
+use Rattle.http_messages.specs.Routers.{the_routes, found_route_kind, found_route, route_at}
+use Rattle.http_messages.specs.declared.route_kind.RouteKind.{RouteKind}
+use Rattle.http_messages.specs.declared.route_kind.RouteKind.TheVariants.{Scheduler, Import, Tick, Hosts}
 use Rattle.http_messages.proofs.RowLemmas.{is_text, seek-byte, seek-literal, seek-part, seek-two, one_value}
 
 -- the patterns of the routes, by number
@@ -25,11 +25,11 @@ numbered =
     (codes "/hosts/" ++ param_token ∷ [], 0) ∷ (codes "/import/" ++ param_token ∷ 47 ∷ param_token ∷ [], 1)
     ∷ (codes "/scheduler", 2) ∷ (codes "/tick", 3) ∷ []
 
-abbrev place_at : ℕ → Place
-place_at zero = Hosts
-place_at (suc zero) = Import
-place_at (suc (suc zero)) = Scheduler
-place_at (suc (suc (suc n))) = Tick
+abbrev route_kind_at : ℕ → RouteKind
+route_kind_at zero = Hosts
+route_kind_at (suc zero) = Import
+route_kind_at (suc (suc zero)) = Scheduler
+route_kind_at (suc (suc (suc n))) = Tick
 
 -- the same behind the first slash
 abbrev behind_slash : Rows
@@ -37,7 +37,7 @@ behind_slash =
     (codes "hosts/" ++ param_token ∷ [], 0) ∷ (codes "import/" ++ param_token ∷ 47 ∷ param_token ∷ [], 1)
     ∷ (codes "scheduler", 2) ∷ (codes "tick", 3) ∷ []
 
-by_number : rename place_at numbered ≡ rename (λ route. route.value) the_routes
+by_number : rename route_kind_at numbered ≡ rename (λ route. route.value) the_routes
 unfolding matchit_on_literals
 by_number = refl
 
@@ -45,14 +45,14 @@ as_option : {A B : Type 0} (f : A → B) (o : Option A) → option_map f o ≡ m
 as_option f None = refl
 as_option f (Some a) = refl
 
-found_number : (path : List ℕ) → found_place path ≡ map_key place_at (first numbered path)
+found_number : (path : List ℕ) → found_route_kind path ≡ map_key route_kind_at (first numbered path)
 found_number path =
     as_option (λ route. route.value) (first the_routes path) ∙ sym (first-rename (λ route. route.value) the_routes path)
-    ∙ ap (λ rows. first rows path) (sym by_number) ∙ first-rename place_at numbered path
+    ∙ ap (λ rows. first rows path) (sym by_number) ∙ first-rename route_kind_at numbered path
 
 -- the route by the number that was found
 abbrev route_by : Option ℕ → List ℕ → Option Route
-route_by number path = option_and_then (λ place. route_at place path) (map_key place_at number)
+route_by number path = option_and_then (λ route_kind. route_at route_kind path) (map_key route_kind_at number)
 
 is_same : (b c : ℕ) → (b == c) ≡ true → b ≡ c
 is_same b c e = grind (arith, nat_tests)
@@ -271,4 +271,4 @@ agrees (b ∷ path) = by (b == 47) refl (second path)
 
 -- what the router finds for a path is the route that the path names
 pub found_is_route : (path : List ℕ) → found_route path ≡ route_of path
-found_is_route path = ap (λ place. option_and_then (λ p. route_at p path) place) (found_number path) ∙ agrees path
+found_is_route path = ap (λ route_kind. option_and_then (λ p. route_at p path) route_kind) (found_number path) ∙ agrees path

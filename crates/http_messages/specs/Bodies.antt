@@ -1,15 +1,15 @@
--- Rule. How long the body of a request is (RFC 9112, section 6): Content-Length alone tells it here.
+-- Promise. How long the body of a request is (RFC 9112, section 6): Content-Length alone tells it here.
 use Rattle.std.specs.Prelude.{ℕ, nat_le, if◌then◌else◌, List, codes, Option, Some, None, Result, Ok, Err}
 use Rattle.rpc_records.specs.declared.fault.Fault.{Fault}
 use Rattle.rpc_records.specs.declared.fault.Fault.TheVariants.{BadHttp, LengthRequired, TooLarge}
 use Rattle.http_messages.specs.Fields.{Told, absent, once, often, told, is_told}
 use Rattle.http_messages.specs.Numbers.{length_in}
-use Rattle.http_messages.specs.Places.{most_bytes}
-use Rattle.http_messages.specs.declared.place.Place.{Place}
-use Rattle.http_messages.specs.declared.place.Place.TheVariants.{Scheduler, Import, Tick, Hosts}
+use Rattle.http_messages.specs.RouteKinds.{most_bytes}
+use Rattle.http_messages.specs.declared.route_kind.RouteKind.{RouteKind}
+use Rattle.http_messages.specs.declared.route_kind.RouteKind.TheVariants.{Scheduler, Import, Tick, Hosts}
 
 -- where no length is told, the body of a tick is empty
-abbrev pub untold_length : Place → Result ℕ Fault
+abbrev pub untold_length : RouteKind → Result ℕ Fault
 untold_length Scheduler = Err LengthRequired
 untold_length Import = Err LengthRequired
 untold_length Tick = Ok 0
@@ -20,19 +20,19 @@ length_within most None = Err BadHttp
 length_within most (Some bytes) = if nat_le bytes most then Ok bytes else Err TooLarge
 
 -- the length by what is told of Content-Length
-abbrev pub told_length : Place → Told → Result ℕ Fault
-told_length place absent = untold_length place
-told_length place (once value) = length_within (most_bytes place) (length_in value)
-told_length place often = Err BadHttp
+abbrev pub told_length : RouteKind → Told → Result ℕ Fault
+told_length route_kind absent = untold_length route_kind
+told_length route_kind (once value) = length_within (most_bytes route_kind) (length_in value)
+told_length route_kind often = Err BadHttp
 
 -- the length of a body that is sent
-abbrev pub sent_length : Place → List (List ℕ × List ℕ) → Result ℕ Fault
-sent_length place fields =
+abbrev pub sent_length : RouteKind → List (List ℕ × List ℕ) → Result ℕ Fault
+sent_length route_kind fields =
     if is_told (told (codes "transfer-encoding") fields) then Err LengthRequired
-    else told_length place (told (codes "content-length") fields)
+    else told_length route_kind (told (codes "content-length") fields)
 
 -- the length of the body by the head's fields; of a GET none is read
-abbrev pub body_length : Place → List (List ℕ × List ℕ) → Result ℕ Fault
+abbrev pub body_length : RouteKind → List (List ℕ × List ℕ) → Result ℕ Fault
 body_length Scheduler fields = sent_length Scheduler fields
 body_length Import fields = sent_length Import fields
 body_length Tick fields = sent_length Tick fields

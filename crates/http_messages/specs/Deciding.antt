@@ -1,4 +1,4 @@
--- Rule. What a request asks for, and which check refuses it first.
+-- Promise. What a request asks for, and which check refuses it first.
 use Rattle.std.specs.Prelude.{ℕ, Bool, false, ◌&&◌, not, nat_lt, ◌-◌, if◌then◌else◌, List, length, take, map, codes, Option, Some, None, Result, Ok, Err}
 use Rattle.std.specs.Str.{bytes_eq}
 use Rattle.httparse.specs.Grammar.{RequestHead}
@@ -10,9 +10,9 @@ use Rattle.rpc_records.specs.declared.fault.Fault.TheVariants.{BadHttp, NoRoute,
 use Rattle.http_messages.specs.Bodies.{body_length}
 use Rattle.http_messages.specs.Fields.{Told, absent, once, often, told}
 use Rattle.http_messages.specs.Numbers.{host_in}
-use Rattle.http_messages.specs.Places.{method_text, method_of, needs_key}
+use Rattle.http_messages.specs.RouteKinds.{method_text, method_of, needs_key}
 use Rattle.http_messages.specs.Routing as routing
-use Rattle.http_messages.specs.Routing.{Route, place_of, path_of, route_of}
+use Rattle.http_messages.specs.Routing.{Route, kind_of_route, path_of, route_of}
 
 -- What a message asks for: a call of a host with its body; an import with its bytes; a tick; the statement of a host. Or the
 -- route has another method, this one; or it is refused for another fault of its bytes.
@@ -45,9 +45,9 @@ decided_length route (Ok bytes) = with_body route bytes
 -- on a route: the method, then the operator's key, then the length of the body
 abbrev pub decided_on : List ℕ → List ℕ → List (List ℕ × List ℕ) → Route → Decision
 decided_on key method fields route =
-    if not (bytes_eq method (method_text (method_of (place_of route)))) then at_once (wrong_method (method_of (place_of route)))
-    else (if needs_key (place_of route) && not (is_operator key fields) then at_once (refused NotOperator)
-    else decided_length route (body_length (place_of route) fields))
+    if not (bytes_eq method (method_text (method_of (kind_of_route route)))) then at_once (wrong_method (method_of (kind_of_route route)))
+    else (if needs_key (kind_of_route route) && not (is_operator key fields) then at_once (refused NotOperator)
+    else decided_length route (body_length (kind_of_route route) fields))
 
 abbrev pub decided_for : List ℕ → List ℕ → List (List ℕ × List ℕ) → Option Route → Decision
 decided_for key method fields None = at_once (refused NoRoute)

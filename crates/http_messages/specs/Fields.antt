@@ -1,4 +1,4 @@
--- Rule. What the fields of a head say. Their names are compared without regard to ASCII case (RFC 9110, section 5.1).
+-- Promise. What the fields of a head say. Their names are compared without regard to ASCII case (RFC 9110, section 5.1).
 use Rattle.std.specs.Prelude.{ℕ, Bool, true, false, List, [], ◌∷◌, map, if◌then◌else◌}
 use Rattle.std.specs.Char.{to_ascii_lowercase}
 use Rattle.std.specs.Str.{bytes_eq}

@@ -1,4 +1,4 @@
-pub mod Places
+pub mod RouteKinds
 pub mod Heads
 pub mod Fields
 pub mod Numbers

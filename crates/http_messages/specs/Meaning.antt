@@ -1,4 +1,4 @@
--- Rule. What the bytes of a connection mean: one request, with its body.
+-- Promise. What the bytes of a connection mean: one request, with its body.
 use Rattle.std.specs.Prelude.{◌≡◌, ◌<◌, ◌≤◌, ◌⊎◌, ℕ, List, ◌++◌, length, IsTrue}
 use Rattle.httparse.specs.Grammar.{RequestHead}
 use Rattle.rpc_records.specs.declared.fault.Fault.TheVariants.{BadHttp}

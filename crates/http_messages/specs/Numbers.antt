@@ -1,4 +1,4 @@
--- Rule. Numbers in a request's head, written in decimal digits.
+-- Promise. Numbers in a request's head, written in decimal digits.
 use Rattle.std.specs.Prelude.{ℕ, Bool, false, ◌&&◌, nat_le, nat_lt, ◌^◌, if◌then◌else◌, List, [], ◌∷◌, length, Option, Some, None}
 use Rattle.std.specs.Char.{is_ascii_digit}
 use Rattle.std.specs.List.{list_all}

@@ -1,12 +1,12 @@
--- Rule. The routes of requests, by their paths. (This profile's.)
+-- Promise. The routes of requests, by their paths. (This profile's.)
 use Rattle.std.specs.Prelude.{ℕ, Bool, ◌&&◌, ◌==◌, nat_eq, nat_lt, not, if◌then◌else◌, List, take, drop, length, codes, Option, Some, None, position, ◌+◌}
 use Rattle.std.specs.List.{before_first, list_any, starts_with}
 use Rattle.std.specs.Str.{bytes_eq}
 use Rattle.texts.specs.Words.{is_word}
 use Rattle.stores.specs.Kinds.{kind_of}
 use Rattle.stores.specs.declared.kind.Kind.{Kind}
-use Rattle.http_messages.specs.declared.place.Place.{Place}
-use Rattle.http_messages.specs.declared.place.Place.TheVariants as at
+use Rattle.http_messages.specs.declared.route_kind.RouteKind.{RouteKind}
+use Rattle.http_messages.specs.declared.route_kind.RouteKind.TheVariants as at
 use Rattle.http_messages.specs.declared.routes.Route.{Route as RouteRead}
 use Rattle.http_messages.specs.declared.routes.Route.TheVariants as read
 
@@ -17,11 +17,11 @@ pub data Route : Type 0 where
   tick : Route
   hosts : (id : List ℕ) → Route
 
-abbrev pub place_of : Route → Place
-place_of scheduler = at.Scheduler
-place_of (import kind batch) = at.Import
-place_of tick = at.Tick
-place_of (hosts id) = at.Hosts
+abbrev pub kind_of_route : Route → RouteKind
+kind_of_route scheduler = at.Scheduler
+kind_of_route (import kind batch) = at.Import
+kind_of_route tick = at.Tick
+kind_of_route (hosts id) = at.Hosts
 
 -- the path of a target: up to the first `?` (RFC 3986, section 3.3)
 abbrev pub path_of : List ℕ → List ℕ

@@ -7,16 +7,16 @@ ghost use Rattle.http_messages.specs.Fields.{found_told};
 
 use crate::fields::{Found, find};
 use crate::numbers::length_in;
-use crate::place::Place;
+use crate::route_kind::RouteKind;
 use httparse::spans::HeaderSpan;
 use rpc_records::Fault;
 
-fn untold_length(place: Place) -> Result<usize, Fault>
-    ensures { result ≡ spec.untold_length place }
+fn untold_length(route_kind: RouteKind) -> Result<usize, Fault>
+    ensures { result ≡ spec.untold_length route_kind }
 {
-    match place {
-        Place::Tick => Ok(0),
-        Place::Scheduler | Place::Import | Place::Hosts => Err(Fault::LengthRequired),
+    match route_kind {
+        RouteKind::Tick => Ok(0),
+        RouteKind::Scheduler | RouteKind::Import | RouteKind::Hosts => Err(Fault::LengthRequired),
     }
 }
 
@@ -31,26 +31,30 @@ fn length_within(most: usize, length: Option<u64>) -> Result<usize, Fault>
 }
 
 /// The length by what is told of Content-Length.
-fn told_length(place: Place, found: Found<'_>) -> Result<usize, Fault>
-    ensures { result ≡ spec.told_length place (found_told found.entry) }
+fn told_length(route_kind: RouteKind, found: Found<'_>) -> Result<usize, Fault>
+    ensures { result ≡ spec.told_length route_kind (found_told found.entry) }
 {
     match found {
-        Found::Absent => untold_length(place),
-        Found::Once(value) => length_within(place.most_bytes(), length_in(value)),
+        Found::Absent => untold_length(route_kind),
+        Found::Once(value) => length_within(route_kind.most_bytes(), length_in(value)),
         Found::Often => Err(Fault::BadHttp),
     }
 }
 
 /// The length of the body that the fields at `spans` in `front` tell, or the first refusal that they get.
-pub(crate) fn body_length(place: Place, front: &[u8], spans: &[HeaderSpan]) -> Result<usize, Fault>
+pub(crate) fn body_length(
+    route_kind: RouteKind,
+    front: &[u8],
+    spans: &[HeaderSpan],
+) -> Result<usize, Fault>
     requires { All (IsHeaderWithin (length front.now)) spans.now }
-    ensures { result ≡ spec.body_length place (map (header_bytes front.now) spans.now) }
+    ensures { result ≡ spec.body_length route_kind (map (header_bytes front.now) spans.now) }
 {
-    if matches!(place, Place::Hosts) {
+    if matches!(route_kind, RouteKind::Hosts) {
         return Ok(0);
     }
     if find(front, spans, b"transfer-encoding").is_told() {
         return Err(Fault::LengthRequired);
     }
-    told_length(place, find(front, spans, b"content-length"))
+    told_length(route_kind, find(front, spans, b"content-length"))
 }

@@ -7,7 +7,7 @@ ghost use Rattle.http_messages.specs.Deciding as spec;
 ghost use Rattle.http_messages.specs.Fields.{found_told};
 ghost use Rattle.http_messages.specs.Hearing.{decision_seen};
 ghost use Rattle.http_messages.specs.Meaning.{message_seen};
-ghost use Rattle.http_messages.specs.Places.{method_text};
+ghost use Rattle.http_messages.specs.RouteKinds.{method_text};
 ghost use Rattle.http_messages.specs.Routing.{route_seen};
 
 use crate::bodies::body_length;
@@ -116,14 +116,14 @@ fn decide_on<'b>(
     requires { All (IsHeaderWithin (length front.now)) spans.now }
     ensures { decision_seen result ≡ spec.decided_on key.now method.now (map (header_bytes front.now) spans.now) (route_seen route.entry) }
 {
-    let place = route.place();
-    if !is_method(method, place.method()) {
-        return Decision::AtOnce(Message::WrongMethod(place.method()));
+    let route_kind = route.kind();
+    if !is_method(method, route_kind.method()) {
+        return Decision::AtOnce(Message::WrongMethod(route_kind.method()));
     }
-    if place.needs_key() && !is_operator(key, front, spans) {
+    if route_kind.needs_key() && !is_operator(key, front, spans) {
         return Decision::AtOnce(Message::Refused(Fault::NotOperator));
     }
-    match body_length(place, front, spans) {
+    match body_length(route_kind, front, spans) {
         Ok(bytes) => Decision::WithBody(route, bytes),
         Err(fault) => Decision::AtOnce(Message::Refused(fault)),
     }

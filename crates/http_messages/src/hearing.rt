@@ -11,7 +11,7 @@ ghost use Rattle.http_messages.specs.Routers.{the_routes};
 use crate::deciding::{Decision, decide_for};
 use crate::heads::{HeadRead, MOST_FIELDS, head_room, read_head};
 use crate::message::{Heard, Message};
-use crate::place::Place;
+use crate::route_kind::RouteKind;
 use crate::routes::{path_of, route_of};
 use httparse::spans::{EMPTY_HEADER_SPAN, HeaderSpan, RequestSpans};
 use matchit::Router;
@@ -20,7 +20,7 @@ use texts::utf8_text;
 
 /// What the head in `front` decides whose parts are at these spans.
 fn decide<'b>(
-    router: &Router<Place>,
+    router: &Router<RouteKind>,
     key: &[u8],
     front: &'b [u8],
     fields: &[HeaderSpan],
@@ -55,7 +55,7 @@ fn decide<'b>(
 /// they are to be heard again with what it sends, once that is so many bytes. Of a whole head these are the rest of its
 /// body; a head that is not whole misses one byte at the least. Once the peer has stopped they mean what is told here, which
 /// for a request that is cut short is [`Fault::BadHttp`].
-pub fn hear<'b>(router: &Router<Place>, key: &[u8], bytes: &'b [u8]) -> Heard<'b>
+pub fn hear<'b>(router: &Router<RouteKind>, key: &[u8], bytes: &'b [u8]) -> Heard<'b>
     requires { router.now ≡ the_routes }
     ensures meaning { Means key.now bytes.entry.now (message_seen result.message) }
     ensures settled { result.missing ≡ 0 → IsSettled key.now bytes.entry.now (message_seen result.message) }

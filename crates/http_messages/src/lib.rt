@@ -13,10 +13,10 @@ mod hearing;
 pub mod laws;
 pub mod message;
 mod numbers;
-pub mod place;
+pub mod route_kind;
 mod routes;
 
 pub use hearing::hear;
 pub use message::{Heard, Message};
-pub use place::Place;
+pub use route_kind::RouteKind;
 pub use routes::new_router;

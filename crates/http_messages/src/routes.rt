@@ -6,7 +6,7 @@ ghost use Rattle.http_messages.specs.Routing as spec;
 ghost use Rattle.http_messages.specs.Routers as routers;
 ghost use Rattle.http_messages.specs.Routers.{the_routes};
 
-use crate::place::Place;
+use crate::route_kind::RouteKind;
 use matchit::{InsertError, Router};
 use std::alloc::Global;
 use stores::Kind;
@@ -23,14 +23,14 @@ pub(crate) enum Route<'b> {
 
 impl<'b> Route<'b> {
     /// Without what the path names.
-    pub(crate) fn place(self) -> Place
-        ensures { result ≡ spec.place_of (spec.route_seen self.entry) }
+    pub(crate) fn kind(self) -> RouteKind
+        ensures { result ≡ spec.kind_of_route (spec.route_seen self.entry) }
     {
         match self {
-            Route::Scheduler => Place::Scheduler,
-            Route::Import(_, _) => Place::Import,
-            Route::Tick => Place::Tick,
-            Route::Hosts(_) => Place::Hosts,
+            Route::Scheduler => RouteKind::Scheduler,
+            Route::Import(_, _) => RouteKind::Import,
+            Route::Tick => RouteKind::Tick,
+            Route::Hosts(_) => RouteKind::Hosts,
         }
     }
 }
@@ -40,14 +40,14 @@ impl<'b> Route<'b> {
 /// # Errors
 ///
 /// Memory is wanting.
-pub fn new_router(alloc: Global) -> Result<Router<Place>, InsertError>
+pub fn new_router(alloc: Global) -> Result<Router<RouteKind>, InsertError>
     ensures { IfOk result (λ router. router ≡ the_routes) }
 {
     let mut router = Router::new(alloc);
-    router.insert("/scheduler", Place::Scheduler)?;
-    router.insert("/import/{kind}/{batch}", Place::Import)?;
-    router.insert("/tick", Place::Tick)?;
-    router.insert("/hosts/{id}", Place::Hosts)?;
+    router.insert("/scheduler", RouteKind::Scheduler)?;
+    router.insert("/import/{kind}/{batch}", RouteKind::Import)?;
+    router.insert("/tick", RouteKind::Tick)?;
+    router.insert("/hosts/{id}", RouteKind::Hosts)?;
     Ok(router)
 }
 
@@ -98,18 +98,18 @@ fn import_of(text: &[u8]) -> Option<Route<'_>>
     }
 }
 
-/// The route at a place, by what the path names.
-fn route_at<'b>(place: Place, path: &'b [u8]) -> Option<Route<'b>>
-    ensures { option_map spec.route_seen result ≡ routers.route_at place path.now }
+/// The route of a kind, by what the path names.
+fn route_at<'b>(route_kind: RouteKind, path: &'b [u8]) -> Option<Route<'b>>
+    ensures { option_map spec.route_seen result ≡ routers.route_at route_kind path.now }
 {
-    match place {
-        Place::Scheduler => Some(Route::Scheduler),
-        Place::Tick => Some(Route::Tick),
-        Place::Import => match path.strip_prefix(b"/import/".as_slice()) {
+    match route_kind {
+        RouteKind::Scheduler => Some(Route::Scheduler),
+        RouteKind::Tick => Some(Route::Tick),
+        RouteKind::Import => match path.strip_prefix(b"/import/".as_slice()) {
             Some(text) => import_of(text),
             None => None,
         },
-        Place::Hosts => match path.strip_prefix(b"/hosts/".as_slice()) {
+        RouteKind::Hosts => match path.strip_prefix(b"/hosts/".as_slice()) {
             Some(id) => Some(Route::Hosts(id)),
             None => None,
         },
@@ -117,7 +117,7 @@ fn route_at<'b>(place: Place, path: &'b [u8]) -> Option<Route<'b>>
 }
 
 /// The route that the router finds for a path.
-fn found_route<'b>(router: &Router<Place>, path: &'b str) -> Option<Route<'b>>
+fn found_route<'b>(router: &Router<RouteKind>, path: &'b str) -> Option<Route<'b>>
     requires { router.now ≡ the_routes }
     ensures { option_map spec.route_seen result ≡ routers.found_route path.now }
 {
@@ -128,7 +128,7 @@ fn found_route<'b>(router: &Router<Place>, path: &'b str) -> Option<Route<'b>>
 }
 
 /// The route of a path, where it has one.
-pub(crate) fn route_of<'b>(router: &Router<Place>, path: &'b str) -> Option<Route<'b>>
+pub(crate) fn route_of<'b>(router: &Router<RouteKind>, path: &'b str) -> Option<Route<'b>>
     requires { router.now ≡ the_routes }
     ensures { option_map spec.route_seen result ≡ spec.route_of path.now }
 {

@@ -1,11 +1,9 @@
 -- The fates of lost jobs, as changes and as what becomes of a world.
-use Rattle.std.proofs.Common.{◌≡◌, ℕ, zero, suc, ◌-◌, ◌<◌, Bool, true, false, cond, eqb, List, [], ◌∷◌, ◌++◌, length, map, Option, Some, None, sym, refl, ap, ◌∙◌, subst}
-use Rattle.std.specs.Prelude.{fold, filter_map, option_map, option_and_then, slice_get, slice_set}
+use Rattle.std.proofs.Common.{◌≡◌, ℕ, zero, suc, ◌-◌, Bool, true, false, cond, eqb, List, [], ◌∷◌, map, Option, Some, None, sym, refl, ap, ◌∙◌, subst}
+use Rattle.std.specs.Prelude.{fold, filter_map, option_map, option_and_then, slice_get}
 use Rattle.std.specs.List.{cons_option}
-use Rattle.std.proofs.lemmas.Bool.{lt-ltb}
-use Rattle.std.proofs.lemmas.Option.{slice_get_within, get_or_from_slice_get}
 use Rattle.sched_book.specs.Places.{nth, unit_at, instance_at, is_same}
-use Rattle.sched_book.specs.Delta.{set_at, with_instance, applied_one, applied}
+use Rattle.sched_book.specs.Delta.{with_instance, applied_one, applied}
 use Rattle.sched_book.specs.Reports.{modify_at, modify_nth, with_number, with_changed}
 use Rattle.sched_book.specs.declared.delta.Change.{Change}
 use Rattle.sched_book.specs.declared.delta.Change.TheVariants as change
@@ -14,7 +12,7 @@ use Rattle.sched_book.specs.declared.instance.Owner.{Owner}
 use Rattle.sched_book.specs.declared.instance.Place.{Place}
 use Rattle.sched_book.specs.declared.instance.UnitBook.{UnitBook}
 use Rattle.sched_book.specs.declared.world.World.{World}
-use Rattle.sched_book.proofs.Changes.{modify_at-set}
+use Rattle.sched_book.proofs.Changes.{modify_at-put}
 use Rattle.sched_book.proofs.Recording.{instance_at-with_changed, is_same-true}
 use Rattle.lost_jobs.specs.Fated.{fated, with_fate, fate_change, AreByPlace}
 use Rattle.lost_jobs.specs.declared.fates.Fate.{Fate}
@@ -47,13 +45,6 @@ modify_nth-none xs n = cases (eqb n 0)
     cases : (b : Bool) → cond b xs (modify_at (λ x. x) xs (n - 1)) ≡ xs
     cases true = refl
     cases false = modify_at-none xs (n - 1)
-
--- where an element stands, changing it is putting the changed one
-modify_at-put : {X : Type 0} (f : X → X) (xs : List X) (i : ℕ) (x : X) → slice_get xs i ≡ Some x → modify_at f xs i ≡ set_at xs i (f x)
-modify_at-put f xs i x stands =
-    let within : i < length xs = slice_get_within xs i x stands in
-    modify_at-set f xs i x within (sym (get_or_from_slice_get xs i x x stands))
-    ∙ sym (ap (λ (b : Bool). cond b (slice_set xs i (f x)) (xs ++ f x ∷ [])) (lt-ltb i (length xs) within))
 
 module _ (w : World) (p : Place) where
   stands_at : (b : UnitBook) → unit_at w p.unit ≡ Some b → instance_at w p ≡ slice_get b.instances p.number

@@ -3,7 +3,7 @@ use Rattle.std.proofs.Common.{◌≡◌, ℕ, suc, ◌+◌, Bool, true, false, c
 use Rattle.std.specs.Prelude.{◌&&◌, filter, option_map, option_and_then, unwrap_or, slice_get}
 use Rattle.std.specs.List.{list_any}
 use Rattle.std.specs.Str.{bytes_eq}
-use Rattle.std.proofs.lemmas.List.Elements.{filter-append}
+use Rattle.std.proofs.lemmas.List.Elements.{filter-append, filter_agree}
 use Rattle.sched_book.specs.Places.{nth, places_in, places_among, passes, is_held_by, held_by, name_at}
 use Rattle.sched_book.specs.Lost.{is_listed, unlisted, lost}
 use Rattle.sched_book.specs.declared.instance.Instance.{Instance}
@@ -110,18 +110,13 @@ filter_twice p q (x ∷ xs) = cases (p x) (q x) (filter_twice p q xs) refl
     cases true false rest is = ap (λ (b : Bool). cond b (x ∷ filter q (filter p xs)) (filter q (filter p xs))) is ∙ rest
     cases false t rest is = rest
 
--- two tests that say the same
-filter_same : {X : Type 0} (p q : X → Bool) → ((x : X) → p x ≡ q x) → (xs : List X) → filter p xs ≡ filter q xs
-filter_same p q same [] = refl
-filter_same p q same (x ∷ xs) = ap (λ (b : Bool). cond b (x ∷ filter p xs) (filter p xs)) (same x) ∙ ap (λ ys. cond (q x) (x ∷ ys) ys) (filter_same p q same xs)
-
 -- the missing ones among what the host held are those that it holds and does not list
 pub unlisted_is : (before after : World) (host : ℕ) (set : SeenSet (List ℕ)) (names : List (List ℕ))
     → ((name : List ℕ) → has_seen bytes_eq set name ≡ list_any (bytes_eq name) names) → HoldsNoMore before after host
     → filter (is_missing after host set) (held_by before host) ≡ unlisted after host (Some names)
 unlisted_is before after host set names has no_more =
     sym (filter_twice (passes after (λ b x. is_held_by host x)) (λ p. not (has_seen bytes_eq set (name_at after p))) (held_by before host))
-    ∙ filter_same (λ p. not (has_seen bytes_eq set (name_at after p))) (λ p. not (is_listed after names p)) (λ p. ap not (has (name_at after p)))
+    ∙ filter_agree (λ p. not (has_seen bytes_eq set (name_at after p))) (λ p. not (is_listed after names p)) (λ p. ap not (has (name_at after p)))
     (filter (passes after (λ b x. is_held_by host x)) (held_by before host))
     ∙ ap (filter (λ p. not (is_listed after names p))) (sym (held_after before after host no_more))
 

@@ -1,8 +1,7 @@
 -- A call over a store: what it is told, and what acting on it does.
-use Rattle.std.proofs.Common.{◌≡◌, ℕ, ◌≤◌, ◌<◌, Bool, true, false, cond, nat_lt, List, length, Option, Some, None, Result, Ok, Err, refl, sym, ◌∙◌, ap, subst, arith}
+use Rattle.std.proofs.Common.{◌≡◌, ℕ, ◌≤◌, ◌<◌, Bool, true, false, cond, List, length, Option, Some, None, Result, Ok, Err, refl, sym, ◌∙◌, ap, subst}
 use Rattle.std.specs.Prelude.{is_none, option_and_then, IfOk, OnOk}
-use Rattle.std.proofs.lemmas.Bool.{and_parts, lt-ltb}
-use Rattle.std.proofs.lemmas.Bool.Decides.{nat_tests}
+use Rattle.std.proofs.lemmas.Bool.{and_parts, lt-ltb, le-ltb}
 use Rattle.std.proofs.lemmas.Option.{none-some}
 use Rattle.reply_register.specs.Calls.{heard, is_above_all, reply_at}
 use Rattle.reply_register.specs.declared.kept.Heard.{Heard}
@@ -85,11 +84,8 @@ beside_fresh : (room : Bool) (kept : List Kept) (seqno : ℕ) (text : List ℕ) 
     → told_beside room kept seqno text ≡ told_fresh room
 beside_fresh room kept seqno text is = heard_fresh room kept (heard kept seqno text) is
 
-not_less : (a b : ℕ) → b ≤ a → nat_lt a b ≡ false
-not_less a b most = grind (arith, nat_tests)
-
 no_room : (max count : ℕ) (number : Option ℕ) → number ≡ None → max ≤ count → has_host_room max number count ≡ false
-no_room max count None none full = not_less count max full
+no_room max count None none full = le-ltb count max full
 no_room max count (Some number) none full = absurd (none-some number (sym none))
 
 -- what a call that may act is told is for room to say

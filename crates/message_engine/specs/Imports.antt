@@ -1,4 +1,4 @@
--- Rule. What the text of an import says. (The formats are this profile's.)
+-- Promise. What the text of an import says. (The formats are this profile's.)
 use Rattle.std.specs.Prelude.{◌≡◌, ℕ, nat_lt, if◌then◌else◌, List, Result, Ok, Err}
 use Rattle.office_files.specs.Faults.{refusal_of}
 use Rattle.office_files.specs.Importing.{accounts_in, apps_in, versions_in, workunits_in, former_versions_in, former_workunits_in, Says}

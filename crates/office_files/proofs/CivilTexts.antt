@@ -1,7 +1,6 @@
 -- The datetime that stands at a moment has the year, month, day and time that the moment's text tells.
 use Rattle.std.proofs.Common.{◌≡◌, ℕ, zero, suc, ◌+◌, ◌*◌, ◌/◌, ◌%◌, ◌<◌, ◌≤◌, inl, inr, Bool, true, false, cond, nat_lt, ◌∷◌, ◌++◌, None, refl, sym, ap, ◌∙◌, arith, ℤ, pos, negsuc, ◌≤ℤ◌, unsigned_abs}
-use Rattle.std.proofs.lemmas.Bool.{cases_order}
-use Rattle.std.proofs.lemmas.Bool.Decides.{nat_tests}
+use Rattle.std.proofs.lemmas.Bool.{cases_order, lt-ltb, le-ltb}
 use Rattle.std.proofs.lemmas.Int.{by_lt_z}
 use Rattle.jiff.specs.Words.{civil_nanos, date_text, time_text, epoch_day, time_nanos}
 use Rattle.jiff.proofs.Family.{epoch_day-civil_nanos, civil_nanos-parts}
@@ -35,12 +34,6 @@ first_is n (suc more) y p low high before at =
       | inr (inr gt) ↦ absurd (omega arith)
     ])
 
-is_before : (a b : ℕ) → a < b → nat_lt a b ≡ true
-is_before a b h = grind (arith, nat_tests)
-
-is_not_before : (a b : ℕ) → b ≤ a → nat_lt a b ≡ false
-is_not_before a b h = grind (arith, nat_tests)
-
 module _ (y m d day : ℕ) (late : 1970 ≤ y) (early : y ≤ 9999) (is_civil : IsCivilDate (pos y) m d) (is : day_count (pos y) m d ≡ day + 4_371_953) where
   year_began : (k : ℕ) → 1970 ≤ k → k < y → day_count (pos (k + 1)) 1 1 ≤ day_count (pos y) m d
   year_began k low lt =
@@ -65,14 +58,14 @@ module _ (y m d day : ℕ) (late : 1970 ≤ y) (early : y ≤ 9999) (is_civil : 
   pub year_is : year_of day ≡ y
   year_is =
       first_is 1970 8029 y (λ year. nat_lt day (month_start (year + 1) 1)) late (omega arith)
-      (λ k low lt. is_not_before day (month_start (k + 1) 1) (omega (arith, day_count-epoch, year_began k low lt, is)))
-      (is_before day (month_start (y + 1) 1) (omega (arith, day_count-epoch, is, day_count-lt_year (pos y) m d (pos (y + 1)) 1 1 is_civil (omega arith) (omega (arith, signed_arith)))))
+      (λ k low lt. le-ltb day (month_start (k + 1) 1) (omega (arith, day_count-epoch, year_began k low lt, is)))
+      (lt-ltb day (month_start (y + 1) 1) (omega (arith, day_count-epoch, is, day_count-lt_year (pos y) m d (pos (y + 1)) 1 1 is_civil (omega arith) (omega (arith, signed_arith)))))
 
   pub month_is : month_of y day ≡ m
   month_is =
       first_is 1 11 m (λ month. nat_lt day (month_start y (month + 1))) is_civil.1.0 (omega (arith, is_civil.1))
-      (λ k low lt. is_not_before day (month_start y (k + 1)) (omega (arith, day_count-epoch, month_began k low lt, is)))
-      (is_before day (month_start y (m + 1)) (omega (arith, day_count-epoch, is, day_count-lt_month (pos y) m d (m + 1) 1 is_civil (omega arith) (omega arith))))
+      (λ k low lt. le-ltb day (month_start y (k + 1)) (omega (arith, day_count-epoch, month_began k low lt, is)))
+      (lt-ltb day (month_start y (m + 1)) (omega (arith, day_count-epoch, is, day_count-lt_month (pos y) m d (m + 1) 1 is_civil (omega arith) (omega arith))))
 
   since_1970 : day_count (pos 1970) 1 1 ≤ day_count (pos y) m 1
   since_1970 =

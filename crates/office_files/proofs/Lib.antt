@@ -1,7 +1,6 @@
 pub mod CountTexts
 pub mod CivilTexts
 pub mod LookUps
-pub mod FromTheFront
 pub mod TakenNames
 pub mod TextRecords
 pub mod FirstFaults

@@ -2,7 +2,8 @@
 use Rattle.std.proofs.Common.{◌≡◌, ℕ, zero, suc, ◌≤◌, List, [], ◌∷◌, Option, None, Some, sym, refl, ◌∙◌, subst, arith}
 use Rattle.std.specs.Prelude.{All, IfSome, option_map, option_and_then, slice_get}
 use Rattle.std.specs.List.{cons_option, filter_map}
-use Rattle.std.proofs.lemmas.List.Elements.{All-nil, All-cons, All-head, All-tail}
+use Rattle.std.proofs.lemmas.List.Elements.{All-nil, All-cons}
+use Rattle.std.proofs.lemmas.Option.{same_Some}
 use Rattle.sched_book.specs.Count.{verdict}
 use Rattle.sched_book.specs.Limits.{IsInstanceInLimits, last_moment, last_deadline}
 use Rattle.sched_book.specs.Places.{unit_at, agreement_of, deadline_of, owned_by}
@@ -12,19 +13,11 @@ use Rattle.sched_book.specs.declared.instance.Owner.{Owner}
 use Rattle.sched_book.specs.declared.instance.UnitBook.{UnitBook}
 use Rattle.sched_book.specs.declared.world.World.{World}
 use Rattle.sched_book.proofs.PlacesOf.{nth-suc}
+use Rattle.sched_book.proofs.ByPlace.{all_get}
 use Rattle.office_files.specs.Civil.{last_civil}
 use Rattle.office_files.specs.Statements.{line_at, line_by, line_in, sent_of}
 use Rattle.office_files.specs.StatementLaws.{HaveTexts, MomentsHaveTexts}
 use Rattle.office_files.specs.declared.statement.line.Line.{Line}
-
-same_item : {X : Type 0} (x y : X) → Some x ≡ Some y → x ≡ y
-same_item x y e = cc
-
--- what is said of all is said of the one at an index
-at_index : {X : Type 0} (P : X → Type 0) (xs : List X) (i : ℕ) (x : X) → All P xs → slice_get xs i ≡ Some x → P x
-at_index P [] i x all is = absurd (let never : None ≡ Some x = is in cc)
-at_index P (y ∷ ys) zero x all is = subst P (same_item y x is) (All-head P y ys all)
-at_index P (y ∷ ys) (suc i) x all is = at_index P ys i x (All-tail P y ys all) is
 
 each_kept : {X Y : Type 0} (P : Y → Type 0) (h : X → Option Y) → ((x : X) (y : Y) → h x ≡ Some y → P y) → (xs : List X) → All P (filter_map h xs)
 each_kept P h each [] = All-nil P
@@ -46,8 +39,8 @@ in_book : (w : World) (b : UnitBook) (number : ℕ) (line : Line) (o : Option In
     → option_map (λ x. line_by (verdict (agreement_of w b) b.unit b.instances x) b.unit number x) o ≡ Some line → HaveTexts line
 in_book w b number line None all stands is = absurd (let never : None ≡ Some line = is in cc)
 in_book w b number line (Some x) all stands is =
-    let limits = at_index IsInstanceInLimits b.instances number x all stands in
-    subst HaveTexts (same_item (line_by (verdict (agreement_of w b) b.unit b.instances x) b.unit number x) line is)
+    let limits = all_get IsInstanceInLimits b.instances number x all stands in
+    subst HaveTexts (same_Some (line_by (verdict (agreement_of w b) b.unit b.instances x) b.unit number x) line is)
     (sent_early x.owner limits.sent, due_early x.owner limits.deadline)
 
 in_world : (w : World) (unit number : ℕ) (line : Line) (o : Option UnitBook) → Sound w → unit_at w unit ≡ o
@@ -55,7 +48,7 @@ in_world : (w : World) (unit number : ℕ) (line : Line) (o : Option UnitBook) �
 in_world w unit number line None sound stands is = absurd (let never : None ≡ Some line = is in cc)
 in_world w zero number line (Some b) sound stands is = absurd (let never : None ≡ Some b = stands in cc)
 in_world w (suc i) number line (Some b) sound stands is =
-    let unit = at_index (IsSoundUnit w.hosts w.apps) w.units i b sound.units (sym (nth-suc w.units i) ∙ stands) in
+    let unit = all_get (IsSoundUnit w.hosts w.apps) w.units i b sound.units (sym (nth-suc w.units i) ∙ stands) in
     in_book w b number line (slice_get b.instances number) unit.well.instances refl is
 
 pub moments_have_texts : MomentsHaveTexts

@@ -1,11 +1,11 @@
 -- Looking through rows for a name that stands or came before, one row at a time.
-use Rattle.std.proofs.Common.{◌≡◌, ℕ, ◌+◌, ◌<◌, Bool, true, false, cond, List, [], ◌∷◌, ◌++◌, length, get_or, drop, take, Some, sym, refl, ap, ◌∙◌, append_assoc}
+use Rattle.std.proofs.Common.{◌≡◌, ℕ, ◌+◌, ◌<◌, Bool, true, false, cond, List, [], ◌∷◌, ◌++◌, length, get_or, drop, take, Some, sym, ap, ◌∙◌, append_assoc}
 use Rattle.std.specs.Prelude.{◌||◌}
 use Rattle.std.specs.List.{list_any}
 use Rattle.std.proofs.lemmas.List.{take_more, drop_more}
 use Rattle.std.proofs.lemmas.List.Folds.{list_any-append}
 use Rattle.sched_book.specs.Imports.{first_known}
-use Rattle.office_files.specs.Keys.{Key, same_key}
+use Rattle.sched_book.specs.Keys.{Key, same_key}
 use Rattle.office_files.proofs.LookUps.{list_any-ext}
 
 module _ {X : Type 0} (rows : List X) (i : ℕ) (x : X) (within : i < length rows) (is : x ≡ get_or rows i x) where
@@ -22,20 +22,6 @@ module _ {X : Type 0} (rows : List X) (i : ℕ) (x : X) (within : i < length row
     taken shelf =
         list_any-append (same x) shelf (take i rows)
         ∙ ap (λ b. list_any (same x) shelf || b) (list_any-ext (same x) (λ y. same_key (key_of x) (key_of y)) (by_key x) (take i rows))
-
-    -- the keys so far, with one more
-    pub one_more : (key : Key) → (same_key key (key_of x) || list_any (λ y. same_key key (key_of y)) (take i rows))
-        ≡ list_any (λ y. same_key key (key_of y)) (take (i + 1) rows)
-    one_more key =
-        turned (same_key key (key_of x)) (list_any (λ y. same_key key (key_of y)) (take i rows))
-        ∙ sym (list_any-append (λ y. same_key key (key_of y)) (take i rows) (x ∷ []))
-        ∙ ap (list_any (λ y. same_key key (key_of y))) (sym so_far)
-      where
-        turned : (a b : Bool) → (a || b) ≡ (b || (a || false))
-        turned true true = refl
-        turned true false = refl
-        turned false true = refl
-        turned false false = refl
 
   module _ (same : X → X → Bool) (shelf : List X) (n : ℕ) where
     at_row : first_known same n (shelf ++ take i rows) (drop i rows)

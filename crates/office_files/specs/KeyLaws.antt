@@ -3,7 +3,7 @@ use Rattle.std.specs.Prelude.{◌≡◌, Bool, true, false, ◌&&◌, ◌==◌, 
 use Rattle.std.specs.Str.{bytes_eq}
 use Rattle.sched_book.specs.Imports.{same_version}
 use Rattle.sched_book.specs.declared.rows.Version.{Version}
-use Rattle.office_files.specs.Keys.{same_key, version_key}
+use Rattle.sched_book.specs.Keys.{same_key, version_key}
 
 turned : (app platform number : Bool) → (app && platform && number) ≡ ((number && platform) && app)
 turned true true true = refl

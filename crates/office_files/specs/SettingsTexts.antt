@@ -3,9 +3,9 @@ use Rattle.std.specs.Prelude.{◌≡◌, ◌≤◌, ℕ, ℤ, pos, Bool, ◌||�
 use Rattle.std.specs.Str.{bytes_eq}
 use Rattle.toml.specs.Data.{Members, get_member, as_integer, as_str, as_bool}
 use Rattle.toml.specs.Parse.{parse_document}
-use Rattle.rpc_records.specs.Ranges.{IsWord}
 use Rattle.sched_book.specs.Limits.{least_key, AreSettingsInLimits}
 use Rattle.sched_book.specs.declared.settings.Settings.{Settings}
+use Rattle.texts.specs.Words.{IsWord}
 
 -- the integer, the string and the boolean at a key of a table
 abbrev pub integer_at : List ℕ → Members → Option ℤ

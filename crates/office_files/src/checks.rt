@@ -5,7 +5,7 @@ ghost use Rattle.std.specs.List.{list_any};
 ghost use Rattle.sched_book.specs.Imports.{shelf_of, shelved, first_known, duplicate_at, unknown_at, has_app, has_room, fault_of_rows};
 ghost use Rattle.sched_book.specs.Places.{place_where};
 ghost use Rattle.sched_book.specs.Trusted.{Trusted};
-ghost use Rattle.office_files.specs.Keys.{Key, same_key, has_key};
+ghost use Rattle.sched_book.specs.Keys.{Key, same_key, has_key};
 ghost use Rattle.office_files.specs.Checking as spec;
 ghost use Rattle.office_files.specs.Faults.{refusal_of};
 ghost use Rattle.office_files.specs.declared.fault.RowsFault.TheVariants as fault;

@@ -2,7 +2,7 @@
 
 ghost use Rattle.std.specs.Prelude.{◌≡◌, ◌≤◌, ◌<◌, IfOk, IsTrue, None};
 ghost use Rattle.csv.specs.Records.{fields_of};
-ghost use Rattle.rpc_records.specs.Ranges.{IsWord};
+ghost use Rattle.texts.specs.Words.{IsWord};
 ghost use Rattle.sched_book.specs.Classes.{class_of, first_rule};
 ghost use Rattle.sched_book.specs.Limits.{most_distance, is_user_name, distance_of};
 ghost use Rattle.office_files.specs.Columns.{name_in, number_in, agreement_in, rule_in};

@@ -4,29 +4,22 @@ ghost use Rattle.std.specs.Prelude.{◌≡◌, Bool, List, ℕ, map, IfOk, refl}
 ghost use Rattle.std.specs.List.{list_any};
 ghost use Rattle.sched_book.specs.Classes.{imported};
 ghost use Rattle.sched_book.specs.Imports.{same_account, same_app, same_version, same_unit};
+ghost use Rattle.sched_book.specs.Keys.{same_key};
 ghost use Rattle.sched_book.specs.Trusted.{Trusted};
 ghost use Rattle.sched_book.specs.declared.instance.UnitBook.{UnitBook};
-ghost use Rattle.office_files.specs.Keys.{Key, same_key, account_key, app_key, version_key, unit_key};
 
-use sched_book::{Account, App, Desk, Unavailable, Version, Workunit};
+use sched_book::{Account, App, Desk, Keyed, Unavailable, Version, Workunit};
 use std::alloc::Global;
 
 /// A row whose name may stand once.
-pub(crate) trait NamedRow {
+pub(crate) trait NamedRow: Keyed {
     ghost use Rattle.sched_book.specs.declared.world.World.{World};
 
     /// Two rows have the same name.
     ghost same: { Self → Self → Bool };
 
-    /// What tells it apart.
-    ghost key_of: { Self → Key };
-
     /// The rows of its kind that stand.
     ghost shelf: { World → List Self };
-
-    /// The number and the platform of a version, 0 and the empty text for other rows, and the name.
-    fn key(&self) -> (u32, &str, &str)
-        ensures { (result.0, result.1.now, result.2.now) ≡ key_of self.now };
 
     /// Whether its name stands.
     fn is_known<D: Desk>(&self, alloc: Global, desk: &mut D) -> Result<bool, Unavailable>
@@ -34,19 +27,13 @@ pub(crate) trait NamedRow {
         ensures answer { Trusted D.Units desk.old desk.new (IfOk result (λ known. known ≡ list_any (same self.now) (shelf (D.world desk.old)))) };
 
     // Names are the same where keys are.
-    ghost same_by_key: { (x y : Self) → same x y ≡ same_key (key_of x) (key_of y) };
+    ghost same_by_key: { (x y : Self) → same x y ≡ same_key (Self.key_of x) (Self.key_of y) };
 }
 
 impl NamedRow for Account {
     ghost same = { same_account };
 
-    ghost key_of = { account_key };
-
     ghost shelf = { λ w. w.accounts };
-
-    fn key(&self) -> (u32, &str, &str) {
-        (0, "", self.authenticator.as_str())
-    }
 
     #[tactic(auto, using(crate::proofs::LookUps::account_known))]
     fn is_known<D: Desk>(&self, alloc: Global, desk: &mut D) -> Result<bool, Unavailable> {
@@ -62,13 +49,7 @@ impl NamedRow for Account {
 impl NamedRow for App {
     ghost same = { same_app };
 
-    ghost key_of = { app_key };
-
     ghost shelf = { λ w. w.apps };
-
-    fn key(&self) -> (u32, &str, &str) {
-        (0, "", self.name.as_str())
-    }
 
     #[tactic(auto, using(crate::proofs::LookUps::app_known))]
     fn is_known<D: Desk>(&self, alloc: Global, desk: &mut D) -> Result<bool, Unavailable> {
@@ -83,13 +64,7 @@ impl NamedRow for Version {
 
     ghost same = { same_version };
 
-    ghost key_of = { version_key };
-
     ghost shelf = { λ w. w.versions };
-
-    fn key(&self) -> (u32, &str, &str) {
-        (self.version_num, self.platform.as_str(), self.app.as_str())
-    }
 
     #[tactic(auto, using(crate::proofs::LookUps::version_known))]
     fn is_known<D: Desk>(&self, alloc: Global, desk: &mut D) -> Result<bool, Unavailable> {
@@ -110,13 +85,7 @@ impl NamedRow for Version {
 impl NamedRow for Workunit {
     ghost same = { same_unit };
 
-    ghost key_of = { unit_key };
-
     ghost shelf = { λ w. map (λ (b : UnitBook). imported b.unit) w.units };
-
-    fn key(&self) -> (u32, &str, &str) {
-        (0, "", self.name.as_str())
-    }
 
     #[tactic(auto, using(crate::proofs::LookUps::unit_known))]
     fn is_known<D: Desk>(&self, _alloc: Global, desk: &mut D) -> Result<bool, Unavailable> {

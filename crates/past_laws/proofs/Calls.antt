@@ -21,9 +21,9 @@ use Rattle.pasts.specs.Stands.{Heard, Tables, Commits, Serves, ServesAs, told_by
 use Rattle.pasts.specs.declared.answer.Answer.{Answer}
 use Rattle.pasts.specs.declared.answer.Answer.TheVariants.{Good}
 use Rattle.sched_machine.specs.Runs.{owner_at, OwnersStay, IsSentAgain}
-use Rattle.sched_machine.proofs.HeldNamed as named
-use Rattle.sched_machine.proofs.RunDeadlines as deadlines
-use Rattle.sched_machine.proofs.RunLasting.{owners_stay_in_step}
+use Rattle.sched_machine.proofs.Held.Named as named
+use Rattle.sched_machine.proofs.Runs.Deadlines as deadlines
+use Rattle.sched_machine.proofs.Runs.Lasting.{owners_stay_in_step}
 use Rattle.past_laws.specs.Laws.{IsSentAgainBy, DeadlinesMoveByResendsAlone, IsSentAgainBySome, DeadlinesMoveByResendsOverMessages, IsInSight, NoHeldJobDropsFromSight}
 use Rattle.past_laws.proofs.Sounds.{what_stands_is_sound}
 

@@ -16,12 +16,12 @@ use Rattle.sched_machine.specs.Classes.{ClassesStay}
 use Rattle.sched_machine.specs.Decisions.{CanonicalsStay, VerdictsStay, StatusesStay, CreditsStay, CreditsAddUp}
 use Rattle.sched_machine.specs.Laws.{AreCallsInLimits}
 use Rattle.sched_machine.specs.Runs.{HoldsInRuns, HoldsAlways, world_after, OwnersStay, ReportsStay, LapsesStay, OneForEachUser}
-use Rattle.sched_machine.proofs.ClassRuns as classes
-use Rattle.sched_machine.proofs.DecidedRuns as decided
-use Rattle.sched_machine.proofs.RunLasting as lasting
-use Rattle.sched_machine.proofs.RunStretches.{settings_stay_in_step}
-use Rattle.sched_machine.proofs.RunUsers as users
-use Rattle.sched_machine.proofs.StepsSound.{the_empty_world_is_sound}
+use Rattle.sched_machine.proofs.Classes.Runs as classes
+use Rattle.sched_machine.proofs.Decided.Runs as decided
+use Rattle.sched_machine.proofs.Runs.Lasting as lasting
+use Rattle.sched_machine.proofs.Runs.Stretches.{settings_stay_in_step}
+use Rattle.sched_machine.proofs.Runs.Users as users
+use Rattle.sched_machine.proofs.Moves.Sound.{the_empty_world_is_sound}
 use Rattle.past_laws.specs.Laws.{HaveStood, HoldsWhereTablesStand, HoldsOfMessages}
 use Rattle.past_laws.proofs.Sounds.{calls_in_limits, last_after, what_stands_is_sound}
 

@@ -17,16 +17,16 @@ use Rattle.sched_book.specs.declared.world.World.{World}
 use Rattle.pasts.specs.Many.{ServesAll}
 use Rattle.pasts.specs.Messages.{Message}
 use Rattle.pasts.specs.Runs.{Turn, SaysCall, world_of}
-use Rattle.pasts.specs.Stands.{Tables, Same, ServesAs, told_by}
+use Rattle.pasts.specs.Stands.{ServesAs, told_by}
 use Rattle.pasts.specs.declared.answer.Answer.{Answer}
-use Rattle.pasts.proofs.Carried.{run_of}
+use Rattle.pasts.proofs.Carried.{run_of, same_itself}
 use Rattle.pasts.proofs.RunLeaves.{IsRun}
 use Rattle.sched_machine.specs.Classes.{ClassesStay, IsGiven, HadOwner}
 use Rattle.sched_machine.specs.Runs.{owner_at}
-use Rattle.sched_machine.proofs.ClassOwners as classes
-use Rattle.sched_machine.proofs.ClassRuns.{still_given}
-use Rattle.sched_machine.proofs.ClassesKept.{classes_stay_in_step, stay_self, stay_then}
-use Rattle.sched_machine.proofs.StepsSound.{step_keeps_sound, the_empty_world_is_sound}
+use Rattle.sched_machine.proofs.Classes.Owners as classes
+use Rattle.sched_machine.proofs.Classes.Runs.{still_given}
+use Rattle.sched_machine.proofs.Classes.Kept.{classes_stay_in_step, stay_self, stay_then}
+use Rattle.sched_machine.proofs.Moves.Sound.{step_keeps_sound, the_empty_world_is_sound}
 use Rattle.past_laws.specs.Classes.{IsGivenByMessage, OwnersAreOfClassesAtAMessage, OwnersAreOfClassesOverMessages, IsGivenByATurn, OwnersWereGiven}
 use Rattle.past_laws.proofs.Calls.{said_by}
 use Rattle.past_laws.proofs.Holds.{classes_stay, have_stood_on}
@@ -72,13 +72,10 @@ given_on w later next m p n o stay host sent by = record {
   given = still_given w later next (call.Rpc by.caller by.request) m.now p n o stay host sent by.given;
 }
 
-same : (t : Tables) → Same t t
-same t = record { world = refl; calls = λ key. refl; batches = λ kind batch. refl }
-
 pub owners_are_of_classes_over_messages : OwnersAreOfClassesOverMessages
 owners_are_of_classes_over_messages old new [] all stood p o owned = inl (o, ap (λ w. owner_at w p) (sym all.world) ∙ owned, refl, refl)
 owners_are_of_classes_over_messages old new (h ∷ more) all stood p o owned =
-    let one : ServesAll old (h ∷ []) all.0 = (all.0, all.1, same all.0) in
+    let one : ServesAll old (h ∷ []) all.0 = (all.0, all.1, same_itself all.0) in
     elim (owners_are_of_classes_over_messages all.0 new more all.2 (have_stood_on old all.0 (h ∷ []) stood one) p o owned) [
       | inr later ↦ inr (inr later)
       | inl before ↦ elim (owners_are_of_classes_at_a_message old all.0 h.message h.answer stood all.1 p before.0 before.1) [

@@ -11,7 +11,7 @@ use Rattle.pasts.specs.Runs.{Turn}
 use Rattle.pasts.proofs.OneRun.{is_one_run}
 use Rattle.sched_machine.specs.Laws.{AreCallsInLimits, AllSound}
 use Rattle.sched_machine.specs.Runs.{AllAfter}
-use Rattle.sched_machine.proofs.StepsSound.{runs_keep_sound, the_empty_world_is_sound}
+use Rattle.sched_machine.proofs.Moves.Sound.{runs_keep_sound, the_empty_world_is_sound}
 use Rattle.past_laws.specs.Laws.{StandsIsSound}
 
 -- ---- limits

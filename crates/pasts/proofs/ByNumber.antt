@@ -27,7 +27,8 @@ use Rattle.sched_book.specs.declared.rows.HostRow.{HostRow}
 use Rattle.sched_book.specs.declared.rows.Rows.{Rows}
 use Rattle.sched_book.specs.declared.rows.Rows.TheVariants as rows
 use Rattle.sched_book.specs.declared.world.World.{World}
-use Rattle.sched_book.proofs.PlacesOf.{place_where-is, place_where-push}
+use Rattle.sched_book.proofs.PlacesOf.{place_where-is, place_where-push, found_from, FoundFrom}
+use Rattle.sched_book.proofs.LeftByImports.{hosts_with_rows}
 use Rattle.stores.specs.Eras.{kept_beside}
 use Rattle.stores.specs.Held.{put_at, put_call}
 use Rattle.pasts.specs.Answers.{body_of, kept_call, kept_after}
@@ -36,8 +37,7 @@ use Rattle.pasts.specs.FirstHeard.{account_on}
 use Rattle.pasts.specs.Leaves.{host_name, Frame, host_of_key}
 use Rattle.pasts.specs.Messages.{Rpc, Import, Tick, Read, Refused, key_of}
 use Rattle.pasts.proofs.HostKeys.{is_name, names_after, known-place, names_entered, same_test}
-use Rattle.pasts.proofs.Places.{FoundFrom, found_from, found, place-more}
-use Rattle.pasts.proofs.RunLeaves.{hosts_with_rows}
+use Rattle.pasts.proofs.Places.{found, place-more}
 use Rattle.pasts.proofs.StepLeaves.{step_leaves}
 
 -- ---- names in a list

@@ -7,6 +7,7 @@ use Rattle.sched_book.specs.declared.machine.Call.{Call}
 use Rattle.sched_book.specs.declared.machine.Call.TheVariants as call
 use Rattle.sched_book.specs.declared.settings.Settings.{Settings}
 use Rattle.sched_book.specs.declared.world.World.{World}
+use Rattle.sched_book.proofs.LeftByImports.{settings_with_rows}
 use Rattle.pasts.specs.Answers.{body_of, kept_after, batch_after}
 use Rattle.pasts.specs.FirstHeard.{is_first_heard, first_heard}
 use Rattle.pasts.specs.Laws.{IsOfFirstHeard, NewTablesStand, StandsCarried, FirstHeardIsToldNothing, RunsTheFirstHeard, RowsAreOfFirstHeard}
@@ -17,7 +18,7 @@ use Rattle.pasts.specs.Stands.{Past, Tables, Same, Answers, StandsBy, Stands, Co
 use Rattle.pasts.specs.Told.{told}
 use Rattle.pasts.specs.declared.answer.Answer.{Answer}
 use Rattle.pasts.proofs.HostKeys.{host_of_key-place, host_count}
-use Rattle.pasts.proofs.RunLeaves.{IsRun, run_leaves, settings_with_rows}
+use Rattle.pasts.proofs.RunLeaves.{IsRun, run_leaves}
 use Rattle.pasts.proofs.StepLeaves.{step_leaves}
 use Rattle.pasts.proofs.ToldNone.{told_none}
 
@@ -48,8 +49,8 @@ runs_the_first_heard t past turns by = (run_of t.world.settings past turns by.an
 
 -- ---- tables that say the same
 
-pub told_same : (a b : Tables) (said : Said) → Same a b → told_by a said ≡ told_by b said
-told_same a b said same = λ i. told (same.world i) (λ key. same.calls key i) (λ kind batch. same.batches kind batch i) said
+pub same_itself : (t : Tables) → Same t t
+same_itself t = record { world = refl; calls = λ key. refl; batches = λ kind batch. refl }
 
 pub stands_same : (a b : Tables) (past : Past) (turns : List Turn) → Same a b → StandsBy b past turns → StandsBy a past turns
 stands_same a b past turns same by =

@@ -6,6 +6,7 @@ use Rattle.std.specs.Str.{bytes_eq}
 use Rattle.std.proofs.lemmas.Bool.{and_parts, eqb-true, eq-eqb}
 use Rattle.std.proofs.lemmas.List.{map-append, length-map}
 use Rattle.std.proofs.lemmas.Slice.Eq.{bytes_eq-Decides}
+use Rattle.std.proofs.lemmas.Cmp.{nat_list_eq_equiv}
 use Rattle.reply_register.specs.Keys.{same_key}
 use Rattle.reply_register.specs.declared.key.Key.{Key}
 use Rattle.rpc_records.specs.declared.request.Request.{Request}
@@ -16,11 +17,11 @@ use Rattle.sched_book.specs.declared.machine.Caller.{Caller}
 use Rattle.sched_book.specs.declared.rows.Account.{Account}
 use Rattle.sched_book.specs.declared.rows.HostRow.{HostRow}
 use Rattle.sched_book.specs.declared.world.World.{World}
-use Rattle.sched_book.proofs.PlacesOf.{place_where-is}
+use Rattle.sched_book.proofs.PlacesOf.{place_where-is, FoundFrom}
 use Rattle.pasts.specs.FirstHeard.{account_on, with_key}
 use Rattle.pasts.specs.Leaves.{host_name, host_of_key}
 use Rattle.pasts.specs.Messages.{key_of}
-use Rattle.pasts.proofs.Places.{FoundFrom, found, map-changed_found, position-map}
+use Rattle.pasts.proofs.Places.{found, map-changed_found, position-map}
 
 -- ---- the names of hosts
 
@@ -81,11 +82,6 @@ same_tests true b so back = sym (so refl)
 same_tests false true so back = back refl
 same_tests false false so back = refl
 
-bytes_eq-sym : (xs ys : List ℕ) → bytes_eq xs ys ≡ bytes_eq ys xs
-bytes_eq-sym xs ys =
-    same_tests (bytes_eq xs ys) (bytes_eq ys xs) (λ same. (bytes_eq-Decides ys xs).1 (sym ((bytes_eq-Decides xs ys).0 same)))
-    (λ same. (bytes_eq-Decides xs ys).1 (sym ((bytes_eq-Decides ys xs).0 same)))
-
 -- a key is another just where its account and name are
 pub same_test : (shelf : Shelf) (key k : Key) (name : ℕ × List ℕ) (account : ℕ) → account_on shelf key.authenticator ≡ Some account
     → account_on shelf k.authenticator ≡ Some name.0 → name.1 ≡ k.host_cpid → same_key key k ≡ is_name account key.host_cpid name
@@ -97,7 +93,7 @@ same_test shelf key k name account here there named =
     (λ same. (bytes_eq-Decides key.authenticator k.authenticator).1
     (one_word shelf key.authenticator k.authenticator account here (there ∙ ap Some (eqb-true name.0 account same)))) in
     let cpids : bytes_eq key.host_cpid k.host_cpid ≡ bytes_eq name.1 key.host_cpid =
-    bytes_eq-sym key.host_cpid k.host_cpid ∙ ap (λ cpid. bytes_eq cpid key.host_cpid) (sym named) in
+    nat_list_eq_equiv.symm key.host_cpid k.host_cpid ∙ ap (λ cpid. bytes_eq cpid key.host_cpid) (sym named) in
     λ i. words i && cpids i
 
 same_position : (shelf : Shelf) (key : Key) (account m : ℕ) (names : List (ℕ × List ℕ)) (keys : List Key)

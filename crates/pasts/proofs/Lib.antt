@@ -9,5 +9,5 @@ pub mod Rising
 pub mod OneRun
 pub mod ByNumber
 pub mod Repeats
-pub mod Marks
+pub mod UpgradePoints
 pub mod Shelves

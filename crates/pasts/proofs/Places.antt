@@ -3,20 +3,7 @@ use Rattle.std.proofs.Common.{◌≡◌, ℕ, zero, suc, ◌+◌, Bool, true, fa
 use Rattle.std.specs.List.{position_from}
 use Rattle.sched_book.specs.Places.{place_where}
 use Rattle.sched_book.specs.Reports.{modify_at, modify_nth}
-use Rattle.sched_book.proofs.PlacesOf.{place_where-is, modify_nth-suc}
-
--- what passes stands at the place that was found
-abbrev pub FoundFrom : {X : Type 0} → (X → Bool) → ℕ → List X → ℕ → Type 0
-FoundFrom {X} p m xs n = (i : ℕ) × (x : X) × (n ≡ m + i) × (slice_get xs i ≡ Some x) × (p x ≡ true)
-
-pub found_from : {X : Type 0} (p : X → Bool) (m : ℕ) (xs : List X) (n : ℕ) → position_from p m xs ≡ Some n → FoundFrom p m xs n
-found_from p m [] n is = absurd cc
-found_from {X} p m (y ∷ ys) n is = cases (p y) refl is (found_from p (m + 1) ys n)
-  where
-    cases : (b : Bool) → p y ≡ b → cond b (Some m) (position_from p (m + 1) ys) ≡ Some n
-        → (position_from p (m + 1) ys ≡ Some n → FoundFrom p (m + 1) ys n) → FoundFrom p m (y ∷ ys) n
-    cases true pass is later = let same : m ≡ n = cc in (0, y, omega arith, refl, pass)
-    cases false pass is later = let there = later is in (suc there.0, there.1, omega (arith, there.2), there.3, there.4)
+use Rattle.sched_book.proofs.PlacesOf.{place_where-is, modify_nth-suc, found_from, FoundFrom}
 
 pub found : {X : Type 0} (p : X → Bool) (xs : List X) (n : ℕ) → place_where p xs ≡ Some n → FoundFrom p 1 xs n
 found p xs n is = found_from p 1 xs n (sym (place_where-is p xs) ∙ is)
@@ -28,15 +15,6 @@ map-changed_here g f [] i x there same = refl
 map-changed_here g f (y ∷ ys) zero x there same =
     let is : y ≡ x = cc in ap (λ z. z ∷ map g ys) (ap (λ z. g (f z)) is ∙ same ∙ ap g (sym is))
 map-changed_here g f (y ∷ ys) (suc i) x there same = ap (λ zs. g y ∷ zs) (map-changed_here g f ys i x there same)
-
-map-modify_at : {X Y : Type 0} (g : X → Y) (f : X → X) → ((x : X) → g (f x) ≡ g x) → (xs : List X) (i : ℕ) → map g (modify_at f xs i) ≡ map g xs
-map-modify_at g f same [] i = refl
-map-modify_at g f same (x ∷ xs) zero = ap (λ z. z ∷ map g xs) (same x)
-map-modify_at g f same (x ∷ xs) (suc i) = ap (λ zs. g x ∷ zs) (map-modify_at g f same xs i)
-
-pub map-modify_nth : {X Y : Type 0} (g : X → Y) (f : X → X) → ((x : X) → g (f x) ≡ g x) → (xs : List X) (n : ℕ) → map g (modify_nth f xs n) ≡ map g xs
-map-modify_nth g f same xs zero = refl
-map-modify_nth g f same xs (suc i) = ap (map g) (modify_nth-suc f xs i) ∙ map-modify_at g f same xs i
 
 -- a change at the place of the first that passes
 pub map-changed_found : {X Y : Type 0} (g : X → Y) (f : X → X) (p : X → Bool) → ((x : X) → p x ≡ true → g (f x) ≡ g x) → (xs : List X) (n : ℕ)

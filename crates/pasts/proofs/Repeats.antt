@@ -3,7 +3,7 @@ use Rattle.std.proofs.Common.{◌≡◌, ◌≢◌, ℕ, zero, suc, ◌+◌, ◌
 use Rattle.std.specs.Prelude.{◌&&◌, ◌||◌, ◌==◌, if◌then◌else◌, position, All, Contains, Option, Some, None, option_and_then, option_map, unwrap_or, is_some, Result, Ok, Err}
 use Rattle.std.specs.Option.{option_or}
 use Rattle.std.specs.Str.{bytes_eq}
-use Rattle.std.proofs.lemmas.Bool.{le-ltb, lt-ltb}
+use Rattle.std.proofs.lemmas.Bool.{le-ltb, lt-ltb, false_from_ne_true}
 use Rattle.std.proofs.lemmas.Option.{slice_get_read, slice_get_within, get_or_from_slice_get}
 use Rattle.std.proofs.lemmas.Slice.Eq.{bytes_eq-Decides}
 use Rattle.reply_register.specs.Calls.{greatest, has_number, heard, heard_at, is_above_all, IsFirstOf}
@@ -12,7 +12,7 @@ use Rattle.reply_register.specs.declared.kept.Heard.TheVariants as call
 use Rattle.reply_register.specs.declared.kept.Kept.{Kept}
 use Rattle.reply_register.specs.declared.key.Key.{Key}
 use Rattle.reply_register.proofs.Calls.{same_key-is}
-use Rattle.reply_register.proofs.Hearing.{fails, found_heard, nowhere_heard}
+use Rattle.reply_register.proofs.Hearing.{found_heard, nowhere_heard}
 use Rattle.reply_register.proofs.Numbers.{above_more, above_place, above_taken, greatest_first}
 use Rattle.rpc_records.specs.Spelling.{canonical_text}
 use Rattle.rpc_records.specs.declared.fault.Fault.{Fault}
@@ -394,7 +394,7 @@ module _ (t : Tables) (shelf : Shelf) (keys : List Key) (key : Key) (rows : shel
       ∙ ap (told_heard true (k ∷ ks))
       (found_heard (k ∷ ks) q.rpc_seqno place (canonical_text q) at.kept (first_of_number g place q.rpc_seqno at (sym equal))
       ∙ ap (λ (b : Bool). if b then call.Repeat place else call.Reused (greatest (k ∷ ks)))
-      (fails (bytes_eq at.kept.text (canonical_text q))
+      (false_from_ne_true (bytes_eq at.kept.text (canonical_text q))
       (λ alike. other (sym ((bytes_eq-Decides at.kept.text (canonical_text q)).0 alike) ∙ ap (λ (k : Kept). k.text) at.is.kept))))
 
   -- a heard call says one request
@@ -501,5 +501,5 @@ batches_count_once t past h kind batch text read stands is says =
       reused = λ other rows apart.
           ap (λ o. told_import t.world o other rows) kept
           ∙ ap (λ (b : Bool). Some (if b then Good was.body else Refusal fault.BatchReused))
-          (fails (bytes_eq text other) (λ alike. apart (sym ((bytes_eq-Decides text other).0 alike))));
+          (false_from_ne_true (bytes_eq text other) (λ alike. apart (sym ((bytes_eq-Decides text other).0 alike))));
     }

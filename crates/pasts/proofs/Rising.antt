@@ -1,8 +1,7 @@
 -- The numbers of a key's first-heard calls rise.
-use Rattle.std.proofs.Common.{◌≡◌, ℕ, ◌<◌, List, [], ◌∷◌, ◌++◌, Bool, true, false, nat_lt, refl, sym, ◌∙◌, ap, subst, arith}
+use Rattle.std.proofs.Common.{◌≡◌, ℕ, List, [], ◌∷◌, ◌++◌, Bool, true, false, nat_lt, refl, sym, ◌∙◌, ap, subst}
 use Rattle.std.specs.Prelude.{if◌then◌else◌}
-use Rattle.std.proofs.lemmas.Bool.{and_parts}
-use Rattle.std.proofs.lemmas.Bool.Decides.{nat_tests}
+use Rattle.std.proofs.lemmas.Bool.{and_parts, ltb-true}
 use Rattle.reply_register.specs.Keys.{same_key}
 use Rattle.reply_register.specs.declared.key.Key.{Key}
 use Rattle.rpc_records.specs.declared.request.Request.{Request}
@@ -50,12 +49,9 @@ above_each key seqno (m ∷ between) oldest early earlier above is same =
     above_each key seqno between oldest early earlier
     (and_parts (above_said key seqno m.said) (is_above key seqno (between ++ early ∷ oldest)) above).1 is same
 
-is_less : (a b : ℕ) → nat_lt a b ≡ true → a < b
-is_less a b less = grind (arith, nat_tests)
-
 pub numbers_rise : NumbersRise
 numbers_rise s messages newer between oldest late early later earlier split late_is early_is same =
     let older : List Message = between ++ early ∷ oldest in
-    is_less earlier.rpc_seqno later.rpc_seqno
+    ltb-true earlier.rpc_seqno later.rpc_seqno
     (above_each (key_of later) later.rpc_seqno between oldest early earlier
     (call_rises s later older (ap (is_first_heard s older) (sym late_is) ∙ heads_first s messages newer late older split)) early_is same)

@@ -23,6 +23,7 @@ use Rattle.sched_book.specs.declared.rows.Rows.TheVariants as rows
 use Rattle.sched_book.specs.declared.rows.Workunit.{Workunit}
 use Rattle.sched_book.specs.declared.settings.Settings.{Settings}
 use Rattle.sched_book.specs.declared.world.World.{World}
+use Rattle.sched_book.proofs.LeftByImports.{settings_with_rows, hosts_with_rows}
 use Rattle.pasts.specs.FirstHeard.{account_on, shelf_said, rows_of, with_key, keys_said, keys_of, is_first_heard}
 use Rattle.pasts.specs.Leaves.{host_name, Frame, frame}
 use Rattle.pasts.specs.Messages.{Said, Rpc, Import, Tick, Read, Refused, Message, key_of}
@@ -76,18 +77,6 @@ keys-more shelf new [] [] are = tt
 keys-more shelf new [] (k ∷ keys) are = absurd are
 keys-more shelf new (n ∷ names) [] are = absurd are
 keys-more shelf new (n ∷ names) (k ∷ keys) are = (account-more shelf new k.authenticator n.0 are.0, are.1, keys-more shelf new names keys are.2)
-
-pub settings_with_rows : (w : World) (new : Rows) → (with_rows w new).settings ≡ w.settings
-settings_with_rows w (rows.Accounts xs) = refl
-settings_with_rows w (rows.Apps xs) = refl
-settings_with_rows w (rows.Versions xs) = refl
-settings_with_rows w (rows.Workunits xs) = refl
-
-pub hosts_with_rows : (w : World) (new : Rows) → (with_rows w new).hosts ≡ w.hosts
-hosts_with_rows w (rows.Accounts xs) = refl
-hosts_with_rows w (rows.Apps xs) = refl
-hosts_with_rows w (rows.Versions xs) = refl
-hosts_with_rows w (rows.Workunits xs) = refl
 
 -- the rows of an import are in limits
 new_rows : (w after : World) (new : Rows) (now : ℕ) (answer : Answered) → Step w (call.Import new) now after answer → AreRowsInLimits new

@@ -25,8 +25,8 @@ use Rattle.sched_book.specs.declared.rows.HostRow.{HostRow}
 use Rattle.sched_book.specs.declared.rows.Version.{Version}
 use Rattle.sched_book.specs.declared.rows.Workunit.{Workunit}
 use Rattle.sched_book.specs.declared.world.World.{World}
+use Rattle.sched_book.proofs.PlaceChanges.{map_changed_nth}
 use Rattle.pasts.specs.Leaves.{host_name, Frame, frame, StepLeavesTheRest}
-use Rattle.pasts.proofs.Places.{map-modify_nth}
 
 -- the frame with these workunits and these hosts
 abbrev frame_with : World → List Workunit → List (ℕ × List ℕ) → Frame
@@ -41,7 +41,7 @@ unit_of b = imported b.unit
 
 changed_stays : (f : Instance → Instance) (w : World) (p : Place) → frame (with_changed f w p) ≡ frame w
 changed_stays f w p =
-    ap (λ us. frame_with w us (map host_name w.hosts)) (map-modify_nth unit_of (with_number f p.number) (λ b. refl) w.units p.unit)
+    ap (λ us. frame_with w us (map host_name w.hosts)) (map_changed_nth unit_of (with_number f p.number) (λ b. refl) w.units p.unit)
 
 -- the frame stays where each step of a fold leaves it
 fold_stays : {X : Type 0} (f : World → X → World) → ((w : World) (x : X) → frame (f w x) ≡ frame w) → (xs : List X) (w : World) → frame (fold f w xs) ≡ frame w
@@ -98,7 +98,7 @@ classes_stay entry h jobs w = fold_stays (class_one entry h) (λ v p. one v p (v
 
     one : (v : World) (p : Place) (o : Option Version) → frame (unwrap_or (option_map (λ (x : Version). class_granted v p.unit x.class) o) v) ≡ frame v
     one v p None = refl
-    one v p (Some x) = ap (λ us. frame_with v us (map host_name v.hosts)) (map-modify_nth unit_of (with_class x.class) (row_stays x.class) v.units p.unit)
+    one v p (Some x) = ap (λ us. frame_with v us (map host_name v.hosts)) (map_changed_nth unit_of (with_class x.class) (row_stays x.class) v.units p.unit)
 
 -- settlement changes instances and quotas
 settlement_stays : (old changed : World) → frame (settled old changed) ≡ frame changed

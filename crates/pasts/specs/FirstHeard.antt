@@ -1,4 +1,4 @@
--- Rule. Which messages are first heard: from the messages and the settings alone, with no look at what stands. Lists of messages have the
+-- Promise. Which messages are first heard: from the messages and the settings alone, with no look at what stands. Lists of messages have the
 -- newest first. (The names rpc_seqno and hostid are BOINC's; what a repeated, an older or a wrong number means is this profile's, and
 -- so is that a batch counts once.)
 use Rattle.std.specs.Prelude.{ℕ, Bool, true, false, not, ◌&&◌, ◌||◌, nat_lt, if◌then◌else◌, List, [], ◌∷◌, length, Option, is_none, is_some, Ok, Err}

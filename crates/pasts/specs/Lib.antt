@@ -9,4 +9,4 @@ pub mod Laws
 pub mod Many
 pub mod ByNumber
 pub mod Repeats
-pub mod Marks
+pub mod UpgradePoints

@@ -1,4 +1,4 @@
--- Rule. What tables stand for: a past, and the one run of the machine over its first-heard messages; and what one message does to tables.
+-- Promise. What tables stand for: a past, and the one run of the machine over its first-heard messages; and what one message does to tables.
 -- (This project's own.)
 use Rattle.std.specs.Prelude.{◌≡◌, ◌⊎◌, ℕ, true, false, List, [], ◌∷◌, map, Option, Some, None}
 use Rattle.reply_register.specs.declared.kept.Kept.{Kept}

@@ -1,4 +1,4 @@
--- Rule. The answers that change nothing: from the world, the kept calls and the kept batches, with no look at the messages before. (The
+-- Promise. The answers that change nothing: from the world, the kept calls and the kept batches, with no look at the messages before. (The
 -- refusals and their order are this profile's.)
 use Rattle.std.specs.Prelude.{ℕ, Bool, if◌then◌else◌, List, length, Option, Some, None, option_map, Result, Ok, Err}
 use Rattle.std.specs.Str.{bytes_eq}

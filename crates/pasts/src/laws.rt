@@ -3,7 +3,7 @@
 ghost use Rattle.pasts.specs.ByNumber.{KeptByNumber};
 ghost use Rattle.pasts.specs.Laws.{NewTablesStand, StandsCarried, StandsCarriedByAll, FirstHeardIsToldNothing, RunsTheFirstHeard, RowsAreOfFirstHeard, FirstHeardBegins, NumbersRise, IsOneRun, ServesByOneRun};
 ghost use Rattle.pasts.specs.Leaves.{StepLeavesTheRest};
-ghost use Rattle.pasts.specs.Marks.{NewPastsAreInEra, ErasGoOn, UpgradesLeadOn, NewTablesHaveOneEra, KeptSinceTheFirstMark};
+ghost use Rattle.pasts.specs.UpgradePoints.{NewPastsAreInEra, ErasGoOn, UpgradesLeadOn, NewTablesHaveOneEra, KeptSinceTheFirstUpgrade};
 ghost use Rattle.pasts.specs.Repeats.{KeptAreTheLatestFour, CallsAreToldBesideTheKept, BatchesCountOnce};
 
 /// New tables stand for the empty past.
@@ -86,7 +86,7 @@ pub fn calls_are_kept_by_number()
     ensures { KeptByNumber }
 {}
 
-/// The empty past is in any era, by the marks of new tables.
+/// The empty past is in any era, by the upgrade points of new tables.
 pub fn new_pasts_are_in_era()
     ensures { NewPastsAreInEra }
 {}
@@ -101,12 +101,12 @@ pub fn upgrades_lead_on()
     ensures { UpgradesLeadOn }
 {}
 
-/// By the marks of new tables all messages are of one era.
+/// By the upgrade points of new tables all messages are of one era.
 pub fn new_tables_have_one_era()
     ensures { NewTablesHaveOneEra }
 {}
 
 /// What is kept of a key since the first upgrade is its latest four calls, counted from its last call before that on.
-pub fn kept_since_the_first_mark()
-    ensures { KeptSinceTheFirstMark }
+pub fn kept_since_the_first_upgrade()
+    ensures { KeptSinceTheFirstUpgrade }
 {}

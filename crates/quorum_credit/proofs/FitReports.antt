@@ -12,7 +12,7 @@ use Rattle.sched_book.specs.Limits.{most_instances, IsInstanceInLimits}
 use Rattle.sched_book.specs.Sound.{IsBare, HasOwnerAmong, IsSoundUnit, Sound}
 use Rattle.sched_book.specs.Desk.{instances_at}
 use Rattle.sched_book.specs.Delta.{applied_one, applied, FitsOne, Fits}
-use Rattle.sched_book.specs.Reports.{modify_at, with_number, with_changed, awaits_report, with_report}
+use Rattle.sched_book.specs.Reports.{with_number, with_changed, awaits_report, with_report}
 use Rattle.sched_book.specs.declared.delta.Change.{Change}
 use Rattle.sched_book.specs.declared.delta.Change.TheVariants as change
 use Rattle.sched_book.specs.declared.instance.Instance.{Instance}
@@ -21,11 +21,11 @@ use Rattle.sched_book.specs.declared.instance.Owner.{Owner}
 use Rattle.sched_book.specs.declared.instance.Place.{Place}
 use Rattle.sched_book.specs.declared.instance.UnitBook.{UnitBook}
 use Rattle.sched_book.specs.declared.world.World.{World}
-use Rattle.sched_book.proofs.PlacesOf.{nth-modify_nth}
+use Rattle.sched_book.proofs.PlacesOf.{nth-modify_nth, length-modify_at}
 use Rattle.sched_book.proofs.Recording.{instance_at-with_changed, is_same-true}
 use Rattle.quorum_credit.specs.Taken.{place_among, reported_in}
 use Rattle.quorum_credit.specs.Limited.{IsLimited, FitWithin}
-use Rattle.quorum_credit.proofs.ByPlace.{all_get, all_nth}
+use Rattle.sched_book.proofs.ByPlace.{all_get, all_nth}
 use Rattle.quorum_credit.proofs.Recorded.{with_changed-is}
 
 pub limited_from_sound : (w : World) → Sound w → IsLimited w
@@ -44,11 +44,6 @@ limited_from_sound w sound = record {
           all_get IsInstanceInLimits b.instances p.number x unit.instances there,
         )
 
-length-changed : {X : Type 0} (f : X → X) (xs : List X) (i : ℕ) → length (modify_at f xs i) ≡ length xs
-length-changed f [] i = refl
-length-changed f (x ∷ xs) zero = refl
-length-changed f (x ∷ xs) (suc i) = ap suc (length-changed f xs i)
-
 -- an instance within limits put at a place
 module _ (f : Instance → Instance) (w : World) (p : Place) (limited : IsLimited w) where
   few_after : (unit : ℕ) (b : UnitBook) → unit_at (with_changed f w p) unit ≡ Some b → length b.instances ≤ most_instances
@@ -59,7 +54,7 @@ module _ (f : Instance → Instance) (w : World) (p : Place) (limited : IsLimite
       cases true (Some u) was is =
           let changed : with_number f p.number u ≡ b = cc in
           let few : length u.instances ≤ most_instances = limited.few unit u was in
-          let long : length (with_number f p.number u).instances ≡ length u.instances = length-changed f u.instances p.number in
+          let long : length (with_number f p.number u).instances ≡ length u.instances = length-modify_at f u.instances p.number in
           let whole : length (with_number f p.number u).instances ≡ length b.instances = ap (λ (c : UnitBook). length c.instances) changed in
           omega arith
       cases false o was is = limited.few unit b (was ∙ is)

@@ -17,9 +17,9 @@ use Rattle.sched_book.proofs.UnitChanges.{unit_at-applied}
 use Rattle.sched_book.proofs.Settling.{nth-map}
 use Rattle.quorum_credit.specs.Growing.{fresh_changes, growth_of, growth, all_growth}
 use Rattle.quorum_credit.specs.Settled.{new_instances}
-use Rattle.quorum_credit.specs.Settling.{is_among, TouchJust, grown_among, with_grown_among}
-use Rattle.call_sheet.specs.Sheets.{AreAbove, AreRising}
-use Rattle.quorum_credit.proofs.ByPlace.{all_nth, same_by_place, nth-map_places}
+use Rattle.quorum_credit.specs.Settling.{TouchJust, grown_among, with_grown_among}
+use Rattle.call_sheet.specs.Sheets.{AreAbove, AreRising, is_among}
+use Rattle.sched_book.proofs.ByPlace.{all_nth, same_by_place, nth-map_places}
 
 -- one more instance behind a workunit's own
 abbrev pub one_behind : UnitBook → UnitBook

@@ -6,13 +6,12 @@ pub mod FitReports
 pub mod LateOnes
 pub mod NewlyCounted
 pub mod SettledAll
-pub mod ByPlace
 pub mod FreshOnes
 pub mod Grown
 pub mod GrownFits
-pub mod Marked
+pub mod Scored
 pub mod Sums
 pub mod Numbered
 pub mod RowsPut
 pub mod NewQuotas
-pub mod MarkedCredit
+pub mod ScoredCredit

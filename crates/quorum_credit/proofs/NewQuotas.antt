@@ -12,12 +12,11 @@ use Rattle.sched_book.specs.declared.delta.Change.{Change}
 use Rattle.sched_book.specs.declared.delta.Change.TheVariants as change
 use Rattle.sched_book.specs.declared.rows.HostRow.{HostRow}
 use Rattle.sched_book.specs.declared.world.World.{World}
-use Rattle.quorum_credit.specs.Marks.{charges_in, merits_in}
+use Rattle.quorum_credit.specs.Scores.{charges_in, merits_in}
 use Rattle.quorum_credit.specs.Settling.{AreHostsInLimits, quota_by, with_quotas_by, AreQuotasBy}
 use Rattle.quorum_credit.specs.Tallies.{with_quota_by, new_quotas, is_tallied, AreSums}
 use Rattle.quorum_credit.specs.declared.host_quotas.Tally.{Tally}
-use Rattle.quorum_credit.specs.declared.marks.Mark.{Mark}
-use Rattle.sched_book.proofs.Fitting.{settings_stay}
+use Rattle.quorum_credit.specs.declared.scores.Score.{Score}
 use Rattle.quorum_credit.proofs.Numbered.{same_rows, same_row, number_within, length-numbered, put_row}
 
 -- the world with its hosts made anew, each from its number and row
@@ -39,30 +38,30 @@ put_one w limit s f h stands = ap (λ hosts. record w { hosts = hosts }) (put_ro
 abbrev quota_of : HostRow → ℕ → HostRow
 quota_of h quota = record h { quota = quota }
 
-module _ (marks : List Mark) (w : World) where
+module _ (scores : List Score) (w : World) where
   abbrev limit : ℕ
   limit = w.settings.daily_result_quota
 
   abbrev TellsAll : Tally → Type 0
-  TellsAll s = (s.charges ≡ charges_in marks s.host) × (s.merits ≡ merits_in marks s.host)
+  TellsAll s = (s.charges ≡ charges_in scores s.host) × (s.merits ≡ merits_in scores s.host)
 
   -- the quotas of these hosts are new, those of the others as they were
-  abbrev marked : (ℕ → Bool) → ℕ × HostRow → HostRow
-  marked p e = cond (p e.0) (quota_by marks limit e) e.1
+  abbrev with_quotas_where : (ℕ → Bool) → ℕ × HostRow → HostRow
+  with_quotas_where p e = cond (p e.0) (quota_by scores limit e) e.1
 
   -- one host more
-  put_marked : (p : ℕ → Bool) (s : Tally) (h : HostRow) → host_at w s.host ≡ Some h → TellsAll s
-      → applied_one (with_rows w (marked p)) (change.Host s.host (with_quota_by limit s h)) ≡ with_rows w (marked (λ n. eqb s.host n || p n))
-  put_marked p s h stands tells =
-      put_one w limit s (marked p) h stands
-      ∙ same_world w (with_one limit s (marked p)) (marked (λ n. eqb s.host n || p n)) (λ n g there. cases n g (eqb s.host n) refl)
+  put_quotas : (p : ℕ → Bool) (s : Tally) (h : HostRow) → host_at w s.host ≡ Some h → TellsAll s
+      → applied_one (with_rows w (with_quotas_where p)) (change.Host s.host (with_quota_by limit s h)) ≡ with_rows w (with_quotas_where (λ n. eqb s.host n || p n))
+  put_quotas p s h stands tells =
+      put_one w limit s (with_quotas_where p) h stands
+      ∙ same_world w (with_one limit s (with_quotas_where p)) (with_quotas_where (λ n. eqb s.host n || p n)) (λ n g there. cases n g (eqb s.host n) refl)
     where
       cases : (n : ℕ) (g : HostRow) (b : Bool) → eqb s.host n ≡ b
-          → cond b (with_quota_by limit s g) (marked p (n, g)) ≡ cond (b || p n) (quota_by marks limit (n, g)) g
+          → cond b (with_quota_by limit s g) (with_quotas_where p (n, g)) ≡ cond (b || p n) (quota_by scores limit (n, g)) g
       cases n g true is =
           let same : s.host ≡ n = eqb-true s.host n is in
-          ap (λ c. quota_of g (next_quota g.quota c s.merits limit)) (tells.0 ∙ ap (charges_in marks) same)
-          ∙ ap (λ c. quota_of g (next_quota g.quota (charges_in marks n) c limit)) (tells.1 ∙ ap (merits_in marks) same)
+          ap (λ c. quota_of g (next_quota g.quota c s.merits limit)) (tells.0 ∙ ap (charges_in scores) same)
+          ∙ ap (λ c. quota_of g (next_quota g.quota (charges_in scores n) c limit)) (tells.1 ∙ ap (merits_in scores) same)
       cases n g false is = refl
 
   all_first : (s : Tally) (ss : List Tally) → All TellsAll (s ∷ ss) → TellsAll s
@@ -79,48 +78,48 @@ module _ (marks : List Mark) (w : World) where
 
   -- all hosts of these tallies
   put_all : (sums : List Tally) → All TellsAll sums → (p : ℕ → Bool)
-      → applied (with_rows w (marked p)) (new_quotas w limit sums) ≡ with_rows w (marked (λ n. is_tallied sums n || p n))
+      → applied (with_rows w (with_quotas_where p)) (new_quotas w limit sums) ≡ with_rows w (with_quotas_where (λ n. is_tallied sums n || p n))
   put_all [] all p = refl
   put_all (s ∷ ss) all p = cases (host_at w s.host) refl (put_all ss (all_rest s ss all))
     where
       cases : (o : Option HostRow) → host_at w s.host ≡ o
-          → ((p : ℕ → Bool) → applied (with_rows w (marked p)) (new_quotas w limit ss) ≡ with_rows w (marked (λ n. is_tallied ss n || p n)))
-          → applied (with_rows w (marked p)) (cons_option (option_map (λ h. change.Host s.host (with_quota_by limit s h)) o) (new_quotas w limit ss))
-          ≡ with_rows w (marked (λ n. (eqb s.host n || is_tallied ss n) || p n))
+          → ((p : ℕ → Bool) → applied (with_rows w (with_quotas_where p)) (new_quotas w limit ss) ≡ with_rows w (with_quotas_where (λ n. is_tallied ss n || p n)))
+          → applied (with_rows w (with_quotas_where p)) (cons_option (option_map (λ h. change.Host s.host (with_quota_by limit s h)) o) (new_quotas w limit ss))
+          ≡ with_rows w (with_quotas_where (λ n. (eqb s.host n || is_tallied ss n) || p n))
       cases None none more =
           more p
-          ∙ same_world w (marked (λ n. is_tallied ss n || p n)) (marked (λ n. (eqb s.host n || is_tallied ss n) || p n))
+          ∙ same_world w (with_quotas_where (λ n. is_tallied ss n || p n)) (with_quotas_where (λ n. (eqb s.host n || is_tallied ss n) || p n))
           (λ n h there. apart n h there (eqb s.host n) refl)
         where
           apart : (n : ℕ) (h : HostRow) → host_at w n ≡ Some h → (b : Bool) → eqb s.host n ≡ b
-              → marked (λ n. is_tallied ss n || p n) (n, h) ≡ cond ((b || is_tallied ss n) || p n) (quota_by marks limit (n, h)) h
+              → with_quotas_where (λ n. is_tallied ss n || p n) (n, h) ≡ cond ((b || is_tallied ss n) || p n) (quota_by scores limit (n, h)) h
           apart n h there true is = let same : s.host ≡ n = eqb-true s.host n is in absurd cc
           apart n h there false is = refl
       cases (Some h) stands more =
-          ap (λ v. applied v (new_quotas w limit ss)) (put_marked p s h stands (all_first s ss all))
+          ap (λ v. applied v (new_quotas w limit ss)) (put_quotas p s h stands (all_first s ss all))
           ∙ more (λ n. eqb s.host n || p n)
-          ∙ same_world w (marked (λ n. is_tallied ss n || (eqb s.host n || p n))) (marked (λ n. (eqb s.host n || is_tallied ss n) || p n))
-          (λ n g there. ap (λ (b : Bool). cond b (quota_by marks limit (n, g)) g) (reordered (is_tallied ss n) (eqb s.host n) (p n)))
+          ∙ same_world w (with_quotas_where (λ n. is_tallied ss n || (eqb s.host n || p n))) (with_quotas_where (λ n. (eqb s.host n || is_tallied ss n) || p n))
+          (λ n g there. ap (λ (b : Bool). cond b (quota_by scores limit (n, g)) g) (reordered (is_tallied ss n) (eqb s.host n) (p n)))
 
   -- a host of which nothing is said keeps its quota
-  unmarked : AreHostsInLimits w → (n : ℕ) (h : HostRow) → host_at w n ≡ Some h → (charges_in marks n ≡ 0) × (merits_in marks n ≡ 0) → quota_by marks limit (n, h) ≡ h
-  unmarked limits n h there nothing =
+  untallied : AreHostsInLimits w → (n : ℕ) (h : HostRow) → host_at w n ≡ Some h → (charges_in scores n ≡ 0) × (merits_in scores n ≡ 0) → quota_by scores limit (n, h) ≡ h
+  untallied limits n h there nothing =
       let low : 1 ≤ h.quota = (limits n h there).1.quota.0 in
       let high : h.quota ≤ limit = (limits n h there).1.quota.1 in
       let kept : next_quota h.quota 0 0 limit ≡ h.quota = omega arith in
-      ap (λ c. quota_of h (next_quota h.quota c (merits_in marks n) limit)) nothing.0
+      ap (λ c. quota_of h (next_quota h.quota c (merits_in scores n) limit)) nothing.0
       ∙ ap (λ c. quota_of h (next_quota h.quota 0 c limit)) nothing.1
       ∙ ap (quota_of h) kept
 
-  pub quotas_are_new : (sums : List Tally) → AreSums marks sums → AreHostsInLimits w → applied w (new_quotas w limit sums) ≡ with_quotas_by marks w
+  pub quotas_are_new : (sums : List Tally) → AreSums scores sums → AreHostsInLimits w → applied w (new_quotas w limit sums) ≡ with_quotas_by scores w
   quotas_are_new sums are limits =
       ap (λ hosts. applied (record w { hosts = hosts }) (new_quotas w limit sums)) (sym (same_row w.hosts))
       ∙ put_all sums are.each (λ n. false)
-      ∙ same_world w (marked (λ n. is_tallied sums n || false)) (quota_by marks limit) (λ n h there. cases n h there (is_tallied sums n) refl)
+      ∙ same_world w (with_quotas_where (λ n. is_tallied sums n || false)) (quota_by scores limit) (λ n h there. cases n h there (is_tallied sums n) refl)
     where
-      cases : (n : ℕ) (h : HostRow) → host_at w n ≡ Some h → (b : Bool) → is_tallied sums n ≡ b → cond (b || false) (quota_by marks limit (n, h)) h ≡ quota_by marks limit (n, h)
+      cases : (n : ℕ) (h : HostRow) → host_at w n ≡ Some h → (b : Bool) → is_tallied sums n ≡ b → cond (b || false) (quota_by scores limit (n, h)) h ≡ quota_by scores limit (n, h)
       cases n h there true is = refl
-      cases n h there false is = sym (unmarked limits n h there (are.others n is))
+      cases n h there false is = sym (untallied limits n h there (are.others n is))
 
 -- a new quota is between 1 and the limit
 pub quota_within : (limit q e v : ℕ) → 1 ≤ limit → (1 ≤ next_quota q e v limit) × (next_quota q e v limit ≤ limit)
@@ -169,11 +168,6 @@ module _ (w : World) (limits : AreHostsInLimits w) (some : 1 ≤ w.settings.dail
   quotas_fit sums =
       subst (λ hosts. Fits (record w { hosts = hosts }) (new_quotas w w.settings.daily_result_quota sums)) (same_row w.hosts) (all_fit sums (λ e. e.1))
 
--- the settings stay as they are
-pub all_settings_stay : (w : World) (cs : List Change) → (applied w cs).settings ≡ w.settings
-all_settings_stay w [] = refl
-all_settings_stay w (c ∷ cs) = all_settings_stay (applied_one w c) cs ∙ settings_stay w c
-
 -- they put hosts alone
 hosts_alone : (w v : World) (most : ℕ) (ms : List Tally) → applied v (new_quotas w most ms) ≡ record v { hosts = (applied v (new_quotas w most ms)).hosts }
 hosts_alone w v most [] = refl
@@ -185,12 +179,12 @@ hosts_alone w v most (m ∷ ms) = cases (host_at w m.host) (λ z. hosts_alone w 
     cases None more = more v
     cases (Some h) more = more (applied_one v (change.Host m.host (with_quota_by most m h)))
 
-pub are_quotas : (marks : List Mark) (sums : List Tally) (w : World) (most : ℕ) (quotas : List Change) → AreSums marks sums → most ≡ w.settings.daily_result_quota
-    → quotas ≡ new_quotas w most sums → AreQuotasBy marks w quotas
-are_quotas marks sums w most quotas are limit is =
-    subst (AreQuotasBy marks w) (sym (is ∙ ap (λ n. new_quotas w n sums) limit))
+pub are_quotas : (scores : List Score) (sums : List Tally) (w : World) (most : ℕ) (quotas : List Change) → AreSums scores sums → most ≡ w.settings.daily_result_quota
+    → quotas ≡ new_quotas w most sums → AreQuotasBy scores w quotas
+are_quotas scores sums w most quotas are limit is =
+    subst (AreQuotasBy scores w) (sym (is ∙ ap (λ n. new_quotas w n sums) limit))
     (record {
-      quoted = quotas_are_new marks w sums are;
+      quoted = quotas_are_new scores w sums are;
       fit = λ limits some. quotas_fit w limits some sums;
       alone = hosts_alone w w w.settings.daily_result_quota sums;
     })

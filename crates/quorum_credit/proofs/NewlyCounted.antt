@@ -1,7 +1,6 @@
 -- What settlement counts over all instances is what it counts over those of the touched workunits.
-use Rattle.std.proofs.Common.{◌≡◌, ℕ, zero, suc, ◌+◌, ◌<◌, ◌≤◌, Bool, true, false, cond, eqb, List, [], ◌∷◌, length, Option, Some, None, sym, refl, ap, ◌∙◌, subst, arith}
-use Rattle.std.specs.Prelude.{◌&&◌, ◌||◌, not, sum_by, option_map, option_and_then, unwrap_or, slice_get}
-use Rattle.std.proofs.lemmas.Bool.Decides.{nat_tests}
+use Rattle.std.proofs.Common.{◌≡◌, ℕ, zero, suc, ◌+◌, ◌<◌, Bool, true, false, cond, List, [], ◌∷◌, length, Option, Some, None, sym, refl, ap, ◌∙◌, subst, arith}
+use Rattle.std.specs.Prelude.{◌&&◌, not, sum_by, option_map, option_and_then, unwrap_or, slice_get}
 use Rattle.std.proofs.lemmas.List.Sums.{sum_by-cons, sum_by-append}
 use Rattle.std.proofs.lemmas.Option.{slice_get_past}
 use Rattle.sched_book.specs.Count.{tells_error, is_valid, is_invalid}
@@ -13,23 +12,12 @@ use Rattle.sched_book.specs.declared.instance.Place.{Place}
 use Rattle.sched_book.specs.declared.instance.UnitBook.{UnitBook}
 use Rattle.sched_book.specs.declared.world.World.{World}
 use Rattle.sched_book.proofs.PlacesOf.{nth-suc}
-use Rattle.quorum_credit.specs.Marks.{standing_with, no_standing, standing_in, standing_at, one_if_new, charges_between, merits_between, charges_at, merits_at, unit_charges, unit_merits}
-use Rattle.quorum_credit.specs.Settling.{is_among, TouchJust}
-use Rattle.call_sheet.specs.Sheets.{AreAbove, AreRising}
-use Rattle.quorum_credit.specs.declared.marks.Standing.{Standing}
-
--- sums of what is equal, and of two
-sum_same : {X : Type 0} (f g : X → ℕ) → ((x : X) → f x ≡ g x) → (xs : List X) → sum_by f xs ≡ sum_by g xs
-sum_same f g same xs = let equal : f ≡ g = λ i x. same x i in ap (λ h. sum_by h xs) equal
-
-pub sum_plus : {X : Type 0} (f g : X → ℕ) (xs : List X) → sum_by f xs + sum_by g xs ≡ sum_by (λ x. f x + g x) xs
-sum_plus f g [] = refl
-sum_plus f g (x ∷ xs) =
-    let left : sum_by f (x ∷ xs) ≡ f x + sum_by f xs = sum_by-cons f x xs in
-    let right : sum_by g (x ∷ xs) ≡ g x + sum_by g xs = sum_by-cons g x xs in
-    let both : sum_by (λ y. f y + g y) (x ∷ xs) ≡ f x + g x + sum_by (λ y. f y + g y) xs = sum_by-cons (λ y. f y + g y) x xs in
-    let rest : sum_by f xs + sum_by g xs ≡ sum_by (λ y. f y + g y) xs = sum_plus f g xs in
-    omega arith
+use Rattle.sched_book.proofs.Credits.{sum_same, sum_plus}
+use Rattle.quorum_credit.specs.Scores.{standing_with, no_standing, standing_in, standing_at, one_if_new, charges_between, merits_between, charges_at, merits_at, unit_charges, unit_merits}
+use Rattle.quorum_credit.specs.Settling.{TouchJust}
+use Rattle.call_sheet.specs.Sheets.{is_among}
+use Rattle.call_sheet.proofs.Sums.{sum_from, at_one, from_zero, sum_of_some}
+use Rattle.quorum_credit.specs.declared.scores.Standing.{Standing}
 
 -- a test for the host's own alone is two tests
 owned_and : (w : World) (host : ℕ) (t : UnitBook → Instance → Bool) (p : Place)
@@ -111,15 +99,6 @@ charges-sum old new host =
 merits-sum : (old new : World) (host : ℕ) → merits old new host ≡ sum_by (merits_at old new host) (places new)
 merits-sum old new host = newly-sum (λ w b x. is_valid (verdict_of w b x)) (λ s. is_valid s.verdict) refl (λ w b x. refl) old new host
 
--- the sum of g from n on, of so many
-unfoldable pub sum_from : (ℕ → ℕ) → ℕ → ℕ → ℕ
-sum_from g n zero = 0
-sum_from g n (suc k) = g n + sum_from g (suc n) k
-
-pub at_one : (g : ℕ → ℕ) (k : ℕ) → g 0 ≡ 0 → sum_from g 1 k ≡ sum_from g 0 (suc k)
-unfolding sum_from
-at_one g k first = let none : g 0 ≡ 0 = first in let sum : sum_from g 1 k ≡ g 0 + sum_from g 1 k = omega arith in sum
-
 -- a sum over the places of all instances is one over the workunits
 module _ (f : Place → ℕ) (g : ℕ → ℕ) where
   sum_of_units : (bs : List UnitBook) (n : ℕ)
@@ -135,67 +114,6 @@ module _ (f : Place → ℕ) (g : ℕ → ℕ) where
       ∙ ap (λ m. m + sum_by f (places_among (n + 1) (λ b x. true) bs)) (sym here)
       ∙ ap (λ ps. g n + sum_by f ps) next
       ∙ ap (λ m. g n + m) (sum_of_units bs (suc n) (λ i c is. subst (λ m. g m ≡ sum_by f (places_in m 0 (λ x. true) c.instances)) (let same : n + suc i ≡ suc n + i = omega arith in same) (each (suc i) c is)))
-
--- all of these are m or more
-pub AreFrom : ℕ → List ℕ → Type 0
-AreFrom m [] = Unit {0}
-AreFrom m (n ∷ ns) = (m ≤ n) × AreFrom m ns
-
-pub from_zero : (ns : List ℕ) → AreFrom 0 ns
-unfolding AreFrom
-from_zero [] = tt
-from_zero (n ∷ ns) = (omega arith, from_zero ns)
-
-from_above : (m n : ℕ) (ns : List ℕ) → m ≤ n → AreAbove n ns → AreFrom (suc m) ns
-unfolding AreFrom
-from_above m n [] low above = tt
-from_above m n (k ∷ ns) low above = let here : n < k = above.0 in ((let less : suc m ≤ k = omega arith in less), from_above m n ns low above.1)
-
-not_among : (m : ℕ) (ns : List ℕ) → AreFrom (suc m) ns → is_among ns m ≡ false
-unfolding AreFrom
-not_among m [] from = refl
-not_among m (n ∷ ns) from =
-    let here : suc m ≤ n = from.0 in
-    let other : eqb n m ≡ false = grind (arith, nat_tests) in
-    ap (λ b. b || is_among ns m) other ∙ not_among m ns from.1
-
--- a sum over all workunits is one over some, where it is nothing at the others
-module _ (g : ℕ → ℕ) where
-  all_zero : (ns : List ℕ) (m : ℕ) → AreFrom m ns → ((n : ℕ) → m ≤ n → g n ≡ 0) → sum_by g ns ≡ 0
-  unfolding AreFrom
-  all_zero [] m from none = refl
-  all_zero (n ∷ ns) m from none =
-      sum_by-cons g n ns ∙ ap (λ k. k + sum_by g ns) (none n from.0) ∙ ap (λ k. 0 + k) (all_zero ns m from.1 none)
-
-  pub sum_of_some : (k n : ℕ) (ns : List ℕ) → AreRising ns → AreFrom n ns → ((m : ℕ) → n ≤ m → is_among ns m ≡ false → g m ≡ 0)
-      → ((m : ℕ) → n + k ≤ m → g m ≡ 0) → sum_from g n k ≡ sum_by g ns
-  unfolding sum_from AreFrom
-  sum_of_some zero n ns rising from others beyond = sym (all_zero ns n from (λ m far. beyond m (omega arith)))
-  sum_of_some (suc k) n [] rising from others beyond =
-      let here : g n ≡ 0 = others n (omega arith) refl in
-      let rest : sum_from g (suc n) k ≡ 0 = sum_of_some k (suc n) [] tt tt (λ m far among. others m (omega arith) refl) (λ m far. beyond m (omega arith)) in
-      omega arith
-  sum_of_some (suc k) n (t ∷ ns) rising from others beyond = cases (eqb t n) refl (sum_of_some k (suc n))
-    where
-      cases : (b : Bool) → eqb t n ≡ b
-          → ((ms : List ℕ) → AreRising ms → AreFrom (suc n) ms → ((m : ℕ) → suc n ≤ m → is_among ms m ≡ false → g m ≡ 0)
-          → ((m : ℕ) → suc n + k ≤ m → g m ≡ 0) → sum_from g (suc n) k ≡ sum_by g ms)
-          → g n + sum_from g (suc n) k ≡ sum_by g (t ∷ ns)
-      cases true is later =
-          let same : t ≡ n = grind (arith, nat_tests) in
-          let rest : sum_from g (suc n) k ≡ sum_by g ns =
-          later ns rising.1 (from_above n t ns from.0 rising.0)
-          (λ m far among. others m (omega arith) (ap (λ c. c || is_among ns m) (let other : eqb t m ≡ false = grind (arith, nat_tests) in other) ∙ among))
-          (λ m far. beyond m (omega arith)) in
-          ap (λ j. g j + sum_from g (suc n) k) (sym same) ∙ ap (λ j. g t + j) rest ∙ sym (sum_by-cons g t ns)
-      cases false is later =
-          let low : n ≤ t = from.0 in
-          let above : suc n ≤ t = grind (arith, nat_tests) in
-          let all : AreFrom (suc n) (t ∷ ns) = (above, from_above n t ns low rising.0) in
-          let here : g n ≡ 0 = others n (omega arith) (not_among n (t ∷ ns) all) in
-          let rest : sum_from g (suc n) k ≡ sum_by g (t ∷ ns) =
-          later (t ∷ ns) rising all (λ m far among. others m (omega arith) among) (λ m far. beyond m (omega arith)) in
-          omega arith
 
 -- where a workunit is as it was, nothing is new
 none_new : (b : Bool) → one_if_new b b ≡ 0

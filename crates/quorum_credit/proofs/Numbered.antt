@@ -10,7 +10,7 @@ use Rattle.sched_book.specs.Places.{nth}
 use Rattle.sched_book.specs.Delta.{set_nth}
 use Rattle.sched_book.proofs.PlacesOf.{nth-suc}
 use Rattle.quorum_credit.specs.Tallies.{number_got}
-use Rattle.quorum_credit.proofs.ByPlace.{same_by_place, nth-map_places}
+use Rattle.sched_book.proofs.ByPlace.{same_by_place, nth-map_places}
 use Rattle.call_sheet.proofs.SetRows.{nth-set_nth}
 
 pub length-numbered : {X Y : Type 0} (f : ℕ × X → Y) (xs : List X) → length (map f (enumerate_from 1 xs)) ≡ length xs

@@ -16,11 +16,11 @@ use Rattle.call_sheet.specs.declared.leaf.Leaf.{Leaf}
 use Rattle.call_sheet.proofs.OnLeaves.{instances_now-is, status_before-is}
 use Rattle.quorum_credit.specs.Growing.{fresh_changes, growth_of, growth}
 use Rattle.quorum_credit.specs.Late.{late_in}
-use Rattle.quorum_credit.specs.Leaves.{reported_on, late_on, growth_on, marks_on}
-use Rattle.quorum_credit.specs.Marking.{standings_in, marks_from, marks_at}
+use Rattle.quorum_credit.specs.Leaves.{reported_on, late_on, growth_on, scores_on}
+use Rattle.quorum_credit.specs.Scoring.{standings_in, scores_from, scores_at}
 use Rattle.quorum_credit.specs.Settled.{new_instances}
 use Rattle.quorum_credit.specs.Taken.{reported_in}
-use Rattle.quorum_credit.specs.declared.marks.OwnedStanding.{OwnedStanding}
+use Rattle.quorum_credit.specs.declared.scores.OwnedStanding.{OwnedStanding}
 
 pub reported-is : (host : ℕ) (r : Report) (entry present : World) (p : Place) (o : Option Leaf) → IsReadAt entry present p.unit o
     → reported_on host r o p.number ≡ reported_in host r (has_failed (status_at entry p.unit)) (instances_at present p.unit) p.number
@@ -52,14 +52,14 @@ credit_of o = unwrap_or (option_map (λ (b : UnitBook). b.unit.credit) o) 0
 abbrev standings_of : World → Option UnitBook → List OwnedStanding
 standings_of w o = unwrap_or (option_map (λ (b : UnitBook). standings_in (agreement_of w b) b.unit b.instances) o) []
 
-pub marks-is : (entry present : World) (unit : ℕ) (o : Option Leaf) → present ≡ record entry { units = present.units; hosts = present.hosts }
-    → IsReadAt entry present unit o → marks_on o ≡ marks_at entry present unit
-marks-is entry present unit None rest read =
-    sym (ap (λ (o : Option UnitBook). marks_from (credit_of o) (standings_of entry (unit_at entry unit)) 0 (standings_of present o)) read.0)
-marks-is entry present unit (Some k) rest read =
-    sym (ap (λ (o : Option UnitBook). marks_from (credit_of o) (standings_of entry (unit_at entry unit)) 0 (standings_of present (unit_at present unit))) read.here
-    ∙ ap₂ (λ (old new : List OwnedStanding). marks_from k.unit.credit old 0 new)
+pub scores-is : (entry present : World) (unit : ℕ) (o : Option Leaf) → present ≡ record entry { units = present.units; hosts = present.hosts }
+    → IsReadAt entry present unit o → scores_on o ≡ scores_at entry present unit
+scores-is entry present unit None rest read =
+    sym (ap (λ (o : Option UnitBook). scores_from (credit_of o) (standings_of entry (unit_at entry unit)) 0 (standings_of present o)) read.0)
+scores-is entry present unit (Some k) rest read =
+    sym (ap (λ (o : Option UnitBook). scores_from (credit_of o) (standings_of entry (unit_at entry unit)) 0 (standings_of present (unit_at present unit))) read.here
+    ∙ ap₂ (λ (old new : List OwnedStanding). scores_from k.unit.credit old 0 new)
     (ap (standings_of entry) read.before ∙ ap (λ a. standings_in a k.unit k.before) read.agreement)
     (ap (standings_of present) read.here ∙ ap (λ a. standings_in a k.unit k.present) (agreed entry present k rest read.agreement)))
 
-pub ruleset marks_steps = (marks-is)
+pub ruleset scores_steps = (scores-is)

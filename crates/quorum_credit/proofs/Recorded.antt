@@ -1,28 +1,19 @@
 -- One report more, as a change of the instance that awaits it.
-use Rattle.std.proofs.Common.{◌≡◌, ℕ, zero, suc, ◌-◌, ◌<◌, Bool, true, false, cond, eqb, List, [], ◌∷◌, ◌++◌, length, Option, Some, None, sym, refl, ap, ◌∙◌}
-use Rattle.std.specs.Prelude.{◌+◌, count_by, option_map, option_and_then, unwrap_or, slice_get, slice_set}
-use Rattle.std.proofs.lemmas.Bool.{lt-ltb}
-use Rattle.std.proofs.lemmas.Option.{slice_get_within, get_or_from_slice_get}
+use Rattle.std.proofs.Common.{◌≡◌, ℕ, zero, suc, ◌-◌, Bool, true, false, cond, eqb, List, [], ◌∷◌, Option, Some, None, sym, refl, ap, ◌∙◌}
+use Rattle.std.specs.Prelude.{◌+◌, count_by, option_map, option_and_then, unwrap_or, slice_get}
 use Rattle.rpc_records.specs.declared.request.Report.{Report}
 use Rattle.sched_book.specs.Count.{is_judged, has_failed}
 use Rattle.sched_book.specs.Places.{nth, unit_at, passes, status_at}
 use Rattle.sched_book.specs.Desk.{instances_at}
-use Rattle.sched_book.specs.Delta.{set_at, with_instance, applied_one}
+use Rattle.sched_book.specs.Delta.{with_instance, applied_one}
 use Rattle.sched_book.specs.Reports.{modify_at, modify_nth, with_number, with_changed, awaits_report, with_report, judged_place, next_place, record_at}
 use Rattle.sched_book.specs.declared.delta.Change.TheVariants as change
 use Rattle.sched_book.specs.declared.instance.Instance.{Instance}
 use Rattle.sched_book.specs.declared.instance.Place.{Place}
 use Rattle.sched_book.specs.declared.instance.UnitBook.{UnitBook}
 use Rattle.sched_book.specs.declared.world.World.{World}
-use Rattle.sched_book.proofs.Changes.{modify_at-set}
+use Rattle.sched_book.proofs.Changes.{modify_at-put}
 use Rattle.quorum_credit.specs.Taken.{place_among, reported_in}
-
--- where an element stands, changing it is putting the changed one
-pub modify_at-put : {X : Type 0} (f : X → X) (xs : List X) (i : ℕ) (x : X) → slice_get xs i ≡ Some x → modify_at f xs i ≡ set_at xs i (f x)
-modify_at-put f xs i x stands =
-    let within : i < length xs = slice_get_within xs i x stands in
-    modify_at-set f xs i x within (sym (get_or_from_slice_get xs i x x stands))
-    ∙ sym (ap (λ (b : Bool). cond b (slice_set xs i (f x)) (xs ++ f x ∷ [])) (lt-ltb i (length xs) within))
 
 -- two changes that do the same to what stands at a place
 modify_at-same : {X : Type 0} (f g : X → X) (xs : List X) (i : ℕ) (x : X) → slice_get xs i ≡ Some x → f x ≡ g x → modify_at f xs i ≡ modify_at g xs i

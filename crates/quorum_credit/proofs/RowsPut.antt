@@ -1,5 +1,6 @@
 -- Changes that leave all tables but those of workunits and hosts, and as many workunits, put hosts, instances and classes alone.
-use Rattle.std.proofs.Common.{◌≡◌, ℕ, suc, ◌+◌, ◌≤◌, true, List, [], ◌∷◌, ◌++◌, length, Option, Some, None, sym, refl, ap, ◌∙◌, length-append, arith}
+use Rattle.std.proofs.Common.{◌≡◌, ℕ, suc, ◌+◌, ◌≤◌, true, List, [], ◌∷◌, length, Option, Some, None, sym, refl, ap, ◌∙◌, arith}
+use Rattle.std.proofs.lemmas.List.{length_push}
 use Rattle.std.specs.Prelude.{is_some, slice_get}
 use Rattle.std.specs.List.{list_all}
 use Rattle.sched_book.specs.Classes.{with_class}
@@ -18,14 +19,11 @@ use Rattle.quorum_credit.specs.Settling.{puts_row}
 abbrev row_count : World → ℕ
 row_count w = length w.accounts + length w.apps + length w.versions + length w.units
 
-one_longer : {X : Type 0} (xs : List X) (x : X) → length (xs ++ x ∷ []) ≡ length xs + 1
-one_longer xs x = length-append xs (x ∷ [])
-
 grow_one : (w : World) (c : Change) → row_count w ≤ row_count (applied_one w c)
-grow_one w (change.Account a) = let long = one_longer w.accounts a in omega arith
-grow_one w (change.App a) = let long = one_longer w.apps a in omega arith
-grow_one w (change.Version v) = let long = one_longer w.versions v in omega arith
-grow_one w (change.Workunit u) = let long = one_longer w.units (new_unit u) in omega arith
+grow_one w (change.Account a) = let long = length_push w.accounts a in omega arith
+grow_one w (change.App a) = let long = length_push w.apps a in omega arith
+grow_one w (change.Version v) = let long = length_push w.versions v in omega arith
+grow_one w (change.Workunit u) = let long = length_push w.units (new_unit u) in omega arith
 grow_one w (change.Host number h) = omega arith
 grow_one w (change.Instance p x) = let long = length-modify_nth (with_instance p.number x) w.units p.unit in omega arith
 grow_one w (change.Class unit class) = let long = length-modify_nth (with_class class) w.units unit in omega arith
@@ -41,13 +39,13 @@ grow w (c ∷ cs) =
 none_added : (w : World) (cs : List Change) → row_count (applied w cs) ≡ row_count w → list_all puts_row cs ≡ true
 none_added w [] same = refl
 none_added w (change.Account a ∷ cs) same =
-    let long = one_longer w.accounts a in let rest = grow (applied_one w (change.Account a)) cs in absurd (omega arith)
+    let long = length_push w.accounts a in let rest = grow (applied_one w (change.Account a)) cs in absurd (omega arith)
 none_added w (change.App a ∷ cs) same =
-    let long = one_longer w.apps a in let rest = grow (applied_one w (change.App a)) cs in absurd (omega arith)
+    let long = length_push w.apps a in let rest = grow (applied_one w (change.App a)) cs in absurd (omega arith)
 none_added w (change.Version v ∷ cs) same =
-    let long = one_longer w.versions v in let rest = grow (applied_one w (change.Version v)) cs in absurd (omega arith)
+    let long = length_push w.versions v in let rest = grow (applied_one w (change.Version v)) cs in absurd (omega arith)
 none_added w (change.Workunit u ∷ cs) same =
-    let long = one_longer w.units (new_unit u) in let rest = grow (applied_one w (change.Workunit u)) cs in absurd (omega arith)
+    let long = length_push w.units (new_unit u) in let rest = grow (applied_one w (change.Workunit u)) cs in absurd (omega arith)
 none_added w (change.Host number h ∷ cs) same = none_added (applied_one w (change.Host number h)) cs same
 none_added w (change.Instance p x ∷ cs) same =
     none_added (applied_one w (change.Instance p x)) cs

@@ -1,8 +1,9 @@
 -- The steps of settlement come to the settled world.
-use Rattle.std.proofs.Common.{◌≡◌, ℕ, zero, suc, ◌<◌, ◌≤◌, Bool, true, false, cond, eqb, List, [], ◌∷◌, ◌++◌, length, Option, Some, None, drop, sym, refl, ap, ◌∙◌, subst, append_assoc, arith}
-use Rattle.std.specs.Prelude.{◌&&◌, ◌||◌, IsTrue, is_some, map, option_map, slice_get, sum_by}
+use Rattle.std.proofs.Common.{◌≡◌, ℕ, ◌≤◌, Bool, true, false, cond, eqb, List, [], ◌∷◌, ◌++◌, length, Option, Some, None, drop, sym, refl, ap, ◌∙◌, subst, append_assoc, arith}
+use Rattle.std.specs.Prelude.{IsTrue, is_some, map, option_map, sum_by}
 use Rattle.std.specs.List.{enumerate_from, list_any, list_all}
 use Rattle.std.proofs.lemmas.Bool.Decides.{nat_tests}
+use Rattle.std.proofs.lemmas.Bool.{and_parts, or_parts}
 use Rattle.std.proofs.Math.Seq.{drop-append_seam}
 use Rattle.std.proofs.lemmas.List.Folds.{list_all-append}
 use Rattle.std.proofs.lemmas.List.Sums.{fold-append}
@@ -21,33 +22,25 @@ use Rattle.sched_book.specs.declared.rows.Workunit.{Workunit}
 use Rattle.sched_book.specs.declared.settings.Settings.{Settings}
 use Rattle.sched_book.specs.declared.world.World.{World}
 use Rattle.sched_book.proofs.Classes.{first_stays, imported_in_limits}
-use Rattle.sched_book.proofs.PlacesOf.{nth-suc, nth-modify_nth, nth-within}
+use Rattle.sched_book.proofs.PlacesOf.{nth-modify_nth, nth-within}
 use Rattle.sched_book.proofs.Settling.{settlement_is_pointwise}
-use Rattle.quorum_credit.specs.Marks.{charges_in, merits_in, unit_charges, unit_merits}
-use Rattle.quorum_credit.specs.Settling.{is_among, puts_row, TouchJust, with_grown_among, quota_by, with_quotas_by, AreHostsInLimits, AreUnitsInLimits, AreQuotasBy, IsSettlement}
-use Rattle.call_sheet.specs.Sheets.{IsLeafAt, AreAllOf, AreRising}
+use Rattle.quorum_credit.specs.Scores.{charges_in, merits_in, unit_charges, unit_merits}
+use Rattle.quorum_credit.specs.Settling.{puts_row, TouchJust, with_grown_among, quota_by, with_quotas_by, AreHostsInLimits, AreUnitsInLimits, AreQuotasBy, IsSettlement}
+use Rattle.call_sheet.specs.Sheets.{IsLeafAt, AreAllOf, AreRising, is_among}
 use Rattle.call_sheet.specs.declared.leaf.Leaf.{Leaf}
 use Rattle.quorum_credit.specs.Growing.{all_growth}
-use Rattle.quorum_credit.specs.Marking.{marks_of_units}
+use Rattle.quorum_credit.specs.Scoring.{scores_of_units}
 use Rattle.quorum_credit.specs.Taken.{touches, AreTouched}
-use Rattle.quorum_credit.specs.declared.marks.Mark.{Mark}
-use Rattle.quorum_credit.proofs.ByPlace.{all_nth}
+use Rattle.quorum_credit.specs.declared.scores.Score.{Score}
+use Rattle.sched_book.proofs.ByPlace.{all_nth}
+use Rattle.sched_book.proofs.Fitting.{all_settings_stay}
 use Rattle.quorum_credit.proofs.Grown.{grown_sound, others_need_nothing, all_grown_among}
 use Rattle.quorum_credit.specs.Tallies.{number_got}
 use Rattle.quorum_credit.proofs.Numbered.{number_within}
 use Rattle.call_sheet.proofs.SetRows.{nth-set_nth}
 use Rattle.quorum_credit.proofs.GrownFits.{fits_then, all_fit}
-use Rattle.quorum_credit.proofs.Marked.{charges_in-marks, merits_in-marks}
-use Rattle.quorum_credit.proofs.NewQuotas.{all_settings_stay}
+use Rattle.quorum_credit.proofs.Scored.{charges_in-scores, merits_in-scores}
 use Rattle.quorum_credit.proofs.NewlyCounted.{charges_touched, merits_touched}
-
-both_true : (a b : Bool) → (a && b) ≡ true → (a ≡ true) × (b ≡ true)
-both_true true b is = (refl, is)
-both_true false b is = absurd cc
-
-both_false : (a b : Bool) → (a || b) ≡ false → (a ≡ false) × (b ≡ false)
-both_false true b is = absurd cc
-both_false false b is = (refl, is)
 
 -- what changes that put hosts, instances and classes leave
 apps_stay : (w : World) (c : Change) → puts_row c ≡ true → (applied_one w c).apps ≡ w.apps
@@ -75,14 +68,14 @@ unit_stays w (change.Class place class) unit puts other =
 pub all_apps_stay : (w : World) (cs : List Change) → list_all puts_row cs ≡ true → (applied w cs).apps ≡ w.apps
 all_apps_stay w [] puts = refl
 all_apps_stay w (c ∷ cs) puts =
-    let parts = both_true (puts_row c) (list_all puts_row cs) puts in all_apps_stay (applied_one w c) cs parts.1 ∙ apps_stay w c parts.0
+    let parts = and_parts (puts_row c) (list_all puts_row cs) puts in all_apps_stay (applied_one w c) cs parts.1 ∙ apps_stay w c parts.0
 
 pub others_stay : (w : World) (cs : List Change) (unit : ℕ) → list_all puts_row cs ≡ true → list_any (touches unit) cs ≡ false
     → unit_at (applied w cs) unit ≡ unit_at w unit
 others_stay w [] unit puts other = refl
 others_stay w (c ∷ cs) unit puts other =
-    let parts = both_true (puts_row c) (list_all puts_row cs) puts in
-    let apart = both_false (touches unit c) (list_any (touches unit) cs) other in
+    let parts = and_parts (puts_row c) (list_all puts_row cs) puts in
+    let apart = or_parts (touches unit c) (list_any (touches unit) cs) other in
     others_stay (applied_one w c) cs unit parts.1 apart.1 ∙ unit_stays w c unit parts.0 apart.0
 
 touch_just : (w : World) (cs : List Change) (units : List ℕ) → list_all puts_row cs ≡ true → AreTouched cs units → TouchJust units w (applied w cs)
@@ -123,20 +116,20 @@ settled_touch_just units old changed sound touch = record {
   others = untouched_stays units old changed sound touch;
 }
 
--- the hosts with their quotas, by the marks of the touched workunits
-quotas_settle : (units : List ℕ) (old changed : World) (marks : List Mark) → Sound old → TouchJust units old changed
-    → ((host : ℕ) → charges_in marks host ≡ sum_by (unit_charges old (with_grown changed) host) units)
-    → ((host : ℕ) → merits_in marks host ≡ sum_by (unit_merits old (with_grown changed) host) units)
-    → with_quotas_by marks (with_grown changed) ≡ settled old changed
-quotas_settle units old changed marks sound touch charged merited =
+-- the hosts with their quotas, by the scores of the touched workunits
+quotas_settle : (units : List ℕ) (old changed : World) (scores : List Score) → Sound old → TouchJust units old changed
+    → ((host : ℕ) → charges_in scores host ≡ sum_by (unit_charges old (with_grown changed) host) units)
+    → ((host : ℕ) → merits_in scores host ≡ sum_by (unit_merits old (with_grown changed) host) units)
+    → with_quotas_by scores (with_grown changed) ≡ settled old changed
+quotas_settle units old changed scores sound touch charged merited =
     let new = with_grown changed in
     let just = grown_touch_just units old changed sound touch in
     let limit = changed.settings.daily_result_quota in
-    let each : (e : ℕ × HostRow) → quota_by marks limit e ≡ with_quota old new e = λ e.
-    ap (λ n. record e.1 { quota = next_quota e.1.quota n (merits_in marks e.0) limit }) (charged e.0 ∙ charges_touched units old new just e.0)
+    let each : (e : ℕ × HostRow) → quota_by scores limit e ≡ with_quota old new e = λ e.
+    ap (λ n. record e.1 { quota = next_quota e.1.quota n (merits_in scores e.0) limit }) (charged e.0 ∙ charges_touched units old new just e.0)
     ∙ ap (λ n. record e.1 { quota = next_quota e.1.quota (charges old new e.0) n limit }) (merited e.0 ∙ merits_touched units old new just e.0)
     ∙ ap (λ s. record e.1 { quota = next_quota e.1.quota (charges old new e.0) (merits old new e.0) s.daily_result_quota }) touch.settings in
-    let same : quota_by marks limit ≡ with_quota old new = λ i e. each e i in
+    let same : quota_by scores limit ≡ with_quota old new = λ i e. each e i in
     ap (λ f. record new { hosts = map f (enumerate_from 1 changed.hosts) }) same
 
 -- the hosts stay within limits
@@ -169,7 +162,7 @@ hosts_one w (change.Host number h) puts limits fits = λ host k stands. cases ho
 pub hosts_in_limits : (w : World) (cs : List Change) → list_all puts_row cs ≡ true → AreHostsInLimits w → Fits w cs → AreHostsInLimits (applied w cs)
 hosts_in_limits w [] puts limits fits = limits
 hosts_in_limits w (c ∷ cs) puts limits fits =
-    let parts = both_true (puts_row c) (list_all puts_row cs) puts in
+    let parts = and_parts (puts_row c) (list_all puts_row cs) puts in
     hosts_in_limits (applied_one w c) cs parts.1 (hosts_one w c parts.0 limits fits.0) fits.1
 
 -- the row of a workunit but for its class
@@ -200,7 +193,7 @@ row_stays w (change.Class place class) unit puts =
 rows_stay : (w : World) (cs : List Change) (unit : ℕ) → list_all puts_row cs ≡ true → plain (unit_at (applied w cs) unit) ≡ plain (unit_at w unit)
 rows_stay w [] unit puts = refl
 rows_stay w (c ∷ cs) unit puts =
-    let parts = both_true (puts_row c) (list_all puts_row cs) puts in rows_stay (applied_one w c) cs unit parts.1 ∙ row_stays w c unit parts.0
+    let parts = and_parts (puts_row c) (list_all puts_row cs) puts in rows_stay (applied_one w c) cs unit parts.1 ∙ row_stays w c unit parts.0
 
 pub units_in_limits : (w : World) (cs : List Change) → Sound w → list_all puts_row cs ≡ true → AreUnitsInLimits (applied w cs)
 units_in_limits w cs sound puts unit b stands = cases (unit_at w unit) refl (sym (rows_stay w cs unit puts) ∙ ap plain stands)
@@ -211,22 +204,22 @@ units_in_limits w cs sound puts unit b stands = cases (unit_at w unit) refl (sym
         let same : imported c.unit ≡ imported b.unit = cc in
         subst IsUnitInLimits same (imported_in_limits c.unit (all_nth (IsSoundUnit w.hosts w.apps) w.units unit c sound.units is).well.limits)
 
--- The three steps of settlement from a world w of a call that found world e: to v by new instances, marks, and to u by
+-- The three steps of settlement from a world w of a call that found world e: to v by new instances, scores, and to u by
 -- quotas; and the changes before and after.
-pub record AreSteps (e w v u : World) (before after quotas : List Change) (units : List ℕ) (marks : List Mark) : Type 0 where
+pub record AreSteps (e w v u : World) (before after quotas : List Change) (units : List ℕ) (scores : List Score) : Type 0 where
   pub here : w ≡ applied e before
   pub puts : list_all puts_row before ≡ true
   pub grew : AreRising units → v ≡ with_grown_among units w
-  pub marked : marks ≡ marks_of_units e v units
-  pub quoted : AreQuotasBy marks v quotas
+  pub scored : scores ≡ scores_of_units e v units
+  pub quoted : AreQuotasBy scores v quotas
   pub put : u ≡ applied v quotas
   pub changes : after ≡ (before ++ all_growth w units) ++ quotas
 
-module _ (e w v u : World) (before after quotas : List Change) (units : List ℕ) (marks : List Mark)
-    (steps : AreSteps e w v u before after quotas units marks) where
-  -- the marks are of all that is new in the end, since quotas alone come behind them
-  pub marks_hold : marks ≡ marks_of_units e u units
-  marks_hold = steps.marked ∙ ap (λ z. marks_of_units e z units) (sym (steps.put ∙ steps.quoted.alone))
+module _ (e w v u : World) (before after quotas : List Change) (units : List ℕ) (scores : List Score)
+    (steps : AreSteps e w v u before after quotas units scores) where
+  -- the scores are of all that is new in the end, since quotas alone come behind them
+  pub scores_hold : scores ≡ scores_of_units e u units
+  scores_hold = steps.scored ∙ ap (λ z. scores_of_units e z units) (sym (steps.put ∙ steps.quoted.alone))
 
   module _ (sound : Sound e) (fits : Fits e before) (just : TouchJust units e w) where
     -- the first step leaves each open workunit satisfied
@@ -238,21 +231,21 @@ module _ (e w v u : World) (before after quotas : List Change) (units : List ℕ
         subst AreHostsInLimits (sym (all_grown ∙ ap with_grown steps.here))
         (hosts_in_limits e before steps.puts (sound_hosts_in_limits e sound) fits)
 
-    charged : (host : ℕ) → charges_in marks host ≡ sum_by (unit_charges e v host) units
-    charged host = ap (λ ms. charges_in ms host) steps.marked ∙ charges_in-marks e v units host
+    charged : (host : ℕ) → charges_in scores host ≡ sum_by (unit_charges e v host) units
+    charged host = ap (λ ms. charges_in ms host) steps.scored ∙ charges_in-scores e v units host
 
-    merited : (host : ℕ) → merits_in marks host ≡ sum_by (unit_merits e v host) units
-    merited host = ap (λ ms. merits_in ms host) steps.marked ∙ merits_in-marks e v units host
+    merited : (host : ℕ) → merits_in scores host ≡ sum_by (unit_merits e v host) units
+    merited host = ap (λ ms. merits_in ms host) steps.scored ∙ merits_in-scores e v units host
 
     -- what the three steps leave is the settled world
     pub settles : u ≡ settled e w
     settles =
         steps.put
         ∙ steps.quoted.quoted limits
-        ∙ ap (with_quotas_by marks) all_grown
-        ∙ quotas_settle units e w marks sound just
-        (subst (λ z. (host : ℕ) → charges_in marks host ≡ sum_by (unit_charges e z host) units) all_grown charged)
-        (subst (λ z. (host : ℕ) → merits_in marks host ≡ sum_by (unit_merits e z host) units) all_grown merited)
+        ∙ ap (with_quotas_by scores) all_grown
+        ∙ quotas_settle units e w scores sound just
+        (subst (λ z. (host : ℕ) → charges_in scores host ≡ sum_by (unit_charges e z host) units) all_grown charged)
+        (subst (λ z. (host : ℕ) → merits_in scores host ≡ sum_by (unit_merits e z host) units) all_grown merited)
 
     -- the new instances fit behind the changes before, and lead to v
     grown_here : applied e (before ++ all_growth w units) ≡ v
@@ -292,7 +285,7 @@ module _ (w : World) (cs more all : List Change) (units : List ℕ) (settlement 
   joined_put = ap (list_all puts_row) joined ∙ puts
 
   just_touched : AreTouched cs units → TouchJust units w (applied w cs)
-  just_touched = touch_just w cs units (both_true _ _ (sym (list_all-append puts_row cs more) ∙ joined_put)).0
+  just_touched = touch_just w cs units (and_parts _ _ (sym (list_all-append puts_row cs more) ∙ joined_put)).0
 
   pub joined_settle : Sound w → Fits w cs → AreTouched cs units → applied w (cs ++ more) ≡ settled w (applied w cs)
   joined_settle sound fits touched = ap (applied w) joined ∙ settlement.settles sound fits (just_touched touched)

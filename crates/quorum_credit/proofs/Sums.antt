@@ -1,4 +1,4 @@
--- What marks say of each host, summed.
+-- What scores say of each host, summed.
 use Rattle.std.proofs.Common.{◌≡◌, ℕ, zero, suc, ◌+◌, Bool, true, false, cond, eqb, List, [], ◌∷◌, Option, Some, None, sym, refl, ap, ◌∙◌, subst, arith, IfSome}
 use Rattle.std.proofs.lemmas.Bool.{eqb-true, eq-eqb}
 use Rattle.std.proofs.lemmas.Cmp.{nat_cmp_total, eq_by_cmp_equiv}
@@ -11,35 +11,35 @@ use Rattle.std.specs.BTreeMap.{BTreeMap, is_at}
 use Rattle.std.specs.List.{list_any}
 use Rattle.std.specs.Map.{keys_of}
 use Rattle.std.specs.Ordering.{nat_cmp}
-use Rattle.quorum_credit.specs.Marks.{charges_in, merits_in}
+use Rattle.quorum_credit.specs.Scores.{charges_in, merits_in}
 use Rattle.quorum_credit.specs.Tallies.{is_named, is_tallied, tally_of, tally_after, tally_in, AreSums}
 use Rattle.quorum_credit.specs.declared.host_quotas.Tally.{Tally}
-use Rattle.quorum_credit.specs.declared.marks.Mark.{Mark}
+use Rattle.quorum_credit.specs.declared.scores.Score.{Score}
 
--- one mark more in front
-charges_cons : (m : Mark) (ms : List Mark) (host : ℕ) (b : Bool) → eqb m.host host ≡ b → charges_in (m ∷ ms) host ≡ cond b m.charges 0 + charges_in ms host
+-- one score more in front
+charges_cons : (m : Score) (ms : List Score) (host : ℕ) (b : Bool) → eqb m.host host ≡ b → charges_in (m ∷ ms) host ≡ cond b m.charges 0 + charges_in ms host
 charges_cons m ms host b is =
-    sum_by-cons (λ (m : Mark). cond (eqb m.host host) m.charges 0) m ms ∙ ap (λ (b : Bool). cond b m.charges 0 + charges_in ms host) is
+    sum_by-cons (λ (m : Score). cond (eqb m.host host) m.charges 0) m ms ∙ ap (λ (b : Bool). cond b m.charges 0 + charges_in ms host) is
 
-merits_cons : (m : Mark) (ms : List Mark) (host : ℕ) (b : Bool) → eqb m.host host ≡ b → merits_in (m ∷ ms) host ≡ cond b m.merits 0 + merits_in ms host
+merits_cons : (m : Score) (ms : List Score) (host : ℕ) (b : Bool) → eqb m.host host ≡ b → merits_in (m ∷ ms) host ≡ cond b m.merits 0 + merits_in ms host
 merits_cons m ms host b is =
-    sum_by-cons (λ (m : Mark). cond (eqb m.host host) m.merits 0) m ms ∙ ap (λ (b : Bool). cond b m.merits 0 + merits_in ms host) is
+    sum_by-cons (λ (m : Score). cond (eqb m.host host) m.merits 0) m ms ∙ ap (λ (b : Bool). cond b m.merits 0 + merits_in ms host) is
 
 -- of another host
-charges_other : (m : Mark) (ms : List Mark) (host : ℕ) → eqb m.host host ≡ false → charges_in (m ∷ ms) host ≡ charges_in ms host
+charges_other : (m : Score) (ms : List Score) (host : ℕ) → eqb m.host host ≡ false → charges_in (m ∷ ms) host ≡ charges_in ms host
 charges_other m ms host is = let one = charges_cons m ms host false is in omega arith
 
-merits_other : (m : Mark) (ms : List Mark) (host : ℕ) → eqb m.host host ≡ false → merits_in (m ∷ ms) host ≡ merits_in ms host
+merits_other : (m : Score) (ms : List Score) (host : ℕ) → eqb m.host host ≡ false → merits_in (m ∷ ms) host ≡ merits_in ms host
 merits_other m ms host is = let one = merits_cons m ms host false is in omega arith
 
 -- what is said of a host where something was said before
-abbrev with_more : ℕ → Tally → List Mark → Tally
+abbrev with_more : ℕ → Tally → List Score → Tally
 with_more host s ms = record s { charges = s.charges + charges_in ms host; merits = s.merits + merits_in ms host }
 
 abbrev both : Tally → ℕ → ℕ → Tally
 both s charges merits = record s { charges = charges; merits = merits }
 
-tally_some : (host : ℕ) (s : Tally) (ms : List Mark) → tally_after host (Some s) ms ≡ Some (with_more host s ms)
+tally_some : (host : ℕ) (s : Tally) (ms : List Score) → tally_after host (Some s) ms ≡ Some (with_more host s ms)
 tally_some host s [] =
     ap (λ c. Some (both s c s.merits)) (let same : s.charges ≡ s.charges + 0 = omega arith in same)
     ∙ ap (λ m. Some (both s (s.charges + 0) m)) (let same : s.merits ≡ s.merits + 0 = omega arith in same)
@@ -61,10 +61,10 @@ tally_some host s (m ∷ ms) = cases (λ s. tally_some host s ms) (eqb m.host ho
         ∙ ap (λ c. Some (both s (s.charges + charges_in (m ∷ ms) host) (s.merits + c))) (sym (merits_other m ms host is))
 
 -- what is said of a host
-abbrev said : List Mark → ℕ → Tally
+abbrev said : List Score → ℕ → Tally
 said ms host = record { host = host; charges = charges_in ms host; merits = merits_in ms host }
 
-tally_none : (host : ℕ) (ms : List Mark) → tally_after host None ms ≡ cond (is_named ms host) (Some (said ms host)) None
+tally_none : (host : ℕ) (ms : List Score) → tally_after host None ms ≡ cond (is_named ms host) (Some (said ms host)) None
 tally_none host [] = refl
 tally_none host (m ∷ ms) = cases (tally_none host ms) (eqb m.host host) refl
   where
@@ -83,8 +83,8 @@ tally_none host (m ∷ ms) = cases (tally_none host ms) (eqb m.host host) refl
         ∙ ap (λ c. cond (is_named ms host) (triple host c (merits_in ms host)) None) (sym (charges_other m ms host is))
         ∙ ap (λ c. cond (is_named ms host) (triple host (charges_in (m ∷ ms) host) c) None) (sym (merits_other m ms host is))
 
--- nothing is said of a host that no mark names
-charges_none : (ms : List Mark) (host : ℕ) → is_named ms host ≡ false → (charges_in ms host ≡ 0) × (merits_in ms host ≡ 0)
+-- nothing is said of a host that no score names
+charges_none : (ms : List Score) (host : ℕ) → is_named ms host ≡ false → (charges_in ms host ≡ 0) × (merits_in ms host ≡ 0)
 charges_none [] host none = (refl, refl)
 charges_none (m ∷ ms) host none = cases (charges_none ms host) (eqb m.host host) refl none
   where
@@ -106,38 +106,38 @@ none_passes p (x ∷ xs) none (suc k) d within = none_passes p xs (rest (p x) no
     rest true none = absurd cc
     rest false none = none
 
-module _ (marks : List Mark) (tallies : BTreeMap ℕ Tally) (ordered : tree.IsOrdered nat_cmp tallies)
-    (told : (host : ℕ) → tally_in tallies host ≡ tally_after host None marks) where
-  told_of : (host : ℕ) → tally_in tallies host ≡ cond (is_named marks host) (Some (said marks host)) None
-  told_of host = told host ∙ tally_none host marks
+module _ (scores : List Score) (tallies : BTreeMap ℕ Tally) (ordered : tree.IsOrdered nat_cmp tallies)
+    (told : (host : ℕ) → tally_in tallies host ≡ tally_after host None scores) where
+  told_of : (host : ℕ) → tally_in tallies host ≡ cond (is_named scores host) (Some (said scores host)) None
+  told_of host = told host ∙ tally_none host scores
 
   abbrev TellsAll : Tally → Type 0
-  TellsAll s = (s.charges ≡ charges_in marks s.host) × (s.merits ≡ merits_in marks s.host)
+  TellsAll s = (s.charges ≡ charges_in scores s.host) × (s.merits ≡ merits_in scores s.host)
 
   told_all : (host : ℕ) → IfSome (tally_in tallies host) TellsAll
-  told_all host = subst (λ (o : Option Tally). IfSome o TellsAll) (sym (told_of host)) (cases (is_named marks host))
+  told_all host = subst (λ (o : Option Tally). IfSome o TellsAll) (sym (told_of host)) (cases (is_named scores host))
     where
-      cases : (b : Bool) → IfSome (cond b (Some (said marks host)) None) TellsAll
+      cases : (b : Bool) → IfSome (cond b (Some (said scores host)) None) TellsAll
       cases true = (refl, refl)
       cases false = tt
 
   abbrev IsOther : ℕ → Tally → Type 0
   IsOther host s = eqb s.host host ≡ false
 
-  others : (host : ℕ) → is_tallied (tree.values tallies) host ≡ false → (charges_in marks host ≡ 0) × (merits_in marks host ≡ 0)
-  others host none = cases (is_named marks host) refl
+  others : (host : ℕ) → is_tallied (tree.values tallies) host ≡ false → (charges_in scores host ≡ 0) × (merits_in scores host ≡ 0)
+  others host none = cases (is_named scores host) refl
     where
-      cases : (b : Bool) → is_named marks host ≡ b → (charges_in marks host ≡ 0) × (merits_in marks host ≡ 0)
+      cases : (b : Bool) → is_named scores host ≡ b → (charges_in scores host ≡ 0) × (merits_in scores host ≡ 0)
       cases true is =
-          let found : tally_in tallies host ≡ Some (said marks host) = told_of host ∙ ap (λ (b : Bool). cond b (Some (said marks host)) None) is in
+          let found : tally_in tallies host ≡ Some (said scores host) = told_of host ∙ ap (λ (b : Bool). cond b (Some (said scores host)) None) is in
           let other : IfSome (tally_in tallies host) (IsOther host) =
           IfSome-lookup_from_All (IsOther host) (is_at (nat_cmp host)) tallies.entries (none_passes (λ (s : Tally). eqb s.host host) (tree.values tallies) none) in
           let apart : eqb host host ≡ false = subst (λ (o : Option Tally). IfSome o (IsOther host)) found other in
           let never : true ≡ false = sym (eq-eqb host host refl) ∙ apart in
           absurd cc
-      cases false is = charges_none marks host is
+      cases false is = charges_none scores host is
 
-  pub sums_are : AreSums marks (tree.values tallies)
+  pub sums_are : AreSums scores (tree.values tallies)
   sums_are = record {
     each = All-values_from_lookup (eq_by_cmp_equiv nat_cmp_total) TellsAll tallies.entries (IsDistinct-from_sorted nat_cmp (keys_of tallies.entries) ordered) told_all;
     others = others;

@@ -1,4 +1,4 @@
--- Words. What the leaf of a workunit says of its reports, its new instances and its marks.
+-- Words. What the leaf of a workunit says of its reports, its new instances and its scores.
 use Rattle.std.specs.Prelude.{ℕ, List, [], length, Option, None, Some}
 use Rattle.rpc_records.specs.declared.request.Report.{Report}
 use Rattle.sched_book.specs.Count.{has_failed}
@@ -8,10 +8,10 @@ use Rattle.call_sheet.specs.Sheets.{instances_now, status_before}
 use Rattle.call_sheet.specs.declared.leaf.Leaf.{Leaf}
 use Rattle.quorum_credit.specs.Growing.{fresh_changes}
 use Rattle.quorum_credit.specs.Late.{late_in}
-use Rattle.quorum_credit.specs.Marking.{standings_in, marks_from}
+use Rattle.quorum_credit.specs.Scoring.{standings_in, scores_from}
 use Rattle.quorum_credit.specs.Settled.{new_instances}
 use Rattle.quorum_credit.specs.Taken.{reported_in}
-use Rattle.quorum_credit.specs.declared.marks.Mark.{Mark}
+use Rattle.quorum_credit.specs.declared.scores.Score.{Score}
 
 -- the instance of a number with one report more, where it awaits it from the host
 abbrev pub reported_on : ℕ → Report → Option Leaf → ℕ → Option Instance
@@ -27,6 +27,6 @@ growth_on unit None = []
 growth_on unit (Some k) = fresh_changes unit (length k.present) (new_instances k.agreement k.unit k.present)
 
 -- what is new of the workunit's instances since the call came
-abbrev pub marks_on : Option Leaf → List Mark
-marks_on None = []
-marks_on (Some k) = marks_from k.unit.credit (standings_in k.agreement k.unit k.before) 0 (standings_in k.agreement k.unit k.present)
+abbrev pub scores_on : Option Leaf → List Score
+scores_on None = []
+scores_on (Some k) = scores_from k.unit.credit (standings_in k.agreement k.unit k.before) 0 (standings_in k.agreement k.unit k.present)

@@ -2,10 +2,10 @@ pub mod Settled
 pub mod Taken
 pub mod Limited
 pub mod Late
-pub mod Marks
+pub mod Scores
 pub mod Settling
 pub mod Tallies
 pub mod Growing
-pub mod Marking
+pub mod Scoring
 pub mod Leaves
 pub mod CreditKept

@@ -1,6 +1,6 @@
 -- Words. The steps from the world with its changes to the settled one. Of the workunits only those that the changes touch are looked at.
-use Rattle.std.specs.Prelude.{◌≡◌, ℕ, ◌≤◌, ◌==◌, ◌++◌, Bool, true, false, if◌then◌else◌, List, length, drop, map, Some, is_some, IsTrue}
-use Rattle.std.specs.List.{enumerate_from, list_any}
+use Rattle.std.specs.Prelude.{◌≡◌, ℕ, ◌≤◌, ◌++◌, Bool, true, false, if◌then◌else◌, List, length, drop, map, Some, is_some, IsTrue}
+use Rattle.std.specs.List.{enumerate_from}
 use Rattle.sched_book.specs.Classes.{imported}
 use Rattle.sched_book.specs.Delta.{applied, Fits}
 use Rattle.sched_book.specs.Limits.{IsUnitInLimits, IsHostInLimits}
@@ -13,14 +13,10 @@ use Rattle.sched_book.specs.declared.instance.UnitBook.{UnitBook}
 use Rattle.sched_book.specs.declared.rows.App.{App}
 use Rattle.sched_book.specs.declared.rows.HostRow.{HostRow}
 use Rattle.sched_book.specs.declared.world.World.{World}
-use Rattle.quorum_credit.specs.Marking.{marks_of_units}
-use Rattle.quorum_credit.specs.Marks.{charges_in, merits_in}
-use Rattle.call_sheet.specs.Sheets.{AreRising}
-use Rattle.quorum_credit.specs.declared.marks.Mark.{Mark}
-
--- the place is one of these
-abbrev pub is_among : List ℕ → ℕ → Bool
-is_among units unit = list_any (λ n. n == unit) units
+use Rattle.quorum_credit.specs.Scoring.{scores_of_units}
+use Rattle.quorum_credit.specs.Scores.{charges_in, merits_in}
+use Rattle.call_sheet.specs.Sheets.{AreRising, is_among}
+use Rattle.quorum_credit.specs.declared.scores.Score.{Score}
 
 -- the change puts a host or an instance or has a workunit take a class, as those of a call and of a tick do
 abbrev pub puts_row : Change → Bool
@@ -39,11 +35,11 @@ pub record TouchJust (units : List ℕ) (old changed : World) : Type 0 where
   pub apps : changed.apps ≡ old.apps
   pub others : (unit : ℕ) → is_among units unit ≡ false → unit_at changed unit ≡ unit_at old unit
 
--- These are the marks of all that is new between two worlds, where no workunits but some were touched.
-pub record AreMarks (old new : World) (marks : List Mark) : Type 0 where
+-- These are the scores of all that is new between two worlds, where no workunits but some were touched.
+pub record AreScores (old new : World) (scores : List Score) : Type 0 where
   pub units : List ℕ
   pub just : TouchJust units old new
-  pub are : marks ≡ marks_of_units old new units
+  pub are : scores ≡ scores_of_units old new units
 
 -- the workunit of a place, with the instances that it needs where the place is one of these
 abbrev pub grown_among : List App → List ℕ → ℕ × UnitBook → UnitBook
@@ -62,17 +58,17 @@ AreHostsInLimits w =
     (host : ℕ) (h : HostRow) → host_at w host ≡ Some h
     → IsTrue (is_some (nth w.accounts h.account)) × IsHostInLimits w.settings.daily_result_quota h × (host ≤ w.settings.max_hosts)
 
--- the host of a number, with the quota that these marks leave it
-abbrev pub quota_by : List Mark → ℕ → ℕ × HostRow → HostRow
-quota_by marks limit e =
-    record e.1 { quota = next_quota e.1.quota (charges_in marks e.0) (merits_in marks e.0) limit }
+-- the host of a number, with the quota that these scores leave it
+abbrev pub quota_by : List Score → ℕ → ℕ × HostRow → HostRow
+quota_by scores limit e =
+    record e.1 { quota = next_quota e.1.quota (charges_in scores e.0) (merits_in scores e.0) limit }
 
-abbrev pub with_quotas_by : List Mark → World → World
-with_quotas_by marks w = record w { hosts = map (quota_by marks w.settings.daily_result_quota) (enumerate_from 1 w.hosts) }
+abbrev pub with_quotas_by : List Score → World → World
+with_quotas_by scores w = record w { hosts = map (quota_by scores w.settings.daily_result_quota) (enumerate_from 1 w.hosts) }
 
--- These changes give the hosts the quotas that the marks leave them, and change nothing else.
-pub record AreQuotasBy (marks : List Mark) (w : World) (quotas : List Change) : Type 0 where
-  pub quoted : AreHostsInLimits w → applied w quotas ≡ with_quotas_by marks w
+-- These changes give the hosts the quotas that the scores leave them, and change nothing else.
+pub record AreQuotasBy (scores : List Score) (w : World) (quotas : List Change) : Type 0 where
+  pub quoted : AreHostsInLimits w → applied w quotas ≡ with_quotas_by scores w
   pub fit : AreHostsInLimits w → 1 ≤ w.settings.daily_result_quota → Fits w quotas
   pub alone : applied w quotas ≡ record w { hosts = (applied w quotas).hosts }
 

@@ -1,4 +1,4 @@
--- Words. The hosts that marks speak of, and the quotas that these leave them.
+-- Words. The hosts that scores speak of, and the quotas that these leave them.
 use Rattle.std.specs.Prelude.{◌≡◌, ℕ, ◌+◌, min, Bool, false, ◌==◌, if◌then◌else◌, List, [], ◌∷◌, filter_map, All, Option, None, Some, option_map}
 use Rattle.std.specs.BTreeMap as tree
 use Rattle.std.specs.BTreeMap.{BTreeMap}
@@ -10,9 +10,9 @@ use Rattle.sched_book.specs.declared.delta.Change.{Change}
 use Rattle.sched_book.specs.declared.delta.Change.TheVariants as change
 use Rattle.sched_book.specs.declared.rows.HostRow.{HostRow}
 use Rattle.sched_book.specs.declared.world.World.{World}
-use Rattle.quorum_credit.specs.Marks.{charges_in, merits_in}
+use Rattle.quorum_credit.specs.Scores.{charges_in, merits_in}
 use Rattle.quorum_credit.specs.declared.host_quotas.Tally.{Tally}
-use Rattle.quorum_credit.specs.declared.marks.Mark.{Mark}
+use Rattle.quorum_credit.specs.declared.scores.Score.{Score}
 
 -- the number that a host gets that is put at a number, where `count` hosts stand: a new one is the next; at 0 none is put
 abbrev pub number_got : ℕ → ℕ → ℕ
@@ -29,25 +29,25 @@ new_quota w limit s = option_map (λ h. change.Host s.host (with_quota_by limit 
 abbrev pub new_quotas : World → ℕ → List Tally → List Change
 new_quotas w limit tallies = filter_map (new_quota w limit) tallies
 
--- some mark is of this host
-abbrev pub is_named : List Mark → ℕ → Bool
-is_named marks host = list_any (λ (m : Mark). m.host == host) marks
+-- some score is of this host
+abbrev pub is_named : List Score → ℕ → Bool
+is_named scores host = list_any (λ (m : Score). m.host == host) scores
 
 -- some tally is of this host
 abbrev pub is_tallied : List Tally → ℕ → Bool
 is_tallied tallies host = list_any (λ (s : Tally). s.host == host) tallies
 
--- what one mark says of its host
-abbrev pub tally_of : Mark → Tally
+-- what one score says of its host
+abbrev pub tally_of : Score → Tally
 tally_of m = record { host = m.host; charges = m.charges; merits = m.merits }
 
--- what was said of a host so far, and one mark more
-abbrev pub tally_with : Option Tally → Mark → Tally
+-- what was said of a host so far, and one score more
+abbrev pub tally_with : Option Tally → Score → Tally
 tally_with None m = tally_of m
 tally_with (Some s) m = record s { charges = s.charges + m.charges; merits = s.merits + m.merits }
 
--- the same with the marks that are of the host
-abbrev pub tally_after : ℕ → Option Tally → List Mark → Option Tally
+-- the same with the scores that are of the host
+abbrev pub tally_after : ℕ → Option Tally → List Score → Option Tally
 tally_after host tally [] = tally
 tally_after host tally (m ∷ ms) = tally_after host (if m.host == host then Some (tally_with tally m) else tally) ms
 
@@ -55,7 +55,7 @@ tally_after host tally (m ∷ ms) = tally_after host (if m.host == host then Som
 abbrev pub tally_in : BTreeMap ℕ Tally → ℕ → Option Tally
 tally_in tallies host = tree.get nat_cmp tallies host
 
--- Each of these says all that the marks say of its host, and the marks say nothing of other hosts.
-pub record AreSums (marks : List Mark) (sums : List Tally) : Type 0 where
-  pub each : All (λ (s : Tally). (s.charges ≡ charges_in marks s.host) × (s.merits ≡ merits_in marks s.host)) sums
-  pub others : (host : ℕ) → is_tallied sums host ≡ false → (charges_in marks host ≡ 0) × (merits_in marks host ≡ 0)
+-- Each of these says all that the scores say of its host, and the scores say nothing of other hosts.
+pub record AreSums (scores : List Score) (sums : List Tally) : Type 0 where
+  pub each : All (λ (s : Tally). (s.charges ≡ charges_in scores s.host) × (s.merits ≡ merits_in scores s.host)) sums
+  pub others : (host : ℕ) → is_tallied sums host ≡ false → (charges_in scores host ≡ 0) × (merits_in scores host ≡ 0)

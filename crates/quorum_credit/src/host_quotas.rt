@@ -5,15 +5,15 @@ ghost use Rattle.sched_book.specs.Trusted.{Trusted};
 ghost use Rattle.quorum_credit.specs.Settling.{AreQuotasBy};
 ghost use Rattle.quorum_credit.specs.Tallies.{new_quotas, tally_with, tally_after, tally_in, AreSums};
 
-use crate::marks::Mark;
 use crate::quota::next_quota;
+use crate::scores::Score;
 use call_sheet::Draft;
 use sched_book::{Change, Delta, HostRow, Unavailable};
 use std::alloc::Global;
 use std::collections::BTreeMap;
 use texts::Listed;
 
-/// What marks say of one host.
+/// What scores say of one host.
 #[derive(Clone, Copy)]
 struct Tally {
     host: u32,
@@ -66,23 +66,23 @@ fn quotas_in_turn<S: Draft>(
     Ok(quotas)
 }
 
-/// What was said of a host so far, and one mark more. Sums past 32 bits are refused.
-fn tally_with(tally: Option<Tally>, mark: &Mark) -> Result<Tally, Unavailable>
-    ensures { IfOk result (λ sum. sum ≡ tally_with tally mark.now) }
+/// What was said of a host so far, and one score more. Sums past 32 bits are refused.
+fn tally_with(tally: Option<Tally>, score: &Score) -> Result<Tally, Unavailable>
+    ensures { IfOk result (λ sum. sum ≡ tally_with tally score.now) }
 {
     let Some(before) = tally else {
         return Ok(Tally {
-            host: mark.host,
-            charges: mark.charges,
-            merits: mark.merits,
+            host: score.host,
+            charges: score.charges,
+            merits: score.merits,
         });
     };
     // Not met in a sound world, where a step charges a host at most 60,000,000 times and has at most 20,000,000 merits
     // for it: `sched_book::laws::charges_are_few`.
-    let Some(charges) = before.charges.checked_add(mark.charges) else {
+    let Some(charges) = before.charges.checked_add(score.charges) else {
         return Err(Unavailable);
     };
-    let Some(merits) = before.merits.checked_add(mark.merits) else {
+    let Some(merits) = before.merits.checked_add(score.merits) else {
         return Err(Unavailable);
     };
     Ok(Tally {
@@ -92,48 +92,48 @@ fn tally_with(tally: Option<Tally>, mark: &Mark) -> Result<Tally, Unavailable>
     })
 }
 
-/// Adds one mark to what was said of its host.
-fn add_mark(tallies: &mut BTreeMap<u32, Tally>, mark: &Mark) -> Result<(), Unavailable>
+/// Adds one score to what was said of its host.
+fn add_score(tallies: &mut BTreeMap<u32, Tally>, score: &Score) -> Result<(), Unavailable>
     ensures { OnOk result ((host : ℕ) → tally_in tallies.new host ≡
-        if mark.now.host == host then Some (tally_with (tally_in tallies.old host) mark.now) else tally_in tallies.old host) }
+        if score.now.host == host then Some (tally_with (tally_in tallies.old host) score.now) else tally_in tallies.old host) }
 {
-    let sum = tally_with(tallies.get(&mark.host).copied(), mark)?;
-    match tallies.insert(mark.host, sum) {
+    let sum = tally_with(tallies.get(&score.host).copied(), score)?;
+    match tallies.insert(score.host, sum) {
         Ok(_) => Ok(()),
         Err(_) => Err(Unavailable),
     }
 }
 
-/// What these marks say of each host, by its number.
-fn tallies_of(alloc: Global, marks: &[Mark]) -> Result<BTreeMap<u32, Tally>, Unavailable>
-    ensures { IfOk result (λ tallies. (host : ℕ) → tally_in tallies host ≡ tally_after host None marks.now) }
+/// What these scores say of each host, by its number.
+fn tallies_of(alloc: Global, scores: &[Score]) -> Result<BTreeMap<u32, Tally>, Unavailable>
+    ensures { IfOk result (λ tallies. (host : ℕ) → tally_in tallies host ≡ tally_after host None scores.now) }
 {
     let mut tallies = BTreeMap::new(alloc);
-    for mark in marks {
-        add_mark(&mut tallies, mark)?;
+    for score in scores {
+        add_score(&mut tallies, score)?;
     }
     Ok(tallies)
 }
 
-/// What these marks say, in one tally for each host that they name.
-fn sums_of(alloc: Global, marks: &[Mark]) -> Result<Vec<Tally>, Unavailable>
-    ensures { IfOk result (λ sums. AreSums marks.now sums.items) }
+/// What these scores say, in one tally for each host that they name.
+fn sums_of(alloc: Global, scores: &[Score]) -> Result<Vec<Tally>, Unavailable>
+    ensures { IfOk result (λ sums. AreSums scores.now sums.items) }
 {
-    let tallies = tallies_of(alloc, marks)?;
+    let tallies = tallies_of(alloc, scores)?;
     Ok(tallies.values().copied().collect(alloc)?)
 }
 
-/// The hosts that these marks speak of, each with the quota that the marks leave it.
+/// The hosts that these scores speak of, each with the quota that the scores leave it.
 pub(crate) fn new_quotas<S: Draft>(
     alloc: Global,
     sheet: &mut S,
-    marks: &[Mark],
+    scores: &[Score],
 ) -> Result<Delta, Unavailable>
     ensures reads { S.reads sheet.old sheet.new }
     ensures answer { Trusted S.Units sheet.old sheet.new (
-        IfOk result (λ quotas. AreQuotasBy marks.now (S.world sheet.old) quotas)) }
+        IfOk result (λ quotas. AreQuotasBy scores.now (S.world sheet.old) quotas)) }
 {
-    let sums = sums_of(alloc, marks)?;
+    let sums = sums_of(alloc, scores)?;
     let limit = sheet.settings().daily_result_quota;
     quotas_in_turn(alloc, sheet, limit, sums.as_slice())
 }

@@ -10,17 +10,17 @@
 mod growth;
 mod host_quotas;
 mod late;
-mod marks;
 mod outer_calls;
 mod quota;
 mod reports;
+mod scores;
 mod settlement;
 mod settling;
 
 pub use late::lapse_on;
-pub use marks::Mark;
 pub use outer_calls::{Settled, Taken, Verdicts, agree, lapse, settle, settle_all, take_reports};
 pub use quota::next_quota;
 pub use reports::record_on;
+pub use scores::Score;
 pub use settlement::canonical;
 pub use settling::{lapse_places, settle_on, settle_read};

@@ -5,21 +5,21 @@ ghost use Rattle.sched_book.specs.Delta.{applied, Fits};
 ghost use Rattle.sched_book.specs.Settle.{settled};
 ghost use Rattle.sched_book.specs.Sound.{Sound};
 ghost use Rattle.sched_book.specs.Trusted.{Trusted};
-ghost use Rattle.quorum_credit.specs.Marking.{marks_of_units};
+ghost use Rattle.quorum_credit.specs.Scoring.{scores_of_units};
 ghost use Rattle.quorum_credit.specs.Late.{lapsed_at};
-ghost use Rattle.quorum_credit.specs.Settling.{TouchJust, GoesOn, AreMarks};
+ghost use Rattle.quorum_credit.specs.Settling.{TouchJust, GoesOn, AreScores};
 
 use crate::growth::grow_on;
 use crate::host_quotas::new_quotas;
 use crate::late::lapse_on;
-use crate::marks::{Mark, marks_of_units};
+use crate::scores::{Score, scores_of_units};
 use call_sheet::{Draft, Page, Sheet, put_all};
 use sched_book::{Delta, Desk, Place, Unavailable};
 use std::alloc::Global;
 use texts::Listed;
 
 /// Settles these workunits on the sheet of a call: each open one gets the instances that it lacks, and each of their hosts
-/// the quota that follows from what is new, of which the marks tell. No workunit but these may have been changed.
+/// the quota that follows from what is new, of which the scores tell. No workunit but these may have been changed.
 ///
 /// # Errors
 ///
@@ -28,7 +28,7 @@ pub fn settle_on<S: Draft>(
     alloc: Global,
     sheet: &mut S,
     touched: &[u32],
-) -> Result<Listed<Mark>, Unavailable>
+) -> Result<Listed<Score>, Unavailable>
     ensures works { S.works sheet.old sheet.new }
     ensures settled { Trusted S.Units sheet.old sheet.new (OnOk result (
         Sound (S.entry sheet.old) → Fits (S.entry sheet.old) (S.delta sheet.old) → TouchJust touched.now (S.entry sheet.old) (S.world sheet.old) →
@@ -36,15 +36,15 @@ pub fn settle_on<S: Draft>(
     ensures fits { Trusted S.Units sheet.old sheet.new (OnOk result (
         Sound (S.entry sheet.old) → Fits (S.entry sheet.old) (S.delta sheet.old) → TouchJust touched.now (S.entry sheet.old) (S.world sheet.old) →
         Fits (S.entry sheet.old) (S.delta sheet.new))) }
-    ensures marks { Trusted S.Units sheet.old sheet.new (
-        IfOk result (λ marks. marks ≡ marks_of_units (S.entry sheet.old) (S.world sheet.new) touched.now)) }
+    ensures scores { Trusted S.Units sheet.old sheet.new (
+        IfOk result (λ scores. scores ≡ scores_of_units (S.entry sheet.old) (S.world sheet.new) touched.now)) }
     ensures delta { Trusted S.Units sheet.old sheet.new (OnOk result (GoesOn (S.delta sheet.old) (S.delta sheet.new))) }
 {
     grow_on(alloc, sheet, touched)?;
-    let marks = marks_of_units(alloc, sheet, touched)?;
-    let quotas = new_quotas(alloc, sheet, marks.as_slice())?;
+    let scores = scores_of_units(alloc, sheet, touched)?;
+    let quotas = new_quotas(alloc, sheet, scores.as_slice())?;
     put_all(alloc, sheet, quotas.as_slice())?;
-    Ok(marks)
+    Ok(scores)
 }
 
 /// Settles the workunits that a call or a tick has read on its sheet, and tells what is new in them. No other is touched.
@@ -52,19 +52,19 @@ pub fn settle_on<S: Draft>(
 /// # Errors
 ///
 /// [`Unavailable`] where memory is wanting or the desk is unavailable.
-pub fn settle_read<S: Draft>(alloc: Global, sheet: &mut S) -> Result<Listed<Mark>, Unavailable>
+pub fn settle_read<S: Draft>(alloc: Global, sheet: &mut S) -> Result<Listed<Score>, Unavailable>
     ensures works { S.works sheet.old sheet.new }
     ensures settled { Trusted S.Units sheet.old sheet.new (OnOk result (
         Sound (S.entry sheet.old) → Fits (S.entry sheet.old) (S.delta sheet.old) →
         S.world sheet.new ≡ settled (S.entry sheet.old) (S.world sheet.old))) }
     ensures fits { Trusted S.Units sheet.old sheet.new (OnOk result (
         Sound (S.entry sheet.old) → Fits (S.entry sheet.old) (S.delta sheet.old) → Fits (S.entry sheet.old) (S.delta sheet.new))) }
-    ensures marks { Trusted S.Units sheet.old sheet.new (IfOk result (λ marks.
-        Sound (S.entry sheet.old) → Fits (S.entry sheet.old) (S.delta sheet.old) → AreMarks (S.entry sheet.old) (S.world sheet.new) marks)) }
+    ensures scores { Trusted S.Units sheet.old sheet.new (IfOk result (λ scores.
+        Sound (S.entry sheet.old) → Fits (S.entry sheet.old) (S.delta sheet.old) → AreScores (S.entry sheet.old) (S.world sheet.new) scores)) }
 {
     let touched = sheet.units(alloc)?;
-    let marks = settle_on(alloc, sheet, touched.as_slice())?;
-    Ok(marks)
+    let scores = settle_on(alloc, sheet, touched.as_slice())?;
+    Ok(scores)
 }
 
 /// Lets the instances at these places lapse late, in their order, and settles their workunits, before any other change.

@@ -3,7 +3,7 @@ use Rattle.std.proofs.Common.{◌≡◌, ◌≢◌, ℕ, zero, suc, ◌+◌, ◌
 use Rattle.std.specs.Prelude.{if◌then◌else◌, position, All, Option, Some, None, option_map, unwrap_or}
 use Rattle.std.specs.List.{position_from, position_or_len}
 use Rattle.std.specs.Str.{bytes_eq}
-use Rattle.std.proofs.lemmas.Bool.{eq-eqb, eqb-true, le-ltb, lt-ltb}
+use Rattle.std.proofs.lemmas.Bool.{eq-eqb, eqb-true, le-ltb, lt-ltb, false_from_ne_true}
 use Rattle.std.proofs.lemmas.Bool.Decides.{nat_tests}
 use Rattle.std.proofs.lemmas.Iterator.Adapters.{position_from-zero}
 use Rattle.std.proofs.lemmas.List.Folds.{list_all_at}
@@ -15,12 +15,8 @@ use Rattle.reply_register.specs.declared.kept.Heard.{Heard}
 use Rattle.reply_register.specs.declared.kept.Heard.TheVariants.{Fresh, Repeat, Reused, Stale}
 use Rattle.reply_register.specs.declared.kept.Kept.{Kept}
 
-pub fails : (b : Bool) → (b ≡ true → ⊥) → b ≡ false
-fails true never = absurd (never refl)
-fails false never = refl
-
 other_number : (k : Kept) (seqno : ℕ) → k.seqno ≢ seqno → has_number seqno k ≡ false
-other_number k seqno apart = fails (has_number seqno k) (λ same. apart (eqb-true k.seqno seqno same))
+other_number k seqno apart = false_from_ne_true (has_number seqno k) (λ same. apart (eqb-true k.seqno seqno same))
 
 -- ---- places
 
@@ -101,7 +97,7 @@ heard_as kept seqno text h is = record {
   repeat = λ place k first same. is ∙ found_heard kept seqno place text k first
       ∙ ap (λ b. if b then Repeat place else Reused (greatest kept)) ((bytes_eq-Decides k.text text).1 (sym same));
   reused = λ place k first other. is ∙ found_heard kept seqno place text k first
-      ∙ ap (λ b. if b then Repeat place else Reused (greatest kept)) (fails (bytes_eq k.text text) (λ same. other (sym ((bytes_eq-Decides k.text text).0 same))));
+      ∙ ap (λ b. if b then Repeat place else Reused (greatest kept)) (false_from_ne_true (bytes_eq k.text text) (λ same. other (sym ((bytes_eq-Decides k.text text).0 same))));
   stale = λ apart greater. is ∙ nowhere_heard kept seqno text apart
       (not_above kept seqno greater.0 greater.1 greater.2 (omega (arith, ap (λ (k : Kept). k.seqno) greater.3, greater.4)));
   within = λ place told. repeat_within kept seqno text place (sym is ∙ told);

@@ -6,16 +6,17 @@ use Rattle.std.proofs.lemmas.List.Elements.{recursion_from_All}
 use Rattle.std.specs.List.{AllByRecursion}
 use Rattle.std.specs.Option.{ok_or, option_and_then, option_map}
 use Rattle.std.specs.Prelude.{T, slice_index_or}
-use Rattle.serde_json.specs.Data.{Data, string, number}
+use Rattle.serde_json.specs.Data.{Data, string}
 use Rattle.serde_json.specs.Events.{items_len}
 use Rattle.serde_json.specs.Find.{get, as_i64, of_integer}
 use Rattle.serde_json.specs.View.{items_of}
 use Rattle.rpc_records.specs.Members.{key_of, is_of}
-use Rattle.rpc_records.specs.Ranges.{IsWord, IsName, IsHostInfo, IsReport, AreListed, IsInRange}
+use Rattle.rpc_records.specs.Ranges.{IsName, IsHostInfo, IsReport, AreListed, IsInRange}
 use Rattle.rpc_records.specs.Reading.{needed, defaulted, host_at, platforms_at, request_at, value_meaning}
 use Rattle.texts.specs.Reading.{and_then}
+use Rattle.texts.specs.Words.{IsWord}
 use Rattle.rpc_records.specs.Spelling.{whole, list_json, own_platform, alternatives, host_json, report_json, request_json}
-use Rattle.rpc_records.specs.Values.{text_in, whole_in, status_in, all_in, list_in, report_in, read_or}
+use Rattle.rpc_records.specs.Values.{text_in, whole_in, all_in, list_in, report_in, read_or}
 use Rattle.rpc_records.specs.declared.fault.Fault.{Fault}
 use Rattle.rpc_records.specs.declared.fault.Fault.TheVariants.{BadMember}
 use Rattle.rpc_records.specs.declared.fault.Member.{Member}
@@ -41,9 +42,6 @@ as_i64_again (negsuc n) high = refl
 test_of : (b : Bool) → T b → b ≡ true
 test_of true t = refl
 test_of false t = absurd t
-
-status_again : (z : ℤ) → negsuc 2147483647 ≤ℤ z → z ≤ℤ pos 2147483647 → status_in (number (of_integer z)) ≡ Some z
-status_again z low high = rw (as_i64_again z high, test_of _ low.le, test_of _ high.le)
 
 -- ---- lists
 

@@ -11,9 +11,10 @@ use Rattle.serde_json.specs.Data.{Data, Items, no_items, item}
 use Rattle.serde_json.specs.Events.{items_len}
 use Rattle.serde_json.specs.Find.{get, as_str, as_number, as_u64, as_i64, as_array, as_object}
 use Rattle.rpc_records.specs.Members.{is_of, key_of}
-use Rattle.rpc_records.specs.Ranges.{IsWord, IsName, IsHostInfo, IsReport, AreListed, IsInRange}
+use Rattle.rpc_records.specs.Ranges.{IsName, IsHostInfo, IsReport, AreListed, IsInRange}
 use Rattle.rpc_records.specs.Reading.{needed, defaulted, host_at, platforms_at, request_at, json_of, value_meaning, meaning}
 use Rattle.texts.specs.Reading.{GivesUnless, and_then}
+use Rattle.texts.specs.Words.{IsWord}
 use Rattle.rpc_records.specs.Values.{text_in, whole_in, status_in, items_in, all_in, list_in, report_in, read_or}
 use Rattle.rpc_records.specs.declared.fault.Fault.{Fault}
 use Rattle.rpc_records.specs.declared.fault.Fault.TheVariants.{BadMember, BadJson, Unavailable}

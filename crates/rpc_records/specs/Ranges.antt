@@ -1,14 +1,10 @@
 -- Rule. The ranges of a request: what every request that was read is within, and what a canonical text can be read back from.
 use Rattle.std.specs.Prelude.{◌<◌, ◌≤◌, ◌^◌, ◌≤ℤ◌, ℕ, pos, negsuc, List, length, All, IfSome, IsTrue}
-use Rattle.texts.specs.Words.{is_word}
+use Rattle.texts.specs.Words.{IsWord}
 use Rattle.rpc_records.specs.Members.{is_name, is_output}
 use Rattle.rpc_records.specs.declared.request.HostInfo.{HostInfo}
 use Rattle.rpc_records.specs.declared.request.Report.{Report}
 use Rattle.rpc_records.specs.declared.request.Request.{Request}
-
--- 1 to 64 bytes of ASCII letters, digits, `-`, `.` and `_`.
-abbrev pub IsWord : List ℕ → Type 0
-IsWord text = IsTrue (is_word text)
 
 -- 1 to 254 bytes.
 abbrev pub IsName : List ℕ → Type 0

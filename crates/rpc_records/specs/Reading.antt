@@ -1,4 +1,4 @@
--- Rule. The meaning of a body as a scheduler_request, with this profile's ranges. The members are looked at in the order in which they
+-- Promise. The meaning of a body as a scheduler_request, with this profile's ranges. The members are looked at in the order in which they
 -- stand here, and the first that is missing or faulty is told. Other members are passed over.
 use Rattle.std.specs.Prelude.{ℕ, List, [], ◌∷◌, Option, None, option_and_then, ok_or, is_some, Result, Ok, Err, if◌then◌else◌}
 use Rattle.std.specs.Str.{is_utf8}

@@ -1,6 +1,9 @@
 -- A list with one element changed.
-use Rattle.std.proofs.Common.{◌≡◌, ℕ, zero, suc, ◌-◌, ◌<◌, ◌≤◌, ◌≢◌, Bool, cond, List, [], ◌∷◌, length, get_or, set, sym, refl, ap, ◌∙◌, arith}
-use Rattle.std.proofs.lemmas.Bool.{ne_eqb}
+use Rattle.std.proofs.Common.{◌≡◌, ℕ, zero, suc, ◌-◌, ◌<◌, ◌≤◌, ◌≢◌, Bool, cond, List, [], ◌∷◌, length, get_or, set, sym, refl, ap, ◌∙◌, arith, Some, ◌++◌}
+use Rattle.std.specs.Prelude.{slice_get, slice_set}
+use Rattle.std.proofs.lemmas.Bool.{ne_eqb, lt-ltb}
+use Rattle.std.proofs.lemmas.Option.{slice_get_within, get_or_from_slice_get}
+use Rattle.sched_book.specs.Delta.{set_at}
 use Rattle.sched_book.specs.Reports.{modify_at, modify_nth}
 
 -- where an element stands, it alone is changed
@@ -8,6 +11,13 @@ pub modify_at-set : {X : Type 0} (f : X → X) (xs : List X) (i : ℕ) (x : X) �
 modify_at-set f [] i x within is = refl
 modify_at-set f (y ∷ xs) zero x within is = ap (λ z. f z ∷ xs) (sym is)
 modify_at-set f (y ∷ xs) (suc i) x within is = ap (λ zs. y ∷ zs) (modify_at-set f xs i x (omega arith) is)
+
+-- where an element is, changing it is putting the changed one
+pub modify_at-put : {X : Type 0} (f : X → X) (xs : List X) (i : ℕ) (x : X) → slice_get xs i ≡ Some x → modify_at f xs i ≡ set_at xs i (f x)
+modify_at-put f xs i x stands =
+    let within : i < length xs = slice_get_within xs i x stands in
+    modify_at-set f xs i x within (sym (get_or_from_slice_get xs i x x stands))
+    ∙ sym (ap (λ (b : Bool). cond b (slice_set xs i (f x)) (xs ++ f x ∷ [])) (lt-ltb i (length xs) within))
 
 -- where none stands, nothing is
 pub modify_at-past : {X : Type 0} (f : X → X) (xs : List X) (i : ℕ) → length xs ≤ i → modify_at f xs i ≡ xs

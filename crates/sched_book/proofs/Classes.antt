@@ -1,12 +1,12 @@
 -- Limits of a row under another rule of its class.
 use Rattle.std.proofs.Common.{◌≡◌, ℕ, List, refl}
 use Rattle.std.specs.Prelude.{IfSome}
-use Rattle.rpc_records.specs.Ranges.{IsWord}
 use Rattle.sched_book.specs.Classes.{class_of, rule_after, first_rule, imported}
 use Rattle.sched_book.specs.Limits.{IsUnitInLimits}
 use Rattle.sched_book.specs.declared.rows.ClassRule.{ClassRule}
 use Rattle.sched_book.specs.declared.rows.ClassRule.TheVariants.{Any, OfFirst, Only}
 use Rattle.sched_book.specs.declared.rows.Workunit.{Workunit}
+use Rattle.texts.specs.Words.{IsWord}
 
 -- with a class granted the rule that a workunit was imported with is the same
 pub first_stays : (rule : ClassRule) (class : List ℕ) → first_rule (rule_after rule class) ≡ first_rule rule

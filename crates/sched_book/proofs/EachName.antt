@@ -7,6 +7,7 @@ use Rattle.std.proofs.lemmas.Bool.{or_parts}
 use Rattle.std.proofs.lemmas.List.Elements.{All-nil, All-cons, All-map, All-weaker, All-contains}
 use Rattle.std.proofs.lemmas.List.Kept.{AllPairs-cons}
 use Rattle.std.proofs.lemmas.Slice.Eq.{bytes_eq-Decides}
+use Rattle.std.proofs.lemmas.Cmp.{nat_list_eq_equiv}
 use Rattle.rpc_records.specs.declared.request.Report.{Report}
 use Rattle.sched_book.specs.Reports.{first_of_each}
 use Rattle.sched_book.specs.PlaceLaws.{IsFirstWithText, AreFirstOfEach, FirstReportsAreOfEachName, FirstNamesAreOfEachName}
@@ -26,10 +27,6 @@ among_next is i there = All-contains (λ j. Contains (map suc is) (suc j)) is i 
 at_next : {X : Type 0} (x : X) (xs : List X) (is : List ℕ) → filter_map (slice_get (x ∷ xs)) (map suc is) ≡ filter_map (slice_get xs) is
 at_next x xs [] = refl
 at_next x xs (i ∷ is) = ap (cons_option (slice_get xs i)) (at_next x xs is)
-
--- a text is equal to itself
-same_text : (s : List ℕ) → bytes_eq s s ≡ true
-same_text s = (bytes_eq-Decides s s).1 refl
 
 -- the same beyond the texts that were seen
 record IsFirstBeyond {X : Type 0} (text : X → List ℕ) (seen : List (List ℕ)) (xs : List X) (index : ℕ) : Type 0 where
@@ -112,7 +109,7 @@ module _ {X : Type 0} (text : X → List ℕ) (x : X) (xs : List X) (seen : List
       later i f =
           let parts = or_parts (bytes_eq (text f.first.element) (text x)) (list_any (bytes_eq (text f.first.element)) seen) f.unseen in
           further (text x ∷ seen) i f
-          (λ same. (let never : true ≡ false = sym (same_text (text f.first.element)) ∙ ap (bytes_eq (text f.first.element)) (sym same) ∙ parts.0 in absurd cc))
+          (λ same. (let never : true ≡ false = sym (nat_list_eq_equiv.refl (text f.first.element)) ∙ ap (bytes_eq (text f.first.element)) (sym same) ∙ parts.0 in absurd cc))
           parts.1
 
       missed : (i : ℕ) → IsFirstBeyond text seen (x ∷ xs) i → Contains (0 ∷ map suc rest.indices) i
@@ -204,7 +201,7 @@ once {X} text seen (x ∷ xs) = cases (list_any (bytes_eq (text x)) seen) (once 
     other : (y : X) → list_any (bytes_eq (text y)) (text x ∷ seen) ≡ false → text x ≢ text y
     other y new same =
         let apart = (or_parts (bytes_eq (text y) (text x)) (list_any (bytes_eq (text y)) seen) new).0 in
-        let never : true ≡ false = sym (same_text (text y)) ∙ ap (bytes_eq (text y)) (sym same) ∙ apart in
+        let never : true ≡ false = sym (nat_list_eq_equiv.refl (text y)) ∙ ap (bytes_eq (text y)) (sym same) ∙ apart in
         absurd cc
 
     cases : (b : Bool) → AllPairs (λ x y. text x ≢ text y) (first_of_each text seen xs) → AllPairs (λ x y. text x ≢ text y) rest

@@ -1,15 +1,15 @@
 -- Changes that fit keep every table within its bounds.
-use Rattle.std.proofs.Common.{◌≡◌, ℕ, zero, suc, ◌+◌, ◌-◌, ◌<◌, ◌≤◌, Bool, true, false, cond, eqb, ltb, List, [], ◌∷◌, ◌++◌, length, set, sym, refl, subst, arith, length-append}
+use Rattle.std.proofs.Common.{◌≡◌, ℕ, zero, suc, ◌+◌, ◌-◌, ◌<◌, ◌≤◌, Bool, true, false, cond, eqb, ltb, List, [], ◌∷◌, ◌++◌, length, set, sym, refl, subst, arith, length-append, ◌∙◌}
 use Rattle.std.specs.Prelude.{All, replicate}
 use Rattle.std.proofs.lemmas.List.{length-set, length-replicate}
-use Rattle.std.proofs.lemmas.List.Elements.{All-append}
+use Rattle.std.proofs.lemmas.List.Elements.{All-append, All-cons, All-tail}
 use borrow.Author.Tests.{ltb-false}
 use Rattle.sched_book.specs.Classes.{with_class}
 use Rattle.sched_book.specs.Settle.{fresh}
 use Rattle.sched_book.specs.Imports.{new_unit}
 use Rattle.sched_book.specs.Limits.{most_accounts, most_apps, most_versions, most_workunits, most_hosts, most_instances, IsBounded}
 use Rattle.sched_book.specs.Reports.{modify_at, modify_nth}
-use Rattle.sched_book.specs.Delta.{set_at, set_nth, with_instance, applied_one, FitsOne}
+use Rattle.sched_book.specs.Delta.{set_at, set_nth, with_instance, applied_one, FitsOne, applied}
 use Rattle.sched_book.specs.Laws.{FittingKeepsBounds}
 use Rattle.sched_book.specs.declared.delta.Change.{Change}
 use Rattle.sched_book.specs.declared.delta.Change.TheVariants as change
@@ -29,21 +29,13 @@ put_within xs i x limit short below = cases (ltb i (length xs)) refl
     cases true is = let same : length (set xs i x) ≡ length xs = length-set xs i x in omega arith
     cases false is = pushed xs x limit (let past : length xs ≤ i = ltb-false i (length xs) is in omega arith)
 
--- a fact of each element, with one element more in front and with one changed
-all_cons : {X : Type 0} (P : X → Type 0) (x : X) (xs : List X) → P x → All P xs → All P (x ∷ xs)
-all_cons P x xs here there zero d within = here
-all_cons P x xs here there (suc k) d within = there k d (omega arith)
-
-all_tail : {X : Type 0} (P : X → Type 0) (x : X) (xs : List X) → All P (x ∷ xs) → All P xs
-all_tail P x xs all = λ k d within. all (suc k) d (omega arith)
-
-all_changed_at : {X : Type 0} (P : X → Type 0) (f : X → X) → ((x : X) → P x → P (f x)) → (xs : List X) (i : ℕ) → All P xs → All P (modify_at f xs i)
+pub all_changed_at : {X : Type 0} (P : X → Type 0) (f : X → X) → ((x : X) → P x → P (f x)) → (xs : List X) (i : ℕ) → All P xs → All P (modify_at f xs i)
 all_changed_at P f keeps [] i all = all
-all_changed_at P f keeps (x ∷ xs) zero all = all_cons P (f x) xs (keeps x (all 0 x (omega arith))) (all_tail P x xs all)
+all_changed_at P f keeps (x ∷ xs) zero all = All-cons P (f x) xs (keeps x (all 0 x (omega arith))) (All-tail P x xs all)
 all_changed_at P f keeps (x ∷ xs) (suc i) all =
-    all_cons P x (modify_at f xs i) (all 0 x (omega arith)) (all_changed_at P f keeps xs i (all_tail P x xs all))
+    All-cons P x (modify_at f xs i) (all 0 x (omega arith)) (all_changed_at P f keeps xs i (All-tail P x xs all))
 
-all_changed_nth : {X : Type 0} (P : X → Type 0) (f : X → X) → ((x : X) → P x → P (f x)) → (xs : List X) (n : ℕ) → All P xs → All P (modify_nth f xs n)
+pub all_changed_nth : {X : Type 0} (P : X → Type 0) (f : X → X) → ((x : X) → P x → P (f x)) → (xs : List X) (n : ℕ) → All P xs → All P (modify_nth f xs n)
 all_changed_nth P f keeps xs n all = cases (eqb n 0)
   where
     cases : (b : Bool) → All P (cond b xs (modify_at f xs (n - 1)))
@@ -90,7 +82,7 @@ fitting_keeps_one w (change.Version v) limit bounded fits = record {
 fitting_keeps_one w (change.Workunit u) limit bounded fits = record {
   units = pushed w.units (new_unit u) most_workunits fits.0;
   instances = All-append HasFew w.units (new_unit u ∷ []) bounded.instances
-      (all_cons HasFew (new_unit u) [] (let long : length (replicate u.target_nresults fresh) ≡ u.target_nresults = length-replicate u.target_nresults fresh in omega (arith, fits.2.target.1)) (λ k d none. absurd (omega arith)));
+      (All-cons HasFew (new_unit u) [] (let long : length (replicate u.target_nresults fresh) ≡ u.target_nresults = length-replicate u.target_nresults fresh in omega (arith, fits.2.target.1)) (λ k d none. absurd (omega arith)));
   accounts = bounded.accounts;
   apps = bounded.apps;
   versions = bounded.versions;
@@ -130,6 +122,10 @@ settings_stay w (change.Workunit u) = refl
 settings_stay w (change.Host number h) = refl
 settings_stay w (change.Instance p x) = refl
 settings_stay w (change.Class unit class) = refl
+
+pub all_settings_stay : (w : World) (cs : List Change) → (applied w cs).settings ≡ w.settings
+all_settings_stay w [] = refl
+all_settings_stay w (c ∷ cs) = all_settings_stay (applied_one w c) cs ∙ settings_stay w c
 
 pub fitting_keeps_bounds : FittingKeepsBounds
 fitting_keeps_bounds w [] limit bounded fits = bounded

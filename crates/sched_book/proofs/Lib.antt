@@ -25,3 +25,6 @@ pub mod LostPlaces
 pub mod Classes
 pub mod Bounded
 pub mod Firsts
+pub mod KeysSeen
+pub mod ByPlace
+pub mod LeftByImports

@@ -8,7 +8,7 @@ use Rattle.std.specs.List.{list_all, list_any, before_last, after_last, range_wi
 use Rattle.std.specs.Str.{bytes_eq}
 use Rattle.std.proofs.Common.{inl, inr, reverse}
 use Rattle.std.specs.List.{suffix_len}
-use Rattle.std.proofs.lemmas.Bool.{eqb-true, and_parts, cases_lt}
+use Rattle.std.proofs.lemmas.Bool.{eqb-true, and_parts, cases_lt, not-true, not-false}
 use Rattle.std.proofs.lemmas.Fmt.{decimal_digit}
 use Rattle.std.proofs.lemmas.List.{take-append-drop, drop_more, get_or-reverse, length-reverse}
 use Rattle.std.proofs.lemmas.List.Sums.{prefix_len_passes, prefix_len_stops}
@@ -37,14 +37,6 @@ below p n k all within = cases (p k) refl
         let never : true ≡ false = sym all ∙ fails in
         absurd cc
 
-not_true : (b : Bool) → not b ≡ true → b ≡ false
-not_true true h = absurd cc
-not_true false h = refl
-
-not_false : (b : Bool) → not b ≡ false → b ≡ true
-not_false true h = refl
-not_false false h = absurd cc
-
 -- a number is what a text is read as
 is_number : Option ℕ → ℕ → Bool
 is_number None n = false
@@ -67,7 +59,7 @@ read_back : (n : ℕ) → n < 100 → (list_any is_underscore (decimal n) ≡ fa
 unfolding reads_back
 read_back n small =
     let parts = and_parts (not (list_any is_underscore (decimal n))) (is_number (small_number (decimal n)) n) (below reads_back 100 n all_read_back small) in
-    (not_true _ parts.0, number_is (small_number (decimal n)) n parts.1)
+    (not-true _ parts.0, number_is (small_number (decimal n)) n parts.1)
 
 -- what stands before, at and behind the middle of a list
 at_middle : (xs : List ℕ) (y : ℕ) (zs : List ℕ) → get_or (xs ++ y ∷ zs) (length xs) 0 ≡ y
@@ -187,7 +179,7 @@ around_last s any = elim (cases_lt (suffix_len other s) (length s)) [
     stop within =
         let fails : other (get_or (reverse s) (suffix_len other s) 0) ≡ false =
         prefix_len_stops other (reverse s) 0 (subst (λ m. suffix_len other s < m) (sym (length-reverse s)) within) in
-        eqb-true _ 95 (not_false _ (ap other (sym (get_or-reverse s (suffix_len other s) 0 within)) ∙ fails))
+        eqb-true _ 95 (not-false _ (ap other (sym (get_or-reverse s (suffix_len other s) 0 within)) ∙ fails))
 
     nowhere : length s ≤ suffix_len other s → (i : ℕ) → i < length s → get_or s i 0 ≢ 95
     nowhere past i inside is =

@@ -25,7 +25,7 @@ use Rattle.std.proofs.lemmas.List.Elements.{All-contains}
 -- ---- what stays
 
 -- what is said of each element stays where one is changed and keeps it
-map_changed_at : {X Y : Type 0} (g : X → Y) (f : X → X) → ((x : X) → g (f x) ≡ g x) → (xs : List X) (i : ℕ) → map g (modify_at f xs i) ≡ map g xs
+pub map_changed_at : {X Y : Type 0} (g : X → Y) (f : X → X) → ((x : X) → g (f x) ≡ g x) → (xs : List X) (i : ℕ) → map g (modify_at f xs i) ≡ map g xs
 map_changed_at g f keeps [] i = refl
 map_changed_at g f keeps (x ∷ xs) zero = ap (λ y. y ∷ map g xs) (keeps x)
 map_changed_at g f keeps (x ∷ xs) (suc i) = ap (λ ys. g x ∷ ys) (map_changed_at g f keeps xs i)

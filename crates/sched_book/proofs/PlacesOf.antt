@@ -16,10 +16,14 @@ nth-suc xs i =
     ∙ ap (slice_get xs) (let same : suc i - 1 ≡ i = omega arith in same)
 
 -- a place within a list
-is_there : {X : Type 0} (xs : List X) (i : ℕ) → i < length xs → is_some (slice_get xs i) ≡ true
+pub is_there : {X : Type 0} (xs : List X) (i : ℕ) → i < length xs → is_some (slice_get xs i) ≡ true
 is_there [] i within = absurd (omega arith)
 is_there (x ∷ xs) zero within = refl
 is_there (x ∷ xs) (suc i) within = is_there xs i (omega arith)
+
+pub is_some-option_map : {X Y : Type 0} (f : X → Y) (o : Option X) → is_some (option_map f o) ≡ is_some o
+is_some-option_map f None = refl
+is_some-option_map f (Some x) = refl
 
 pub nth-within : {X : Type 0} (xs : List X) (n : ℕ) → 1 ≤ n → n ≤ length xs → is_some (nth xs n) ≡ true
 nth-within xs zero low high = absurd (omega arith)
@@ -30,7 +34,17 @@ modify_nth-suc f xs i =
     ap (λ (b : Bool). cond b xs (modify_at f xs (suc i - 1))) (eqb-suc-zero i)
     ∙ ap (modify_at f xs) (let same : suc i - 1 ≡ i = omega arith in same)
 
--- one element more, behind the others
+-- what is in a list is in it with more after it
+pub slice_get-front : {X : Type 0} (xs more : List X) (i : ℕ) (x : X) → slice_get xs i ≡ Some x → slice_get (xs ++ more) i ≡ Some x
+slice_get-front [] more i x is = absurd cc
+slice_get-front (y ∷ xs) more zero x is = is
+slice_get-front (y ∷ xs) more (suc i) x is = slice_get-front xs more i x is
+
+pub nth-front : {X : Type 0} (xs more : List X) (n : ℕ) (x : X) → nth xs n ≡ Some x → nth (xs ++ more) n ≡ Some x
+nth-front xs more zero x is = absurd cc
+nth-front xs more (suc i) x is = nth-suc (xs ++ more) i ∙ slice_get-front xs more i x (sym (nth-suc xs i) ∙ is)
+
+-- one element more, after the others
 slice_get-push : {X : Type 0} (xs : List X) (x : X) (i : ℕ) → slice_get (xs ++ x ∷ []) i ≡ cond (eqb (length xs) i) (Some x) (slice_get xs i)
 slice_get-push [] x zero = refl
 slice_get-push [] x (suc i) = sym (ap (λ (b : Bool). cond b (Some x) None) (eqb-zero-suc i))
@@ -49,7 +63,7 @@ nth-push xs x (suc i) =
     ∙ ap (λ (b : Bool). cond b (Some x) (nth xs (suc i))) (eqb-suc-suc (length xs) i))
 
 -- one element changed
-length-modify_at : {X : Type 0} (f : X → X) (xs : List X) (i : ℕ) → length (modify_at f xs i) ≡ length xs
+pub length-modify_at : {X : Type 0} (f : X → X) (xs : List X) (i : ℕ) → length (modify_at f xs i) ≡ length xs
 length-modify_at f [] i = refl
 length-modify_at f (x ∷ xs) zero = refl
 length-modify_at f (x ∷ xs) (suc i) = ap suc (length-modify_at f xs i)
@@ -156,3 +170,16 @@ find-is p xs =
     at_places : (o : Option ℕ) → option_and_then (slice_get xs) o ≡ option_and_then (nth xs) (option_map (λ i. i + 1) o)
     at_places None = refl
     at_places (Some i) = sym (ap (nth xs) (add-one i) ∙ nth-suc xs i)
+
+-- what passes is at the place that was found
+abbrev pub FoundFrom : {X : Type 0} → (X → Bool) → ℕ → List X → ℕ → Type 0
+FoundFrom {X} p m xs n = (i : ℕ) × (x : X) × (n ≡ m + i) × (slice_get xs i ≡ Some x) × (p x ≡ true)
+
+pub found_from : {X : Type 0} (p : X → Bool) (m : ℕ) (xs : List X) (n : ℕ) → position_from p m xs ≡ Some n → FoundFrom p m xs n
+found_from p m [] n is = absurd cc
+found_from {X} p m (y ∷ ys) n is = cases (p y) refl is (found_from p (m + 1) ys n)
+  where
+    cases : (b : Bool) → p y ≡ b → cond b (Some m) (position_from p (m + 1) ys) ≡ Some n
+        → (position_from p (m + 1) ys ≡ Some n → FoundFrom p (m + 1) ys n) → FoundFrom p m (y ∷ ys) n
+    cases true pass is later = let same : m ≡ n = cc in (0, y, omega arith, refl, pass)
+    cases false pass is later = let there = later is in (suc there.0, there.1, omega (arith, there.2), there.3, there.4)

@@ -1,4 +1,4 @@
--- Rule. What is counted of a workunit from scratch: agreement, the canonical result, how many instances it needs,
+-- Promise. What is counted of a workunit from scratch: agreement, the canonical result, how many instances it needs,
 -- its status and the verdicts on its instances. The limits are those of BOINC's workunits; that they are
 -- counted exactly, from all reports at each time, is this profile's.
 -- The instances of a workunit are a list, and an instance's number is its index there.

@@ -1,6 +1,5 @@
 -- Rule. Changes of a world.
 use Rattle.std.specs.Prelude.{ℕ, ◌+◌, ◌-◌, ◌<◌, ◌≤◌, ◌==◌, IsTrue, nat_lt, if◌then◌else◌, List, [], ◌∷◌, ◌++◌, length, fold, slice_set, is_some, IfSome}
-use Rattle.rpc_records.specs.Ranges.{IsWord}
 use Rattle.sched_book.specs.Classes.{with_class}
 use Rattle.sched_book.specs.Places.{nth, unit_at}
 use Rattle.sched_book.specs.Reports.{modify_nth}
@@ -12,6 +11,7 @@ use Rattle.sched_book.specs.declared.delta.Change.TheVariants as change
 use Rattle.sched_book.specs.declared.instance.Instance.{Instance}
 use Rattle.sched_book.specs.declared.instance.UnitBook.{UnitBook}
 use Rattle.sched_book.specs.declared.world.World.{World}
+use Rattle.texts.specs.Words.{IsWord}
 
 -- the list with x at an index: in the place of what stands there, or else behind the others
 abbrev pub set_at : {X : Type 0} → List X → ℕ → X → List X

@@ -1,4 +1,4 @@
--- Rule. Worlds and rows from before versions had classes: the class of each version is its platform, and no workunit is marked. (This
+-- Promise. Worlds and rows from before versions had classes: the class of each version is its platform, and no workunit is marked. (This
 -- project's own.)
 use Rattle.std.specs.Prelude.{◌≡◌}
 use Rattle.std.specs.List.{All}

@@ -1,4 +1,4 @@
--- Rule. Which list of jobs is a grant. The limits are named as BOINC names them; what they count is this profile's.
+-- Promise. Which list of jobs is a grant. The limits are named as BOINC names them; what they count is this profile's.
 use Rattle.std.specs.Prelude.{ℕ, ◌+◌, ◌/◌, ◌<◌, ◌≤◌, Bool, ◌||◌, ◌==◌, nat_le, if◌then◌else◌, IsTrue, List, length, take, sum_by, filter, All, AllPairs, EachIndex}
 use Rattle.std.specs.List.{list_any, list_all}
 use Rattle.sched_book.specs.Places.{places, sent_on_day, is_before, is_same}

@@ -1,4 +1,4 @@
--- Rule. What an import adds, and why it is refused. The formats and the order of the refusals are this profile's.
+-- Promise. What an import adds, and why it is refused. The formats and the order of the refusals are this profile's.
 use Rattle.std.specs.Prelude.{◌≡◌, ℕ, ◌+◌, Bool, true, false, not, ◌&&◌, ◌==◌, nat_le, if◌then◌else◌, List, [], ◌∷◌, ◌++◌, length, map, replicate, Option, Some, None}
 use Rattle.std.specs.List.{list_any}
 use Rattle.std.specs.Str.{bytes_eq}

@@ -10,6 +10,7 @@ pub mod Lost
 pub mod Settle
 pub mod Limits
 pub mod Imports
+pub mod Keys
 pub mod Step
 pub mod Calls
 pub mod Classes

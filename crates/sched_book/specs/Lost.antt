@@ -1,4 +1,4 @@
--- Rule. The jobs that a client lost, and the names that it should no longer work on. That lost jobs are sent again is
+-- Promise. The jobs that a client lost, and the names that it should no longer work on. That lost jobs are sent again is
 -- BOINC's resend_lost_results, and result_abort is BOINC's; the exact rules are this profile's.
 use Rattle.std.specs.Prelude.{ℕ, ◌+◌, Bool, true, not, ◌&&◌, ◌||◌, nat_le, if◌then◌else◌, List, [], filter, Option, Some, None, option_map, unwrap_or}
 use Rattle.std.specs.List.{list_any}

@@ -1,4 +1,4 @@
--- Rule. What a call's reports do to the instances of its host.
+-- Promise. What a call's reports do to the instances of its host.
 use Rattle.std.specs.Prelude.{ℕ, ◌+◌, ◌-◌, Bool, ◌&&◌, ◌==◌, zero, suc, if◌then◌else◌, List, [], ◌∷◌, fold, count_by, Option, Some, None, is_none, option_map, unwrap_or, nat_abs}
 use Rattle.std.specs.List.{list_any}
 use Rattle.std.specs.Str.{bytes_eq}

@@ -1,4 +1,4 @@
--- Rule. What follows from reports and lapses: new instances, and the quota of each host. BOINC names the
+-- Promise. What follows from reports and lapses: new instances, and the quota of each host. BOINC names the
 -- daily_result_quota; how it moves is this profile's.
 use Rattle.std.specs.Prelude.{ℕ, ◌+◌, ◌-◌, ◌*◌, ◌^◌, min, max, Bool, true, false, not, ◌&&◌, if◌then◌else◌, ◌++◌, map, replicate, count_by, Option, Some, None}
 use Rattle.std.specs.List.{enumerate_from}

@@ -1,4 +1,4 @@
--- Rule. One step of the job machine, and runs of it. The machine hears each call once: no sequence number decides
+-- Promise. One step of the job machine, and runs of it. The machine hears each call once: no sequence number decides
 -- anything here. A step is: the host renewed or made, reports, lost jobs, settlement, grant, reply.
 use Rattle.std.specs.Prelude.{◌≡◌, ℕ, ◌+◌, ◌<◌, Bool, true, false, List, [], ◌∷◌, ◌++◌, length, map, filter, fold, sum_by, filter_map, Option, Some, None, option_map, option_and_then, unwrap_or}
 use Rattle.rpc_records.specs.declared.reply.Job.{Job}

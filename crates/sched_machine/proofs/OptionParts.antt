@@ -18,8 +18,3 @@ mapped_by f (Some x) y is = (x, refl, (let same : f x ≡ y = cc in same))
 pub then_by : {X Y : Type 0} (f : X → Option Y) (o : Option X) (y : Y) → option_and_then f o ≡ Some y → (x : X) × (o ≡ Some x) × (f x ≡ Some y)
 then_by f None y is = absurd cc
 then_by f (Some x) y is = (x, refl, is)
-
--- as much stands
-pub mapped_some : {X Y : Type 0} (f : X → Y) (o : Option X) → is_some (option_map f o) ≡ is_some o
-mapped_some f None = refl
-mapped_some f (Some x) = refl

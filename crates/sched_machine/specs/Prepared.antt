@@ -11,7 +11,7 @@ use Rattle.sched_book.specs.Reports.{first_reports}
 use Rattle.sched_book.specs.Step.{after_settlement, resent_of}
 use Rattle.sched_book.specs.declared.delta.Change.{Change}
 use Rattle.sched_book.specs.declared.world.World.{World}
-use Rattle.quorum_credit.specs.Settling.{AreMarks}
+use Rattle.quorum_credit.specs.Settling.{AreScores}
 use Rattle.sched_machine.specs.Calling.{IsCalling}
 use Rattle.sched_machine.specs.declared.caller.Calling.{Calling}
 use Rattle.sched_machine.specs.declared.preparing.Ready.{Ready}
@@ -24,7 +24,7 @@ pub record IsSettledCall (w : World) (r : Request) (k : Calling) (now : ℕ) (do
   pub fits : Fits w changes
   pub acked : done.acked ≡ map (λ (x : Report). x.name) (first_reports r.results)
   pub resent : done.resent ≡ resent_of w k.caller r
-  pub marks : AreMarks w v done.marks
+  pub scores : AreScores w v done.scores
 
 -- A call is settled, with the names that its client may forget, and what its host asks for.
 pub record IsReady (w : World) (r : Request) (now : ℕ) (ready : Ready) (v : World) (changes : List Change) : Type 0 where

@@ -10,7 +10,7 @@ use Rattle.sched_book.specs.Step.{after_settlement, asking_of, after_grant, job_
 use Rattle.sched_book.specs.declared.delta.Change.{Change}
 use Rattle.sched_book.specs.declared.instance.Place.{Place}
 use Rattle.sched_book.specs.declared.world.World.{World}
-use Rattle.quorum_credit.specs.Marks.{credits_in}
+use Rattle.quorum_credit.specs.Scores.{credits_in}
 use Rattle.sched_machine.specs.Totals.{user_credits_in}
 use Rattle.sched_machine.specs.declared.preparing.Ready.{Ready}
 use Rattle.sched_machine.specs.declared.reply.Told.{Told}
@@ -19,9 +19,9 @@ use Rattle.sched_machine.specs.declared.reply.Told.{Told}
 pub record IsTold (w v : World) (ready : Ready) (jobs : List Place) (told : Told) : Type 0 where
   pub results : told.results ≡
       filter_map (job_at v ready.call.host true) ready.settled.resent ++ filter_map (job_at v ready.call.host false) jobs
-  pub host_credit : told.host_credit ≡ host_credit w ready.call.number + credits_in ready.settled.marks ready.call.number
+  pub host_credit : told.host_credit ≡ host_credit w ready.call.number + credits_in ready.settled.scores ready.call.number
   pub user_credit : told.user_credit ≡
-      user_credit w ready.call.caller.account + user_credits_in v.hosts ready.call.caller.account ready.settled.marks
+      user_credit w ready.call.caller.account + user_credits_in v.hosts ready.call.caller.account ready.settled.scores
   pub user_name : told.user_name ≡ user_name w ready.call.caller.account
 
 -- New jobs were chosen for a call's host and given to it: that is told, and why there are no more.

@@ -52,7 +52,7 @@ fn names_host(hostid: u32, number: Option<u32>) -> bool
 }
 
 /// Who makes a call: the account that it names, and the number of its host, where the host is known.
-#[tactic(auto, using(crate::proofs::RowsAdmitted::account_is))]
+#[tactic(auto, using(crate::proofs::Rows::Admitted::account_is))]
 pub fn caller_of<D: Desk>(
     alloc: Global,
     desk: &mut D,

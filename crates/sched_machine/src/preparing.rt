@@ -19,7 +19,7 @@ use crate::step_error::StepError;
 use call_sheet::{Draft, Leaf};
 use job_choice::seconds_at;
 use lost_jobs::aborts;
-use quorum_credit::Mark;
+use quorum_credit::Score;
 use rpc_records::Request;
 use sched_book::{Caller, HostRow, Moment, Place, Unavailable};
 use std::alloc::Global;
@@ -57,7 +57,7 @@ fn held_now<S: Draft>(sheet: &S, host: u32, held: &[Place]) -> Result<u32, Unava
 }
 
 /// The seconds that the jobs at these places take the host; none where no workunit stands. A sum past 64 bits is refused.
-#[tactic(auto, using(crate::proofs::AskedSeconds::estimate_none, crate::proofs::AskedSeconds::estimate_some))]
+#[tactic(auto, using(crate::proofs::Calls::Asked::estimate_none, crate::proofs::Calls::Asked::estimate_some))]
 fn seconds_of<S: Draft>(
     alloc: Global,
     sheet: &mut S,

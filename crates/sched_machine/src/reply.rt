@@ -67,8 +67,8 @@ pub(crate) fn conclude<S: Draft>(
     let call = &ready.call;
     let settled = &ready.settled;
     give(alloc, sheet, call.number, now, jobs)?;
-    let host_credit = host_total(sheet, call.number, settled.marks.as_slice())?;
-    let user_credit = user_total(alloc, sheet, call.caller.account, settled.marks.as_slice())?;
+    let host_credit = host_total(sheet, call.number, settled.scores.as_slice())?;
+    let user_credit = user_total(alloc, sheet, call.caller.account, settled.scores.as_slice())?;
     let user_name = user_name(alloc, sheet, call.caller, request)?;
     let mut results = resent_jobs(alloc, sheet, &call.host, settled.resent.as_slice())?;
     add_granted(alloc, sheet, &call.host, jobs, &mut results)?;

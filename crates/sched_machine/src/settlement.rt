@@ -9,7 +9,7 @@ ghost use Rattle.sched_machine.specs.Prepared.{IsSettledCall};
 use crate::caller::Calling;
 use crate::lost::lose;
 use call_sheet::Draft;
-use quorum_credit::{Mark, record_on, settle_read};
+use quorum_credit::{Score, record_on, settle_read};
 use rpc_records::Request;
 use sched_book::{Moment, Place, Unavailable};
 use std::alloc::Global;
@@ -23,7 +23,7 @@ pub(crate) struct SettledCall {
     /// The places of the jobs that are sent again.
     pub(crate) resent: Listed<Place>,
     /// What is new of each instance, for and against its host.
-    pub(crate) marks: Listed<Mark>,
+    pub(crate) scores: Listed<Score>,
 }
 
 /// Takes the reports of a call whose host was put, sends its lost jobs again or drops them, and settles what all this
@@ -44,10 +44,10 @@ pub(crate) fn settle_call<S: Draft>(
 {
     let acked = record_on(alloc, sheet, call.number, request)?;
     let resent = lose(alloc, sheet, call, held, request, now)?;
-    let marks = settle_read(alloc, sheet)?;
+    let scores = settle_read(alloc, sheet)?;
     Ok(SettledCall {
         acked,
         resent,
-        marks,
+        scores,
     })
 }

@@ -125,7 +125,7 @@ pub fn step_call<D: Desk>(
 /// # Errors
 ///
 /// Want of memory.
-#[tactic(auto, using(crate::proofs::RowsAdded::import_steps))]
+#[tactic(auto, using(crate::proofs::Rows::Added::import_steps))]
 pub fn step_import(alloc: Global, rows: &Rows) -> Result<(Delta, u32), Unavailable>
     ensures step { IfOk result (λ done. (w : World) → Sound w → AreChecked w rows.now → ImportStep w rows.now (applied w done.0) done.1) }
     ensures sound { IfOk result (λ done. (w : World) → Sound w → AreChecked w rows.now → Sound (applied w done.0)) }

@@ -3,27 +3,27 @@
 ghost use Rattle.std.specs.Prelude.{◌≡◌, ◌+◌, ◌==◌, if◌then◌else◌, IfOk};
 ghost use Rattle.sched_book.specs.Places.{host_credit, user_credit};
 ghost use Rattle.sched_book.specs.Trusted.{Trusted};
-ghost use Rattle.quorum_credit.specs.Marks.{credits_in};
+ghost use Rattle.quorum_credit.specs.Scores.{credits_in};
 ghost use Rattle.sched_machine.specs.Totals.{belongs, user_credits_in};
 
 use call_sheet::Draft;
-use quorum_credit::Mark;
+use quorum_credit::Score;
 use sched_book::Unavailable;
 use std::alloc::Global;
 
-/// The credit of a host: what it had when the call came, and what these marks bring it.
+/// The credit of a host: what it had when the call came, and what these scores bring it.
 pub(crate) fn host_total<S: Draft>(
     sheet: &mut S,
     host: u32,
-    marks: &[Mark],
+    scores: &[Score],
 ) -> Result<u64, Unavailable>
     ensures reads { S.reads sheet.old sheet.new }
     ensures answer { Trusted S.Units sheet.old sheet.new (
-        IfOk result (λ credit. credit ≡ host_credit (S.entry sheet.old) host + credits_in marks.now host)) }
+        IfOk result (λ credit. credit ≡ host_credit (S.entry sheet.old) host + credits_in scores.now host)) }
 {
     let mut credit = sheet.credit_of_host(host)?;
-    for mark in marks {
-        let more = if mark.host == host { mark.credit } else { 0 };
+    for score in scores {
+        let more = if score.host == host { score.credit } else { 0 };
         let Some(sum) = credit.checked_add(u64::from(more)) else {
             // Not met in a sound world, where all credit is at most 2 * 10^15: `laws::credit_is_bounded`.
             return Err(Unavailable);
@@ -33,40 +33,40 @@ pub(crate) fn host_total<S: Draft>(
     Ok(credit)
 }
 
-/// What a mark brings the user of an account.
+/// What a score brings the user of an account.
 fn user_gain<S: Draft>(
     alloc: Global,
     sheet: &mut S,
     account: u32,
-    mark: &Mark,
+    score: &Score,
 ) -> Result<u32, Unavailable>
     ensures reads { S.reads sheet.old sheet.new }
     ensures answer { Trusted S.Units sheet.old sheet.new (IfOk result (λ credit.
-        credit ≡ if belongs (S.world sheet.old).hosts account mark.now.host then mark.now.credit else 0)) }
+        credit ≡ if belongs (S.world sheet.old).hosts account score.now.host then score.now.credit else 0)) }
 {
-    if mark.credit == 0 {
+    if score.credit == 0 {
         return Ok(0);
     }
-    match sheet.host(alloc, mark.host)? {
-        Some(host) if host.account == account => Ok(mark.credit),
+    match sheet.host(alloc, score.host)? {
+        Some(host) if host.account == account => Ok(score.credit),
         _ => Ok(0),
     }
 }
 
-/// The credit of the user of an account: what the user had when the call came, and what these marks bring the user's hosts.
+/// The credit of the user of an account: what the user had when the call came, and what these scores bring the user's hosts.
 pub(crate) fn user_total<S: Draft>(
     alloc: Global,
     sheet: &mut S,
     account: u32,
-    marks: &[Mark],
+    scores: &[Score],
 ) -> Result<u64, Unavailable>
     ensures reads { S.reads sheet.old sheet.new }
     ensures answer { Trusted S.Units sheet.old sheet.new (IfOk result (λ credit.
-        credit ≡ user_credit (S.entry sheet.old) account + user_credits_in (S.world sheet.old).hosts account marks.now)) }
+        credit ≡ user_credit (S.entry sheet.old) account + user_credits_in (S.world sheet.old).hosts account scores.now)) }
 {
     let mut credit = sheet.credit_of_user(account)?;
-    for mark in marks {
-        let more = user_gain(alloc, sheet, account, mark)?;
+    for score in scores {
+        let more = user_gain(alloc, sheet, account, score)?;
         let Some(sum) = credit.checked_add(u64::from(more)) else {
             // Not met in a sound world, as above.
             return Err(Unavailable);

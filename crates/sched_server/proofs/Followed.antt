@@ -90,11 +90,11 @@ handled_as old_key key read bytes now old new a same is done =
 
 -- and so with what a store stands for
 pub stands_on : {S : Type 0} (store : Parts S) (old_key key read bytes : List ℕ) (now : ℕ) (a : Answer) (old new : S) → key ≡ old_key → read ≡ bytes
-    → ((marks : List ℕ) (before : List Came) → StoreStandsFor store key marks before old → store.clean new
-    → StoreStandsFor store key marks (record { arrival = record { now = now; bytes = read }; answer = a } ∷ before) new)
-    → (marks : List ℕ) (before : List Came) → StoreStandsFor store old_key marks before old → store.clean new
-    → StoreStandsFor store old_key marks (record { arrival = record { now = now; bytes = bytes }; answer = a } ∷ before) new
+    → ((points : List ℕ) (before : List Came) → StoreStandsFor store key points before old → store.clean new
+    → StoreStandsFor store key points (record { arrival = record { now = now; bytes = read }; answer = a } ∷ before) new)
+    → (points : List ℕ) (before : List Came) → StoreStandsFor store old_key points before old → store.clean new
+    → StoreStandsFor store old_key points (record { arrival = record { now = now; bytes = bytes }; answer = a } ∷ before) new
 stands_on store old_key key read bytes now a old new same is stands =
-    let P : List ℕ → List ℕ → Type 0 = λ k b. (marks : List ℕ) (before : List Came) → StoreStandsFor store k marks before old → store.clean new
-    → StoreStandsFor store k marks (record { arrival = record { now = now; bytes = b }; answer = a } ∷ before) new in
+    let P : List ℕ → List ℕ → Type 0 = λ k b. (points : List ℕ) (before : List Came) → StoreStandsFor store k points before old → store.clean new
+    → StoreStandsFor store k points (record { arrival = record { now = now; bytes = b }; answer = a } ∷ before) new in
     subst (λ b. P old_key b) is (subst (λ k. P k read) same stands)

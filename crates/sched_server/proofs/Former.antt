@@ -24,10 +24,10 @@ use Rattle.sched_book.specs.declared.rows.Workunit.{Workunit}
 use Rattle.stores.specs.Eras.{era_of_classes}
 use Rattle.stores.specs.declared.kind.Kind.{Kind}
 use Rattle.stores.specs.declared.kind.Kind.TheVariants.{Accounts, Apps, Versions, Workunits}
-use Rattle.pasts.specs.Marks.{AreOfEras}
+use Rattle.pasts.specs.UpgradePoints.{AreOfEras}
 use Rattle.pasts.specs.Messages.{Said, Import}
 use Rattle.pasts.specs.Stands.{Past}
-use Rattle.pasts.proofs.Marks.{era_most}
+use Rattle.pasts.proofs.UpgradePoints.{era_most}
 use Rattle.pasts.proofs.Shelves.{IfImports, shelf_stands}
 use Rattle.message_engine.specs.Imports.{reading_in, as_refusal, ReadsIn}
 use Rattle.message_engine.specs.Stores.{tables_by}
@@ -72,15 +72,15 @@ said_unclassed era (asks.refused f) said less says = subst (IfImports AreUnclass
 
 -- ---- a past
 
-past_unclassed : (key marks : List ℕ) (before : List Answered) (past : Past) → length marks < era_of_classes → Tells key before past → AreOfEras marks past
+past_unclassed : (key points : List ℕ) (before : List Answered) (past : Past) → length points < era_of_classes → Tells key before past → AreOfEras points past
     → AllByRecursion (λ h. IfImports AreUnclassed h.message.said) past
-past_unclassed key marks [] [] less tells eras = tt
-past_unclassed key marks [] (h ∷ past) less tells eras = absurd tells
-past_unclassed key marks (a ∷ before) [] less tells eras = absurd tells
-past_unclassed key marks (a ∷ before) (h ∷ past) less tells eras =
+past_unclassed key points [] [] less tells eras = tt
+past_unclassed key points [] (h ∷ past) less tells eras = absurd tells
+past_unclassed key points (a ∷ before) [] less tells eras = absurd tells
+past_unclassed key points (a ∷ before) (h ∷ past) less tells eras =
     let heard = tells.0 in
-    let early : h.message.era < era_of_classes = omega (arith, eras.0, era_most marks (length past), less) in
-    (said_unclassed h.message.era heard.asked h.message.said early heard.says, past_unclassed key marks before past less tells.1 eras.1)
+    let early : h.message.era < era_of_classes = omega (arith, eras.0, era_most points (length past), less) in
+    (said_unclassed h.message.era heard.asked h.message.said early heard.says, past_unclassed key points before past less tells.1 eras.1)
 
 -- ---- what stands
 
@@ -107,9 +107,9 @@ no_rows : HasNoClasses empty_shelf
 no_rows = record { versions = All-nil IsOfItsPlatform; units = All-nil IsUnmarked }
 
 pub former_worlds_are_unclassed : FormerWorldsAreUnclassed
-former_worlds_are_unclassed era key held marks before less st =
-    let early : length marks < era_of_classes = omega (arith, st.in_era.upgrades, less) in
-    let past = past_unclassed key marks (answered before) st.past early st.tells st.in_era.eras in
+former_worlds_are_unclassed era key held points before less st =
+    let early : length points < era_of_classes = omega (arith, st.in_era.upgrades, less) in
+    let past = past_unclassed key points (answered before) st.past early st.tells st.in_era.eras in
     let shelf = shelf_stands AreUnclassed HasNoClasses no_rows shelved_unclassed (tables_by held) st.past st.stands past in record {
       versions = shelf.versions;
       units = units_unmarked held.world.units shelf.units;

@@ -1,5 +1,5 @@
 -- What holds through each run of the machine holds of what stands before and after messages of bytes.
-use Rattle.std.proofs.Common.{◌≡◌, ◌⊎◌, ℕ, List, [], ◌∷◌, ◌++◌, Some, refl, ◌∙◌, ap, subst, inl, inr}
+use Rattle.std.proofs.Common.{◌≡◌, ◌⊎◌, ℕ, List, [], ◌∷◌, ◌++◌, Some, ◌∙◌, ap, subst, inl, inr}
 use Rattle.http_responses.specs.declared.answer.Answer.{Answer}
 use Rattle.http_responses.specs.declared.answer.Answer.TheVariants as answer
 use Rattle.sched_book.specs.Step.{deadline_at}
@@ -10,6 +10,7 @@ use Rattle.stores.specs.Held.{Held}
 use Rattle.pasts.specs.Many.{ServesAll}
 use Rattle.pasts.specs.Messages.{Message, heard_now}
 use Rattle.pasts.specs.Stands.{Heard, Tables, Same, Serves}
+use Rattle.pasts.proofs.Carried.{same_itself}
 use Rattle.pasts.specs.declared.answer.Answer as told
 use Rattle.past_laws.specs.Laws as past
 use Rattle.past_laws.proofs.Calls as calls_of_pasts
@@ -22,9 +23,6 @@ use Rattle.sched_server.specs.Handled.{HandledAs}
 use Rattle.sched_server.specs.Laws.{HoldsOfWhatStands, HoldsAtAMessage, HoldsOverMessages, Lasts, IsSentAgainAt, DeadlinesMoveByResendsAlone, DeadlinesMoveByResendsOverMessages, NoHeldJobDropsFromSight}
 
 -- ---- many messages
-
-itself : (t : Tables) → Same t t
-itself t = record { world = refl; calls = λ key. refl; batches = λ kind batch. refl }
 
 same_tables : (a b : Tables) → Same a b → a ≡ b
 same_tables a b same = λ i. record { world = same.world i; calls = λ key. same.calls key i; batches = λ kind batch. same.batches kind batch i }
@@ -41,7 +39,7 @@ all_same old mid new (h ∷ more) same all = (all.0, all.1, all_same all.0 mid n
 -- these, and then one more
 all_then : (old mid new : Tables) (more : List Heard) (m : Message) (a : told.Answer) → ServesAll old more mid → Serves mid m a new
     → ServesAll old (more ++ record { message = m; answer = a } ∷ []) new
-all_then old mid new [] m a same serves = (new, subst (λ t. Serves t m a new) (same_tables mid old same) serves, itself new)
+all_then old mid new [] m a same serves = (new, subst (λ t. Serves t m a new) (same_tables mid old same) serves, same_itself new)
 all_then old mid new (h ∷ more) m a all serves = (all.0, all.1, all_then all.0 mid new more m a all.2 serves)
 
 -- some messages were served, and what stands then is sound
@@ -72,33 +70,33 @@ served_in_turn key (c ∷ earlier) old new sound done =
 
 -- ---- the laws
 
-pub have_stood : (key : List ℕ) (old : Held) (marks : List ℕ) (before : List Came) → StandsFor key old marks before
+pub have_stood : (key : List ℕ) (old : Held) (points : List ℕ) (before : List Came) → StandsFor key old points before
     → past.HaveStood (tables_by old)
-have_stood key old marks before st = record { settings = st.sound.world.rows.settings; past = st.past; stands = st.stands }
+have_stood key old points before st = record { settings = st.sound.world.rows.settings; past = st.past; stands = st.stands }
 
 pub of_what_stands : (P : World → Type 0) → past.HoldsWhereTablesStand P → HoldsOfWhatStands P
-of_what_stands P law key old marks before st = law (tables_by old) (have_stood key old marks before st)
+of_what_stands P law key old points before st = law (tables_by old) (have_stood key old points before st)
 
 at_a_message : (R : World → World → Type 0) → past.HoldsOfMessages R → HoldsAtAMessage R
-at_a_message R law key bytes now old new answer.Unavailable marks before st same =
+at_a_message R law key bytes now old new answer.Unavailable points before st same =
     law.1 (tables_by old) (tables_by old) (tables_by new) [] []
-    (have_stood key old marks before st) (itself (tables_by old)) (same st.sound).0
-at_a_message R law key bytes now old new (answer.Response r) marks before st done =
+    (have_stood key old points before st) (same_itself (tables_by old)) (same st.sound).0
+at_a_message R law key bytes now old new (answer.Response r) points before st done =
     law.0 (tables_by old) (tables_by new) (heard_now now done.said) done.told
-    (have_stood key old marks before st) (done.serves st.sound).serves
+    (have_stood key old points before st) (done.serves st.sound).serves
 
 over_messages : (R : World → World → Type 0) → past.HoldsOfMessages R → HoldsOverMessages R
 unfolding Served
-over_messages R law key old new marks came before st done =
+over_messages R law key old new points came before st done =
     let served = served_in_turn key came old new st.sound done in
     law.1 (tables_by old) (tables_by old) (tables_by new) [] served.0
-    (have_stood key old marks before st) (itself (tables_by old)) served.1
+    (have_stood key old points before st) (same_itself (tables_by old)) served.1
 
 pub lasts : (R : World → World → Type 0) → past.HoldsOfMessages R → Lasts R
 lasts R law = (at_a_message R law, over_messages R law)
 
 pub deadlines_move_by_resends_alone : DeadlinesMoveByResendsAlone
-deadlines_move_by_resends_alone key bytes now r old new marks before st h p o owned =
+deadlines_move_by_resends_alone key bytes now r old new points before st h p o owned =
     calls_of_pasts.deadlines_move_by_resends_alone (tables_by old) (tables_by new)
     (heard_now now h.said) h.told (h.serves st.sound).serves p o owned
 
@@ -118,11 +116,11 @@ at_the_host key bytes now (answer.Response r) old new done p n o same again = sa
 
 pub deadlines_move_by_resends_over_messages : DeadlinesMoveByResendsOverMessages
 unfolding Served
-deadlines_move_by_resends_over_messages key old new marks [] before st all p o owned = inl (ap (λ w. deadline_at w p) (all st.sound).0.world)
-deadlines_move_by_resends_over_messages key old new marks (c ∷ earlier) before st all p o owned =
+deadlines_move_by_resends_over_messages key old new points [] before st all p o owned = inl (ap (λ w. deadline_at w p) (all st.sound).0.world)
+deadlines_move_by_resends_over_messages key old new points (c ∷ earlier) before st all p o owned =
     let sound = (served_in_turn key earlier old all.0 st.sound all.1).2 in
-    let next = over_messages OwnersStay owners_stay key old all.0 marks earlier before st all.1 p o owned in
-    elim (deadlines_move_by_resends_over_messages key old all.0 marks earlier before st all.1 p o owned) [
+    let next = over_messages OwnersStay owners_stay key old all.0 points earlier before st all.1 p o owned in
+    elim (deadlines_move_by_resends_over_messages key old all.0 points earlier before st all.1 p o owned) [
       | inr again ↦ inr (inr again)
       | inl stays ↦ elim (at_one key c.arrival.bytes c.arrival.now c.answer all.0 new sound all.2 p next.0 next.1) [
         | inl later ↦ inl (later ∙ stays)
@@ -131,6 +129,6 @@ deadlines_move_by_resends_over_messages key old new marks (c ∷ earlier) before
     ]
 
 pub no_held_job_drops_from_sight : NoHeldJobDropsFromSight
-no_held_job_drops_from_sight key bytes now r old new marks before st h request names says first resends lists =
+no_held_job_drops_from_sight key bytes now r old new points before st h request names says first resends lists =
     calls_of_pasts.no_held_job_drops_from_sight (tables_by old) (tables_by new)
-    (heard_now now h.said) h.told request names (have_stood key old marks before st) says first (h.serves st.sound).serves resends lists
+    (heard_now now h.said) h.told request names (have_stood key old points before st) says first (h.serves st.sound).serves resends lists

@@ -1,4 +1,4 @@
--- Rule. What came, with its answers, and what a store stands for. What came is listed with the newest first. (This project's own.)
+-- Promise. What came, with its answers, and what a store stands for. What came is listed with the newest first. (This project's own.)
 use Rattle.std.specs.Prelude.{◌≡◌, ◌⊎◌, ℕ, List, [], ◌∷◌}
 use Rattle.http_messages.specs.Deciding.{Asked}
 use Rattle.http_messages.specs.Meaning.{Means}
@@ -8,7 +8,7 @@ use Rattle.http_responses.specs.declared.response.Response.{Response}
 use Rattle.stores.specs.Acting.{Parts}
 use Rattle.stores.specs.Eras.{this_era}
 use Rattle.stores.specs.Held.{Held}
-use Rattle.pasts.specs.Marks.{IsInEra}
+use Rattle.pasts.specs.UpgradePoints.{IsInEra}
 use Rattle.pasts.specs.Stands.{Heard, Past, Stands}
 use Rattle.message_engine.specs.Stores.{tables_by, IsSoundStore}
 use Rattle.sched_server.specs.Handled.{response_to, HandledAs, StaysSound}
@@ -49,12 +49,12 @@ Tells key (a ∷ before) (h ∷ past) = IsHeard key a h × Tells key before past
 Tells key [] (h ∷ past) = ⊥
 Tells key (a ∷ before) [] = ⊥
 
--- What is held in an era stands for what came, by the marks of the upgrades: for a past that says it and is in that era; and it is sound. The
+-- What is held in an era stands for what came, by its upgrade points: for a past that says it and is in that era; and it is sound. The
 -- operator's key is that of its settings.
-pub record StandsIn (era : ℕ) (key : List ℕ) (held : Held) (marks : List ℕ) (before : List Came) : Type 0 where
+pub record StandsIn (era : ℕ) (key : List ℕ) (held : Held) (upgrade_points : List ℕ) (before : List Came) : Type 0 where
   pub past : Past
   pub tells : Tells key (answered before) past
-  pub in_era : IsInEra era marks past
+  pub in_era : IsInEra era upgrade_points past
   pub keyed : key ≡ held.world.settings.operator_key
   pub stands : Stands (tables_by held) past
   pub sound : IsSoundStore held
@@ -70,15 +70,15 @@ IsInDoubt arrival (c ∷ before) = (c.answer ≡ answer.Unavailable) × ((c.arri
 
 -- What a stop leaves stands for what came, or for that and one message in doubt, with a response that nobody read.
 abbrev pub StandsAtAStop : List ℕ → Held → List ℕ → List Came → Type 0
-StandsAtAStop key held marks before =
-    StandsFor key held marks before
-    ⊎ ((arrival : Arrival) × IsInDoubt arrival before × (r : Response) × StandsFor key held marks (record { arrival = arrival; answer = answer.Response r } ∷ before))
+StandsAtAStop key held upgrade_points before =
+    StandsFor key held upgrade_points before
+    ⊎ ((arrival : Arrival) × IsInDoubt arrival before × (r : Response) × StandsFor key held upgrade_points (record { arrival = arrival; answer = answer.Response r } ∷ before))
 
--- A store stands for what came, by the marks of the upgrades: while it is open it is well kept, and what it holds stands for that; and so does
+-- A store stands for what came, by its upgrade points: while it is open it is well kept, and what it holds stands for that; and so does
 -- what a stop may leave, whether a fault has shut it or not, but for one message in doubt.
-pub record StoreStandsFor {S : Type 0} (store : Parts S) (key marks : List ℕ) (before : List Came) (s : S) : Type 0 where
-  pub held : store.honest s → store.well_kept s × StandsFor key (store.holds s) marks before
-  pub left : (h : Held) → store.may_leave s h → StandsAtAStop key h marks before
+pub record StoreStandsFor {S : Type 0} (store : Parts S) (key upgrade_points : List ℕ) (before : List Came) (s : S) : Type 0 where
+  pub held : store.honest s → store.well_kept s × StandsFor key (store.holds s) upgrade_points before
+  pub left : (h : Held) → store.may_leave s h → StandsAtAStop key h upgrade_points before
 
 -- what came before, and then these arrivals with their answers, as far as both go
 abbrev pub followed : List Came → List Arrival → List Answer → List Came
@@ -97,5 +97,5 @@ pub record ActInTurn {S : Type 0} (store : Parts S) (key : List ℕ) (arrivals :
   pub answers : List Answer
   pub given : Given answers
   pub handled : store.honest new → store.well_kept old → HandledInTurn key (followed [] arrivals answers) (store.holds old) (store.holds new)
-  pub stands : (marks : List ℕ) (before : List Came) → StoreStandsFor store key marks before old → store.clean new
-      → StoreStandsFor store key marks (followed before arrivals answers) new
+  pub stands : (upgrade_points : List ℕ) (before : List Came) → StoreStandsFor store key upgrade_points before old → store.clean new
+      → StoreStandsFor store key upgrade_points (followed before arrivals answers) new

@@ -18,8 +18,8 @@ use Rattle.sched_server.specs.Handled.{Handles, HandledAs}
 -- Who owns an instance after a message owned it before, or the message is its call, which gives it the instance.
 abbrev pub OwnersAreOfClassesAtAMessage : Type 0
 OwnersAreOfClassesAtAMessage =
-    (key bytes : List ℕ) (now : ℕ) (r : Response) (old new : Held) (marks : List ℕ) (before : List Came)
-    → StandsFor key old marks before → (h : Handles key bytes now r old new)
+    (key bytes : List ℕ) (now : ℕ) (r : Response) (old new : Held) (upgrade_points : List ℕ) (before : List Came)
+    → StandsFor key old upgrade_points before → (h : Handles key bytes now r old new)
     → (p : Place) (o : Owner) → owner_at new.world p ≡ Some o → HadOwner old.world p o ⊎ IsGivenByMessage old.world new.world (heard_now now h.said) p o
 
 -- this message is a call of the owner, which gives it the instance, by what stands in a later world
@@ -36,11 +36,11 @@ IsGivenAmong key (c ∷ earlier) old new all later p o =
 -- Over many messages: who owns an instance after them owned it before, or a call among them gave it, by what then stands.
 abbrev pub OwnersAreOfClassesOverMessages : Type 0
 OwnersAreOfClassesOverMessages =
-    (key : List ℕ) (old new : Held) (marks : List ℕ) (came before : List Came) → StandsFor key old marks before → (all : HandledInTurn key came old new)
+    (key : List ℕ) (old new : Held) (upgrade_points : List ℕ) (came before : List Came) → StandsFor key old upgrade_points before → (all : HandledInTurn key came old new)
     → (p : Place) (o : Owner) → owner_at new.world p ≡ Some o → HadOwner old.world p o ⊎ IsGivenAmong key came old new all new.world p o
 
 -- Each owner in what stands got its instance by a turn of the run by which it stands.
 abbrev pub OwnersWereGiven : Type 0
 OwnersWereGiven =
-    (key : List ℕ) (held : Held) (marks : List ℕ) (before : List Came) → (st : StandsFor key held marks before)
+    (key : List ℕ) (held : Held) (upgrade_points : List ℕ) (before : List Came) → (st : StandsFor key held upgrade_points before)
     → (p : Place) (o : Owner) → owner_at held.world p ≡ Some o → IsGivenByATurn held.world.settings held.world st.stands.0 p o

@@ -1,4 +1,4 @@
--- Rule. What one message of bytes does to a store, and the response that answers it. (The forms of responses are RFC 9112's; the rest is
+-- Promise. What one message of bytes does to a store, and the response that answers it. (The forms of responses are RFC 9112's; the rest is
 -- this profile's.)
 use Rattle.std.specs.Prelude.{◌≡◌, ℕ, Bool, true, false, List, Option, Some, None}
 use Rattle.http_messages.specs.Deciding.{Asked}

@@ -1,4 +1,4 @@
--- Rule. What a message that asks for something says to the scheduler. (The scheduler_request is BOINC's; the rest is this profile's.)
+-- Promise. What a message that asks for something says to the scheduler. (The scheduler_request is BOINC's; the rest is this profile's.)
 use Rattle.std.specs.Prelude.{◌≡◌, ℕ, Option, Some, None, Result, Ok, Err}
 use Rattle.http_messages.specs.Deciding.{Asked}
 use Rattle.http_messages.specs.Deciding as asks

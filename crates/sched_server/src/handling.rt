@@ -32,8 +32,8 @@ impl<S: Store + Drop> Service<S> {
         ensures store { IfOk result (λ service. S.reads store (store_of service)) }
         ensures key { IfOk result (λ service. Trusted S.Units store (store_of service) (
             key_of service ≡ (S.world store).settings.operator_key)) }
-        ensures stands { (key marks : List ℕ) (before : List Came) → StoreStandsFor S.Store key marks before store → IfOk result (λ service.
-            StoreStandsFor S.Store key marks before (store_of service) × (S.honest (store_of service) → key ≡ key_of service)) }
+        ensures stands { (key upgrade_points : List ℕ) (before : List Came) → StoreStandsFor S.Store key upgrade_points before store → IfOk result (λ service.
+            StoreStandsFor S.Store key upgrade_points before (store_of service) × (S.honest (store_of service) → key ≡ key_of service)) }
         ensures back { IfErr result (S.reads store) }
     {
         let Ok(settings) = store.settings(alloc) else {
@@ -86,8 +86,8 @@ impl<S: Store> Service<S> {
         ensures reads { S.reads (store_of self.old) (store_of self.new) }
         ensures open { S.clean (store_of self.new) → result ≡ Ok true → S.honest (store_of self.new) }
         ensures shut { S.clean (store_of self.new) → result ≡ Ok false → ¬ S.honest (store_of self.new) }
-        ensures stands { (key marks : List ℕ) (before : List Came) → StoreStandsFor S.Store key marks before (store_of self.old)
-            → StoreStandsFor S.Store key marks before (store_of self.new) }
+        ensures stands { (key upgrade_points : List ℕ) (before : List Came) → StoreStandsFor S.Store key upgrade_points before (store_of self.old)
+            → StoreStandsFor S.Store key upgrade_points before (store_of self.new) }
         ensures key { key_of self.new ≡ key_of self.old }
     {
         self.store.is_open()
@@ -110,8 +110,8 @@ impl<S: Store> Service<S> {
         ensures key { key_of self.new ≡ key_of self.old }
         ensures exact { Trusted S.Units (store_of self.old) (store_of self.new) (
             HandledAs (key_of self.old) bytes.now now result (S.holds (store_of self.old)) (S.holds (store_of self.new))) }
-        ensures stands { (marks : List ℕ) (before : List Came) → StoreStandsFor S.Store (key_of self.old) marks before (store_of self.old) → S.clean (store_of self.new)
-            → StoreStandsFor S.Store (key_of self.old) marks (record { arrival = record { now = now; bytes = bytes.now }; answer = result } ∷ before) (store_of self.new) }
+        ensures stands { (upgrade_points : List ℕ) (before : List Came) → StoreStandsFor S.Store (key_of self.old) upgrade_points before (store_of self.old) → S.clean (store_of self.new)
+            → StoreStandsFor S.Store (key_of self.old) upgrade_points (record { arrival = record { now = now; bytes = bytes.now }; answer = result } ∷ before) (store_of self.new) }
         ensures reopens { (S.honest (store_of self.old) → S.well_kept (store_of self.old)) → S.reopens (store_of self.old) → S.reopens (store_of self.new) }
     {
         let message = self.heard(bytes).message;

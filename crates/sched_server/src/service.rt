@@ -3,14 +3,14 @@
 ghost use Rattle.std.specs.Prelude.{◌≡◌};
 ghost use Rattle.http_messages.specs.Routers.{the_routes};
 
-use http_messages::Place;
+use http_messages::RouteKind;
 use matchit::Router;
 use texts::Text;
 
 /// The scheduler of a project over a store of its rows, its kept calls and its kept imports.
 #[derive(Drop)]
 pub struct Service<S> {
-    pub(crate) router: Router<Place>,
+    pub(crate) router: Router<RouteKind>,
     /// The operator's key, as the store's settings have it.
     pub(crate) key: Text,
     pub(crate) store: S,

@@ -1,14 +1,13 @@
 -- What is still remembered behind rows that were put is what the world after has.
-use Rattle.std.proofs.Common.{◌≡◌, ◌<◌, ℕ, zero, suc, Bool, true, false, cond, eqb, true≢false, arith, ap₂, option_map, length, ◌||◌, List, [], ◌∷◌, ◌++◌, Option, Some, None, refl, sym, subst, ◌∙◌, inl, inr, ap}
+use Rattle.std.proofs.Common.{◌≡◌, ◌<◌, ℕ, zero, suc, Bool, true, false, cond, eqb, arith, option_map, length, ◌||◌, List, [], ◌∷◌, ◌++◌, Option, Some, None, refl, sym, subst, ◌∙◌, inl, inr, ap}
 use Rattle.std.specs.Prelude.{◌⊎◌, All, IfSome, get_or, option_and_then, slice_get, slice_set}
 use Rattle.std.proofs.Math.Dec.{eqb-suc-zero, eqb-zero-suc, eqb-suc-suc}
-use Rattle.std.proofs.lemmas.Bool.{eqb-true, eq-eqb}
 use Rattle.std.specs.Cmp.Lexicographic.{slice_cmp}
 use Rattle.std.specs.List.{list_any, cons_option, AllByRecursion}
 use Rattle.std.specs.Ordering.{nat_cmp}
 use Rattle.std.specs.declared.cmp.Ordering.{Ordering}
 use Rattle.std.proofs.lemmas.List.Elements.{All-nil}
-use Rattle.std.specs.BTreeMap.{get, is_at}
+use Rattle.std.specs.BTreeMap.{get}
 use Rattle.sched_book.specs.Delta.{applied}
 use Rattle.sched_book.specs.Desk.{placed_where, workunit_at, instances_at}
 use Rattle.sched_book.specs.Fits.{version_among, version_at}
@@ -20,6 +19,7 @@ use Rattle.sched_book.specs.declared.rows.Account.{Account}
 use Rattle.sched_book.specs.declared.rows.App.{App}
 use Rattle.sched_book.specs.declared.rows.HostRow.{HostRow}
 use Rattle.sched_book.specs.declared.world.World.{World}
+use Rattle.sched_book.proofs.ByPlace.{same_by_index}
 use Rattle.table_desk.specs.FirstPage.{IsFirstPageOf}
 use Rattle.table_meaning.specs.declared.rows.StoredRow.{StoredRow}
 use Rattle.table_meaning.specs.declared.rows.StoredInstance.{StoredInstance}
@@ -38,14 +38,13 @@ use Rattle.stores.specs.declared.entry.Entry.{Entry}
 use Rattle.stores.specs.declared.entry.Entry.TheVariants as entry
 use Rattle.sched_tables.specs.Commits.{ArePut}
 use Rattle.sched_tables.specs.Entries.{IsRowOf, ArePutWith}
-use Rattle.sched_tables.specs.Carrying.{IsOtherKey, IsUnput, IsPut, IsRenewed, IsStillKnown, job_of, counted_of, AreInstancesCarried, AreCarried}
+use Rattle.sched_tables.specs.Carrying.{IsOtherKey, IsUnput, IsPut, IsRenewed, IsStillKnown, job_of, counted_of, AreCarried}
 use Rattle.sched_tables.specs.Remembering.{IsAccountOf, IsVersionOf, IsSlotOf, AreRemembered}
-use Rattle.sched_tables.specs.RowsRead.{HoldOfEach, HasKept, IsWithout, AreSome}
+use Rattle.sched_tables.specs.RowsRead.{HoldOfEach, AreSome}
 use Rattle.sched_tables.specs.declared.remembered.Remembered.{Remembered}
 use Rattle.sched_tables.specs.declared.remembered.VersionRead.{VersionRead}
 use Rattle.sched_tables.specs.declared.rows_read.RowsRead.{RowsRead}
-use Rattle.sched_tables.proofs.RowsKept.{one_number}
-use Rattle.sched_tables.proofs.ToldByRows.{same_accounts, same_apps, same_versions, same_workunit, same_host, same_by_index, host_told, job_told}
+use Rattle.sched_tables.proofs.ToldByRows.{same_accounts, same_apps, same_versions, same_workunit, same_host, host_told, job_told}
 
 -- ---- keys at which no row is put
 
@@ -193,41 +192,6 @@ got_of_set (y ∷ ys) (suc i) (suc j) x within = got_of_set ys i j x (omega arit
 
 pub is_renewed : (row : StoredInstance) (old : List Job) (x : Job) → row.num < length old → x ≡ job_of (stored.Instance row) → IsRenewed row old (slice_set old row.num x)
 is_renewed row old x within is = λ num. got_of_set old row.num num x within ∙ ap (λ y. cond (eqb row.num num) (Some y) (slice_get old num)) is
-
--- those of another workunit stay
-others_carried : (row : StoredInstance) (old : RowsRead ℕ (List Job)) (n : ℕ) (xs : List Job) → is_at (nat_cmp row.unit_id) n ≡ false → get nat_cmp old.rows n ≡ Some xs
-    → (ys : List Job) × (get nat_cmp old.rows n ≡ Some ys) × ((num : ℕ) → IsStillKnown (IsOtherKey (stored.Instance row)) (λ s. s ≡ stored.Instance row) job_of (instance_key n num) (slice_get ys num) (slice_get xs num))
-others_carried row old n xs other was = (xs, was, λ num. inl (λ same. let one : row.unit_id ≡ n = cc in absurd (true≢false (sym (itself row.unit_id) ∙ ap (λ m. is_at (nat_cmp row.unit_id) m) one ∙ other)), refl))
-  where
-    itself : (n : ℕ) → is_at (nat_cmp n) n ≡ true
-    itself n = grind arith
-
-pub jobs_dropped : (row : StoredInstance) (old new : RowsRead ℕ (List Job)) → IsWithout nat_cmp old new row.unit_id → AreInstancesCarried (IsOtherKey (stored.Instance row)) (λ s. s ≡ stored.Instance row) old new
-jobs_dropped row old new without = λ n xs is. let was = without n xs is in others_carried row old n xs was.0 was.1
-
-pub jobs_renewed : (row : StoredInstance) (old mid new : RowsRead ℕ (List Job)) (known renewed : List Job) → get nat_cmp old.rows row.unit_id ≡ Some known → IsRenewed row known renewed
-    → IsWithout nat_cmp old mid row.unit_id → HasKept nat_cmp mid new row.unit_id renewed → AreInstancesCarried (IsOtherKey (stored.Instance row)) (λ s. s ≡ stored.Instance row) old new
-jobs_renewed row old mid new known renewed was is without kept = λ n xs there. elim (kept n xs there) [
-  | inl it ↦
-      let here : row.unit_id ≡ n = one_number row.unit_id n it.0 in
-      (known, subst (λ m. get nat_cmp old.rows m ≡ Some known) here was, λ num. at_number n num xs here it.1 (eqb row.num num) refl)
-  | inr other ↦ let before = without n xs other in others_carried row old n xs before.0 before.1
-]
-  where
-    at_number : (n num : ℕ) (xs : List Job) → row.unit_id ≡ n → xs ≡ renewed → (b : Bool) → eqb row.num num ≡ b
-        → IsStillKnown (IsOtherKey (stored.Instance row)) (λ s. s ≡ stored.Instance row) job_of (instance_key n num) (slice_get known num) (slice_get xs num)
-    at_number n num xs here same true at =
-        inr (
-          stored.Instance row,
-          refl,
-          ap₂ instance_key here (eqb-true row.num num at),
-          ap (λ l. slice_get l num) same ∙ is num ∙ ap (λ (b : Bool). cond b (Some (job_of (stored.Instance row))) (slice_get known num)) at,
-        )
-    at_number n num xs here same false at =
-        inl (
-          (λ one. let number : row.num ≡ num = cc in absurd (true≢false (sym (eq-eqb row.num num number) ∙ at))),
-          ap (λ l. slice_get l num) same ∙ is num ∙ ap (λ (b : Bool). cond b (Some (job_of (stored.Instance row))) (slice_get known num)) at,
-        )
 
 -- ---- what is carried is the world's after
 

@@ -5,6 +5,7 @@ use Rattle.std.specs.Prelude.{IfSome, is_some, nat_le, nat_lt}
 use Rattle.std.specs.List.{cons_option}
 use Rattle.std.proofs.lemmas.Bool.{and_from, eq-eqb, eqb-true}
 use Rattle.std.proofs.lemmas.Slice.Eq.{bytes_eq-Decides}
+use Rattle.std.proofs.lemmas.Cmp.{nat_list_eq_equiv}
 use Rattle.sqlite.specs.Effect.{Database}
 use Rattle.sqlite.specs.State.{State}
 use Rattle.stores.specs.Eras.{this_era}
@@ -28,6 +29,7 @@ use Rattle.sched_book.specs.declared.rows.App.{App}
 use Rattle.sched_book.specs.declared.settings.Settings.{Settings}
 use Rattle.sched_book.specs.declared.delta.Change.{Change}
 use Rattle.sched_book.specs.declared.world.World.{World}
+use Rattle.sched_book.proofs.Fitting.{all_settings_stay}
 use Rattle.table_meaning.specs.declared.rows.StoredRow.{StoredRow}
 use Rattle.table_meaning.specs.declared.rows.StoredRow.TheVariants as stored
 use Rattle.table_meaning.specs.Rows.{RowKey, kept_key, batch_key, columns_of, same_key}
@@ -37,7 +39,7 @@ use Rattle.sched_tables.specs.Commits.{Imports, Keeps, apps_with}
 use Rattle.sched_tables.specs.Entries.{IsRowOf, MakesWith, kept_batch, calls_of, batches_of}
 use Rattle.sched_tables.specs.Slots.{calls_in_slots, IsSlotFor, with_slot}
 use Rattle.sched_tables.specs.Held.{AreWellKept, AreBeside}
-use Rattle.sched_tables.specs.Marks.{IsMarkOf}
+use Rattle.sched_tables.specs.DueFrom.{NothingIsDueBefore}
 use Rattle.sched_tables.specs.Remembering.{AreRemembered}
 use Rattle.sched_tables.specs.Views.{held_in}
 use Rattle.sched_tables.specs.declared.remembered.Remembered.{Remembered}
@@ -51,9 +53,6 @@ use Rattle.sched_tables.proofs.FourKept.{slots_keep_the_latest}
 
 pub same_bytes : (a b : List ℕ) → bytes_eq a b ≡ true → a ≡ b
 same_bytes a b = (bytes_eq-Decides a b).0
-
-itself : (a : List ℕ) → bytes_eq a a ≡ true
-itself a = (bytes_eq-Decides a a).1 refl
 
 other_key : (a b : RowKey) → (same_key a b || false) ≡ false → a ≡ b → ⊥
 other_key a b apart same = absurd (true≢false (sym (ap (λ k. same_key k b || false) same ∙ ap (λ c. c || false) (key_itself b)) ∙ apart))
@@ -113,7 +112,7 @@ import_keeps : (w : World) (kind : Kind) (name : List ℕ) (b : KeptBatch) (call
 import_keeps w kind name b calls batches = record {
   each = (
     ap₂ (λ (c d : Bool). option_map (λ (t : BatchText). stored.Batch (record { kind = kind_name kind; name = name; text = t.0; answer = t.1 })) (cond (c && d) (Some (b.text, b.answer)) (batches (kind_name kind) name)))
-        (itself (kind_name kind)) (itself name),
+        (nat_list_eq_equiv.refl (kind_name kind)) (nat_list_eq_equiv.refl name),
     tt,
   );
   other_calls = λ id slot none. refl;
@@ -221,16 +220,6 @@ module _ (db : Database) (w : World) (calls : SlotCalls) (batches : Imports) (ho
 -- ---- what is kept beside the tables
 
 -- changes leave the settings, and bring applications
-settings_stay : (w : World) (cs : List Change) → (applied w cs).settings ≡ w.settings
-settings_stay w [] = refl
-settings_stay w (change.Account a ∷ cs) = settings_stay (applied_one w (change.Account a)) cs
-settings_stay w (change.App a ∷ cs) = settings_stay (applied_one w (change.App a)) cs
-settings_stay w (change.Version v ∷ cs) = settings_stay (applied_one w (change.Version v)) cs
-settings_stay w (change.Workunit u ∷ cs) = settings_stay (applied_one w (change.Workunit u)) cs
-settings_stay w (change.Host n h ∷ cs) = settings_stay (applied_one w (change.Host n h)) cs
-settings_stay w (change.Instance p x ∷ cs) = settings_stay (applied_one w (change.Instance p x)) cs
-settings_stay w (change.Class unit class ∷ cs) = settings_stay (applied_one w (change.Class unit class)) cs
-
 apps_brought : (w : World) (cs : List Change) → (applied w cs).apps ≡ apps_with w.apps cs
 apps_brought w [] = refl
 apps_brought w (change.Account a ∷ cs) = apps_brought (applied_one w (change.Account a)) cs
@@ -281,11 +270,11 @@ module _ (old new : State) (w : World) (cs : List Change) (e : Entry) (kept : Ar
   }
 
   -- what is kept beside the tables is the world's, with the applications that the changes bring
-  pub beside_then : (calls : SlotCalls) (settings : Settings) (apps apps' : List App) (read read' : Remembered) (mark mark' : ℕ) → AreBeside w calls settings apps read mark → apps' ≡ apps_with apps cs → AreRemembered (world_in new.now.trees) (calls_in new.now.trees) read' → IsMarkOf (world_in new.now.trees) mark'
-      → AreBeside (world_in new.now.trees) (calls_in new.now.trees) settings apps' read' mark'
-  beside_then calls settings apps apps' read read' mark mark' beside brought rows marked = record {
-    settings_are = beside.settings_are ∙ sym (settings_stay w cs) ∙ sym (ap (λ u. u.settings) world_then);
+  pub beside_then : (calls : SlotCalls) (settings : Settings) (apps apps' : List App) (read read' : Remembered) (due_from due_from' : ℕ) → AreBeside w calls settings apps read due_from → apps' ≡ apps_with apps cs → AreRemembered (world_in new.now.trees) (calls_in new.now.trees) read' → NothingIsDueBefore (world_in new.now.trees) due_from'
+      → AreBeside (world_in new.now.trees) (calls_in new.now.trees) settings apps' read' due_from'
+  beside_then calls settings apps apps' read read' due_from due_from' beside brought rows marked = record {
+    settings_are = beside.settings_are ∙ sym (all_settings_stay w cs) ∙ sym (ap (λ u. u.settings) world_then);
     apps_are = brought ∙ ap (λ l. apps_with l cs) beside.apps_are ∙ sym (apps_brought w cs) ∙ sym (ap (λ u. u.apps) world_then);
     rows_are = rows;
-    mark_is = marked;
+    due_from_is = marked;
   }

@@ -1,5 +1,5 @@
 -- Rows put lead from tables that hold a world to tables that hold the next one.
-use Rattle.std.proofs.Common.{◌≡◌, IsTrue, List, [], ◌++◌, Option, true, false, true≢false, Result, Ok, Err, is_err, OnOk, OnErr, sym, ap, subst, ◌∙◌, option_map, arith}
+use Rattle.std.proofs.Common.{◌≡◌, IsTrue, List, [], ◌++◌, Option, true, false, true≢false, Result, Ok, Err, is_err, OnOk, OnErr, sym, subst, arith}
 use Rattle.std.specs.List.{cons_option}
 use Rattle.sqlite.specs.Effect.{Database}
 use Rattle.sqlite.specs.State.{State, Survives}
@@ -8,14 +8,13 @@ use Rattle.sched_book.specs.Delta.{applied}
 use Rattle.sched_book.specs.declared.delta.Change.{Change}
 use Rattle.sched_book.specs.declared.world.World.{World}
 use Rattle.table_meaning.specs.declared.rows.StoredRow.{StoredRow}
-use Rattle.table_meaning.specs.Rows.{RowKey, columns_of}
-use Rattle.table_meaning.specs.Holding.{Contents, Hold}
 use Rattle.table_meaning.specs.Steps.{PutsRows}
 use Rattle.table_meaning.specs.Worlds.{contents_of}
 use Rattle.table_worlds.specs.Changes.{AreChanges}
 use Rattle.table_worlds.proofs.WorldSettled.{world_settled}
 use Rattle.table_meaning.specs.Reads.{Reads}
 use Rattle.table_meaning.specs.Kept.{calls_in}
+use Rattle.table_meaning.proofs.UpgradedWorlds.{hold_same}
 use Rattle.stores.specs.declared.entry.Entry.{Entry}
 use Rattle.sched_tables.specs.Commits.{LeadsTo, ArePut, Makes}
 use Rattle.sched_tables.specs.Entries.{ArePutWith, MakesWith}
@@ -23,13 +22,9 @@ use Rattle.sched_tables.specs.Held.{IsHonest}
 use Rattle.sched_tables.proofs.TextsKept.{utf8_then}
 use Rattle.table_rows.specs.Utf8.{HaveUtf8}
 
--- contents that are the same at each key
-pub held_same : (db : Database) (f g : Contents) → ((key : RowKey) → f key ≡ g key) → Hold db f → Hold db g
-held_same db f g same holds = record { known = holds.known; rows = λ key. holds.rows key ∙ ap (option_map columns_of) (same key); keyed = holds.keyed }
-
 leads : (w : World) (cs : List Change) (rows all : List StoredRow) (more : Option StoredRow) (old new : Database) → AreChanges w (applied w cs) rows → all ≡ rows ++ cons_option more [] → PutsRows old new all → LeadsTo w cs more old new
 leads w cs rows all more old new changes pushed puts = λ calls calls' batches batches' keeps holds.
-    held_same new _ _ (world_settled w cs rows changes calls calls' batches batches' (cons_option more []) keeps.each keeps.other_calls keeps.other_batches)
+    hold_same new _ _ (world_settled w cs rows changes calls calls' batches batches' (cons_option more []) keeps.each keeps.other_calls keeps.other_batches)
     (subst (PutsRows old new) pushed puts (contents_of w calls batches) holds)
 
 -- so rows put make the changes

@@ -2,7 +2,7 @@ pub mod FourKept
 pub mod EntriesKept
 pub mod Carried
 pub mod Leads
-pub mod MarksStay
+pub mod DueFromStays
 pub mod NewTables
 pub mod Offered
 pub mod Opened

@@ -1,9 +1,9 @@
 -- Tables in memory.
 use Rattle.std.proofs.Common.{refl}
 use Rattle.std.specs.Prelude.{Result, Ok, Err, IfOk}
-use Rattle.sqlite.specs.Held.{Held, state}
 use Rattle.sqlite.specs.State.{HasCleanDisk}
 use Rattle.sqlite.specs.Steps.{over_memory}
+use Rattle.sqlite.proofs.Callers.{memory_is_clean}
 use Rattle.sqlite_trees.specs.View.{doubt}
 use Rattle.sqlite_trees.specs.declared.memory.MemStore.{MemStore}
 use Rattle.table_rows.specs.declared.opening.OpenFault.{OpenFault}
@@ -14,9 +14,6 @@ use Rattle.sched_tables.specs.declared.tables.Tables.{Tables}
 pub memory_never_fails : NeverFails over_memory
 unfolding doubt
 memory_never_fails s = (refl, refl)
-
-pub memory_is_clean : (held : Held MemStore) → HasCleanDisk (state over_memory held)
-memory_is_clean held = (memory_never_fails held.store).1
 
 -- what tables in memory say of a clean disk they say with no premise
 pub without_premise : (r : Result (Tables MemStore) OpenFault) (P : Tables MemStore → Type 0) → IfOk r (λ t. HasCleanDisk (state_of over_memory t) → P t) → IfOk r P

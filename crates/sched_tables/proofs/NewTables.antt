@@ -25,16 +25,16 @@ use Rattle.sched_tables.specs.Remembering.{AreRemembered}
 use Rattle.sched_tables.specs.Reopening.{CanBeOpened}
 use Rattle.sched_tables.specs.declared.remembered.Remembered.{Remembered}
 use Rattle.table_meaning.specs.Kept.{calls_in, batches_in}
+use Rattle.table_meaning.proofs.UpgradedWorlds.{hold_same}
 use Rattle.sched_tables.proofs.EntriesKept.{calls_back, batches_back, held_with_kept}
-use Rattle.sched_tables.proofs.Leads.{held_same}
-use Rattle.sched_tables.proofs.MarksStay.{none_before}
+use Rattle.sched_tables.proofs.DueFromStays.{none_before}
 use Rattle.sched_tables.proofs.Reopened.{held_can_be_opened}
 use Rattle.sched_tables.proofs.TextsKept.{just_utf8}
 use Rattle.table_reading.specs.Reading.{AreUtf8}
 use Rattle.table_rows.specs.Utf8.{HaveUtf8}
 
 nothing_held : (s : Settings) (db : Database) → HoldJust db (setting_rows s) → HoldWorld db (empty_world s) (λ _ _. None) (λ _ _. None)
-nothing_held s db just = held_same db _ _ (new_world s) just
+nothing_held s db just = hold_same db _ _ (new_world s) just
 
 -- the world in which nothing stands is told by its rows
 empty_readable : (s : Settings) → IsReadable (empty_world s)
@@ -63,7 +63,7 @@ module _ (s : Settings) (st : State) (rests : st.now ≡ st.committed) (just : H
       (subst (λ (db : Database). AreUtf8 db.trees) (sym rests) (just_utf8 st.committed (setting_rows s) just utf8))
 
   pub new_beside : (settings : Settings) (apps : List App) (read : Remembered) → settings ≡ s → apps ≡ [] → ((w : World) (calls : SlotCalls) → AreRemembered w calls read) → AreBeside (world_in st.now.trees) (calls_in st.now.trees) settings apps read 0
-  new_beside settings apps read same none nothing = record { settings_are = same ∙ sym (ap (λ w. w.settings) new_world_is); apps_are = none ∙ sym (ap (λ w. w.apps) new_world_is); rows_are = nothing _ _; mark_is = none_before (world_in st.now.trees) }
+  new_beside settings apps read same none nothing = record { settings_are = same ∙ sym (ap (λ w. w.settings) new_world_is); apps_are = none ∙ sym (ap (λ w. w.apps) new_world_is); rows_are = nothing _ _; due_from_is = none_before (world_in st.now.trees) }
 
   pub new_held : IsNew s (held_in st.now.trees)
   new_held = record {

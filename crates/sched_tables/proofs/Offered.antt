@@ -17,12 +17,9 @@ use Rattle.table_worlds.proofs.ByPlace.{nth_next}
 use Rattle.sched_tables.specs.Offering.{IsCandidateOf}
 use Rattle.sched_tables.specs.Remembering.{IsUnitOf}
 use Rattle.sched_tables.specs.declared.offering.Noting.{Noting}
+use Rattle.table_changes.proofs.Adding.{all_both}
 
 -- ---- each candidate has the workunit at its place
-
-all_behind : {X : Type 0} (P : X → Type 0) (xs ys : List X) → AllByRecursion P xs → AllByRecursion P ys → AllByRecursion P (xs ++ ys)
-all_behind P [] ys one two = two
-all_behind P (x ∷ xs) ys one two = (one.0, all_behind P xs ys one.1 two)
 
 module _ (w : World) (from : Place) where
   of_one : (place : ℕ) (unit : Workunit) (number : ℕ) (xs : List Instance) → workunit_at w place ≡ Some unit → AllByRecursion (IsCandidateOf w) (unsent_in from place unit number xs)
@@ -42,7 +39,7 @@ module _ (w : World) (from : Place) where
     where
       go : (open_now : Bool) → AllByRecursion (IsCandidateOf w) (unsent_in from place b.unit 0 b.instances) → AllByRecursion (IsCandidateOf w) (unsent_among w from (place + 1) bs)
           → AllByRecursion (IsCandidateOf w) (cond open_now (unsent_in from place b.unit 0 b.instances ++ unsent_among w from (place + 1) bs) (unsent_among w from (place + 1) bs))
-      go true one more = all_behind (IsCandidateOf w) (unsent_in from place b.unit 0 b.instances) (unsent_among w from (place + 1) bs) one more
+      go true one more = all_both (IsCandidateOf w) (unsent_in from place b.unit 0 b.instances) (unsent_among w from (place + 1) bs) one more
       go false one more = more
 
   pub candidates_stand : AllByRecursion (IsCandidateOf w) (unsent w from)

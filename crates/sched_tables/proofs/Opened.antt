@@ -14,7 +14,7 @@ use Rattle.table_reading.specs.Reading.{WereKnown, ReadFrom}
 use Rattle.table_worlds.specs.StoredWorld.{world_in}
 use Rattle.table_worlds.proofs.StaysReadable.{sound_is_readable}
 use Rattle.sched_tables.specs.Held.{IsHonest, AreWellKept, AreBeside}
-use Rattle.sched_tables.proofs.MarksStay.{none_before}
+use Rattle.sched_tables.proofs.DueFromStays.{none_before}
 use Rattle.sched_tables.specs.Remembering.{AreRemembered}
 use Rattle.sched_tables.specs.declared.remembered.Remembered.{Remembered}
 
@@ -54,7 +54,7 @@ module _ (taken read : State) (opens : HasCleanDisk taken → Opens taken) (know
       settings_are = of_world ∙ sym (ap (λ (v : World). v.settings) opened_world);
       apps_are = also ∙ sym (ap (λ (v : World). v.apps) opened_world);
       rows_are = nothing _ _;
-      mark_is = none_before (world_in read.now.trees);
+      due_from_is = none_before (world_in read.now.trees);
     }
 
     pub opened_rows : ReadFrom read.now.trees (world_in read.now.trees)

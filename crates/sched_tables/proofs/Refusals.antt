@@ -7,6 +7,7 @@ use Rattle.sqlite.specs.Effect.{Database}
 use Rattle.sqlite.specs.Held.{Held, state}
 use Rattle.sqlite.specs.State.{HasCleanDisk}
 use Rattle.sqlite_rules.specs.Lists.{Has}
+use Rattle.sqlite_rules.proofs.ProbeLemmas.{mapped_has, has_mapped}
 use Rattle.sqlite_trees.specs.Tree.{Trees}
 use Rattle.sqlite_trees.specs.declared.store.Store.{Ghosts}
 use Rattle.sqlite_schema.specs.Rules.{equal}
@@ -25,7 +26,7 @@ use Rattle.table_meaning.specs.Rows.{RowKey, setting_key, whole, setting_value, 
 use Rattle.table_meaning.specs.Schema.{newest, schema_at, stored_schema}
 use Rattle.table_meaning.specs.Schemas.{AreEarlier, schema_said}
 use Rattle.table_meaning.proofs.Keys.{same_cell}
-use Rattle.table_meaning.proofs.RowsHeld.{found, mapped, source}
+use Rattle.table_meaning.proofs.RowsHeld.{found}
 use Rattle.table_desk.proofs.Found.{equal_texts}
 use Rattle.table_reading.specs.Reading.{HasBadTable, StandForNone, HasOtherSchema}
 use Rattle.table_rows.specs.declared.opening.OpenFault.{OpenFault}
@@ -77,8 +78,8 @@ not_said trees other said = elim (found (has_key key) (trees (tree_of name.Setti
       let row = shown name.Setting one.0 in
       let value : column row 1 ≡ whole newest =
       same_Some _ _ (sym (ap (option_map (λ row. column (shown name.Setting row) 1)) one.1) ∙ of_shown (find (has_key key) (trees (tree_of name.Setting))) ∙ said) in
-      let read = subst (λ (l : List Row). Has l row) (sym other.1.world.settings) (mapped (shown name.Setting) (trees (tree_of name.Setting)) one.0 one.2) in
-      let s = source columns_of other.0.world.settings row read in
+      let read = subst (λ (l : List Row). Has l row) (sym other.1.world.settings) (mapped_has (shown name.Setting) (trees (tree_of name.Setting)) one.0 one.2) in
+      let s = has_mapped columns_of other.0.world.settings row read in
       let named = ap (λ (r : Row). equal Binary (column r 0) (Text (codes "schema"))) (sym s.2) ∙ begins_with (codes "schema") one.0 one.3 in
       other.2 (subst (Has other.0.world.settings) (is_schema_row s.0 named (ap (λ (r : Row). column r 1) (sym s.2) ∙ value)) s.1)
 ]

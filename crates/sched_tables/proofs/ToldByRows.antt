@@ -1,8 +1,7 @@
 -- What a world has at a place is told by its rows there, so worlds with the same rows there have the same.
-use Rattle.std.proofs.Common.{◌≡◌, ℕ, suc, true, List, [], ◌∷◌, length, Option, Some, None, option_map, refl, sym, ap, ◌∙◌}
+use Rattle.std.proofs.Common.{◌≡◌, ℕ, true, List, [], length, Option, Some, None, option_map, refl, sym, ap, ◌∙◌}
 use Rattle.std.specs.Prelude.{◌≤◌, All, option_and_then, slice_get, unwrap_or}
-use Rattle.rpc_records.specs.Ranges.{IsWord}
-use Rattle.sched_book.proofs.PlacesOf.{nth-suc}
+use Rattle.sched_book.proofs.ByPlace.{same_by_place}
 use Rattle.sched_book.specs.Desk.{workunit_at, instances_at}
 use Rattle.sched_book.specs.Imports.{has_app}
 use Rattle.sched_book.specs.Places.{nth, unit_at, host_at, held_by, host_credit}
@@ -26,6 +25,7 @@ use Rattle.table_worlds.specs.ReadBack.{account_in, app_in, version_in, unit_in}
 use Rattle.table_worlds.specs.Readable.{IsReadable}
 use Rattle.sched_tables.specs.Carrying.{job_of, counted_of}
 use Rattle.table_worlds.specs.declared.keys.WorldKey.TheVariants.{Account as account_at, App as app_at, Version as version_at, Class as class_at, Unit as unit_key_at, Mark as mark_at, Host as host_key_at, Instance as job_at}
+use Rattle.texts.specs.Words.{IsWord}
 
 -- ---- what rows tell
 
@@ -42,19 +42,6 @@ abbrev workunit_of : List App → Option StoredRow → Option StoredRow → Opti
 workunit_of apps row mark = option_and_then (λ r. option_map (λ m. unit_in apps (columns_of r) (columns_of m)) mark) row
 
 -- ---- lists by what stands at each place
-
-pub same_by_index : {X : Type 0} (xs ys : List X) → ((i : ℕ) → slice_get xs i ≡ slice_get ys i) → xs ≡ ys
-same_by_index [] [] same = refl
-same_by_index [] (y ∷ ys) same = let other : None ≡ Some y = same 0 in absurd cc
-same_by_index (x ∷ xs) [] same = let other : Some x ≡ None = same 0 in absurd cc
-same_by_index (x ∷ xs) (y ∷ ys) same =
-    let first : Some x ≡ Some y = same 0 in
-    let head : x ≡ y = cc in
-    let tail : xs ≡ ys = same_by_index xs ys (λ i. same (suc i)) in
-    ap (λ z. z ∷ xs) head ∙ ap (λ zs. y ∷ zs) tail
-
-same_by_place : {X : Type 0} (xs ys : List X) → ((n : ℕ) → nth xs n ≡ nth ys n) → xs ≡ ys
-same_by_place xs ys same = same_by_index xs ys (λ i. sym (nth-suc xs i) ∙ same (suc i) ∙ nth-suc ys i)
 
 -- ---- a world is told by its rows
 

@@ -1,4 +1,4 @@
--- Rule. When tables stand for a world.
+-- Promise. When tables stand for a world.
 use Rattle.std.specs.Prelude.{◌≡◌, ℕ, false, List, IsTrue}
 use Rattle.sqlite.specs.State.{State, HasCleanDisk}
 use Rattle.sqlite_trees.specs.View.{doubt}
@@ -9,7 +9,7 @@ use Rattle.sched_book.specs.declared.world.World.{World}
 use Rattle.table_meaning.specs.Worlds.{SlotCalls, HoldWorld}
 use Rattle.table_meaning.specs.Kept.{calls_in, batches_in}
 use Rattle.table_worlds.specs.Readable.{IsReadable}
-use Rattle.sched_tables.specs.Marks.{IsMarkOf}
+use Rattle.sched_tables.specs.DueFrom.{NothingIsDueBefore}
 use Rattle.sched_tables.specs.Remembering.{AreRemembered}
 use Rattle.sched_tables.specs.declared.remembered.Remembered.{Remembered}
 
@@ -25,12 +25,12 @@ pub record AreWellKept (s : State) (w : World) : Type 0 where
   pub readable : IsReadable w
 
 -- The settings and the applications that are kept beside the tables are the world's, what is remembered is what the tables hold, and
--- the mark is one of the world.
-pub record AreBeside (w : World) (calls : SlotCalls) (settings : Settings) (apps : List App) (read : Remembered) (mark : ℕ) : Type 0 where
+-- nothing is due in the world before `due_from`.
+pub record AreBeside (w : World) (calls : SlotCalls) (settings : Settings) (apps : List App) (read : Remembered) (due_from : ℕ) : Type 0 where
   pub settings_are : settings ≡ w.settings
   pub apps_are : apps ≡ w.apps
   pub rows_are : AreRemembered w calls read
-  pub mark_is : IsMarkOf w mark
+  pub due_from_is : NothingIsDueBefore w due_from
 
 -- The store below tables never fails: no fault of it is counted, and it is clean.
 abbrev pub NeverFails : {S : Type 0} → store.Ghosts S → Type 0

@@ -4,7 +4,7 @@ pub mod Entries
 pub mod Held
 pub mod Carrying
 pub mod Offering
-pub mod Marks
+pub mod DueFrom
 pub mod Refusals
 pub mod ReadLaws
 pub mod Remembering

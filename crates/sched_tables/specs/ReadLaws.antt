@@ -15,7 +15,7 @@ use Rattle.stores.specs.Held.{IsLeft}
 use Rattle.sched_tables.specs.Entries.{calls_of, batches_of}
 use Rattle.sched_tables.specs.Views.{held_in}
 use Rattle.sched_tables.specs.Held.{IsHonest, AreWellKept, AreBeside}
-use Rattle.sched_tables.specs.Marks.{IsMarkOf}
+use Rattle.sched_tables.specs.DueFrom.{NothingIsDueBefore}
 use Rattle.sched_tables.specs.Remembering.{AreRemembered}
 use Rattle.sched_tables.specs.declared.remembered.Remembered.{Remembered}
 
@@ -36,13 +36,13 @@ module _ (old new : State) (shown : new.now ≡ old.now) (committed : new.commit
   }
 
   -- and what is kept beside them stays the world's
-  pub left_beside : (settings settings' : Settings) (apps apps' : List App) (read read' : Remembered) (mark mark' : ℕ) → settings' ≡ settings → apps' ≡ apps → AreRemembered (world_in old.now.trees) (calls_in old.now.trees) read'
-      → IsMarkOf (world_in old.now.trees) mark' → AreBeside (world_in old.now.trees) (calls_in old.now.trees) settings apps read mark → AreBeside (world_in new.now.trees) (calls_in new.now.trees) settings' apps' read' mark'
-  left_beside settings settings' apps apps' read read' mark mark' same also rows marked beside = record {
+  pub left_beside : (settings settings' : Settings) (apps apps' : List App) (read read' : Remembered) (due_from due_from' : ℕ) → settings' ≡ settings → apps' ≡ apps → AreRemembered (world_in old.now.trees) (calls_in old.now.trees) read'
+      → NothingIsDueBefore (world_in old.now.trees) due_from' → AreBeside (world_in old.now.trees) (calls_in old.now.trees) settings apps read due_from → AreBeside (world_in new.now.trees) (calls_in new.now.trees) settings' apps' read' due_from'
+  left_beside settings settings' apps apps' read read' due_from due_from' same also rows marked beside = record {
     settings_are = same ∙ beside.settings_are ∙ sym (ap (λ w. w.settings) left_world);
     apps_are = also ∙ beside.apps_are ∙ sym (ap (λ w. w.apps) left_world);
     rows_are = subst (λ (db : Database). AreRemembered (world_in db.trees) (calls_in db.trees) read') (sym shown) rows;
-    mark_is = subst (λ w. IsMarkOf w mark') (sym left_world) marked;
+    due_from_is = subst (λ w. NothingIsDueBefore w due_from') (sym left_world) marked;
   }
 
 -- ---- a read
@@ -61,8 +61,8 @@ module _ (old new : State) (reads : Reads old new) (honest : IsHonest new) (kept
   pub stays_kept : AreWellKept new (world_in new.now.trees)
   stays_kept = left_kept old new stays_shown stays_committed kept (reads.idle kept.idle)
 
-  pub stays_beside : (settings settings' : Settings) (apps apps' : List App) (read read' : Remembered) (mark mark' : ℕ) → settings' ≡ settings → apps' ≡ apps → AreRemembered (world_in old.now.trees) (calls_in old.now.trees) read'
-      → IsMarkOf (world_in old.now.trees) mark' → AreBeside (world_in old.now.trees) (calls_in old.now.trees) settings apps read mark → AreBeside (world_in new.now.trees) (calls_in new.now.trees) settings' apps' read' mark'
+  pub stays_beside : (settings settings' : Settings) (apps apps' : List App) (read read' : Remembered) (due_from due_from' : ℕ) → settings' ≡ settings → apps' ≡ apps → AreRemembered (world_in old.now.trees) (calls_in old.now.trees) read'
+      → NothingIsDueBefore (world_in old.now.trees) due_from' → AreBeside (world_in old.now.trees) (calls_in old.now.trees) settings apps read due_from → AreBeside (world_in new.now.trees) (calls_in new.now.trees) settings' apps' read' due_from'
   stays_beside = left_beside old new stays_shown stays_committed kept
 
 -- ---- tables after a read
@@ -84,20 +84,20 @@ reads_hold old new reads honest kept =
       batches_are = λ kind batch. ap (λ (db : Database). batches_of db.trees kind batch) shown;
     }
 
--- well kept tables stay so, where what was read and the mark are the world's
-pub stays_both : (old new : State) → Reads old new → IsHonest new → (settings settings' : Settings) (apps apps' : List App) (read read' : Remembered) (mark mark' : ℕ) → settings' ≡ settings → apps' ≡ apps
-    → AreRemembered (world_in old.now.trees) (calls_in old.now.trees) read' → IsMarkOf (world_in old.now.trees) mark' → AreWellKept old (world_in old.now.trees) × AreBeside (world_in old.now.trees) (calls_in old.now.trees) settings apps read mark
-    → AreWellKept new (world_in new.now.trees) × AreBeside (world_in new.now.trees) (calls_in new.now.trees) settings' apps' read' mark'
-stays_both old new reads honest settings settings' apps apps' read read' mark mark' same also rows marked kept =
-    (stays_kept old new reads honest kept.0, stays_beside old new reads honest kept.0 settings settings' apps apps' read read' mark mark' same also rows marked kept.1)
+-- well kept tables stay so, where what was read is the world's, and nothing is due before `due_from`
+pub stays_both : (old new : State) → Reads old new → IsHonest new → (settings settings' : Settings) (apps apps' : List App) (read read' : Remembered) (due_from due_from' : ℕ) → settings' ≡ settings → apps' ≡ apps
+    → AreRemembered (world_in old.now.trees) (calls_in old.now.trees) read' → NothingIsDueBefore (world_in old.now.trees) due_from' → AreWellKept old (world_in old.now.trees) × AreBeside (world_in old.now.trees) (calls_in old.now.trees) settings apps read due_from
+    → AreWellKept new (world_in new.now.trees) × AreBeside (world_in new.now.trees) (calls_in new.now.trees) settings' apps' read' due_from'
+stays_both old new reads honest settings settings' apps apps' read read' due_from due_from' same also rows marked kept =
+    (stays_kept old new reads honest kept.0, stays_beside old new reads honest kept.0 settings settings' apps apps' read read' due_from due_from' same also rows marked kept.1)
 
--- what was read later is what they held before, and so is a later mark
+-- what was read later is what they held before, and so is a later `due_from`
 pub rows_before : (old new : State) → Reads old new → IsHonest new → AreWellKept old (world_in old.now.trees) → (read : Remembered) → AreRemembered (world_in new.now.trees) (calls_in new.now.trees) read
     → AreRemembered (world_in old.now.trees) (calls_in old.now.trees) read
 rows_before old new reads honest kept read rows = subst (λ (db : Database). AreRemembered (world_in db.trees) (calls_in db.trees) read) (stays_shown old new reads honest kept) rows
 
-pub mark_before : (old new : State) → Reads old new → IsHonest new → AreWellKept old (world_in old.now.trees) → (mark : ℕ) → IsMarkOf (world_in new.now.trees) mark → IsMarkOf (world_in old.now.trees) mark
-mark_before old new reads honest kept mark marked = subst (λ w. IsMarkOf w mark) (stays_same old new reads honest kept) marked
+pub due_from_before : (old new : State) → Reads old new → IsHonest new → AreWellKept old (world_in old.now.trees) → (due_from : ℕ) → NothingIsDueBefore (world_in new.now.trees) due_from → NothingIsDueBefore (world_in old.now.trees) due_from
+due_from_before old new reads honest kept due_from marked = subst (λ w. NothingIsDueBefore w due_from) (stays_same old new reads honest kept) marked
 
 -- a store below them that never fails is never shut
 pub never_shut : (old new : State) (Commits : Trees → Type 0) → old.faults ≡ 0 → new.faults ≡ 0 → HasCleanDisk new → Survives old new Commits → IsHonest old → IsHonest new

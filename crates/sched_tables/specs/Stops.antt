@@ -1,4 +1,4 @@
--- Rule. What a stop may leave of tables.
+-- Promise. What a stop may leave of tables.
 use Rattle.std.specs.Prelude.{◌≡◌, ℕ, List}
 use Rattle.sqlite.specs.State.{State, HasCleanDisk}
 use Rattle.sqlite_trees.specs.Tree.{Trees}

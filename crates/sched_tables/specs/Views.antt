@@ -12,7 +12,7 @@ use Rattle.table_meaning.specs.Kept.{calls_in}
 use Rattle.table_meaning.specs.Worlds.{SlotCalls}
 use Rattle.sched_tables.specs.Entries.{calls_of, batches_of}
 use Rattle.sched_tables.specs.Held.{IsHonest, AreWellKept, AreBeside}
-use Rattle.sched_tables.specs.Marks.{IsMarkOf}
+use Rattle.sched_tables.specs.DueFrom.{NothingIsDueBefore}
 use Rattle.sched_tables.specs.Remembering.{AreRemembered}
 use Rattle.sched_tables.specs.declared.tables.Tables.{Tables}
 
@@ -35,10 +35,10 @@ held_of store t = held_in (state_of store t).now.trees
 
 -- they are well kept, and what is kept beside them is their world's
 abbrev pub AreKept : {S : Type 0} → Ghosts S → Tables S → Type 0
-AreKept store t = AreWellKept (state_of store t) (world_of store t) × AreBeside (world_of store t) (slots_of store t) t.settings t.apps t.remembered t.mark
+AreKept store t = AreWellKept (state_of store t) (world_of store t) × AreBeside (world_of store t) (slots_of store t) t.settings t.apps t.remembered t.due_from
 
 -- Tables after a read: the connection shows what it showed, and what is kept beside the tables is what it was, or was read
--- just now, and the mark is one of the world.
+-- just now, and nothing is due in the world before `due_from`.
 abbrev pub AreReadOn : {S : Type 0} → Ghosts S → Tables S → Tables S → Type 0
 AreReadOn store old new = Reads (state_of store old) (state_of store new) × (new.settings ≡ old.settings) × (new.apps ≡ old.apps) × (IsHonest (state_of store new) → AreKept store old → AreRemembered (world_of store old) (slots_of store old) new.remembered)
-    × (IsHonest (state_of store new) → AreKept store old → IsMarkOf (world_of store old) new.mark)
+    × (IsHonest (state_of store new) → AreKept store old → NothingIsDueBefore (world_of store old) new.due_from)

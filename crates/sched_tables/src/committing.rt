@@ -8,13 +8,13 @@ ghost use Rattle.sched_tables.specs.Entries.{ArePutWith, IsRowOf, MakesWith};
 ghost use Rattle.sched_book.specs.Delta.{applied};
 ghost use Rattle.sched_book.specs.Sound.{Sound};
 ghost use Rattle.sched_tables.specs.Held.{IsHonest};
-ghost use Rattle.sched_tables.specs.Marks.{IsMarkOf};
+ghost use Rattle.sched_tables.specs.DueFrom.{NothingIsDueBefore};
 ghost use Rattle.sched_tables.specs.Remembering.{AreRemembered};
 ghost use Rattle.sched_tables.specs.Reopening.{Reopens};
 ghost use Rattle.stores.specs.Standing.{MayBeKept};
 ghost use Rattle.sched_tables.specs.Views.{state_of, world_of, slots_of, AreKept, AreReadOn};
 
-use crate::marks::lowered;
+use crate::due::lowered;
 use crate::tables::Tables;
 use sched_book::{App, Change, Delta, Unavailable, copy_of};
 use sqlite::Alter;
@@ -107,7 +107,7 @@ impl<S: Alter> Tables<S> {
     /// Makes these changes and keeps what the entry tells, in one transaction: where it is unavailable, neither is done,
     /// unless a fault has shut the connection. Where it is good, the connection is open. It puts the rows that the changes
     /// touch, and looks at no others. What was read of a row that is put is renewed or forgotten, so that what is remembered
-    /// is what the tables then hold; and the mark is lowered to the least deadline that the changes give to what is held, so
+    /// is what the tables then hold; and `due_from` is lowered to the least deadline that the changes give to what is held, so
     /// that whatever comes of the commit, nothing that is held has a deadline before it. A stop at any moment leaves what a
     /// stop could leave before, or the whole, and this only where the connection was open. Where the changes leave a sound
     /// world, and what the entry keeps may stand beside it, tables that could be opened again still can, and so can whatever a
@@ -117,7 +117,7 @@ impl<S: Alter> Tables<S> {
         ensures open { HasCleanDisk (state_of S.Store self.new) → OnOk result (IsTrue (state_of S.Store self.new).is_open) }
         ensures idle { (state_of S.Store self.old).in_transaction ≡ false → (state_of S.Store self.new).in_transaction ≡ false }
         ensures settings { self.new.settings ≡ self.old.settings }
-        ensures mark { IsHonest (state_of S.Store self.new) → AreKept S.Store self.old → IsMarkOf (world_of S.Store self.new) self.new.mark }
+        ensures due_from { IsHonest (state_of S.Store self.new) → AreKept S.Store self.old → NothingIsDueBefore (world_of S.Store self.new) self.new.due_from }
         ensures remembers { IsHonest (state_of S.Store self.new) → AreKept S.Store self.old → AreRemembered (world_of S.Store self.new) (slots_of S.Store self.new) self.new.remembered }
         ensures apps { OnOk result (self.new.apps ≡ apps_then self.old.apps delta.now) }
         ensures rests { IsHonest (state_of S.Store self.new) → OnOk result ((state_of S.Store self.new).now ≡ (state_of S.Store self.new).committed) }
@@ -132,9 +132,9 @@ impl<S: Alter> Tables<S> {
         ensures reopens { (IsHonest (state_of S.Store self.old) → AreKept S.Store self.old × Sound (applied (world_of S.Store self.old) delta.now) × MayBeKept (applied (world_of S.Store self.old) delta.now) entry.now)
             → Reopens (state_of S.Store self.old) → Reopens (state_of S.Store self.new) }
     {
-        let mark = lowered(self.mark, delta);
+        let due_from = lowered(self.due_from, delta);
         let rows = self.rows_with(delta, entry);
-        self.mark = mark;
+        self.due_from = due_from;
         let rows = rows?;
         let apps = apps_with(&self.apps, delta)?;
         let put = rows.as_slice();

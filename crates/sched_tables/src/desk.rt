@@ -17,7 +17,7 @@ impl<S: Alter> Units for Tables<S> {
     ghost use Rattle.std.proofs.Common.{rules};
     ghost use Rattle.std.specs.Prelude.{◌≡◌};
     ghost use Rattle.sched_tables.specs.Held.{IsHonest};
-    ghost use Rattle.sched_tables.specs.ReadLaws.{stays_same, was_honest, stays_both, rows_before, mark_before};
+    ghost use Rattle.sched_tables.specs.ReadLaws.{stays_same, was_honest, stays_both, rows_before, due_from_before};
     ghost use Rattle.sched_tables.specs.Views.{state_of, world_of, AreKept, AreReadOn};
 
     ghost world = { world_of S.Store };
@@ -62,7 +62,7 @@ impl<S: Alter> Units for Tables<S> {
         }
     }
 
-    ghost reads_none = { λ d. (Prim.search rules, Prim.search rules, Prim.search rules, λ honest kept. kept.1.rows_are, λ honest kept. kept.1.mark_is) };
+    ghost reads_none = { λ d. (Prim.search rules, Prim.search rules, Prim.search rules, λ honest kept. kept.1.rows_are, λ honest kept. kept.1.due_from_is) };
 
     ghost reads_on = { λ a b c h k. (
       Prim.search rules,
@@ -73,7 +73,7 @@ impl<S: Alter> Units for Tables<S> {
           rows_before _ _ h.0 then kept.0 _ (k.3 honest (stays_both _ _ h.0 then _ _ _ _ _ _ _ _ h.1 h.2 (h.3 then kept) (h.4 then kept) kept)),
       λ honest kept.
           let then = was_honest _ _ k.0 honest in
-          mark_before _ _ h.0 then kept.0 _ (k.4 honest (stays_both _ _ h.0 then _ _ _ _ _ _ _ _ h.1 h.2 (h.3 then kept) (h.4 then kept) kept)),
+          due_from_before _ _ h.0 then kept.0 _ (k.4 honest (stays_both _ _ h.0 then _ _ _ _ _ _ _ _ h.1 h.2 (h.3 then kept) (h.4 then kept) kept)),
     ) };
 
     ghost stays_honest = { λ a b h k. Prim.search rules };
@@ -188,7 +188,7 @@ impl<S: Alter> Desk for Tables<S> {
     }
 
     fn due_before(&mut self, alloc: Global, now: Moment) -> Result<Listed<Place>, Unavailable> {
-        self.raise_mark(alloc)?;
+        self.raise_due_from(alloc)?;
         self.asked = now.seconds();
         self.read_due(alloc, now.seconds())
     }

@@ -3,9 +3,9 @@
 
 mod committing;
 mod desk;
+mod due;
 mod keeping;
 pub mod laws;
-mod marks;
 mod offering;
 mod opening;
 mod reading;

@@ -52,7 +52,7 @@ impl<S: Alter + Drop> Tables<S> {
             settings: kept,
             apps: Listed::new(alloc),
             remembered: Remembered::new(alloc),
-            mark: 0,
+            due_from: 0,
             asked: 0,
         })
     }
@@ -87,7 +87,7 @@ impl<S: Alter + Drop> Tables<S> {
                 settings: kept.settings,
                 apps: kept.apps,
                 remembered: Remembered::new(alloc),
-                mark: 0,
+                due_from: 0,
                 asked: 0,
             }),
             Err(fault) => Err(Refused::of(fault, conn)),

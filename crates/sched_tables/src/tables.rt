@@ -16,7 +16,7 @@ use texts::Listed;
 
 /// The stored tables as a desk. What seldom changes is kept beside them: the settings, which never do, and the
 /// applications, of which there are at most a hundred. All else is read by its key or by an index, where it is not
-/// remembered. What is due is looked for from the mark on, which is not stored.
+/// remembered. What is due is looked for from the moment `due_from` on, which is not stored.
 pub struct Tables<S: Alter> {
     pub(crate) alloc: Global,
     pub(crate) conn: Connection<S>,
@@ -24,7 +24,7 @@ pub struct Tables<S: Alter> {
     pub(crate) apps: Listed<App>,
     pub(crate) remembered: Remembered,
     /// No instance that is held has its deadline before this moment, in seconds since 1970-01-01T00:00:00Z.
-    pub(crate) mark: u64,
+    pub(crate) due_from: u64,
     /// The moment about which was asked last what is due.
     pub(crate) asked: u64,
 }
@@ -45,7 +45,7 @@ impl<S: Alter> Tables<S> {
             settings: _settings,
             apps: _apps,
             remembered: _remembered,
-            mark: _,
+            due_from: _,
             asked: _,
         } = self;
         conn
@@ -61,7 +61,7 @@ impl<S: Alter + Drop> Drop for Tables<S> {
             settings: _settings,
             apps: _apps,
             remembered: _remembered,
-            mark: _,
+            due_from: _,
             asked: _,
         } = self;
     }

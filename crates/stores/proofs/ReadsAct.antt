@@ -1,5 +1,5 @@
 -- A call that only read owes nothing more, and one that read before it acted owes what it owes from there on.
-use Rattle.std.proofs.Common.{◌≡◌, Bool, true, false, inl, inr, refl, sym, ◌∙◌, subst, true≢false}
+use Rattle.std.proofs.Common.{◌≡◌, Bool, true, inl, inr, sym, ◌∙◌, subst}
 use Rattle.stores.specs.Acting.{Parts, Acts, ActsWhole}
 use Rattle.stores.specs.Held.{Held, IsLeft}
 
@@ -82,21 +82,6 @@ module _ {S : Type 0} (store : Parts S) (old mid : S)
         left_on _ _ _ (stays_held (whole.acts.was_honest honest) kept)
         (whole.unchanged honest (stays_kept (whole.acts.was_honest honest) kept) bad);
   }
-
--- a call that did nothing to the store, and gave no good answer
-pub idle_acts : {S : Type 0} (store : Parts S) (P : Held → Type 0) (old : S) → ActsWhole store false P old old
-idle_acts store P old = record {
-  acts = record {
-    was_clean = λ clean. clean;
-    was_honest = λ honest. honest;
-    is_open = λ clean good. absurd (true≢false (sym good));
-    lasts = λ lasting honest. honest;
-    stays_kept = λ honest kept. kept;
-    left = λ h may. inl may;
-    reopens = λ reopens more. reopens;
-  };
-  unchanged = λ honest kept bad. record { world_is = refl; calls_are = λ host. refl; batches_are = λ kind batch. refl };
-}
 
 -- What P says, Q says; and where the answer tells no more than before that it is good.
 pub acts_too : {S : Type 0} (store : Parts S) (good better : Bool) (P Q : Held → Type 0) (old new : S) → (better ≡ true → good ≡ true) → ((h : Held) → P h → Q h)

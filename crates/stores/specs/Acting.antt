@@ -1,4 +1,4 @@
--- Rule. What a call that may commit owes, whatever it answers. (This project's own.)
+-- Promise. What a call that may commit owes, whatever it answers. (This project's own.)
 use Rattle.std.specs.Prelude.{◌≡◌, ◌⊎◌, Bool, true, false}
 use Rattle.sched_book.specs.declared.desk.Units as units
 use Rattle.sched_book.specs.declared.world.World.{World}

@@ -1,4 +1,4 @@
--- Rule. What a store holds, and what a commit makes of it. (This project's own.)
+-- Promise. What a store holds, and what a commit makes of it. (This project's own.)
 use Rattle.std.specs.Prelude.{◌≡◌, ℕ, ◌&&◌, ◌==◌, if◌then◌else◌, true, List, [], ◌∷◌, take, Option, Some, None}
 use Rattle.std.specs.Str.{bytes_eq}
 use Rattle.reply_register.specs.Calls.{is_above_all}

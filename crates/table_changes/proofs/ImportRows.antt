@@ -26,10 +26,11 @@ use Rattle.sched_book.specs.declared.rows.ClassRule.{ClassRule}
 use Rattle.sched_book.specs.declared.rows.Version.{Version as VersionRow}
 use Rattle.sched_book.specs.declared.rows.Workunit.{Workunit}
 use Rattle.sched_book.specs.declared.world.World.{World}
-use Rattle.sched_book.proofs.PlacesOf.{nth-suc, nth-push}
-use Rattle.table_meaning.specs.Worlds.{account_row, app_row, version_row, class_row, unit_row, mark_row, host_row, instance_row, app_place, status_code}
+use Rattle.sched_book.proofs.PlacesOf.{nth-push, nth-front}
+use Rattle.table_meaning.specs.Worlds.{account_row, app_row, version_row, class_row, unit_row, mark_row, host_row, instance_row, app_place}
 use Rattle.table_meaning.specs.declared.rows.StoredRow.{StoredRow}
 use Rattle.table_meaning.specs.declared.rows.StoredRow.TheVariants as stored
+use Rattle.table_meaning.specs.Codes.{status_code}
 use Rattle.table_worlds.proofs.ByPlace.{all_nth}
 use Rattle.table_worlds.proofs.StaysReadable.{stays_readable}
 use Rattle.sched_book.proofs.PlaceLists.{places_counted}
@@ -46,15 +47,6 @@ use Rattle.table_changes.proofs.AppsFound.{place_stays, agreement_stays, still_s
 
 -- ---- lists with one more
 
-slice_kept : {X : Type 0} (xs ys : List X) (i : ℕ) (y : X) → slice_get xs i ≡ Some y → slice_get (xs ++ ys) i ≡ Some y
-slice_kept [] ys i y is = absurd (none-some y is)
-slice_kept (x ∷ xs) ys zero y is = is
-slice_kept (x ∷ xs) ys (suc i) y is = slice_kept xs ys i y is
-
-nth_kept : {X : Type 0} (xs ys : List X) (n : ℕ) (y : X) → nth xs n ≡ Some y → nth (xs ++ ys) n ≡ Some y
-nth_kept xs ys zero y is = absurd (none-some y is)
-nth_kept xs ys (suc i) y is = nth-suc (xs ++ ys) i ∙ slice_kept xs ys i y (sym (nth-suc xs i) ∙ is)
-
 nth_new : {X : Type 0} (xs : List X) (x : X) (n : ℕ) → n ≡ length xs + 1 → nth (xs ++ x ∷ []) n ≡ Some x
 nth_new xs x n is = nth-push xs x n ∙ ap (λ b. cond b (Some x) (nth xs n)) (eq-eqb (length xs + 1) n (sym is))
 
@@ -63,7 +55,7 @@ kept_by f xs ys n r is = cases (nth xs n) refl is
   where
     cases : (o : Option _) → nth xs n ≡ o → option_map f o ≡ Some r → option_map f (nth (xs ++ ys) n) ≡ Some r
     cases None at is = absurd (none-some r is)
-    cases (Some y) at is = ap (option_map f) (nth_kept xs ys n y at) ∙ is
+    cases (Some y) at is = ap (option_map f) (nth-front xs ys n y at) ∙ is
 
 -- a row of a table with one more is the new one's, or as before
 pushed : {X : Type 0} (f : X → StoredRow) (xs : List X) (x : X) (n : ℕ) (P : Type 0) → (n ≡ length xs + 1 → P)
@@ -80,8 +72,15 @@ long xs x count n is counted = is ∙ ap (λ k. k + 1) counted ∙ sym (length-a
 place : {X : Type 0} (xs : List X) (count n : ℕ) → n ≡ count + 1 → count ≡ length xs → n ≡ length xs + 1
 place xs count n is counted = is ∙ ap (λ k. k + 1) counted
 
-never : {P : Type 0} (rows : List StoredRow) (k : WorldKey) → is_put rows k ≡ false → is_put rows k ≡ true → P
-never rows k not_put put = absurd (true≢false (sym put ∙ not_put))
+-- the row that is new stands at its number
+own_row : {X : Type 0} (f : ℕ → X → StoredRow) (xs : List X) (x : X) (n : ℕ) (row : StoredRow) → n ≡ length xs + 1 → row ≡ f n x → (id : ℕ) → id ≡ length xs + 1 → option_map (f id) (nth (xs ++ x ∷ []) id) ≡ Some row
+own_row f xs x n row at_end is id last = ap (option_map (f id)) (nth_new xs x id last) ∙ ap (λ m. Some (f m x)) (last ∙ sym at_end) ∙ ap Some (sym is)
+
+-- and the others of its table are as before
+others_stay : {X : Type 0} (u : World) (k : WorldKey) (f : X → StoredRow) (xs : List X) (x : X) (id : ℕ) (row : StoredRow) (more : List StoredRow) → (id ≡ length xs + 1 → row_in u k ≡ Some row)
+    → is_put (row ∷ more) k ≡ false → (row_in u k ≡ None) ⊎ (option_map f (nth xs id) ≡ option_map f (nth (xs ++ x ∷ []) id))
+others_stay u k f xs x id row more own not_put =
+    elim (pushed f xs x id (is_put (row ∷ more) k ≡ true) (λ last. puts_own u k row more (own last))) [ inl put ↦ absurd (true≢false (sym put ∙ not_put)) | inr same ↦ inr same ]
 
 -- ---- an account more
 
@@ -104,32 +103,15 @@ module _ (w v : World) (count : Counts) (rows new : List StoredRow) (n : ℕ) (r
       at_end = place v.accounts count.accounts n next (ap (λ (c : Counts). c.accounts) so_far.counted)
 
       own : (id : ℕ) → id ≡ length v.accounts + 1 → row_in u (Account id) ≡ Some row
-      own id last =
-          ap (option_map (λ (b : AccountRow). stored.Account (account_row id b))) (nth_new v.accounts a id last)
-          ∙ ap (λ m. Some (stored.Account (account_row m a))) (last ∙ sym at_end)
-          ∙ ap Some (sym is)
+      own = own_row (λ m (b : AccountRow). stored.Account (account_row m b)) v.accounts a n row at_end is
 
       keeps : KeepsRows v u
       keeps (Account id) r at = kept_by (λ (b : AccountRow). stored.Account (account_row id b)) v.accounts (a ∷ []) id r at
-      keeps (App id) r at = at
-      keeps (Version id) r at = at
-      keeps (Class id) r at = at
-      keeps (UnitKey id) r at = at
-      keeps (Mark id) r at = at
-      keeps (Host id) r at = at
-      keeps (Instance p) r at = at
+      keeps _ r at = at
 
       settled : (k : WorldKey) → is_put (row ∷ []) k ≡ false → IsSettled v u k
-      settled (Account id) not_put =
-          elim (pushed (λ (b : AccountRow). stored.Account (account_row id b)) v.accounts a id (is_put (row ∷ []) (Account id) ≡ true)
-          (λ last. puts_own u (Account id) row [] (own id last))) [ inl put ↦ never (row ∷ []) (Account id) not_put put | inr same ↦ inr same ]
-      settled (App id) not_put = inr refl
-      settled (Version id) not_put = inr refl
-      settled (Class id) not_put = inr refl
-      settled (UnitKey id) not_put = inr refl
-      settled (Mark id) not_put = inr refl
-      settled (Host id) not_put = inr refl
-      settled (Instance p) not_put = inr refl
+      settled (Account id) not_put = others_stay u (Account id) (λ (b : AccountRow). stored.Account (account_row id b)) v.accounts a id row [] (own id) not_put
+      settled _ not_put = inr refl
 
       step : AreChanges v u (row ∷ [])
       step = record { each = ((Account n, own n at_end), tt); others = settled }
@@ -161,43 +143,21 @@ module _ (w v : World) (count : Counts) (rows mid new : List StoredRow) (n app :
       is = told v (at_place ∙ sym (place_stays w v so_far.apps.0 b.app so_far.apps.1 stands))
 
       own : (id : ℕ) → id ≡ length v.versions + 1 → row_in u (Version id) ≡ Some row
-      own id last =
-          ap (option_map (λ (x : VersionRow). stored.Version (version_row v id x))) (nth_new v.versions b id last)
-          ∙ ap (λ m. Some (stored.Version (version_row v m b))) (last ∙ sym at_end)
-          ∙ ap Some (sym is)
+      own = own_row (λ m (x : VersionRow). stored.Version (version_row v m x)) v.versions b n row at_end is
 
       own_class : (id : ℕ) → id ≡ length v.versions + 1 → row_in u (Class id) ≡ Some class
-      own_class id last =
-          ap (option_map (λ (x : VersionRow). stored.VersionClass (class_row id x))) (nth_new v.versions b id last)
-          ∙ ap (λ m. Some (stored.VersionClass (class_row m b))) (last ∙ sym at_end)
-          ∙ ap Some (sym classed)
+      own_class = own_row (λ m (x : VersionRow). stored.VersionClass (class_row m x)) v.versions b n class at_end classed
 
       keeps : KeepsRows v u
-      keeps (Account id) r at = at
-      keeps (App id) r at = at
       keeps (Version id) r at = kept_by (λ (x : VersionRow). stored.Version (version_row v id x)) v.versions (b ∷ []) id r at
       keeps (Class id) r at = kept_by (λ (x : VersionRow). stored.VersionClass (class_row id x)) v.versions (b ∷ []) id r at
-      keeps (UnitKey id) r at = at
-      keeps (Mark id) r at = at
-      keeps (Host id) r at = at
-      keeps (Instance p) r at = at
+      keeps _ r at = at
 
       settled : (k : WorldKey) → is_put (row ∷ class ∷ []) k ≡ false → IsSettled v u k
-      settled (Account id) not_put = inr refl
-      settled (App id) not_put = inr refl
-      settled (Version id) not_put =
-          elim (pushed (λ (x : VersionRow). stored.Version (version_row v id x)) v.versions b id (is_put (row ∷ class ∷ []) (Version id) ≡ true)
-          (λ last. puts_own u (Version id) row (class ∷ []) (own id last))) [ inl put ↦ never (row ∷ class ∷ []) (Version id) not_put put | inr same ↦ inr same ]
+      settled (Version id) not_put = others_stay u (Version id) (λ (x : VersionRow). stored.Version (version_row v id x)) v.versions b id row (class ∷ []) (own id) not_put
       settled (Class id) not_put =
-          elim (pushed (λ (x : VersionRow). stored.VersionClass (class_row id x)) v.versions b id (is_put (class ∷ []) (Class id) ≡ true)
-          (λ last. puts_own u (Class id) class [] (own_class id last))) [
-            | inl put ↦ never (class ∷ []) (Class id) (put_of_neither (row ∷ []) (class ∷ []) (Class id) not_put).1 put
-            | inr same ↦ inr same
-          ]
-      settled (UnitKey id) not_put = inr refl
-      settled (Mark id) not_put = inr refl
-      settled (Host id) not_put = inr refl
-      settled (Instance p) not_put = inr refl
+          others_stay u (Class id) (λ (x : VersionRow). stored.VersionClass (class_row id x)) v.versions b id class [] (own_class id) (put_of_neither (row ∷ []) (class ∷ []) (Class id) not_put).1
+      settled _ not_put = inr refl
 
       step : AreChanges v u (row ∷ class ∷ [])
       step = record { each = ((Version n, own n at_end), ((Class n, own_class n at_end), tt)); others = settled }
@@ -289,32 +249,23 @@ app_added w v count rows new n row so_far behind a next is = record {
     at_end = place v.apps count.apps n next (ap (λ (c : Counts). c.apps) so_far.counted)
 
     own : (id : ℕ) → id ≡ length v.apps + 1 → row_in u (App id) ≡ Some row
-    own id last =
-        ap (option_map (λ (b : AppRow). stored.App (app_row id b))) (nth_new v.apps a id last)
-        ∙ ap (λ m. Some (stored.App (app_row m a))) (last ∙ sym at_end)
-        ∙ ap Some (sym is)
+    own = own_row (λ m (b : AppRow). stored.App (app_row m b)) v.apps a n row at_end is
 
     keeps : KeepsRows v u
-    keeps (Account id) r at = at
     keeps (App id) r at = kept_by (λ (b : AppRow). stored.App (app_row id b)) v.apps (a ∷ []) id r at
     keeps (Version id) r at = sym (version_stays v a so_far.readable id) ∙ at
-    keeps (Class id) r at = at
     keeps (UnitKey id) r at = sym (unit_stays v a so_far.readable id) ∙ at
-    keeps (Mark id) r at = at
     keeps (Host id) r at = sym (host_stays v a so_far.readable id) ∙ at
     keeps (Instance p) r at = sym (instance_stays v a so_far.readable p) ∙ at
+    keeps _ r at = at
 
     settled : (k : WorldKey) → is_put (row ∷ []) k ≡ false → IsSettled v u k
-    settled (Account id) not_put = inr refl
-    settled (App id) not_put =
-        elim (pushed (λ (b : AppRow). stored.App (app_row id b)) v.apps a id (is_put (row ∷ []) (App id) ≡ true)
-        (λ last. puts_own u (App id) row [] (own id last))) [ inl put ↦ never (row ∷ []) (App id) not_put put | inr same ↦ inr same ]
+    settled (App id) not_put = others_stay u (App id) (λ (b : AppRow). stored.App (app_row id b)) v.apps a id row [] (own id) not_put
     settled (Version id) not_put = inr (version_stays v a so_far.readable id)
-    settled (Class id) not_put = inr refl
     settled (UnitKey id) not_put = inr (unit_stays v a so_far.readable id)
-    settled (Mark id) not_put = inr refl
     settled (Host id) not_put = inr (host_stays v a so_far.readable id)
     settled (Instance p) not_put = inr (instance_stays v a so_far.readable p)
+    settled _ not_put = inr refl
 
     step : AreChanges v u (row ∷ [])
     step = record { each = ((App n, own n at_end), tt); others = settled }
@@ -348,16 +299,11 @@ module _ (w v : World) (count : Counts) (rows one mid new : List StoredRow) (n a
 
   unit_own : ((x : World) (b : UnitBook) (rule : ClassRule) → b.unit ≡ record u { class_rule = rule } → app ≡ app_place x u.app → s ≡ status_of x b → row ≡ stored.Unit (unit_row x n b))
       → s ≡ status_of v (new_unit u) → (id : ℕ) → id ≡ length v.units + 1 → row_in with_unit (UnitKey id) ≡ Some row
-  unit_own told first id last =
-      ap (option_map (λ b. stored.Unit (unit_row v id b))) (nth_new v.units (new_unit u) id last)
-      ∙ ap (λ m. Some (stored.Unit (unit_row v m (new_unit u)))) (last ∙ sym at_end)
-      ∙ ap Some (sym (told v (new_unit u) u.class_rule refl (at_app ∙ sym (place_stays w v so_far.apps.0 u.app so_far.apps.1 stands)) first))
+  unit_own told first =
+      own_row (λ m b. stored.Unit (unit_row v m b)) v.units (new_unit u) n row at_end (told v (new_unit u) u.class_rule refl (at_app ∙ sym (place_stays w v so_far.apps.0 u.app so_far.apps.1 stands)) first)
 
   mark_own : ((b : UnitBook) → b.unit.class_rule ≡ u.class_rule → mark ≡ stored.UnitMark (mark_row n b)) → (id : ℕ) → id ≡ length v.units + 1 → row_in with_unit (Mark id) ≡ Some mark
-  mark_own told id last =
-      ap (option_map (λ b. stored.UnitMark (mark_row id b))) (nth_new v.units (new_unit u) id last)
-      ∙ ap (λ m. Some (stored.UnitMark (mark_row m (new_unit u)))) (last ∙ sym at_end)
-      ∙ ap Some (sym (told (new_unit u) refl))
+  mark_own told = own_row (λ m b. stored.UnitMark (mark_row m b)) v.units (new_unit u) n mark at_end (told (new_unit u) refl)
 
   abbrev of_book : Place → UnitBook → Option StoredRow
   of_book p b = option_map (λ x. stored.Instance (instance_row v b p.unit p.number x)) (slice_get b.instances p.number)
@@ -376,10 +322,6 @@ module _ (w v : World) (count : Counts) (rows one mid new : List StoredRow) (n a
       (sym (sum_stays (credit_in v.apps id) v.units (new_unit u) none))
 
   unit_keeps : KeepsRows v with_unit
-  unit_keeps (Account id) r at = at
-  unit_keeps (App id) r at = at
-  unit_keeps (Version id) r at = at
-  unit_keeps (Class id) r at = at
   unit_keeps (UnitKey id) r at = kept_by (λ b. stored.Unit (unit_row v id b)) v.units (new_unit u ∷ []) id r at
   unit_keeps (Mark id) r at = kept_by (λ b. stored.UnitMark (mark_row id b)) v.units (new_unit u ∷ []) id r at
   unit_keeps (Host id) r at = sym (host_same id) ∙ at
@@ -387,7 +329,8 @@ module _ (w v : World) (count : Counts) (rows one mid new : List StoredRow) (n a
     where
       cases : (o : Option UnitBook) → unit_at v p.unit ≡ o → option_and_then (of_book p) o ≡ Some r → option_and_then (of_book p) (unit_at with_unit p.unit) ≡ Some r
       cases None stood is = absurd (none-some r is)
-      cases (Some b) stood is = ap (option_and_then (of_book p)) (nth_kept v.units (new_unit u ∷ []) p.unit b stood) ∙ is
+      cases (Some b) stood is = ap (option_and_then (of_book p)) (nth-front v.units (new_unit u ∷ []) p.unit b stood) ∙ is
+  unit_keeps _ r at = at
 
   module _ (fresh_rows : AreAdded (is_instance_among (n ∷ [])) v with_unit mid new) (own : (id : ℕ) → id ≡ length v.units + 1 → row_in with_unit (UnitKey id) ≡ Some row)
       (own_mark : (id : ℕ) → id ≡ length v.units + 1 → row_in with_unit (Mark id) ≡ Some mark) where
@@ -395,19 +338,9 @@ module _ (w v : World) (count : Counts) (rows one mid new : List StoredRow) (n a
     more = row ∷ mark ∷ fresh_rows.more
 
     unit_settled : (k : WorldKey) → is_put more k ≡ false → IsSettled v with_unit k
-    unit_settled (Account id) not_put = inr refl
-    unit_settled (App id) not_put = inr refl
-    unit_settled (Version id) not_put = inr refl
-    unit_settled (Class id) not_put = inr refl
-    unit_settled (UnitKey id) not_put =
-        elim (pushed (λ b. stored.Unit (unit_row v id b)) v.units (new_unit u) id (is_put more (UnitKey id) ≡ true)
-        (λ last. puts_own with_unit (UnitKey id) row (mark ∷ fresh_rows.more) (own id last))) [ inl put ↦ never more (UnitKey id) not_put put | inr same ↦ inr same ]
+    unit_settled (UnitKey id) not_put = others_stay with_unit (UnitKey id) (λ b. stored.Unit (unit_row v id b)) v.units (new_unit u) id row (mark ∷ fresh_rows.more) (own id) not_put
     unit_settled (Mark id) not_put =
-        elim (pushed (λ b. stored.UnitMark (mark_row id b)) v.units (new_unit u) id (is_put (mark ∷ fresh_rows.more) (Mark id) ≡ true)
-        (λ last. puts_own with_unit (Mark id) mark fresh_rows.more (own_mark id last))) [
-          | inl put ↦ never (mark ∷ fresh_rows.more) (Mark id) (put_of_neither (row ∷ []) (mark ∷ fresh_rows.more) (Mark id) not_put).1 put
-          | inr same ↦ inr same
-        ]
+        others_stay with_unit (Mark id) (λ b. stored.UnitMark (mark_row id b)) v.units (new_unit u) id mark fresh_rows.more (own_mark id) (put_of_neither (row ∷ []) (mark ∷ fresh_rows.more) (Mark id) not_put).1
     unit_settled (Host id) not_put = inr (host_same id)
     unit_settled (Instance p) not_put = cases (eqb (length v.units + 1) p.unit) refl
       where
@@ -418,6 +351,7 @@ module _ (w v : World) (count : Counts) (rows one mid new : List StoredRow) (n a
             (put_of_neither (row ∷ mark ∷ []) fresh_rows.more (Instance p) not_put).1
         cases false is =
             inr (sym (ap (option_and_then (of_book p)) (nth-push v.units (new_unit u) p.unit ∙ ap (λ b. cond b (Some (new_unit u)) (nth v.units p.unit)) is)))
+    unit_settled _ not_put = inr refl
 
     unit_step : AreChanges v with_unit more
     unit_step = record { each = ((UnitKey n, own n at_end), ((Mark n, own_mark n at_end), fresh_rows.changes.each)); others = unit_settled }

@@ -1,7 +1,7 @@
 -- The rows of a page's world beside those of the world that the call found.
 use Rattle.std.proofs.Common.{◌≡◌, ℕ, ◌+◌, ◌*◌, ◌≤◌, Bool, true, false, eqb, ◌&&◌, List, [], ◌∷◌, length, Option, Some, None, option_map, option_and_then, refl, sym, ap, subst, ◌∙◌, inl, inr, arith, true≢false}
 use Rattle.std.specs.Prelude.{◌||◌, count_by, sum_by, slice_get, unwrap_or, is_some}
-use Rattle.std.proofs.lemmas.Bool.{eqb-true}
+use Rattle.std.proofs.lemmas.Bool.{eqb-true, or_cases, or_parts}
 use Rattle.std.proofs.lemmas.Option.{slice_get_past}
 use Rattle.std.specs.BTreeMap.{get}
 use Rattle.std.specs.Ordering.{nat_cmp}
@@ -18,24 +18,24 @@ use Rattle.sched_book.specs.declared.rows.HostRow.{HostRow}
 use Rattle.sched_book.specs.declared.world.World.{World}
 use Rattle.call_sheet.specs.declared.leaf.Leaf.{Leaf}
 use Rattle.call_sheet.specs.declared.page.Page.{Page}
-use Rattle.call_sheet.specs.Sheets.{book_before, book_now, IsLeafOf, IsLeafAt, IsHostAt, IsPageOf, AreAllOf}
-use Rattle.table_meaning.specs.Worlds.{status_code, unit_row, mark_row, host_row, instance_row, app_place}
+use Rattle.call_sheet.specs.Sheets.{book_before, book_now, IsLeafOf, IsLeafAt, IsHostAt, IsPageOf, AreAllOf, is_among}
+use Rattle.table_meaning.specs.Worlds.{unit_row, mark_row, host_row, instance_row, app_place}
 use Rattle.table_meaning.specs.declared.rows.StoredRow.{StoredRow}
 use Rattle.table_meaning.specs.declared.rows.StoredRow.TheVariants as stored
+use Rattle.table_meaning.specs.Codes.{status_code}
 use Rattle.sched_book.proofs.PlaceLists.{places_counted}
 use Rattle.table_worlds.specs.Changes.{IsChange, AreChanges}
 use Rattle.table_worlds.specs.Keys.{row_in}
 use Rattle.table_worlds.specs.Totals.{total_of}
 use Rattle.table_worlds.specs.declared.totals.Total.{Total}
 use Rattle.table_worlds.specs.declared.keys.WorldKey.{WorldKey}
-use Rattle.table_worlds.specs.declared.keys.WorldKey.TheVariants.{Account, App as AppKey, Version, Class, Unit as UnitKey, Mark, Host, Instance}
-use Rattle.table_changes.specs.Added.{is_among, is_unit_among, is_mark_among, is_host_among, is_instance_among, AreAdded}
+use Rattle.table_worlds.specs.declared.keys.WorldKey.TheVariants.{Unit as UnitKey, Mark, Host, Instance}
+use Rattle.table_changes.specs.Added.{is_unit_among, is_mark_among, is_host_among, is_instance_among, AreAdded}
 use Rattle.table_changes.specs.Tallies.{no_total, tally, held_on, credit_on, total_on, GoesFrom}
 use Rattle.table_changes.specs.Touching.{AreTouched}
 use Rattle.table_changes.specs.declared.touched.Touched.{Touched}
 use Rattle.table_changes.proofs.Adding.{IsSettled, added_then, all_added}
 use Rattle.table_changes.proofs.Differences.{at_place, sums_differ, same_among}
-use Rattle.table_changes.proofs.InTurn.{one_of}
 
 -- the row after is what is to be put
 pub after_is_change : (before after row : Option StoredRow) → row ≡ after → IsChange before after row
@@ -218,36 +218,30 @@ module _ (w v : World) (kept : ℕ → Option Leaf) (units : List ℕ) (host : �
       cases None leaf none = sym leaf
       cases (Some k) leaf none = absurd (true≢false none)
 
-  held_then : (unit : ℕ) → is_among units unit ≡ true → at_place held_in w.units unit ≡ held_on book_before host (kept unit)
-  held_then unit among = cases (kept unit) (leaves unit) (all.all unit ∙ among)
+  -- what each leaf tells is told of a workunit that was read
+  by_leaf : (unit : ℕ) (P : Option Leaf → Type 0) → ((k : Leaf) → IsLeafAt w v unit (Some k) → P (Some k)) → is_among units unit ≡ true → P (kept unit)
+  by_leaf unit P told among = cases (kept unit) (leaves unit) (all.all unit ∙ among)
     where
-      cases : (o : Option Leaf) → IsLeafAt w v unit o → is_some o ≡ true → at_place held_in w.units unit ≡ held_on book_before host o
+      cases : (o : Option Leaf) → IsLeafAt w v unit o → is_some o ≡ true → P o
       cases None leaf some = absurd (true≢false (sym some))
-      cases (Some k) leaf some = ap (λ o. unwrap_or (option_map held_in o) 0) leaf.before
+      cases (Some k) leaf some = told k leaf
+
+  held_then : (unit : ℕ) → is_among units unit ≡ true → at_place held_in w.units unit ≡ held_on book_before host (kept unit)
+  held_then unit = by_leaf unit (λ o. at_place held_in w.units unit ≡ held_on book_before host o) (λ k leaf. ap (λ o. unwrap_or (option_map held_in o) 0) leaf.before)
 
   held_now : (unit : ℕ) → is_among units unit ≡ true → at_place held_in v.units unit ≡ held_on book_now host (kept unit)
-  held_now unit among = cases (kept unit) (leaves unit) (all.all unit ∙ among)
-    where
-      cases : (o : Option Leaf) → IsLeafAt w v unit o → is_some o ≡ true → at_place held_in v.units unit ≡ held_on book_now host o
-      cases None leaf some = absurd (true≢false (sym some))
-      cases (Some k) leaf some = ap (λ o. unwrap_or (option_map held_in o) 0) leaf.here
+  held_now unit = by_leaf unit (λ o. at_place held_in v.units unit ≡ held_on book_now host o) (λ k leaf. ap (λ o. unwrap_or (option_map held_in o) 0) leaf.here)
 
   abbrev credit_with : Leaf → List Job → Agreement → ℕ
   credit_with k xs a = k.unit.credit * count_by (λ x. is_owned_by host x && is_valid (verdict a k.unit xs x)) xs
 
   credit_then : (unit : ℕ) → is_among units unit ≡ true → at_place (credit_in w.apps host) w.units unit ≡ credit_on book_before host (kept unit)
-  credit_then unit among = cases (kept unit) (leaves unit) (all.all unit ∙ among)
-    where
-      cases : (o : Option Leaf) → IsLeafAt w v unit o → is_some o ≡ true → at_place (credit_in w.apps host) w.units unit ≡ credit_on book_before host o
-      cases None leaf some = absurd (true≢false (sym some))
-      cases (Some k) leaf some = ap (λ o. unwrap_or (option_map (credit_in w.apps host) o) 0) leaf.before ∙ ap (credit_with k k.before) leaf.agreement
+  credit_then unit = by_leaf unit (λ o. at_place (credit_in w.apps host) w.units unit ≡ credit_on book_before host o)
+      (λ k leaf. ap (λ o. unwrap_or (option_map (credit_in w.apps host) o) 0) leaf.before ∙ ap (credit_with k k.before) leaf.agreement)
 
   credit_now : (unit : ℕ) → is_among units unit ≡ true → at_place (credit_in w.apps host) v.units unit ≡ credit_on book_now host (kept unit)
-  credit_now unit among = cases (kept unit) (leaves unit) (all.all unit ∙ among)
-    where
-      cases : (o : Option Leaf) → IsLeafAt w v unit o → is_some o ≡ true → at_place (credit_in w.apps host) v.units unit ≡ credit_on book_now host o
-      cases None leaf some = absurd (true≢false (sym some))
-      cases (Some k) leaf some = ap (λ o. unwrap_or (option_map (credit_in w.apps host) o) 0) leaf.here ∙ ap (credit_with k k.present) leaf.agreement
+  credit_now unit = by_leaf unit (λ o. at_place (credit_in w.apps host) v.units unit ≡ credit_on book_now host o)
+      (λ k leaf. ap (λ o. unwrap_or (option_map (credit_in w.apps host) o) 0) leaf.here ∙ ap (credit_with k k.present) leaf.agreement)
 
   goes_on : GoesFrom w v host (total_on book_before kept units host) (total_on book_now kept units host)
   goes_on = record {
@@ -291,37 +285,22 @@ abbrev pub is_touched : Touched → WorldKey → Bool
 is_touched t key = ((is_unit_among t.units key || is_mark_among t.units key) || is_host_among t.hosts key) || is_instance_among t.units key
 
 pub settled_elsewhere : (w : World) (p : Page) (t : Touched) → IsPageOf w p → AreTouched p t → (k : WorldKey) → is_touched t k ≡ false → IsSettled w (applied w p.delta) k
-settled_elsewhere w p t page touched (Account id) none = inr (sym (ap (λ u. row_in u (Account id)) page.rest))
-settled_elsewhere w p t page touched (AppKey id) none = inr (sym (ap (λ u. row_in u (AppKey id)) page.rest))
-settled_elsewhere w p t page touched (Version id) none = inr (sym (ap (λ u. row_in u (Version id)) page.rest))
-settled_elsewhere w p t page touched (Class id) none = inr (sym (ap (λ u. row_in u (Class id)) page.rest))
 settled_elsewhere w p t page touched (UnitKey id) none =
-    let among : is_among t.units id ≡ false = first_of (is_among t.units id) none in
+    let among : is_among t.units id ≡ false = (or_parts _ _ (or_parts _ _ (or_parts _ _ none).0).0).0 in
     inr (unit_same w (applied w p.delta) id (apps_stay w p page)
     (sym (untouched w (applied w p.delta) (get nat_cmp p.leaves) t.units 0 (apps_stay w p page) touched.units page.leaves id among)))
-  where
-    first_of : (a : Bool) → (((a || false) || false) || false) ≡ false → a ≡ false
-    first_of true none = absurd (true≢false none)
-    first_of false none = refl
 settled_elsewhere w p t page touched (Mark id) none =
-    let among : is_among t.units id ≡ false = first_of (is_among t.units id) none in
+    let among : is_among t.units id ≡ false = (or_parts _ _ (or_parts _ _ none).0).0 in
     inr (mark_same w (applied w p.delta) id (sym (untouched w (applied w p.delta) (get nat_cmp p.leaves) t.units 0 (apps_stay w p page) touched.units page.leaves id among)))
-  where
-    first_of : (a : Bool) → ((a || false) || false) ≡ false → a ≡ false
-    first_of true none = absurd (true≢false none)
-    first_of false none = refl
 settled_elsewhere w p t page touched (Host id) none =
-    let among : is_among t.hosts id ≡ false = first_of (is_among t.hosts id) none in
+    let among : is_among t.hosts id ≡ false = (or_parts _ _ none).0 in
     let unread = touched.hosts id among in
     let goes = goes_from w p t id no_total no_total page touched (sym (ap (λ o. unwrap_or o no_total) unread.1)) (sym (ap (λ o. unwrap_or o no_total) unread.2)) in
     inr (host_same w (applied w p.delta) id no_total no_total (subst (IsHostAt w (applied w p.delta) id) unread.0 (page.hosts id)) goes refl refl)
-  where
-    first_of : (a : Bool) → (a || false) ≡ false → a ≡ false
-    first_of true none = absurd (true≢false none)
-    first_of false none = refl
 settled_elsewhere w p t page touched (Instance q) none =
     inr (instance_same w (applied w p.delta) q.unit q.number (apps_stay w p page)
     (sym (untouched w (applied w p.delta) (get nat_cmp p.leaves) t.units 0 (apps_stay w p page) touched.units page.leaves q.unit none)))
+settled_elsewhere w p t page touched key none = inr (sym (ap (λ u. row_in u key) page.rest))
 
 -- ---- what was told of a desk that still stands for the world
 
@@ -346,13 +325,6 @@ leaf_at w p unit o page found = subst (IsLeafAt w (applied w p.delta) unit) (sym
 
 -- the instances of a workunit that was not read are as before
 pub unread_settled : (w v : World) (unit : ℕ) → v.apps ≡ w.apps → IsLeafAt w v unit None → (k : WorldKey) → is_instance_among (unit ∷ []) k ≡ true → IsSettled w v k
-unread_settled w v unit apps stays (Account id) is = absurd (true≢false (sym is))
-unread_settled w v unit apps stays (AppKey id) is = absurd (true≢false (sym is))
-unread_settled w v unit apps stays (Version id) is = absurd (true≢false (sym is))
-unread_settled w v unit apps stays (Class id) is = absurd (true≢false (sym is))
-unread_settled w v unit apps stays (UnitKey id) is = absurd (true≢false (sym is))
-unread_settled w v unit apps stays (Mark id) is = absurd (true≢false (sym is))
-unread_settled w v unit apps stays (Host id) is = absurd (true≢false (sym is))
 unread_settled w v unit apps stays (Instance q) is =
     let here : unit ≡ q.unit = eqb-true unit q.unit (first_of (eqb unit q.unit) is) in
     inr (instance_same w v q.unit q.number apps (subst (λ u. unit_at v u ≡ unit_at w u) here stays))
@@ -360,6 +332,7 @@ unread_settled w v unit apps stays (Instance q) is =
     first_of : (a : Bool) → (a || false) ≡ true → a ≡ true
     first_of true some = refl
     first_of false some = absurd (true≢false (sym some))
+unread_settled w v unit apps stays _ is = absurd (true≢false (sym is))
 
 -- keys of either kind
 abbrev either : (WorldKey → Bool) → (WorldKey → Bool) → WorldKey → Bool
@@ -374,9 +347,9 @@ pub all_parts : (w u : World) (p : Page) (t : Touched) (old one two three new : 
     → AreChanges w (applied w p.delta) new
 all_parts w u p t old one two three new same page touched none units marks hosts instances =
     all_added (is_touched t) w after old new (settled_elsewhere w p t page touched) none
-    (added_then (either (either of_units of_marks) of_hosts) of_instances (is_touched t) w after old three new (λ k. one_of (either (either of_units of_marks) of_hosts k) (of_instances k))
-    (added_then (either of_units of_marks) of_hosts (either (either of_units of_marks) of_hosts) w after old two three (λ k. one_of (either of_units of_marks k) (of_hosts k))
-    (added_then of_units of_marks (either of_units of_marks) w after old one two (λ k. one_of (of_units k) (of_marks k)) units marks)
+    (added_then (either (either of_units of_marks) of_hosts) of_instances (is_touched t) w after old three new (λ k. or_cases (either (either of_units of_marks) of_hosts k) (of_instances k))
+    (added_then (either of_units of_marks) of_hosts (either (either of_units of_marks) of_hosts) w after old two three (λ k. or_cases (either of_units of_marks k) (of_hosts k))
+    (added_then of_units of_marks (either of_units of_marks) w after old one two (λ k. or_cases (of_units k) (of_marks k)) units marks)
     (subst (λ (x : World). IsPageOf x p → AreTouched p t → AreAdded of_hosts x (applied x p.delta) two three) same hosts page touched))
     instances)
   where

@@ -15,13 +15,10 @@ use Rattle.table_worlds.specs.Readable.{IsReadable, is_readable_change, are_read
 use Rattle.table_changes.specs.Words.{puts_words}
 
 one_readable : (w : World) (c : Change) → puts_words c ≡ true → is_readable_change w c ≡ true
-one_readable w (change.Account a) puts = absurd (true≢false (sym puts))
-one_readable w (change.App a) puts = absurd (true≢false (sym puts))
-one_readable w (change.Version v) puts = absurd (true≢false (sym puts))
-one_readable w (change.Workunit u) puts = absurd (true≢false (sym puts))
 one_readable w (change.Host number h) puts = puts
 one_readable w (change.Instance p x) puts = puts
 one_readable w (change.Class unit class) puts = puts
+one_readable w _ puts = absurd (true≢false (sym puts))
 
 all_readable : (w : World) (cs : List Change) → list_all puts_words cs ≡ true → are_readable_changes w cs ≡ true
 all_readable w [] puts = refl

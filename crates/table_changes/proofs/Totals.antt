@@ -9,14 +9,8 @@ use Rattle.sched_book.specs.declared.instance.UnitBook.{UnitBook}
 use Rattle.call_sheet.specs.declared.leaf.Leaf.{Leaf}
 use Rattle.table_worlds.specs.declared.totals.Total.{Total}
 use Rattle.table_worlds.specs.Totals.{more, with_instances}
+use Rattle.table_worlds.proofs.TotalsCounted.{same_total}
 use Rattle.table_changes.specs.Tallies.{held_on, credit_on, total_on}
-
--- one workunit more
-abbrev total : ℕ → ℕ → Total
-total held credit = record { held = held; credit = credit }
-
-both : (h k c d : ℕ) → h ≡ k → c ≡ d → total h c ≡ total k d
-both h k c d held credit = ap (λ m. total m c) held ∙ ap (total k) credit
 
 one_next : (f : ℕ → ℕ) (units : List ℕ) (i unit : ℕ) → i < length units → get_or units i 0 ≡ unit → sum_by f (take i units) + f unit ≡ sum_by f (take (i + 1) units)
 one_next f units i unit within at =
@@ -31,7 +25,7 @@ pub total_next : (book : Leaf → UnitBook) (kept : ℕ → Option Leaf) (units 
     → more t (held_on book host (kept unit)) (credit_on book host (kept unit)) ≡ total_on book kept (take (i + 1) units) host
 total_next book kept units i unit host t within at is =
     ap (λ (s : Total). more s (held_on book host (kept unit)) (credit_on book host (kept unit))) is
-    ∙ both _ _ _ _ (one_next (λ u. held_on book host (kept u)) units i unit within at) (one_next (λ u. credit_on book host (kept u)) units i unit within at)
+    ∙ same_total _ _ _ _ (one_next (λ u. held_on book host (kept u)) units i unit within at) (one_next (λ u. credit_on book host (kept u)) units i unit within at)
 
 -- what a leaf gives, as its instances were counted
 pub leaf_counted : (book : Leaf → UnitBook) (k : Leaf) (o : Option Leaf) (xs : List Instance) (host : ℕ) (t after : Total) → o ≡ Some k → xs ≡ (book k).instances

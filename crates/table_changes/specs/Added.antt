@@ -1,5 +1,5 @@
 -- Words. Rows put behind others, which lead from one world to another at some keys.
-use Rattle.std.specs.Prelude.{◌≡◌, ◌⊎◌, ℕ, Bool, true, false, ◌==◌, List, ◌++◌, Some, None}
+use Rattle.std.specs.Prelude.{◌≡◌, ◌⊎◌, ℕ, Bool, true, false, List, ◌++◌, Some, None}
 use Rattle.std.specs.List.{AllByRecursion, list_any}
 use Rattle.sched_book.specs.declared.world.World.{World}
 use Rattle.table_meaning.specs.declared.rows.StoredRow.{StoredRow}
@@ -7,10 +7,7 @@ use Rattle.table_meaning.specs.Rows.{key_of, same_key}
 use Rattle.table_worlds.specs.declared.keys.WorldKey.{WorldKey}
 use Rattle.table_worlds.specs.declared.keys.WorldKey.TheVariants.{Account, App, Version, Class, Unit, Mark, Host, Instance}
 use Rattle.table_worlds.specs.Keys.{row_key, row_in}
-
--- the number is one of these
-abbrev pub is_among : List ℕ → ℕ → Bool
-is_among numbers number = list_any (λ n. n == number) numbers
+use Rattle.call_sheet.specs.Sheets.{is_among}
 
 -- the key is that of one of these workunits
 abbrev pub is_unit_among : List ℕ → WorldKey → Bool

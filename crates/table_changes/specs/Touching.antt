@@ -2,9 +2,8 @@
 use Rattle.std.specs.Prelude.{◌≡◌, ℕ, false, List, None}
 use Rattle.std.specs.BTreeMap.{get}
 use Rattle.std.specs.Ordering.{nat_cmp}
-use Rattle.call_sheet.specs.Sheets.{AreAllOf}
+use Rattle.call_sheet.specs.Sheets.{AreAllOf, is_among}
 use Rattle.call_sheet.specs.declared.page.Page.{Page}
-use Rattle.table_changes.specs.Added.{is_among}
 use Rattle.table_changes.specs.Tallies.{AreTallies}
 use Rattle.table_changes.specs.declared.tallies.Tallies.{Tallies}
 use Rattle.table_changes.specs.declared.touched.Touched.{Touched}

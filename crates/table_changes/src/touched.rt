@@ -4,7 +4,7 @@ ghost use Rattle.std.specs.Prelude.{◌≡◌, ◌||◌, ℕ, false, None, is_so
 ghost use Rattle.std.specs.BTreeMap.{get};
 ghost use Rattle.std.specs.BTreeSet.{contains};
 ghost use Rattle.std.specs.Ordering.{nat_cmp};
-ghost use Rattle.table_changes.specs.Added.{is_among};
+ghost use Rattle.call_sheet.specs.Sheets.{is_among};
 ghost use Rattle.table_changes.specs.Touching.{AreTouched, HaveAll};
 
 use crate::tallies::{Tallies, tallies_of};

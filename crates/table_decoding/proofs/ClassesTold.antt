@@ -2,7 +2,6 @@
 use Rattle.std.proofs.Common.{◌≡◌, ℕ, ◌+◌, List, [], ◌∷◌, map, Some, refl, ap, ◌∙◌}
 use Rattle.std.specs.Prelude.{All, option_map}
 use Rattle.std.proofs.lemmas.List.Elements.{All-nil, All-cons, All-head, All-tail}
-use Rattle.rpc_records.specs.Ranges.{IsWord}
 use Rattle.sched_book.proofs.Settling.{nth-map}
 use Rattle.sched_book.specs.Numbered.{map_from}
 use Rattle.sched_book.specs.Places.{nth}
@@ -10,6 +9,7 @@ use Rattle.sched_book.specs.Sound.{IsSoundVersion}
 use Rattle.sched_book.specs.declared.rows.App.{App}
 use Rattle.sched_book.specs.declared.rows.Version.{Version}
 use Rattle.table_decoding.specs.Decoding.{of_class, of_word}
+use Rattle.texts.specs.Words.{IsWord}
 
 pub class_stands : (vs : List Version) (id : ℕ) (v : Version) → nth vs id ≡ Some v → nth (map (λ (x : Version). x.class) vs) id ≡ Some v.class
 class_stands vs id v stands = nth-map (λ (x : Version). x.class) vs id ∙ ap (option_map (λ (x : Version). x.class)) stands

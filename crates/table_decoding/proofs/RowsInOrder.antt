@@ -2,8 +2,8 @@
 use Rattle.std.proofs.Common.{◌≡◌, ℕ, zero, suc, ◌+◌, List, [], ◌∷◌, ◌++◌, length, take, Option, Some, refl, sym, ap, subst, ◌∙◌, arith}
 use Rattle.std.specs.Prelude.{slice_get, unwrap_or, map, filter_map, option_map}
 use Rattle.std.specs.List.{range_with_len, cons_option}
-use Rattle.std.proofs.lemmas.List.{take_more, take_all}
-use Rattle.std.proofs.lemmas.Option.{none-some, slice_get_within, get_or_from_slice_get}
+use Rattle.std.proofs.lemmas.List.{take_all}
+use Rattle.std.proofs.lemmas.Option.{none-some}
 use Rattle.sched_book.specs.Numbered.{map_from}
 use Rattle.sched_book.specs.Places.{nth, held_by, host_credit}
 use Rattle.sched_book.specs.declared.world.World.{World}
@@ -13,11 +13,8 @@ use Rattle.table_worlds.specs.declared.keys.WorldKey.{WorldKey}
 use Rattle.table_worlds.specs.declared.keys.WorldKey.TheVariants.{Account, App, Version, Class, Unit, Mark, Host}
 use Rattle.table_worlds.specs.Keys.{row_in, row_beside, numbered}
 use Rattle.table_worlds.proofs.ByPlace.{nth_next}
+use Rattle.table_worlds.proofs.UnitRowsRead.{take_one_more}
 use Rattle.table_decoding.specs.Decoding.{of_account, of_app, of_version, of_class, of_unit, of_mark, of_host}
-
--- the first so many with one more
-pub take_one_more : {X : Type 0} (xs : List X) (i : ℕ) (x : X) → slice_get xs i ≡ Some x → take (i + 1) xs ≡ take i xs ++ x ∷ []
-take_one_more xs i x is = take_more xs i x (slice_get_within xs i x is) ∙ ap (λ y. take i xs ++ y ∷ []) (get_or_from_slice_get xs i x x is)
 
 -- the item that a row stands for
 item_of : {X Y : Type 0} (f : ℕ → X → Y) (n : ℕ) (xs : List X) (i : ℕ) (y : Y) → slice_get (map_from n f xs) i ≡ Some y → (x : X) × (slice_get xs i ≡ Some x) × (y ≡ f (i + n) x)

@@ -11,7 +11,7 @@ use Rattle.table_meaning.specs.declared.rows.StoredRow.{StoredRow}
 use Rattle.table_meaning.specs.Worlds.{setting_in}
 use Rattle.table_worlds.specs.RowsOf.{setting_names, setting_rows, HaveSame}
 use Rattle.table_worlds.proofs.RowsHold.{given_by}
-use Rattle.table_decoding.specs.Decoding.{Tells, TellAll, schema_row, told_of, of_setting}
+use Rattle.table_decoding.specs.Decoding.{Tells, TellAll, told_of, of_setting}
 
 -- a row of the settings tells one of them
 listed : (s : Settings) (r : StoredRow) → Has (setting_rows s) r → (name : List ℕ) × (value : SettingValue) × (setting_in s name ≡ Some value) × (r ≡ of_setting name value)
@@ -51,9 +51,6 @@ module _ (s : Settings) (rows : List StoredRow) (same : HaveSame rows (setting_r
     request_delay = tells _ _ (inr (inr (inr (inr (inr (inr (inl refl)))))));
     resend_lost_results = tells _ _ (inr (inr (inr (inr (inr (inr (inr (inl refl))))))));
   }
-
-  pub schema_told : Has rows schema_row
-  schema_told = same.1 schema_row (inl refl)
 
 -- ---- what the first row of a name tells
 

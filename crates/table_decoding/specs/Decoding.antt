@@ -2,7 +2,6 @@
 use Rattle.std.specs.Prelude.{◌≡◌, ◌≤◌, ℕ, List, length, codes, All, Option, Some, None, if◌then◌else◌, Result, MatchResult}
 use Rattle.std.specs.Str.{bytes_eq}
 use Rattle.sqlite_rules.specs.Lists.{Has}
-use Rattle.rpc_records.specs.Ranges.{IsWord}
 use Rattle.sched_book.specs.declared.rows.Account.{Account}
 use Rattle.sched_book.specs.declared.rows.App.{App}
 use Rattle.sched_book.specs.declared.rows.HostRow.{HostRow}
@@ -18,6 +17,7 @@ use Rattle.table_meaning.specs.Schema.{newest}
 use Rattle.table_meaning.specs.Worlds.{account_row, app_row, version_row, class_row, unit_row, mark_row, host_row}
 use Rattle.table_decoding.specs.declared.fault.RowFault.{RowFault}
 use Rattle.table_decoding.specs.declared.fault.RowFault.TheVariants.{Unavailable}
+use Rattle.texts.specs.Words.{IsWord}
 
 -- just this is given, or memory was wanting
 abbrev pub Gives : {A : Type 0} → Result A RowFault → A → Type 0

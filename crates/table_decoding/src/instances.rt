@@ -12,11 +12,12 @@ ghost use Rattle.sched_book.specs.declared.world.World.{World};
 ghost use Rattle.sqlite.specs.Values.{or_null};
 ghost use Rattle.sqlite_value.specs.declared.value.Value.TheVariants.{Int, Text};
 ghost use Rattle.sqlite_value.specs.Order.{bytes};
+ghost use Rattle.table_meaning.specs.Codes.{lapse_code, lapse_in};
 ghost use Rattle.table_meaning.specs.Kept.{number_of};
 ghost use Rattle.table_meaning.specs.Rows.{columns_of};
-ghost use Rattle.table_meaning.specs.Worlds.{lapse_code, instance_row};
+ghost use Rattle.table_meaning.specs.Worlds.{instance_row};
 ghost use Rattle.table_meaning.specs.declared.rows.StoredRow.TheVariants as stored;
-ghost use Rattle.table_worlds.specs.ReadBack.{owner_in, lapse_in, report_in, job_in};
+ghost use Rattle.table_worlds.specs.ReadBack.{owner_in, report_in, job_in};
 ghost use Rattle.table_decoding.specs.Decoding.{Gives};
 
 use crate::fault::RowFault;
@@ -24,6 +25,7 @@ use crate::listed_rows::each;
 use crate::rows::amount;
 use sched_book::{Instance, Lapse, Moment, Outcome, Owner};
 use std::alloc::Global;
+use table_meaning::codes::lapse_of_code;
 use table_meaning::rows::StoredInstance;
 use texts::Listed;
 use world_soundness::in_limits::is_instance_in_limits;
@@ -58,12 +60,7 @@ fn lapse(code: u32) -> Result<Option<Lapse>, RowFault>
     ensures given { (l : Option Lapse) → code ≡ lapse_code l → result ≡ Ok l }
     ensures read { IfOk result (λ l. l ≡ lapse_in code) }
 {
-    match code {
-        0 => Ok(None),
-        1 => Ok(Some(Lapse::Late)),
-        2 => Ok(Some(Lapse::Dropped)),
-        _ => Err(RowFault::BadRow),
-    }
+    lapse_of_code(code).ok_or(RowFault::BadRow)
 }
 
 /// Whether an outcome of this code is a success.

@@ -13,7 +13,7 @@ ghost use Rattle.sched_book.specs.declared.rows.HostRow.{HostRow};
 ghost use Rattle.sched_book.specs.declared.rows.Version.{Version};
 ghost use Rattle.sched_book.specs.declared.world.World.{World};
 ghost use Rattle.table_meaning.specs.Rows.{columns_of};
-ghost use Rattle.rpc_records.specs.Ranges.{IsWord};
+ghost use Rattle.texts.specs.Words.{IsWord};
 ghost use Rattle.table_meaning.specs.Worlds.{agreement_limit, app_place, account_row, host_row};
 ghost use Rattle.table_meaning.specs.declared.rows.StoredRow.TheVariants as stored;
 ghost use Rattle.table_worlds.specs.ReadBack.{account_in, app_name_at, host_in};

@@ -11,32 +11,21 @@ use Rattle.sched_book.specs.Places.{unit_at, is_owned_by, owned_by, places_in, p
 use Rattle.sched_book.specs.declared.instance.Instance.{Instance as Job}
 use Rattle.sched_book.specs.declared.rows.App.{App}
 use Rattle.sched_book.specs.declared.instance.Status.{Status}
-use Rattle.sched_book.specs.declared.instance.Status.TheVariants.{Open, Done, FailedErrors, FailedSuccess, FailedTotal}
 use Rattle.sched_book.specs.declared.instance.UnitBook.{UnitBook}
 use Rattle.sched_book.specs.declared.world.World.{World}
 use Rattle.table_meaning.specs.ByKey.{status_in}
+use Rattle.table_meaning.specs.Codes.{status_of_code}
 use Rattle.table_meaning.specs.Kept.{number_of}
 use Rattle.table_meaning.specs.declared.rows.StoredRow.TheVariants as stored
 use Rattle.table_meaning.specs.Rows.{whole, unit_key, columns_of, look_up}
-use Rattle.table_meaning.specs.Worlds.{status_code, unit_row}
+use Rattle.table_meaning.specs.Worlds.{unit_row}
+use Rattle.table_meaning.proofs.CodesBack.{status_back}
 use Rattle.table_desk.specs.Asked.{Tell}
-use Rattle.table_desk.specs.Columns.{status_told}
-use Rattle.table_desk.proofs.PlacesNone.{append_none}
-
-cons-nil : {X : Type 0} {x : X} {xs : List X} → x ∷ xs ≡ [] → ⊥
-cons-nil is = cc
+use Rattle.table_desk.proofs.PlacesNone.{append_none, cons-nil}
 
 pub no_items : {X : Type 0} (xs : List X) → ¬ (0 < length xs) → xs ≡ []
 no_items [] none = refl
 no_items (x ∷ xs) none = absurd (none (omega arith))
-
--- a status is told by its number
-told_back : (s : Status) → status_told (status_code s) ≡ Some s
-told_back Open = refl
-told_back Done = refl
-told_back FailedErrors = refl
-told_back FailedSuccess = refl
-told_back FailedTotal = refl
 
 -- ---- a host of which no instance is
 
@@ -67,12 +56,12 @@ no_credit w host none = sym (nothing_among w.apps host 1 w.units none)
 
 module _ (db : Database) (w : World) (tell : Tell db w) where
   -- a workunit's row
-  pub status_is : (unit n : ℕ) (status : Status) → Some (whole n) ≡ option_map status_in (look_up db.trees (unit_key unit)) → Some status ≡ status_told n → Some status ≡ unit_status w unit
+  pub status_is : (unit n : ℕ) (status : Status) → Some (whole n) ≡ option_map status_in (look_up db.trees (unit_key unit)) → Some status ≡ status_of_code n → Some status ≡ unit_status w unit
   status_is unit n status read told = cases (unit_at w unit) (read ∙ ap (option_map status_in) (tell.holds.rows (unit_key unit)))
     where
       cases : (o : Option UnitBook) → Some (whole n) ≡ option_map status_in (option_map columns_of (option_map (λ (b : UnitBook). stored.Unit (unit_row w unit b)) o)) → Some status ≡ option_map (status_of w) o
       cases None same = absurd (none-some _ (sym same))
-      cases (Some b) same = told ∙ ap (λ (v : Value). status_told (number_of v)) (same_Some _ _ same) ∙ told_back (status_of w b)
+      cases (Some b) same = told ∙ ap (λ (v : Value). status_of_code (number_of v)) (same_Some _ _ same) ∙ status_back (status_of w b)
 
   pub no_status : (unit : ℕ) → None ≡ option_map status_in (look_up db.trees (unit_key unit)) → None ≡ unit_status w unit
   no_status unit read = cases (unit_at w unit) (read ∙ ap (option_map status_in) (tell.holds.rows (unit_key unit)))

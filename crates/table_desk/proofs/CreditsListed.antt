@@ -20,7 +20,7 @@ use Rattle.table_meaning.specs.declared.tables.TableName.TheVariants.{Host}
 use Rattle.table_meaning.specs.Listings.{rows_where, is_of_user, credit_in}
 use Rattle.table_meaning.specs.Rows.{host_key, columns_of}
 use Rattle.table_meaning.specs.Worlds.{host_row, contents_of}
-use Rattle.table_meaning.proofs.Listings.{hosts_by_number}
+use Rattle.table_meaning.proofs.Listings.{keyed_by_number}
 use Rattle.table_desk.specs.Asked.{Tell}
 use Rattle.table_desk.proofs.Standing.{rows_of_list}
 
@@ -55,7 +55,7 @@ module _ (db : Database) (w : World) (tell : Tell db w) where
       let row = λ (e : ℕ × HostRow). columns_of (of_host e.0 e.1) in
       let passing = filter (is_of_user account) (map row hosts) in
       let rows : rows_where db.trees Host (is_of_user account) ≡ passing =
-      rows_of_list Host host_key hosts_by_number db (contents_of w tell.calls tell.batches) tell.holds of_host w.hosts (λ n. refl) (is_of_user account) in
+      rows_of_list Host host_key (keyed_by_number Host refl) db (contents_of w tell.calls tell.batches) tell.holds of_host w.hosts (λ n. refl) (is_of_user account) in
       let told : credits ≡ map whole_in (map credit_in passing) = sym (map_back Int whole_in (λ z. refl) credits) ∙ ap (map whole_in) (read ∙ ap (map credit_in) rows) in
       let of_user : (e : ℕ × HostRow) → is_of_user account (row e) ≡ (e.1.account == account) = λ e. at_ints false Eq (pos e.1.account) (pos account) ∙ same_number e.1.account account in
       ap (sum_by unsigned_abs) told ∙ sum_by-map whole_in unsigned_abs (map credit_in passing) ∙ sum_by-map credit_in (λ v. unsigned_abs (whole_in v)) passing ∙ summed row (is_of_user account) value hosts

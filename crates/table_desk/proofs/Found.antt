@@ -16,7 +16,6 @@ use Rattle.sqlite_schema.specs.Rules.{equal}
 use Rattle.sqlite_sql.specs.declared.ops.CompareOp.TheVariants.{Eq}
 use Rattle.sqlite_typed.proofs.TestLemmas.{at_ints, at_texts, same_bytes, bytes_eq_refl}
 use Rattle.sqlite.specs.Effect.{Database}
-use Rattle.rpc_records.specs.Ranges.{IsWord}
 use Rattle.sched_book.specs.Desk.{account_by_key, workunit_at, placed_at}
 use Rattle.sched_book.specs.Imports.{has_app}
 use Rattle.sched_book.specs.Places.{unit_at, instance_at, host_at, unit_named, known_host, is_host_of, held_by, host_credit}
@@ -40,6 +39,7 @@ use Rattle.table_meaning.specs.Kept.{number_of}
 use Rattle.table_meaning.specs.Listings.{rows_where, has_text, is_host_known}
 use Rattle.table_meaning.specs.Rows.{account_key, unit_key, mark_key, host_key, instance_key, columns_of, look_up, whole}
 use Rattle.table_meaning.specs.Worlds.{contents_of, account_row, unit_row, mark_row, host_row, instance_row}
+use Rattle.table_meaning.proofs.Listings.{keyed_by_number}
 use Rattle.table_worlds.specs.ReadBack.{account_in, unit_in, host_in, job_in}
 use Rattle.table_worlds.proofs.ByPlace.{all_nth}
 use Rattle.table_worlds.proofs.ReadBack.{account_back, unit_back, host_back, job_back}
@@ -47,6 +47,7 @@ use Rattle.table_desk.specs.Asked.{Tell}
 use Rattle.table_desk.specs.Columns.{counted_host_at}
 use Rattle.table_desk.specs.declared.hosts.CountedHost.{CountedHost}
 use Rattle.table_desk.proofs.Standing.{item_stands, none_stands, rows_of_list, first_placed}
+use Rattle.texts.specs.Words.{IsWord}
 
 -- ---- texts and numbers that are shown
 
@@ -153,7 +154,7 @@ module _ (db : Database) (w : World) (tell : Tell db w) where
   -- the workunit of a name
   pub unit_is_named : (name : List ℕ) (unit : Option ℕ) → option_map whole unit ≡ option_map (λ row. column row 0) (slice_get (rows_where db.trees Unit (has_text 1 name)) 0) → unit ≡ unit_named w name
   unit_is_named name unit read =
-      let rows = rows_of_list Unit unit_key (λ trees n. refl) db contents tell.holds of_unit w.units (λ n. refl) (has_text 1 name) in
+      let rows = rows_of_list Unit unit_key (keyed_by_number Unit refl) db contents tell.holds of_unit w.units (λ n. refl) (has_text 1 name) in
       let first = first_placed (λ (e : ℕ × UnitBook). columns_of (of_unit e.0 e.1)) (has_text 1 name) (λ b. bytes_eq b.unit.name name) (λ n b. equal_texts b.unit.name name) w.units in
       let told = read ∙ ap (λ l. option_map (λ row. column row 0) (slice_get l 0)) rows in
       elim first [
@@ -164,7 +165,7 @@ module _ (db : Database) (w : World) (tell : Tell db w) where
   -- the host of a key
   pub host_is_known : (account : ℕ) (cpid : List ℕ) (host : Option ℕ) → option_map whole host ≡ option_map (λ row. column row 0) (slice_get (rows_where db.trees Host (is_host_known account cpid)) 0) → host ≡ known_host w account cpid
   host_is_known account cpid host read =
-      let rows = rows_of_list Host host_key (λ trees n. refl) db contents tell.holds of_host w.hosts (λ n. refl) (is_host_known account cpid) in
+      let rows = rows_of_list Host host_key (keyed_by_number Host refl) db contents tell.holds of_host w.hosts (λ n. refl) (is_host_known account cpid) in
       let tells = λ (n : ℕ) (h : HostRow). ap₂ (λ a b. a && b) (at_ints false Eq (pos h.account) (pos account) ∙ same_number h.account account) (equal_texts h.cpid cpid) in
       let first = first_placed (λ (e : ℕ × HostRow). columns_of (of_host e.0 e.1)) (is_host_known account cpid) (is_host_of account cpid) tells w.hosts in
       let told = read ∙ ap (λ l. option_map (λ row. column row 0) (slice_get l 0)) rows in
@@ -187,7 +188,7 @@ module _ (db : Database) (w : World) (tell : Tell db w) where
 
     account_found : AccountFound
     account_found =
-        let rows = rows_of_list Account account_key (λ trees n. refl) db contents tell.holds of_account w.accounts (λ n. refl) (has_text 1 key) in
+        let rows = rows_of_list Account account_key (keyed_by_number Account refl) db contents tell.holds of_account w.accounts (λ n. refl) (has_text 1 key) in
         let first = first_placed (λ (e : ℕ × Book). columns_of (of_account e.0 e.1)) (has_text 1 key) (λ a. bytes_eq a.authenticator key) (λ n a. equal_texts a.authenticator key) w.accounts in
         elim first [
           | inl none ↦ inl (ap (λ l. slice_get l 0) rows ∙ none.0, ap (option_and_then (placed_at w.accounts)) none.1)

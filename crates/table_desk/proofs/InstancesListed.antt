@@ -4,7 +4,7 @@ use Rattle.std.specs.Prelude.{◌==◌, filter_map, option_and_then, unwrap_or}
 use Rattle.std.specs.List.{AllByRecursion, cons_option}
 use Rattle.std.proofs.lemmas.Bool.{cases_Bool, eqb-true, eq-eqb}
 use Rattle.std.proofs.lemmas.List.{append-nil}
-use Rattle.std.proofs.lemmas.List.Elements.{recursion_from_All}
+use Rattle.std.proofs.lemmas.List.Elements.{recursion_from_All, filter-append}
 use Rattle.sqlite_keyed.proofs.ListLemmas.{map-map}
 use Rattle.sqlite.specs.Effect.{Database}
 use Rattle.sched_book.specs.Desk.{instances_at}
@@ -25,7 +25,6 @@ use Rattle.table_meaning.specs.Worlds.{contents_of, instance_row}
 use Rattle.table_worlds.specs.ReadBack.{job_in}
 use Rattle.table_worlds.proofs.ReadBack.{job_back}
 use Rattle.table_desk.specs.Asked.{Tell}
-use Rattle.table_desk.proofs.PlacesStand.{filter-append}
 
 -- ---- the places of one workunit
 

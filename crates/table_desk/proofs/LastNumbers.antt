@@ -18,6 +18,7 @@ use Rattle.table_meaning.specs.Kept.{number_of}
 use Rattle.table_meaning.specs.Listings.{rows_where, last_number_in}
 use Rattle.table_meaning.specs.Rows.{account_key, app_key, version_key, unit_key, host_key, columns_of, whole}
 use Rattle.table_meaning.specs.Worlds.{contents_of, account_row, app_row, version_row, unit_row, host_row}
+use Rattle.table_meaning.proofs.Listings.{keyed_by_number}
 use Rattle.table_desk.specs.Asked.{Tell}
 use Rattle.table_desk.proofs.Standing.{rows_of_list}
 
@@ -47,24 +48,24 @@ module _ (db : Database) (w : World) (tell : Tell db w) where
   pub accounts_counted : (n : ℕ) → whole n ≡ last_number_in (rows_where db.trees Account (λ row. true)) → n ≡ length w.accounts
   accounts_counted =
       last_is Account (λ (e : ℕ × Book). columns_of (stored.Account (account_row e.0 e.1))) w.accounts (λ n x. refl)
-      (rows_of_list Account account_key (λ trees n. refl) db (contents_of w tell.calls tell.batches) tell.holds (λ n a. stored.Account (account_row n a)) w.accounts (λ n. refl) (λ row. true))
+      (rows_of_list Account account_key (keyed_by_number Account refl) db (contents_of w tell.calls tell.batches) tell.holds (λ n a. stored.Account (account_row n a)) w.accounts (λ n. refl) (λ row. true))
 
   pub apps_counted : (n : ℕ) → whole n ≡ last_number_in (rows_where db.trees App (λ row. true)) → n ≡ length w.apps
   apps_counted =
       last_is App (λ (e : ℕ × Application). columns_of (stored.App (app_row e.0 e.1))) w.apps (λ n x. refl)
-      (rows_of_list App app_key (λ trees n. refl) db (contents_of w tell.calls tell.batches) tell.holds (λ n a. stored.App (app_row n a)) w.apps (λ n. refl) (λ row. true))
+      (rows_of_list App app_key (keyed_by_number App refl) db (contents_of w tell.calls tell.batches) tell.holds (λ n a. stored.App (app_row n a)) w.apps (λ n. refl) (λ row. true))
 
   pub versions_counted : (n : ℕ) → whole n ≡ last_number_in (rows_where db.trees Version (λ row. true)) → n ≡ length w.versions
   versions_counted =
       last_is Version (λ (e : ℕ × Made). columns_of (stored.Version (version_row w e.0 e.1))) w.versions (λ n x. refl)
-      (rows_of_list Version version_key (λ trees n. refl) db (contents_of w tell.calls tell.batches) tell.holds (λ n v. stored.Version (version_row w n v)) w.versions (λ n. refl) (λ row. true))
+      (rows_of_list Version version_key (keyed_by_number Version refl) db (contents_of w tell.calls tell.batches) tell.holds (λ n v. stored.Version (version_row w n v)) w.versions (λ n. refl) (λ row. true))
 
   pub units_counted : (n : ℕ) → whole n ≡ last_number_in (rows_where db.trees Unit (λ row. true)) → n ≡ length w.units
   units_counted =
       last_is Unit (λ (e : ℕ × UnitBook). columns_of (stored.Unit (unit_row w e.0 e.1))) w.units (λ n x. refl)
-      (rows_of_list Unit unit_key (λ trees n. refl) db (contents_of w tell.calls tell.batches) tell.holds (λ n b. stored.Unit (unit_row w n b)) w.units (λ n. refl) (λ row. true))
+      (rows_of_list Unit unit_key (keyed_by_number Unit refl) db (contents_of w tell.calls tell.batches) tell.holds (λ n b. stored.Unit (unit_row w n b)) w.units (λ n. refl) (λ row. true))
 
   pub hosts_counted : (n : ℕ) → whole n ≡ last_number_in (rows_where db.trees Host (λ row. true)) → n ≡ length w.hosts
   hosts_counted =
       last_is Host (λ (e : ℕ × HostRow). columns_of (stored.Host (host_row (length (held_by w e.0)) (host_credit w e.0) e.0 e.1))) w.hosts (λ n x. refl)
-      (rows_of_list Host host_key (λ trees n. refl) db (contents_of w tell.calls tell.batches) tell.holds (λ n h. stored.Host (host_row (length (held_by w n)) (host_credit w n) n h)) w.hosts (λ n. refl) (λ row. true))
+      (rows_of_list Host host_key (keyed_by_number Host refl) db (contents_of w tell.calls tell.batches) tell.holds (λ n h. stored.Host (host_row (length (held_by w n)) (host_credit w n) n h)) w.hosts (λ n. refl) (λ row. true))

@@ -19,11 +19,12 @@ use Rattle.sched_book.specs.declared.instance.Owner.{Owner}
 use Rattle.sched_book.specs.declared.instance.UnitBook.{UnitBook}
 use Rattle.sched_book.specs.declared.world.World.{World}
 use Rattle.table_meaning.specs.declared.rows.StoredRow.TheVariants as stored
+use Rattle.table_meaning.specs.Codes.{lapse_code}
 use Rattle.table_meaning.specs.Holding.{Contents}
 use Rattle.table_meaning.specs.Places as table
 use Rattle.table_meaning.specs.Places.{instance_at, shows_passing, compares, lies_between, is_of_host, is_running, is_sent_between, is_due}
 use Rattle.table_meaning.specs.Rows.{columns_of, whole}
-use Rattle.table_meaning.specs.Worlds.{contents_of, instance_row, lapse_code}
+use Rattle.table_meaning.specs.Worlds.{contents_of, instance_row}
 use Rattle.table_meaning.proofs.PlacesTests.{equal_numbers, not_below_number, optional_equals, optional_lies_between}
 use Rattle.sched_book.proofs.PlaceLists.{places_counted}
 use Rattle.table_desk.specs.Asked.{Tell}

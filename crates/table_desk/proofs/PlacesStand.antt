@@ -1,9 +1,9 @@
 -- The places of a world's instances are all places at which the tables that hold it have one.
-use Rattle.std.proofs.Common.{◌≡◌, ℕ, suc, ◌+◌, ◌≤◌, Bool, true, false, cond, List, [], ◌∷◌, ◌++◌, filter, slice_get, Option, Some, refl, sym, ap, ap₂, ◌∙◌, inl, inr, arith}
+use Rattle.std.proofs.Common.{◌≡◌, ℕ, suc, ◌+◌, ◌≤◌, Bool, true, cond, List, [], ◌∷◌, ◌++◌, filter, slice_get, Option, Some, refl, sym, ap, ap₂, ◌∙◌, inl, inr, arith}
 use Rattle.std.specs.Prelude.{AllPairs}
 use Rattle.std.specs.List.{AllByRecursion}
 use Rattle.std.proofs.lemmas.Bool.Decides.{nat_tests}
-use Rattle.std.proofs.lemmas.List.Elements.{recursion_from_All}
+use Rattle.std.proofs.lemmas.List.Elements.{recursion_from_All, filter-append}
 use Rattle.std.proofs.lemmas.Option.{none-some}
 use Rattle.sqlite_trees.specs.Tree.{IsAscending}
 use Rattle.sched_book.specs.Places.{nth, is_before, places_in, places_among, places_where, places}
@@ -53,14 +53,6 @@ filter_in keep p unit number [] tells = refl
 filter_in keep p unit number (x ∷ xs) tells =
     ap₂ (λ b (l : List Place). cond b (record { unit = unit; number = number } ∷ l) l) (tells 0 number x (omega arith) refl)
     (filter_in keep p unit (number + 1) xs (λ i n y is stands. tells (suc i) n y (omega (arith, is)) stands))
-
-pub filter-append : {X : Type 0} (keep : X → Bool) (xs ys : List X) → filter keep (xs ++ ys) ≡ filter keep xs ++ filter keep ys
-filter-append keep [] ys = refl
-filter-append keep (x ∷ xs) ys = turn (keep x) (filter-append keep xs ys)
-  where
-    turn : (b : Bool) → filter keep (xs ++ ys) ≡ filter keep xs ++ filter keep ys → cond b (x ∷ filter keep (xs ++ ys)) (filter keep (xs ++ ys)) ≡ cond b (x ∷ filter keep xs) (filter keep xs) ++ filter keep ys
-    turn true later = ap (λ l. x ∷ l) later
-    turn false later = later
 
 filter_among : (keep : Place → Bool) (p : UnitBook → Instance → Bool) (from : ℕ) (bs : List UnitBook)
     → ((i u n : ℕ) (b : UnitBook) (x : Instance) → u ≡ i + from → slice_get bs i ≡ Some b → slice_get b.instances n ≡ Some x → keep (record { unit = u; number = n }) ≡ p b x)

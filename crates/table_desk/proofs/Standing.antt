@@ -49,7 +49,7 @@ module _ {X : Type 0} (t : TableName) (key : ℕ → RowKey) (by : IsByNumber t 
   -- the rows that pass a test are those of the items, in the order of their places
   pub rows_of_list : (test : Row → Bool) → rows_where db.trees t test ≡ filter test (map columns (enumerate_from 1 xs))
   rows_of_list test =
-      listed t key by db contents holds (length xs) past test
+      listed t key by db contents holds (length xs) (stands 0) past test
       ∙ ap (λ l. filter test (map columns_of l)) (each_placed row (λ n. contents (key n)) 1 xs placed)
       ∙ ap (filter test) (map-map columns_of (λ (e : ℕ × X). row e.0 e.1) (enumerate_from 1 xs))
 

@@ -34,7 +34,7 @@ use Rattle.table_meaning.specs.Places as table
 use Rattle.table_meaning.specs.Places.{AreAllPlaces, is_of_host}
 use Rattle.table_meaning.specs.Rows.{host_key, columns_of, whole}
 use Rattle.table_meaning.specs.Worlds.{host_row, contents_of}
-use Rattle.table_meaning.proofs.Listings.{hosts_by_number}
+use Rattle.table_meaning.proofs.Listings.{keyed_by_number}
 use Rattle.table_meaning.proofs.PlacesTests.{equal_numbers}
 use Rattle.table_desk.specs.Asked.{Tell}
 use Rattle.table_desk.specs.Users.{some_had, HasAdded}
@@ -282,7 +282,7 @@ module _ (db : Database) (w : World) (tell : Tell db w) (account : ℕ) where
   -- the hosts that are listed of a user
   hosts_listed : (hosts : List ℕ) → map whole hosts ≡ map (λ row. column row 0) (rows_where db.trees Host (listed.is_of_user account)) → hosts ≡ places_from 1 (λ (h : HostRow). h.account == account) w.hosts
   hosts_listed hosts read =
-      let rows = rows_of_list Host host_key hosts_by_number db (contents_of w tell.calls tell.batches) tell.holds of_host w.hosts (λ n. refl) (listed.is_of_user account) in
+      let rows = rows_of_list Host host_key (keyed_by_number Host refl) db (contents_of w tell.calls tell.batches) tell.holds of_host w.hosts (λ n. refl) (listed.is_of_user account) in
       sym (map_back whole number_of (λ n. refl) hosts) ∙ ap (map number_of) (read ∙ ap (map (λ row. column row 0)) rows)
       ∙ numbers_of (λ n h. columns_of (of_host n h)) (listed.is_of_user account) (λ (h : HostRow). h.account == account) 1 w.hosts (λ n h. equal_numbers h.account account) (λ n h. refl)
 

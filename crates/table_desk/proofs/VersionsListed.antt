@@ -34,6 +34,7 @@ use Rattle.table_meaning.specs.Listings as listed
 use Rattle.table_meaning.specs.Listings.{rows_where, is_version_known}
 use Rattle.table_meaning.specs.Rows.{version_key, class_key, columns_of, look_up, whole}
 use Rattle.table_meaning.specs.Worlds.{contents_of, app_place, version_row, class_row}
+use Rattle.table_meaning.proofs.Listings.{keyed_by_number}
 use Rattle.table_worlds.proofs.AppsNamed.{named_app}
 use Rattle.table_desk.specs.Asked.{Tell}
 use Rattle.table_desk.specs.Versions.{greater, greatest}
@@ -214,7 +215,7 @@ module _ (db : Database) (w : World) (tell : Tell db w) (name : List ℕ) (place
 
     numbers_listed : (numbers : List ℕ) → map whole numbers ≡ map (λ row. column row 3) (rows_where db.trees Version (listed.is_version_for place platform)) → numbers ≡ numbers_of name platform w.versions
     numbers_listed numbers read =
-        let rows = rows_of_list Version version_key (λ trees n. refl) db (contents_of w tell.calls tell.batches) tell.holds of_version w.versions (λ n. refl) (listed.is_version_for place platform) in
+        let rows = rows_of_list Version version_key (keyed_by_number Version refl) db (contents_of w tell.calls tell.batches) tell.holds of_version w.versions (λ n. refl) (listed.is_version_for place platform) in
         let passing = filter (listed.is_version_for place platform) (map (λ (e : ℕ × Made). columns_of (of_version e.0 e.1)) (enumerate_from 1 w.versions)) in
         sym (map_back whole number_of (λ n. refl) numbers) ∙ ap (map number_of) (read ∙ ap (map (λ row. column row 3)) rows)
         ∙ map-map number_of (λ (row : Row). column row 3) passing
@@ -246,7 +247,7 @@ module _ (db : Database) (w : World) (tell : Tell db w) (name : List ℕ) (place
           → ((id ≡ None) × (of_number name platform w.versions num ≡ None))
           ⊎ ((n : ℕ) × (v : Made) × (id ≡ Some n) × (nth w.versions n ≡ Some v) × (of_number name platform w.versions num ≡ Some v) × (is_version name platform num v ≡ true))
       known id read =
-          let rows = rows_of_list Version version_key (λ trees n. refl) db (contents_of w tell.calls tell.batches) tell.holds of_version w.versions (λ n. refl) (is_version_known place platform num) in
+          let rows = rows_of_list Version version_key (keyed_by_number Version refl) db (contents_of w tell.calls tell.batches) tell.holds of_version w.versions (λ n. refl) (is_version_known place platform num) in
           let first = first_such (λ (e : ℕ × Made). columns_of (of_version e.0 e.1)) (is_version_known place platform num) (is_version name platform num) NamesApp same_version w.versions all_named in
           let told = read ∙ ap (λ l. option_map (λ row. column row 0) (slice_get l 0)) rows in
           elim first [

@@ -19,18 +19,19 @@ use Rattle.sched_book.specs.declared.desk.Candidate.{Candidate}
 use Rattle.sched_book.specs.declared.instance.Instance.{Instance as Job}
 use Rattle.sched_book.specs.declared.instance.Place.{Place}
 use Rattle.sched_book.specs.declared.instance.Status.{Status}
-use Rattle.sched_book.specs.declared.instance.Status.TheVariants.{Open, Done, FailedErrors, FailedSuccess, FailedTotal}
+use Rattle.sched_book.specs.declared.instance.Status.TheVariants.{Open}
 use Rattle.sched_book.specs.declared.instance.UnitBook.{UnitBook}
 use Rattle.sched_book.specs.declared.world.World.{World}
-use Rattle.sched_book.proofs.PlacesOf.{nth-suc}
+use Rattle.sched_book.proofs.PlacesOf.{nth-suc, slice_get-front}
 use Rattle.sqlite_sql.specs.declared.ops.CompareOp.TheVariants.{Eq}
-use Rattle.table_meaning.specs.declared.tables.Page.TheVariants.{Further}
+use Rattle.table_meaning.specs.declared.tables.QueuePage.TheVariants.{Further}
 use Rattle.table_meaning.specs.declared.rows.StoredRow.TheVariants as stored
+use Rattle.table_meaning.specs.Codes.{status_code}
 use Rattle.table_meaning.specs.Holding.{Contents, Hold}
 use Rattle.table_meaning.specs.Places as table
 use Rattle.table_meaning.specs.Places.{IsBefore, AreAllPlaces, instance_at, shows_passing, compares, waits_from}
 use Rattle.table_meaning.specs.Rows.{columns_of, whole}
-use Rattle.table_meaning.specs.Worlds.{contents_of, instance_row, is_queued, status_code}
+use Rattle.table_meaning.specs.Worlds.{contents_of, instance_row, is_queued}
 use Rattle.table_meaning.proofs.PlacesTests.{equal_numbers, above_number, not_below_number}
 use Rattle.table_desk.specs.Asked.{Asked, Tell}
 use Rattle.table_desk.specs.FirstPage.{IsFirstPageOf}
@@ -53,10 +54,7 @@ queued_one false = equal_numbers 0 1
 
 open_code : (s : Status) → (status_code s == 0) ≡ is_open s
 open_code Open = refl
-open_code Done = refl
-open_code FailedErrors = refl
-open_code FailedSuccess = refl
-open_code FailedTotal = refl
+open_code _ = refl
 
 not_before : (p from : Place) → (nat_le from.unit p.unit && (nat_lt from.unit p.unit || nat_le from.number p.number)) ≡ not (is_before p from)
 not_before p from = grind (arith, nat_tests)
@@ -263,11 +261,6 @@ places_offered w from (p ∷ ps) = one (unit_at w p.unit) refl (waits w from p) 
         ap (λ (o : Option UnitBook). map (λ (c : Candidate). c.place) (cons_option (option_map (λ u. record { place = p; unit = u }) (option_map (λ (b : UnitBook). b.unit) o)) (candidates_at w more))) stands
         ∙ ap (λ l. p ∷ l) later
 
-got_in_front : {X : Type 0} (xs ys : List X) (n : ℕ) (x : X) → slice_get xs n ≡ Some x → slice_get (xs ++ ys) n ≡ Some x
-got_in_front [] ys n x is = absurd (none-some _ is)
-got_in_front (y ∷ xs) ys zero x is = is
-got_in_front (y ∷ xs) ys (suc n) x is = got_in_front xs ys n x is
-
 module _ (w : World) where
   rise : IsAscending IsBefore (places w)
   rise = (all_places w (λ _ _. None) (λ _ _. None)).rise
@@ -299,7 +292,7 @@ module _ (w : World) where
     parts_from : (at : ℕ) (first : Place) → slice_get page at ≡ Some first → unsent w first ≡ candidates_at w (drop at page) ++ unsent_on w (option_map behind (slice_get page n))
     parts_from at first stands =
         let within : at ≤ length page = let below = slice_get_within page at first stands in omega (arith, below) in
-        let there : slice_get (waiting w from) at ≡ Some first = ap (λ l. slice_get l at) parted ∙ got_in_front page rest at first stands in
+        let there : slice_get (waiting w from) at ≡ Some first = ap (λ l. slice_get l at) parted ∙ slice_get-front page rest at first stands in
         sym (unsent_waiting w first) ∙ ap (candidates_at w) (rest_from (passes w (is_queued w)) from first at (places w) rise there) ∙ parts_at at within
 
 -- ---- a page that was read

@@ -6,8 +6,8 @@ use Rattle.sched_book.specs.declared.desk.Candidate.{Candidate}
 use Rattle.sched_book.specs.declared.instance.Place.{Place}
 use Rattle.sched_book.specs.declared.world.World.{World}
 use Rattle.table_meaning.specs.Places.{page_size}
-use Rattle.table_meaning.specs.declared.tables.Page.{Page}
-use Rattle.table_meaning.specs.declared.tables.Page.TheVariants.{First}
+use Rattle.table_meaning.specs.declared.tables.QueuePage.{QueuePage}
+use Rattle.table_meaning.specs.declared.tables.QueuePage.TheVariants.{First}
 use Rattle.table_desk.specs.declared.pages.PageRead.{PageRead}
 
 -- a place with its workunit, where one stands
@@ -22,7 +22,7 @@ abbrev pub behind : Place → Place
 behind place = record { unit = place.unit; number = place.number + 1 }
 
 -- the next page begins behind the last place of a full one; behind one with fewer places there is none
-abbrev pub next_page : Page → List Place → Option Place
+abbrev pub next_page : QueuePage → List Place → Option Place
 next_page page places = option_map behind (slice_get places (page_size page - 1))
 
 -- what is unsent from there on, and nothing where there is no further page

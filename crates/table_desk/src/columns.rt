@@ -7,26 +7,12 @@ ghost use Rattle.sched_book.specs.Desk.{unit_status};
 ghost use Rattle.sched_book.specs.Places.{held_by as held_in, owned_by as owned_in, host_credit, user_credit};
 ghost use Rattle.table_meaning.specs.Reads.{Reads};
 ghost use Rattle.table_desk.specs.Asked.{Asked};
-ghost use Rattle.table_desk.specs.Columns.{status_told};
 
 use sched_book::{Status, Unavailable};
 use sqlite::{Alter, Connection};
 use std::alloc::Global;
+use table_meaning::codes::status_of_code;
 use table_rows::{credits_of_user, places_owned, status_of as status_column};
-
-/// The status that a number stands for.
-fn status_told(number: u32) -> Option<Status>
-    ensures { result ≡ status_told number }
-{
-    match number {
-        0 => Some(Status::Open),
-        1 => Some(Status::Done),
-        2 => Some(Status::FailedErrors),
-        3 => Some(Status::FailedSuccess),
-        4 => Some(Status::FailedTotal),
-        _ => None,
-    }
-}
 
 /// The status of the workunit at this place. The connection shows what it showed.
 pub fn status_of<S: Alter>(
@@ -39,7 +25,7 @@ pub fn status_of<S: Alter>(
 {
     match status_column(alloc, conn, unit)? {
         None => Ok(None),
-        Some(number) => match status_told(number) {
+        Some(number) => match status_of_code(number) {
             None => Err(Unavailable),
             Some(status) => Ok(Some(status)),
         },

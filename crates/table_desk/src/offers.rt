@@ -15,7 +15,7 @@ use sched_book::limits::{MOST_INSTANCES, MOST_WORKUNITS};
 use sched_book::{App, Candidate, Flow, Place, Taker, Unavailable, Workunit};
 use sqlite::{Alter, Connection};
 use std::alloc::Global;
-use table_meaning::tables::Page;
+use table_meaning::tables::QueuePage;
 use table_rows::queued_from;
 use texts::Memory;
 
@@ -99,10 +99,10 @@ fn offer_page<S: Alter, K: KnownUnits, T: Taker>(
     ensures all { Asked S.Store conn.old conn.new (λ w. apps.now ≡ w.apps → K.are_of w known.now → IfOk result (λ next. Leads T.takes taker.old (unsent w from) taker.new (unsent_on w next))) }
     ensures some { Asked S.Store conn.old conn.new (λ w. apps.now ≡ w.apps → K.are_of w known.now → OnErr result (OffersSome T.takes taker.old (unsent w from) taker.new)) }
 {
-    let queued = queued_from(alloc, conn, from, Page::Further)?;
+    let queued = queued_from(alloc, conn, from, QueuePage::Further)?;
     match offer_each(alloc, conn, apps, known, queued.as_slice(), taker)? {
         Flow::Stop => Ok(None),
-        Flow::GoOn => next_page(Page::Further, queued.as_slice()),
+        Flow::GoOn => next_page(QueuePage::Further, queued.as_slice()),
     }
 }
 

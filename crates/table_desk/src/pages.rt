@@ -5,7 +5,7 @@ ghost use Rattle.sqlite.specs.Held.{state};
 ghost use Rattle.sched_book.specs.Offers.{unsent};
 ghost use Rattle.sched_book.specs.declared.world.World.{World};
 ghost use Rattle.table_meaning.specs.Reads.{Reads};
-ghost use Rattle.table_meaning.specs.declared.tables.Page.TheVariants.{First};
+ghost use Rattle.table_meaning.specs.declared.tables.QueuePage.TheVariants.{First};
 ghost use Rattle.table_desk.specs.Asked.{Asked};
 ghost use Rattle.table_desk.specs.FirstPage.{IsFirstPageOf};
 ghost use Rattle.table_desk.specs.Pages.{candidates_at, next_page, unsent_behind};
@@ -13,12 +13,12 @@ ghost use Rattle.table_desk.specs.Pages.{candidates_at, next_page, unsent_behind
 use sched_book::{Place, Unavailable};
 use sqlite::{Alter, Connection};
 use std::alloc::Global;
-use table_meaning::tables::Page;
+use table_meaning::tables::QueuePage;
 use table_rows::queued_from;
 use texts::Listed;
 
 /// Where the next page begins, if this one is full. Refused where the number of the last place is the greatest one.
-pub(crate) fn next_page(page: Page, places: &[Place]) -> Result<Option<Place>, Unavailable>
+pub(crate) fn next_page(page: QueuePage, places: &[Place]) -> Result<Option<Place>, Unavailable>
     ensures { IfOk result (λ next. next ≡ next_page page places.now) }
 {
     match places.get(page.size() as usize - 1) {
@@ -57,7 +57,7 @@ impl PageRead {
         ensures reads { Reads (state S.Store conn.old) (state S.Store conn.new) }
         ensures page { Asked S.Store conn.old conn.new (λ w. IfOk result (λ page. IsFirstPageOf w page × (page.from ≡ from))) }
     {
-        let places = queued_from(alloc, conn, from, Page::First)?;
+        let places = queued_from(alloc, conn, from, QueuePage::First)?;
         Ok(PageRead { from, places })
     }
 
@@ -83,6 +83,6 @@ impl PageRead {
     pub(crate) fn next(&self) -> Result<Option<Place>, Unavailable>
         ensures { IfOk result (λ next. next ≡ next_page First self.now.places) }
     {
-        next_page(Page::First, self.places())
+        next_page(QueuePage::First, self.places())
     }
 }

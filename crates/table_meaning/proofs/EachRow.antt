@@ -122,13 +122,9 @@ row_told row =
 is_told : (r : StoredRow) → row_told (columns_of r) ≡ r
 unfolding row_told
 is_told (Setting s) = λ i. Setting (record { name = s.name; value = setting_back s.value i })
-is_told (Account a) = refl
 is_told (App a) =
     ap (λ b. cond b (Account (record { id = a.id; auth = a.name; name = bytes_of (or_null whole a.agreement) })) (App (record { id = a.id; name = a.name; agreement = if_any number_of (or_null whole a.agreement) }))) (no_text a.agreement)
     ∙ (λ i. App (record { id = a.id; name = a.name; agreement = any_back whole number_of (λ n. refl) a.agreement i }))
-is_told (Version v) = refl
-is_told (Unit u) = refl
-is_told (Host h) = refl
 is_told (Instance x) =
     ap (λ b. cond b (Host (host_told (columns_of (Instance x)))) (Instance (instance_told (columns_of (Instance x))))) (no_text x.host_id)
     ∙ (λ i. Instance (record {
@@ -143,10 +139,8 @@ is_told (Instance x) =
       place = any_back whole number_of (λ n. refl) x.place i;
       queued = flag_back x.queued i;
     }))
-is_told (Kept k) = refl
-is_told (Batch b) = refl
-is_told (VersionClass c) = refl
 is_told (UnitMark m) = λ i. UnitMark (record { unit_id = m.unit_id; marked = flag_back m.marked i; class = any_back Text bytes_of (λ t. refl) m.class i })
+is_told _ = refl
 
 pub columns_told : (r s : StoredRow) → columns_of r ≡ columns_of s → r ≡ s
 columns_told r s same = sym (is_told r) ∙ ap row_told same ∙ is_told s
@@ -171,29 +165,14 @@ or_words (Some t) = refl
 
 pub typed : (row : StoredRow) → have_types (kinds_of (table_of row)) (columns_of row) ≡ true
 typed (Setting s) = λ i. setting s.value i && true
-typed (Account a) = refl
 typed (App a) = λ i. or_number a.agreement i && true
-typed (Version v) = refl
-typed (Unit u) = refl
-typed (Host h) = refl
 typed (Instance x) = λ i. or_number x.host_id i && (or_integer x.sent i && (or_integer x.deadline i && (or_number x.outcome i && (or_words x.output i && (or_number x.place i && true)))))
-typed (Kept k) = refl
-typed (Batch b) = refl
-typed (VersionClass c) = refl
 typed (UnitMark m) = λ i. or_words m.class i && true
+typed _ = refl
 
 pub key_first : (row : StoredRow) → of_key (layout_of (table_of row)) (columns_of row) ≡ key_columns (key_of row)
 key_first (Setting s) = refl
-key_first (Account a) = refl
-key_first (App a) = refl
-key_first (Version v) = refl
-key_first (Unit u) = refl
-key_first (Host h) = refl
-key_first (Instance x) = refl
-key_first (Kept k) = refl
-key_first (Batch b) = refl
-key_first (VersionClass c) = refl
-key_first (UnitMark m) = refl
+key_first _ = refl
 
 -- ---- the columns of a key: one or two, each a number or a text
 
@@ -230,13 +209,8 @@ key_from table.UnitMark cols = mark_key (number_in (column cols 0))
 -- what is found of each key by computing: the form of its columns, that it is told by them, and how many there are
 pub key_is : (key : RowKey) → (is_key_row (key_columns key) ≡ true) × (key_from (table_at key) (key_columns key) ≡ key) × (length (key_places (table_at key)) ≡ length (key_columns key))
 key_is (setting_key name) = (refl, refl, refl)
-key_is (account_key id) = (refl, refl, refl)
-key_is (app_key id) = (refl, refl, refl)
-key_is (version_key id) = (refl, refl, refl)
-key_is (unit_key id) = (refl, refl, refl)
-key_is (host_key id) = (refl, refl, refl)
-key_is (instance_key unit num) = (refl, refl, refl)
-key_is (kept_key host slot) = (refl, refl, refl)
-key_is (batch_key kind name) = (refl, refl, refl)
-key_is (class_key id) = (refl, refl, refl)
-key_is (mark_key id) = (refl, refl, refl)
+key_is _ = (refl, refl, refl)
+
+-- a key of a table is told by its columns
+pub key_of_table : (t : TableName) (key : RowKey) → table_at key ≡ t → key ≡ key_from t (key_columns key)
+key_of_table t key at = sym (key_is key).1 ∙ ap (λ u. key_from u (key_columns key)) at

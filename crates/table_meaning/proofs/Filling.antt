@@ -38,11 +38,10 @@ use Rattle.table_meaning.proofs.EachSchema.{fill_terms, fill_query, of_fill, key
 use Rattle.table_meaning.proofs.Inserting.{inserts, one_inserted}
 use Rattle.table_meaning.proofs.Keys.{one_key, key_itself}
 use Rattle.table_meaning.proofs.LookUps.{hold_put_at}
-use Rattle.table_meaning.proofs.NextRows.{is_of, int_number, is_of_int, number_is}
 use Rattle.table_meaning.proofs.PutFacts.{facts}
 use Rattle.table_meaning.proofs.Putting.{behind, IsNumbered}
 use Rattle.table_meaning.proofs.PutRows.{agree_from, only}
-use Rattle.table_meaning.proofs.Reading.{as_row, projected_rows, tests_key}
+use Rattle.table_meaning.proofs.Reading.{as_row, is_of, int_number, is_of_int, number_is, projected_rows, tests_key}
 use Rattle.table_meaning.proofs.RowsHeld.{found}
 use Rattle.table_meaning.proofs.SchemaTables.{at_tree, each_tree, hold_at_same}
 use Rattle.table_meaning.proofs.Statements.{no_acts}

@@ -25,7 +25,7 @@ use Rattle.table_meaning.specs.Formats.{columns_in}
 use Rattle.table_meaning.specs.Holding.{AreKnown}
 use Rattle.table_meaning.specs.Kept.{call_of, calls_in}
 use Rattle.table_meaning.proofs.ByComputing.{names_of}
-use Rattle.table_meaning.proofs.Listings.{filter-passed, find-map}
+use Rattle.table_meaning.proofs.PlacesLists.{filter-passed, find-map}
 use Rattle.table_meaning.proofs.Reading.{own_rows, passing_rows}
 
 calls_are_read : (command_of (understood stored_schema kept_calls_text) ≡ Select (record { lets = []; body = key_query (tree_of Kept) (1 ∷ []) (places_of Kept) }) (names_of Kept)) × IsPlain (understood stored_schema kept_calls_text)

@@ -5,7 +5,7 @@ use Rattle.std.specs.List.{AllByRecursion, list_any, range_with_len}
 use Rattle.std.proofs.lemmas.Bool.{and_parts, and_from, or_from, eqb-true, eq-eqb}
 use Rattle.std.proofs.lemmas.Bool.Decides.{Decides-int_eq}
 use Rattle.sqlite_value.specs.declared.value.Value.{Value}
-use Rattle.sqlite_value.specs.declared.value.Value.TheVariants.{Null, Int, Real, Text, Blob}
+use Rattle.sqlite_value.specs.declared.value.Value.TheVariants.{Int, Text}
 use Rattle.sqlite_value.specs.declared.keys.Collation.TheVariants.{Binary}
 use Rattle.sqlite_value.specs.Order.{Row, value_cmp}
 use Rattle.sqlite_value.specs.Keys.{plain, first_key}
@@ -28,15 +28,9 @@ same_cell (Int n) (Int m) p q h = ap Int (same_int n m (sym (at_ints false Eq n 
 same_cell (Int n) (Text t) p q h = absurd (true≢false (sym h))
 same_cell (Text t) (Int m) p q h = absurd (true≢false (sym h))
 same_cell (Text s) (Text t) p q h = ap Text (same_bytes s t (sym (at_texts false Eq s t) ∙ h))
-same_cell Null u p q h = absurd (true≢false (sym p))
-same_cell (Real x) u p q h = absurd (true≢false (sym p))
-same_cell (Blob b) u p q h = absurd (true≢false (sym p))
-same_cell (Int n) Null p q h = absurd (true≢false (sym q))
-same_cell (Int n) (Real x) p q h = absurd (true≢false (sym q))
-same_cell (Int n) (Blob b) p q h = absurd (true≢false (sym q))
-same_cell (Text t) Null p q h = absurd (true≢false (sym q))
-same_cell (Text t) (Real x) p q h = absurd (true≢false (sym q))
-same_cell (Text t) (Blob b) p q h = absurd (true≢false (sym q))
+same_cell (Int n) _ p q h = absurd (true≢false (sym q))
+same_cell (Text t) _ p q h = absurd (true≢false (sym q))
+same_cell _ u p q h = absurd (true≢false (sym p))
 
 same_columns : (xs ys : Row) → is_key_row xs ≡ true → is_key_row ys ≡ true → agree plain (range_with_len 0 (length xs)) xs (range_with_len 0 (length ys)) ys ≡ true → xs ≡ ys
 unfolding first_key
@@ -48,12 +42,9 @@ same_columns (v ∷ v' ∷ []) (u ∷ u' ∷ []) p q h =
     ap₂ (λ x y. x ∷ y ∷ []) (same_cell v u ps.0 qs.0 hs.0) (same_cell v' u' ps.1 qs.1 (and_parts _ _ hs.1).0)
 same_columns (v ∷ []) (u ∷ u' ∷ []) p q h = absurd (true≢false (sym (and_parts _ _ h).1))
 same_columns (v ∷ v' ∷ []) (u ∷ []) p q h = absurd (true≢false (sym (and_parts _ _ h).1))
-same_columns [] ys p q h = absurd (true≢false (sym p))
-same_columns (v ∷ v' ∷ v'' ∷ more) ys p q h = absurd (true≢false (sym p))
-same_columns (v ∷ []) [] p q h = absurd (true≢false (sym q))
-same_columns (v ∷ v' ∷ []) [] p q h = absurd (true≢false (sym q))
-same_columns (v ∷ []) (u ∷ u' ∷ u'' ∷ more) p q h = absurd (true≢false (sym q))
-same_columns (v ∷ v' ∷ []) (u ∷ u' ∷ u'' ∷ more) p q h = absurd (true≢false (sym q))
+same_columns (v ∷ []) _ p q h = absurd (true≢false (sym q))
+same_columns (v ∷ v' ∷ []) _ p q h = absurd (true≢false (sym q))
+same_columns _ ys p q h = absurd (true≢false (sym p))
 
 pub one_key : (a b : RowKey) → same_key a b ≡ true → a ≡ b
 one_key a b h =

@@ -70,9 +70,6 @@ module _ (rows : List Row) (shaped : IsShaped TableTree rows) (a b : Row) (is_a 
       back true h = refl
       back false h = absurd (cc)
 
-numbered_apart : (rows : List Row) → IsShaped TableTree rows → AreApart (0 ∷ []) rows
-numbered_apart rows shaped a b is_a is_b = same_number rows shaped a b is_a is_b
-
 -- The key of a table tells its rows apart: as their number, or as the first of what UNIQUE and PRIMARY KEY keep apart.
 apart_by : (key : Key) (count : ℕ) (others : List (List ℕ)) (rows : List Row) → IsShaped TableTree rows
     → ((ps : List ℕ) (row : Row) → slice_get (uniques_with key (take (key_width key) (places_by key count)) others) 0 ≡ Some ps → Has rows row → clashes plain ps rows row ≡ false)

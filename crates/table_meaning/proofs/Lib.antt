@@ -1,10 +1,12 @@
 pub mod ByComputing
 pub mod ByKey
+pub mod CodesBack
 pub mod Columns
 pub mod Definitions
 pub mod EachRow
 pub mod EachSchema
 pub mod EachTable
+pub mod Enumerated
 pub mod Filling
 pub mod FormatLemmas
 pub mod NextRows

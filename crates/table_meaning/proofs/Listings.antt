@@ -1,26 +1,25 @@
 -- What the rows of a table that pass a test show together: what stands at its keys in turn, and passes.
-use Rattle.std.proofs.Common.{◌≡◌, ◌⊎◌, ℕ, zero, suc, ◌+◌, ◌≤◌, ◌<◌, ℤ, pos, negsuc, ◌≤ℤ◌, ◌<ℤ◌, Bool, true, false, ◌&&◌, cond, List, [], ◌∷◌, map, filter, find, slice_get, codes, Option, Some, None, option_map, option_and_then, refl, sym, ap, ap₂, subst, ◌∙◌, inl, inr, arith, int_eq}
+use Rattle.std.proofs.Common.{◌≡◌, ◌⊎◌, ℕ, zero, suc, ◌+◌, ◌≤◌, ◌<◌, pos, Bool, true, false, ◌&&◌, List, [], ◌∷◌, map, filter, find, slice_get, codes, Option, Some, None, option_map, refl, sym, ap, ap₂, ◌∙◌, inl, inr, arith, Less, Greater, int_cmp, int_lt}
 use Rattle.std.specs.Prelude.{filter_map}
-use Rattle.std.specs.List.{AllByRecursion, list_all, range_with_len, cons_option}
+use Rattle.std.specs.List.{AllByRecursion, list_all, range_with_len}
+use Rattle.std.specs.Ordering.{ordering_reverse}
 use Rattle.std.proofs.lemmas.Int.{ints}
 use Rattle.std.proofs.lemmas.Option.{none-some, slice_get-map}
 use Rattle.sqlite_value.specs.declared.value.Value.TheVariants.{Null}
-use Rattle.sqlite_value.specs.Order.{Row, column}
-use Rattle.sqlite_value.specs.Keys.{plain, first_key}
+use Rattle.sqlite_value.specs.Order.{Row, column, value_cmp}
+use Rattle.sqlite_value.proofs.OrderLemmas.{value_cmp-Int, value_cmp_total}
 use Rattle.sqlite_trees.specs.declared.store.Shape.TheVariants.{Table as TableTree}
-use Rattle.sqlite_trees.specs.Tree.{Trees, IsTable}
+use Rattle.sqlite_trees.specs.Tree.{Trees, rowid, IsAscending}
 use Rattle.sqlite_trees.specs.View.{IsShaped}
-use Rattle.sqlite_sql.specs.declared.ops.CompareOp.TheVariants.{Eq, Gt}
+use Rattle.sqlite_sql.specs.declared.ops.CompareOp.TheVariants.{Gt}
 use Rattle.sqlite_sql.specs.Term.{Term, holds}
 use Rattle.sqlite_sql.specs.Program.{overlay}
 use Rattle.sqlite_sql.specs.Query.{IsAnswer}
 use Rattle.sqlite_schema.specs.declared.command.Command.TheVariants.{Select}
-use Rattle.sqlite_schema.specs.Rules.{agree}
-use Rattle.sqlite_rules.proofs.ListLemmas.{all_from, has_filtered}
-use Rattle.sqlite_keyed.specs.Keyed.{IsKeyedBy, get_by}
+use Rattle.sqlite_rules.specs.Edit.{id_in}
 use Rattle.sqlite_rules.specs.Lists.{Has}
-use Rattle.sqlite_keyed.proofs.ListLemmas.{map-map, filter_all, filter-map, map_same, ascending-filter, all_weaker}
-use Rattle.sqlite_keyed.proofs.KeyedLemmas.{key-get_by, none_past, get_by-filter}
+use Rattle.sqlite_rules.proofs.ListLemmas.{all_from}
+use Rattle.sqlite_keyed.proofs.ListLemmas.{map-map, filter_all, filter-map, map_same}
 use Rattle.sqlite_typed.proofs.TestLemmas.{at_ints, then_term, last_term}
 use Rattle.sqlite_tied.specs.Compute.{everything}
 use Rattle.sqlite.specs.Effect.{Database}
@@ -28,176 +27,114 @@ use Rattle.sqlite.specs.State.{State, Shown}
 use Rattle.sqlite.specs.Listing.{understood, reads_listing}
 use Rattle.sqlite.proofs.Callers.{IsPlain, command_of, reads_as}
 use Rattle.table_meaning.specs.declared.tables.TableName.{TableName}
-use Rattle.table_meaning.specs.declared.tables.TableName.TheVariants.{Account, App, Version, VersionClass, Unit, UnitMark, Host}
+use Rattle.table_meaning.specs.declared.tables.TableName.TheVariants.{Setting, Host, Instance, Kept, Batch}
+use Rattle.table_meaning.specs.declared.rows.StoredRow.{StoredRow}
+use Rattle.table_meaning.specs.Layouts.{numbered}
 use Rattle.table_meaning.specs.Schema.{stored_schema}
-use Rattle.table_meaning.specs.Rows.{tree_of, shown, rows_in, whole, columns_of, RowKey, account_key, app_key, version_key, class_key, unit_key, mark_key, host_key, look_up}
+use Rattle.table_meaning.specs.Rows.{tree_of, shown, rows_in, whole, columns_of, RowKey, table_at, key_columns, has_key}
 use Rattle.table_meaning.specs.Holding.{AreKnown, Contents, Hold}
 use Rattle.table_meaning.specs.Listings.{is_numbered, rows_where, standing, listing_query, is_first, credits_text, is_of_user, credit_in}
-use Rattle.table_meaning.proofs.Reading.{Numbered, as_row, parted, as_rows, numbers_rise, own_rows, passing_rows}
+use Rattle.table_meaning.proofs.Columns.{key_by}
+use Rattle.table_meaning.proofs.EachRow.{number_in, key_from, key_of_table}
+use Rattle.table_meaning.proofs.Enumerated.{is_at, shown_at, found_at, there, back}
+use Rattle.table_meaning.proofs.PlacesLists.{filter-passed, one_ascending, ascending-filter_map}
+use Rattle.table_meaning.proofs.Reading.{as_row, is_of, number_is, own_rows, passing_rows}
 
--- ---- lists
+-- ---- numbers in a row
 
-pub filter-passed : {X : Type 0} (p q : X → Bool) (xs : List X) → filter (λ x. q x && p x) xs ≡ filter p (filter q xs)
-filter-passed p q [] = refl
-filter-passed p q (x ∷ xs) = turn (q x) (filter-passed p q xs)
-  where
-    turn : (b : Bool) → filter (λ y. q y && p y) xs ≡ filter p (filter q xs) → cond (b && p x) (x ∷ filter (λ y. q y && p y) xs) (filter (λ y. q y && p y) xs) ≡ filter p (cond b (x ∷ filter q xs) (filter q xs))
-    turn true later = ap (λ l. cond (p x) (x ∷ l) l) later
-    turn false later = later
+from_range : (count from n : ℕ) → Has (range_with_len from count) n → from ≤ n
+from_range zero from n has = absurd has
+from_range (suc count) from n (inl same) = omega (arith, same)
+from_range (suc count) from n (inr later) = omega (arith, from_range count (from + 1) n later)
 
-pub map-filter_map : {X Y Z : Type 0} (f : Y → Z) (h : X → Option Y) (xs : List X) → map f (filter_map h xs) ≡ filter_map (λ x. option_map f (h x)) xs
-map-filter_map f h [] = refl
-map-filter_map f h (x ∷ xs) = turn (h x) (map-filter_map f h xs)
-  where
-    turn : (o : Option _) → map f (filter_map h xs) ≡ filter_map (λ y. option_map f (h y)) xs → map f (cons_option o (filter_map h xs)) ≡ cons_option (option_map f o) (filter_map (λ y. option_map f (h y)) xs)
-    turn None later = later
-    turn (Some y) later = ap (λ l. f y ∷ l) later
+range_rises : (count from : ℕ) → IsAscending (λ a b. a < b) (range_with_len from count)
+range_rises zero from = tt
+range_rises (suc count) from = (all_from (λ n. from < n) (range_with_len (from + 1) count) (λ n has. omega (arith, from_range count (from + 1) n has)), range_rises count (from + 1))
 
-pub find-map : {X Y : Type 0} (f : X → Y) (p : Y → Bool) (q : X → Bool) → ((x : X) → p (f x) ≡ q x) → (xs : List X) → find p (map f xs) ≡ option_map f (find q xs)
-find-map f p q same [] = refl
-find-map f p q same (x ∷ xs) = ap (λ b. cond b (Some (f x)) (find p (map f xs))) (same x) ∙ turn (q x) (find-map f p q same xs)
-  where
-    turn : (b : Bool) → find p (map f xs) ≡ option_map f (find q xs) → cond b (Some (f x)) (find p (map f xs)) ≡ option_map f (cond b (Some x) (find q xs))
-    turn true later = refl
-    turn false later = later
-
--- ---- rows in the order of their numbers, and what is found at each number
-
-natural : (from : ℕ) (z : ℤ) → pos from ≤ℤ z → (n : ℕ) × (z ≡ pos n) × (from ≤ n)
-natural from (pos n) le = (n, refl, omega (arith, ints, le))
-natural from (negsuc n) le = absurd (omega (arith, ints, le))
-
-here_or_later : (from n : ℕ) → from ≤ n → (n ≡ from) ⊎ (from < n)
+pub here_or_later : (from n : ℕ) → from ≤ n → (n ≡ from) ⊎ (from < n)
 here_or_later from n le = grind arith
 
-module _ {X Y : Type 0} (key : X → ℤ) (show : X → Y) where
-  -- what is found from a number on is this, and nothing from another on
-  record Finds (from count : ℕ) (xs : List X) (at : ℕ → Option Y) : Type 0 where
-    keyed : IsKeyedBy key xs
-    above : AllByRecursion (λ x. pos from ≤ℤ key x) xs
-    found : (n : ℕ) → from ≤ n → option_map show (get_by key xs (pos n)) ≡ at n
-    none : (n : ℕ) → from + count ≤ n → at n ≡ None
-
-  got_first : (x : X) (xs : List X) (n : ℕ) → key x ≡ pos n → get_by key (x ∷ xs) (pos n) ≡ Some x
-  got_first x xs n is = let same : int_eq (key x) (pos n) ≡ true = grind (arith, ints) in rw same refl
-
-  got_later : (x : X) (xs : List X) (n m : ℕ) → key x ≡ pos n → n < m → get_by key (x ∷ xs) (pos m) ≡ get_by key xs (pos m)
-  got_later x xs n m is lt = let apart : int_eq (key x) (pos m) ≡ false = grind (arith, ints) in rw apart refl
-
-  in_turn : (count from : ℕ) (xs : List X) (at : ℕ → Option Y) → Finds from count xs at → map show xs ≡ filter_map at (range_with_len from count)
-  in_turn zero from [] at finds = refl
-  in_turn zero from (x ∷ xs) at finds =
-      let n = natural from (key x) finds.above.0 in
-      absurd (none-some _ (sym (finds.none n.0 (omega (arith, n.2))) ∙ sym (finds.found n.0 n.2) ∙ ap (option_map show) (got_first x xs n.0 n.1)))
-  in_turn (suc count) from [] at finds =
-      ap₂ cons_option (finds.found from (omega arith)) (in_turn count (from + 1) [] at (record {
-        keyed = tt;
-        above = tt;
-        found = λ n le. finds.found n (omega (arith, le));
-        none = λ n le. finds.none n (omega (arith, le));
-      }))
-  in_turn (suc count) from (x ∷ xs) at finds =
-      let n = natural from (key x) finds.above.0 in
-      elim (here_or_later from n.0 n.2) [
-        | inl here ↦
-            let is : key x ≡ pos from = n.1 ∙ ap pos here in
-            ap₂ cons_option (sym (ap (option_map show) (got_first x xs from is)) ∙ finds.found from (omega arith)) (in_turn count (from + 1) xs at (record {
-              keyed = finds.keyed.1;
-              above = all_weaker (λ y. key x <ℤ key y) (λ y. pos (from + 1) ≤ℤ key y) (λ y lt. omega (arith, ints, is, lt)) xs finds.keyed.0;
-              found = λ m le. sym (ap (option_map show) (got_later x xs from m is (omega (arith, le)))) ∙ finds.found m (omega (arith, le));
-              none = λ m le. finds.none m (omega (arith, le));
-            }))
-        | inr later ↦
-            let first : pos from <ℤ key x = omega (arith, ints, n.1, later) in
-            let past = none_past key (x ∷ xs) (pos from) (first, all_weaker (λ y. key x <ℤ key y) (λ y. pos from <ℤ key y) (λ y lt. omega (arith, ints, first, lt)) xs finds.keyed.0) in
-            ap₂ cons_option (sym (ap (option_map show) past) ∙ finds.found from (omega arith)) (in_turn count (from + 1) (x ∷ xs) at (record {
-              keyed = finds.keyed;
-              above = (omega (arith, ints, first), all_weaker (λ y. key x <ℤ key y) (λ y. pos (from + 1) ≤ℤ key y) (λ y lt. omega (arith, ints, first, lt)) xs finds.keyed.0);
-              found = λ m le. finds.found m (omega (arith, le));
-              none = λ m le. finds.none m (omega (arith, le));
-            }))
-      ]
+pub in_range : (count from n : ℕ) → from ≤ n → n < from + count → Has (range_with_len from count) n
+in_range zero from n le lt = absurd (omega (arith, le, lt))
+in_range (suc count) from n le lt = elim (here_or_later from n le) [ inl here ↦ inl here | inr later ↦ inr (in_range count (from + 1) n (omega (arith, later)) (omega (arith, lt))) ]
 
 -- ---- the rows of a table that is keyed by one number
 
--- What stands at a key is the row with that number.
-abbrev pub IsByNumber : TableName → (ℕ → RowKey) → Type 0
-IsByNumber t key = (trees : Trees) (n : ℕ) → look_up trees (key n) ≡ option_map (shown t) (find (λ r. agree plain (0 ∷ []) r (0 ∷ []) (whole n ∷ [])) (trees (tree_of t)))
+-- The keys of the table are numbers, and SQL compares them with those of the rows.
+pub record IsByNumber (t : TableName) (key : ℕ → RowKey) : Type 0 where
+  pub at : (n : ℕ) → table_at (key n) ≡ t
+  pub is : (n : ℕ) (r : Row) → has_key (key n) r ≡ is_of n r
+  pub all : (k : RowKey) → table_at k ≡ t → k ≡ key (number_in (column (key_columns k) 0))
 
-pub accounts_by_number : IsByNumber Account account_key
-accounts_by_number trees n = refl
+pub keyed_by_number : (t : TableName) → key_by t ≡ numbered → IsByNumber t (λ n. key_from t (whole n ∷ []))
+keyed_by_number Setting is = absurd (cc)
+keyed_by_number Instance is = absurd (cc)
+keyed_by_number Kept is = absurd (cc)
+keyed_by_number Batch is = absurd (cc)
+keyed_by_number t is = record { at = λ n. refl; is = λ n r. refl; all = key_of_table t }
 
-pub apps_by_number : IsByNumber App app_key
-apps_by_number trees n = refl
-
-pub versions_by_number : IsByNumber Version version_key
-versions_by_number trees n = refl
-
-pub classes_by_number : IsByNumber VersionClass class_key
-classes_by_number trees n = refl
-
-pub units_by_number : IsByNumber Unit unit_key
-units_by_number trees n = refl
-
-pub marks_by_number : IsByNumber UnitMark mark_key
-marks_by_number trees n = refl
-
-pub hosts_by_number : IsByNumber Host host_key
-hosts_by_number trees n = refl
+-- no row is before another that is before it
+never_both : (x y : Row) → value_cmp (rowid x) (rowid y) ≡ Less → value_cmp (rowid y) (rowid x) ≡ Less → ⊥
+never_both x y less more =
+    let clash : Less ≡ Greater = sym less ∙ value_cmp_total.antisymm (rowid x) (rowid y) ∙ ap ordering_reverse more in cc
 
 module _ (t : TableName) (key : ℕ → RowKey) (by : IsByNumber t key) (db : Database) (contents : Contents) (holds : Hold db contents) (count : ℕ)
-    (none : (n : ℕ) → count < n → contents (key n) ≡ None) where
-  abbrev xs : List Numbered
-  xs = map parted (db.trees (tree_of t))
+    (at_zero : contents (key 0) ≡ None) (none : (n : ℕ) → count < n → contents (key n) ≡ None) where
+  abbrev rows : List Row
+  rows = db.trees (tree_of t)
 
-  is : db.trees (tree_of t) ≡ map as_row xs
-  is = as_rows (db.trees (tree_of t)) (holds.known.ordered t).1
+  abbrev found : ℕ → Option Row
+  found n = find (has_key (key n)) rows
 
-  keyed : IsKeyedBy (λ (x : Numbered). x.0) xs
-  keyed = numbers_rise xs (subst IsTable is (holds.known.ordered t).0)
+  abbrev numbers : List ℕ
+  numbers = range_with_len 1 count
 
-  abbrev passes : Numbered → Bool
-  passes x = is_numbered (as_row x)
-
-  has_number : (n : ℕ) (x : Numbered) → agree plain (0 ∷ []) (as_row x) (0 ∷ []) (whole n ∷ []) ≡ int_eq x.0 (pos n)
-  unfolding first_key
-  has_number n x = last_term (at_ints false Eq x.0 (pos n))
-
-  passed : (n : ℕ) → 1 ≤ n → get_by (λ (x : Numbered). x.0) (filter passes xs) (pos n) ≡ get_by (λ (x : Numbered). x.0) xs (pos n)
-  passed n le = get_by-filter (λ (x : Numbered). x.0) passes xs (pos n) keyed ∙ kept (get_by (λ (x : Numbered). x.0) xs (pos n)) (λ x found. key-get_by (λ (y : Numbered). y.0) xs (pos n) x found)
+  among : (n : ℕ) (row : StoredRow) → contents (key n) ≡ Some row → Has numbers n
+  among zero row is = absurd (none-some row (sym at_zero ∙ is))
+  among (suc n) row is = elim (past_or_within (suc n)) [
+    | inl past ↦ absurd (none-some row (sym (none (suc n) past) ∙ is))
+    | inr within ↦ in_range count 1 (suc n) (omega arith) (omega (arith, within))
+  ]
     where
-      kept : (o : Option Numbered) → ((x : Numbered) → o ≡ Some x → x.0 ≡ pos n) → option_and_then (λ x. cond (passes x) (Some x) None) o ≡ o
-      kept None named = refl
-      kept (Some x) named = let id = named x refl in let above : passes x ≡ true = grind (arith, ints) in rw above refl
+      past_or_within : (m : ℕ) → (count < m) ⊎ (m ≤ count)
+      past_or_within m = grind arith
 
-  finds : Finds (λ (x : Numbered). x.0) (λ (x : Numbered). shown t (as_row x)) 1 count (filter passes xs) (λ n. option_map columns_of (contents (key n)))
-  finds = record {
-    keyed = ascending-filter _ passes xs keyed;
-    above = all_from (λ (x : Numbered). pos 1 ≤ℤ x.0) (filter passes xs) (λ x has. let above = (has_filtered passes xs x has).1 in grind (arith, ints));
-    found = λ n le.
-        ap (option_map (λ (x : Numbered). shown t (as_row x))) (passed n le) ∙ shown_twice (get_by (λ (x : Numbered). x.0) xs (pos n))
-        ∙ sym (ap (option_map (shown t)) (ap (find (λ r. agree plain (0 ∷ []) r (0 ∷ []) (whole n ∷ []))) is ∙ find-map as_row _ _ (has_number n) xs)) ∙ sym (by db.trees n) ∙ holds.rows (key n);
-    none = λ n le. ap (option_map columns_of) (none n (omega (arith, le)));
-  }
+  all_numbers : (k : RowKey) (row : StoredRow) → table_at k ≡ t → contents k ≡ Some row → (n : ℕ) × Has numbers n × (k ≡ key n)
+  all_numbers k row same stands =
+      let n = number_in (column (key_columns k) 0) in
+      let is : k ≡ key n = by.all k same in
+      (n, among n row (sym (ap contents is) ∙ stands), is)
+
+  number : (n : ℕ) (r : Row) → found n ≡ Some r → rowid r ≡ whole n
+  number n r is = let it = is_at db contents holds t key by.at n r is in number_is rows (holds.known.ordered t) n r it.here (sym (by.is n r) ∙ it.own)
+
+  lower : (a b : ℕ) (x y : Row) → a < b → found a ≡ Some x → found b ≡ Some y → value_cmp (rowid x) (rowid y) ≡ Less
+  lower a b x y before some other =
+      ap₂ value_cmp (number a x some) (number b y other) ∙ value_cmp-Int (pos a) (pos b) ∙ (let less : int_cmp (pos a) (pos b) ≡ Less = grind (arith, ints) in less)
+
+  in_turn : rows ≡ filter_map found numbers
+  in_turn =
+      one_ascending (λ x y. value_cmp (rowid x) (rowid y) ≡ Less) never_both rows (filter_map found numbers) (holds.known.ordered t).0
+      (ascending-filter_map found (λ a b. a < b) (λ x y. value_cmp (rowid x) (rowid y) ≡ Less) lower numbers (range_rises count 1))
+      (there db contents holds t key by.at numbers all_numbers) (back db contents holds t key by.at numbers all_numbers)
+
+  each_numbered : AllByRecursion (λ r. is_numbered r ≡ true) rows
+  each_numbered = all_from (λ r. is_numbered r ≡ true) rows (λ r has.
+      let n = found_at db contents holds t key by.at numbers all_numbers r has in
+      ap (λ v. int_lt (pos 0) (id_in v)) (number n.0 r n.2) ∙ above n.0 (from_range count 1 n.0 n.1))
     where
-      shown_twice : (o : Option Numbered) → option_map (λ (x : Numbered). shown t (as_row x)) o ≡ option_map (shown t) (option_map as_row o)
-      shown_twice None = refl
-      shown_twice (Some x) = refl
+      above : (n : ℕ) → 1 ≤ n → int_lt (pos 0) (pos n) ≡ true
+      above n le = grind (arith, ints)
 
-  -- Those with a number above 0 that pass a test are, in order, what stands at the keys 1, 2, .. and passes.
+  -- What they show is what stands at the keys 1, 2, .. in turn.
+  pub all_listed : rows_in db.trees t ≡ map columns_of (standing contents key 1 count)
+  all_listed = ap (map (shown t)) in_turn ∙ shown_at db contents holds t key by.at numbers
+
+  -- Those with a number above 0 that pass a test are what stands there and passes.
   pub listed : (test : Row → Bool) → rows_where db.trees t test ≡ filter test (map columns_of (standing contents key 1 count))
   listed test =
-      ap (map (shown t)) (filter-passed (λ r. test (shown t r)) is_numbered (db.trees (tree_of t))) ∙ sym (filter-map test (shown t) (filter is_numbered (db.trees (tree_of t))))
-      ∙ ap (filter test) (ap (λ l. map (shown t) (filter is_numbered l)) is ∙ ap (map (shown t)) (filter-map is_numbered as_row xs) ∙ map-map (shown t) as_row (filter passes xs)
-      ∙ in_turn _ _ count 1 (filter passes xs) _ finds ∙ sym (map-filter_map columns_of (λ n. contents (key n)) (range_with_len 1 count)))
-
-  -- and where each row has such a number, these are all.
-  pub all_listed : ((raw : Row) → Has (db.trees (tree_of t)) raw → is_numbered raw ≡ true) → rows_in db.trees t ≡ map columns_of (standing contents key 1 count)
-  all_listed numbered =
-      let tree = db.trees (tree_of t) in
-      let every = map columns_of (standing contents key 1 count) in
-      ap (map (shown t)) (sym (filter_all (λ row. is_numbered row && true) tree (all_from _ tree (λ raw has. ap (λ b. b && true) (numbered raw has)))))
-      ∙ listed (λ row. true) ∙ filter_all (λ row. true) every (all_from (λ row. true ≡ true) every (λ row has. refl))
+      ap (map (shown t)) (filter-passed (λ r. test (shown t r)) is_numbered rows ∙ ap (filter (λ r. test (shown t r))) (filter_all is_numbered rows each_numbered))
+      ∙ sym (filter-map test (shown t) rows) ∙ ap (filter test) all_listed
 
 -- ---- what a statement lists
 

@@ -3,22 +3,17 @@ use Rattle.std.proofs.Common.{◌≡◌, ℕ, ◌≤◌, pos, ◌<ℤ◌, Bool, 
 use Rattle.std.proofs.lemmas.Int.{ints}
 use Rattle.std.proofs.lemmas.Option.{none-some}
 use Rattle.sqlite_value.specs.declared.value.Value.TheVariants.{Null, Int}
-use Rattle.sqlite_value.specs.declared.keys.Collation.TheVariants.{Binary}
 use Rattle.sqlite_value.specs.Order.{Row, column}
-use Rattle.sqlite_value.specs.Keys.{plain, first_key}
+use Rattle.sqlite_value.specs.Keys.{first_key}
 use Rattle.sqlite_trees.specs.declared.store.Shape.TheVariants.{Table as TableTree}
 use Rattle.sqlite_trees.specs.Tree.{Trees, rowid, IsTable}
 use Rattle.sqlite_trees.specs.View.{IsShaped}
 use Rattle.sqlite_sql.specs.declared.ops.CompareOp.TheVariants.{Eq, Ge}
 use Rattle.sqlite_sql.specs.Term.{lit, col}
-use Rattle.sqlite_schema.specs.Rules.{agree, equal}
 use Rattle.sqlite_rules.specs.Edit.{id_in}
-use Rattle.sqlite_rules.specs.Lists.{Has}
-use Rattle.sqlite_rules.proofs.ListLemmas.{all_has}
-use Rattle.sqlite_rules.proofs.TableLemmas.{int_is}
 use Rattle.sqlite_keyed.specs.Keyed.{IsKeyedBy, get_by}
 use Rattle.sqlite_keyed.proofs.ListLemmas.{all_weaker}
-use Rattle.sqlite_keyed.proofs.KeyedLemmas.{none_past, same_int}
+use Rattle.sqlite_keyed.proofs.KeyedLemmas.{none_past}
 use Rattle.sqlite_typed.proofs.AnswerLemmas.{first_shown}
 use Rattle.sqlite_typed.proofs.TestLemmas.{at_ints, last_term}
 use Rattle.sqlite.specs.State.{State, Shown}
@@ -30,30 +25,15 @@ use Rattle.table_meaning.specs.Schema.{schema_at}
 use Rattle.table_meaning.specs.Rows.{whole}
 use Rattle.table_meaning.specs.Fills.{source_of, schema_with, next_text, numbered_row, IsNextRow}
 use Rattle.table_meaning.proofs.EachSchema.{next_terms, of_fill}
-use Rattle.table_meaning.proofs.Reading.{Numbered, as_row, parted, as_rows, numbers_rise, projected_rows}
-use Rattle.table_meaning.proofs.Listings.{find-map}
+use Rattle.table_meaning.proofs.PlacesLists.{find-map}
+use Rattle.table_meaning.proofs.Reading.{Numbered, as_row, parted, as_rows, numbers_rise, is_of, projected_rows}
 use Rattle.table_meaning.proofs.StepLemmas.{unchanged_shown}
 
 -- ---- rows by their number
 
--- the row has the number of a host, or a number from one on
-abbrev pub is_of : ℕ → Row → Bool
-is_of host r = agree plain (0 ∷ []) r (0 ∷ []) (whole host ∷ [])
-
 is_of_number : (host : ℕ) (x : Numbered) → is_of host (as_row x) ≡ int_eq x.0 (pos host)
 unfolding first_key
 is_of_number host x = last_term (at_ints false Eq x.0 (pos host))
-
-module _ (rows : List Row) (shaped : IsShaped TableTree rows) (n : ℕ) (x : Row) (has : Has rows x) where
-  pub int_number : rowid x ≡ Int (id_in (rowid x))
-  int_number = int_is (rowid x) (all_has _ rows x shaped.1 has)
-
-  pub is_of_int : is_of n x ≡ int_eq (id_in (rowid x)) (pos n)
-  unfolding first_key
-  is_of_int = last_term (ap (λ v. equal Binary v (whole n)) int_number ∙ at_ints false Eq (id_in (rowid x)) (pos n))
-
-  pub number_is : is_of n x ≡ true → rowid x ≡ whole n
-  number_is same = int_number ∙ ap Int (same_int _ _ (sym is_of_int ∙ same))
 
 abbrev is_from : ℕ → Row → Bool
 is_from from r = int_le (pos from) (id_in (rowid r))

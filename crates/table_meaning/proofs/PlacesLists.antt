@@ -1,5 +1,5 @@
--- Lists with the same members, each once; what a partial function gives along a list; and the first of a list of which all pass.
-use Rattle.std.proofs.Common.{◌≡◌, ◌⊎◌, ℕ, zero, suc, Bool, true, false, cond, List, [], ◌∷◌, ◌++◌, map, take, filter, find, Option, Some, None, refl, sym, ap, subst, ◌∙◌, inl, inr, true≢false, IsPermutation}
+-- Lists with the same members, tests of what a function gives, and what a partial function gives along a list.
+use Rattle.std.proofs.Common.{◌≡◌, ◌⊎◌, Bool, true, false, ◌&&◌, cond, List, [], ◌∷◌, ◌++◌, map, filter, flat_map, find, Option, Some, None, option_map, refl, sym, ap, ap₂, subst, ◌∙◌, inl, inr, IsPermutation}
 use Rattle.std.specs.Prelude.{filter_map}
 use Rattle.std.specs.List.{AllByRecursion, cons_option}
 use Rattle.std.proofs.lemmas.List.Sorted.{IsPermutation-refl, IsPermutation-cons, IsPermutation-sym, IsPermutation-trans, IsPermutation-middle}
@@ -46,20 +46,60 @@ module _ {X : Type 0} where
       among before after z apart (inr (inl same)) = absurd (apart (sym same))
       among before after z apart (inr (inr right)) = has_right before after z right
 
-  pub one_found : (p : X → Bool) (xs : List X) (x : X) → Has xs x → p x ≡ true → (y : X) × (find p xs ≡ Some y)
-  one_found p [] x has passes = absurd has
-  one_found p (y ∷ xs) x has passes = turn (p y) refl has (one_found p xs x)
-    where
-      turn : (b : Bool) → p y ≡ b → Has (y ∷ xs) x → (Has xs x → p x ≡ true → (z : X) × (find p xs ≡ Some z)) → (z : X) × (cond b (Some y) (find p xs) ≡ Some z)
-      turn true is there more = (y, refl)
-      turn false is (inl same) more = absurd (true≢false (sym passes ∙ ap p same ∙ is))
-      turn false is (inr later) more = more later passes
+-- lists that rise by one order and have the same members are one
+module _ {X : Type 0} (R : X → X → Type 0) (never : (a b : X) → R a b → R b a → ⊥) where
+  behind_first : (x : X) (xs ys : List X) → AllByRecursion (R x) xs → ((z : X) → Has xs z → Has (x ∷ ys) z) → (z : X) → Has xs z → Has ys z
+  behind_first x xs ys above there z has = elim (there z has) [
+    | inl same ↦ let itself : R x x = subst (R x) same (all_has (R x) xs z above has) in absurd (never x x itself itself)
+    | inr later ↦ later
+  ]
 
-  -- the first so many of a list, where all of them pass
-  pub first_passing : (p : X → Bool) (n : ℕ) (xs : List X) → AllByRecursion (λ x. p x ≡ true) (take n xs) → take n xs ≡ take n (filter p xs)
-  first_passing p zero xs all = refl
-  first_passing p (suc n) [] all = refl
-  first_passing p (suc n) (x ∷ xs) all = rw all.0 (ap (λ l. x ∷ l) (first_passing p n xs all.1))
+  same_first : (x y : X) (xs ys : List X) → AllByRecursion (R x) xs → AllByRecursion (R y) ys → Has (y ∷ ys) x → Has (x ∷ xs) y → x ≡ y
+  same_first x y xs ys above other (inl same) back = same
+  same_first x y xs ys above other (inr there) (inl same) = sym same
+  same_first x y xs ys above other (inr there) (inr back) = absurd (never x y (all_has (R x) xs y above back) (all_has (R y) ys x other there))
+
+  pub one_ascending : (xs ys : List X) → IsAscending R xs → IsAscending R ys → ((z : X) → Has xs z → Has ys z) → ((z : X) → Has ys z → Has xs z) → xs ≡ ys
+  one_ascending [] [] up other there back = refl
+  one_ascending [] (y ∷ ys) up other there back = absurd (back y (inl refl))
+  one_ascending (x ∷ xs) [] up other there back = absurd (there x (inl refl))
+  one_ascending (x ∷ xs) (y ∷ ys) up other there back =
+      let same = same_first x y xs ys up.0 other.0 (there x (inl refl)) (back y (inl refl)) in
+      let on = behind_first x xs ys up.0 (λ z has. subst (λ w. Has (w ∷ ys) z) (sym same) (there z (inr has))) in
+      let off = behind_first y ys xs other.0 (λ z has. subst (λ w. Has (w ∷ xs) z) same (back z (inr has))) in
+      ap₂ ◌∷◌ same (one_ascending xs ys up.1 other.1 on off)
+
+-- ---- tests, and what a function gives
+
+pub filter-passed : {X : Type 0} (p q : X → Bool) (xs : List X) → filter (λ x. q x && p x) xs ≡ filter p (filter q xs)
+filter-passed p q [] = refl
+filter-passed p q (x ∷ xs) = turn (q x) (filter-passed p q xs)
+  where
+    turn : (b : Bool) → filter (λ y. q y && p y) xs ≡ filter p (filter q xs) → cond (b && p x) (x ∷ filter (λ y. q y && p y) xs) (filter (λ y. q y && p y) xs) ≡ filter p (cond b (x ∷ filter q xs) (filter q xs))
+    turn true later = ap (λ l. cond (p x) (x ∷ l) l) later
+    turn false later = later
+
+pub kept_for_each : {X Y : Type 0} (p : X → Bool) (f : X → Y) (xs : List X) → flat_map (λ x. cond (p x) (f x ∷ []) []) xs ≡ map f (filter p xs)
+kept_for_each p f [] = refl
+kept_for_each p f (x ∷ xs) =
+    elim (p x) as (λ b. cond b (f x ∷ []) [] ++ flat_map (λ y. cond (p y) (f y ∷ []) []) xs ≡ map f (cond b (x ∷ filter p xs) (filter p xs)))
+    [ true ↦ ap (λ l. f x ∷ l) (kept_for_each p f xs) | false ↦ kept_for_each p f xs ]
+
+pub map-filter_map : {X Y Z : Type 0} (f : Y → Z) (h : X → Option Y) (xs : List X) → map f (filter_map h xs) ≡ filter_map (λ x. option_map f (h x)) xs
+map-filter_map f h [] = refl
+map-filter_map f h (x ∷ xs) = turn (h x) (map-filter_map f h xs)
+  where
+    turn : (o : Option _) → map f (filter_map h xs) ≡ filter_map (λ y. option_map f (h y)) xs → map f (cons_option o (filter_map h xs)) ≡ cons_option (option_map f o) (filter_map (λ y. option_map f (h y)) xs)
+    turn None later = later
+    turn (Some y) later = ap (λ l. f y ∷ l) later
+
+pub find-map : {X Y : Type 0} (f : X → Y) (p : Y → Bool) (q : X → Bool) → ((x : X) → p (f x) ≡ q x) → (xs : List X) → find p (map f xs) ≡ option_map f (find q xs)
+find-map f p q same [] = refl
+find-map f p q same (x ∷ xs) = ap (λ b. cond b (Some (f x)) (find p (map f xs))) (same x) ∙ turn (q x) (find-map f p q same xs)
+  where
+    turn : (b : Bool) → find p (map f xs) ≡ option_map f (find q xs) → cond b (Some (f x)) (find p (map f xs)) ≡ option_map f (cond b (Some x) (find q xs))
+    turn true later = refl
+    turn false later = later
 
 -- ---- what a partial function gives along a list
 

@@ -1,11 +1,11 @@
 -- What the tests of an instance's columns say of the values that stand there.
-use Rattle.std.proofs.Common.{◌≡◌, ℕ, ℤ, pos, false, ◌&&◌, Option, Some, None, refl, ap₂, ◌∙◌, arith, int_le, int_lt, nat_le, nat_lt, is_none}
+use Rattle.std.proofs.Common.{◌≡◌, ℕ, ℤ, pos, false, ◌&&◌, Option, Some, None, refl, ap₂, ◌∙◌, arith, int_le, int_lt, nat_le, nat_lt}
 use Rattle.std.specs.Prelude.{◌==◌}
 use Rattle.std.proofs.lemmas.Int.{ints}
 use Rattle.sched_book.specs.Places.{option_any}
 use Rattle.sqlite_value.specs.declared.value.Value.TheVariants.{Int}
 use Rattle.sqlite_sql.specs.declared.ops.CompareOp.TheVariants.{Eq, Lt, Gt, Ge}
-use Rattle.sqlite_sql.specs.Ops.{is_null, binary}
+use Rattle.sqlite_sql.specs.Ops.{binary}
 use Rattle.sqlite_typed.proofs.TestLemmas.{at_ints}
 use Rattle.sqlite.specs.Values.{or_null}
 use Rattle.table_meaning.specs.Rows.{whole}
@@ -24,10 +24,6 @@ pub optional_equals : (o : Option ℕ) (n : ℕ) → compares Eq (or_null whole 
 unfolding binary
 optional_equals None n = refl
 optional_equals (Some m) n = equal_numbers m n
-
-pub optional_is_null : (o : Option ℕ) → is_null (or_null whole o) ≡ is_none o
-optional_is_null None = refl
-optional_is_null (Some n) = refl
 
 pub optional_lies_between : (from until : ℤ) (o : Option ℤ) → lies_between from until (or_null Int o) ≡ option_any (λ z. int_le from z && int_lt z until) o
 unfolding binary

@@ -1,5 +1,5 @@
 -- A read of a whole table shows its rows in the order of its tree.
-use Rattle.std.proofs.Common.{◌≡◌, ℕ, ◌+◌, ℤ, negsuc, Bool, true, ◌&&◌, List, [], ◌∷◌, map, map-id, drop, filter, find, length, slice_get, Option, Some, None, option_map, refl, sym, ap, ap₂, subst, ◌∙◌, Less}
+use Rattle.std.proofs.Common.{◌≡◌, ℕ, ◌+◌, ℤ, pos, negsuc, Bool, true, false, ◌&&◌, List, [], ◌∷◌, map, map-id, drop, filter, find, length, slice_get, Option, Some, None, option_map, refl, sym, ap, ap₂, subst, ◌∙◌, Less, int_eq}
 use Rattle.std.specs.List.{AllByRecursion, list_all, range_with_len}
 use Rattle.std.proofs.lemmas.List.{length-map}
 use Rattle.std.proofs.lemmas.Option.{slice_get-map}
@@ -10,6 +10,7 @@ use Rattle.sqlite_value.proofs.OrderLemmas.{value_cmp-Int}
 use Rattle.sqlite_trees.specs.declared.store.Shape.TheVariants.{Table as TableTree}
 use Rattle.sqlite_trees.specs.Tree.{Trees, rowid, IsTable}
 use Rattle.sqlite_trees.specs.View.{IsShaped, is_int}
+use Rattle.sqlite_sql.specs.declared.ops.CompareOp.TheVariants.{Eq}
 use Rattle.sqlite_sql.specs.Term.{Term, lit, col, eval, eval_all, holds}
 use Rattle.sqlite_sql.specs.Program.{overlay}
 use Rattle.sqlite_sql.specs.Query.{Query, IsAnswer, page}
@@ -19,12 +20,14 @@ use Rattle.sqlite_schema.specs.Rules.{agree, equal}
 use Rattle.sqlite_value.specs.declared.keys.Collation.{Collation}
 use Rattle.sqlite_value.specs.declared.keys.Collation.TheVariants.{Binary}
 use Rattle.sqlite_rules.specs.Edit.{id_in}
+use Rattle.sqlite_rules.specs.Lists.{Has}
+use Rattle.sqlite_rules.proofs.ListLemmas.{all_has}
 use Rattle.sqlite_rules.proofs.TableLemmas.{int_is}
 use Rattle.sqlite_keyed.specs.Keyed.{IsKeyedBy}
 use Rattle.sqlite_keyed.proofs.ListLemmas.{map-map, map_same, ascending_from_map, ascending_weaker, filter-map, slice_get-filter}
-use Rattle.sqlite_keyed.proofs.KeyedLemmas.{lt_from_Less}
+use Rattle.sqlite_keyed.proofs.KeyedLemmas.{lt_from_Less, same_int}
 use Rattle.sqlite_typed.proofs.AnswerLemmas.{at_end, last_table, answer_by_keys, unfiltered}
-use Rattle.sqlite_typed.proofs.TestLemmas.{last_key}
+use Rattle.sqlite_typed.proofs.TestLemmas.{at_ints, last_key, last_term}
 use Rattle.sqlite.specs.State.{State, Shown}
 use Rattle.sqlite.proofs.Callers.{reads_as}
 use Rattle.table_meaning.specs.declared.tables.TableName.{TableName}
@@ -61,6 +64,21 @@ as_rows (r ∷ rows) h = ap₂ ◌∷◌ (whole_row r h.0) (as_rows rows h.1)
 
 pub numbers_rise : (xs : List Numbered) → IsTable (map as_row xs) → IsKeyedBy (λ n. n.0) xs
 numbers_rise xs up = ascending_weaker _ _ (λ a b h. lt_from_Less _ _ (sym (value_cmp-Int a.0 b.0) ∙ h)) xs (ascending_from_map (λ a b. value_cmp (rowid a) (rowid b) ≡ Less) as_row xs up)
+
+-- the row has this number
+abbrev pub is_of : ℕ → Row → Bool
+is_of n r = agree plain (0 ∷ []) r (0 ∷ []) (whole n ∷ [])
+
+module _ (rows : List Row) (shaped : IsShaped TableTree rows) (n : ℕ) (x : Row) (has : Has rows x) where
+  pub int_number : rowid x ≡ Int (id_in (rowid x))
+  int_number = int_is (rowid x) (all_has _ rows x shaped.1 has)
+
+  pub is_of_int : is_of n x ≡ int_eq (id_in (rowid x)) (pos n)
+  unfolding first_key
+  is_of_int = last_term (ap (λ v. equal Binary v (whole n)) int_number ∙ at_ints false Eq (id_in (rowid x)) (pos n))
+
+  pub number_is : is_of n x ≡ true → rowid x ≡ whole n
+  number_is same = int_number ∙ ap Int (same_int _ _ (sym is_of_int ∙ same))
 
 -- what terms give of the rows of a tree that pass others, in the order of the tree, so many at most
 abbrev pub projecting_query : ℕ → List Term → List Term → List Collation → Term → Query

@@ -1,5 +1,5 @@
 -- What stands at a key, where a table was read as typed rows.
-use Rattle.std.proofs.Common.{◌≡◌, ◌⊎◌, Bool, true, false, ◌&&◌, cond, List, [], ◌∷◌, map, find, Option, Some, None, option_map, refl, sym, ap, subst, ◌∙◌, inl, inr, true≢false}
+use Rattle.std.proofs.Common.{◌≡◌, ◌⊎◌, Bool, true, false, ◌&&◌, cond, List, [], ◌∷◌, map, find, Option, Some, None, option_map, refl, sym, ap, subst, ◌∙◌, inl, inr, true≢false, ℕ, zero, suc, ◌<◌, length, get_or, arith}
 use Rattle.std.specs.Prelude.{unwrap_or}
 use Rattle.std.proofs.lemmas.Bool.{eq-eqb}
 use Rattle.std.proofs.lemmas.Option.{none-some}
@@ -8,6 +8,7 @@ use Rattle.sqlite_value.specs.Keys.{plain}
 use Rattle.sqlite_trees.specs.Tree.{Trees}
 use Rattle.sqlite_schema.specs.Rules.{agree}
 use Rattle.sqlite_rules.specs.Lists.{Has}
+use Rattle.sqlite_rules.proofs.ProbeLemmas.{mapped_has, has_mapped}
 use Rattle.table_meaning.specs.declared.tables.TableName.{TableName}
 use Rattle.table_meaning.specs.declared.rows.StoredRow.{StoredRow}
 use Rattle.table_meaning.specs.Holding.{HaveKeys}
@@ -28,16 +29,6 @@ found {X} p (x ∷ xs) = go (p x) refl (found p xs)
     go false here (inl none) = inl (none.0, λ y has. elim has [ inl same ↦ ap p same ∙ here | inr later ↦ none.1 y later ])
     go false here (inr one) = inr (one.0, one.1, inr one.2, one.3)
 
-pub mapped : {X Y : Type 0} (f : X → Y) (xs : List X) (x : X) → Has xs x → Has (map f xs) (f x)
-mapped f [] x has = absurd has
-mapped f (y ∷ xs) x (inl same) = inl (ap f same)
-mapped f (y ∷ xs) x (inr later) = inr (mapped f xs x later)
-
-pub source : {X Y : Type 0} (f : X → Y) (xs : List X) (y : Y) → Has (map f xs) y → (x : X) × Has xs x × (y ≡ f x)
-source f [] y has = absurd has
-source f (x ∷ xs) y (inl same) = (x, inl refl, same)
-source f (x ∷ xs) y (inr later) = let more = source f xs y later in (more.0, inr more.1, more.2)
-
 -- ---- what stands at a key
 
 pub has_key_is : (s : StoredRow) (raw : Row) (key : RowKey) → shown (table_at (key_of s)) raw ≡ columns_of s → table_at key ≡ table_at (key_of s) → has_key key raw ≡ same_key key (key_of s)
@@ -53,10 +44,10 @@ has_own_key s raw is = has_key_is s raw (key_of s) is refl ∙ key_itself (key_o
 module _ (trees : Trees) (t : TableName) (rows : List StoredRow) (read : map columns_of rows ≡ rows_in trees t) (of_table : (r : StoredRow) → Has rows r → table_at (key_of r) ≡ t) where
   -- a row of the tree is one that was read, and the other way round
   read_of : (raw : Row) → Has (trees (tree_of t)) raw → (s : StoredRow) × Has rows s × (shown t raw ≡ columns_of s)
-  read_of raw has = source columns_of rows (shown t raw) (subst (λ l. Has l (shown t raw)) (sym read) (mapped (shown t) (trees (tree_of t)) raw has))
+  read_of raw has = has_mapped columns_of rows (shown t raw) (subst (λ l. Has l (shown t raw)) (sym read) (mapped_has (shown t) (trees (tree_of t)) raw has))
 
   raw_of : (s : StoredRow) → Has rows s → (raw : Row) × Has (trees (tree_of t)) raw × (columns_of s ≡ shown t raw)
-  raw_of s has = source (shown t) (trees (tree_of t)) (columns_of s) (subst (λ l. Has l (columns_of s)) read (mapped columns_of rows s has))
+  raw_of s has = has_mapped (shown t) (trees (tree_of t)) (columns_of s) (subst (λ l. Has l (columns_of s)) read (mapped_has columns_of rows s has))
 
   key_test : (s : StoredRow) (raw : Row) (key : RowKey) → table_at key ≡ t → Has rows s → shown t raw ≡ columns_of s → has_key key raw ≡ same_key key (key_of s)
   key_test s raw key at has is = has_key_is s raw key (subst (λ u. shown u raw ≡ columns_of s) (sym (of_table s has)) is) (at ∙ sym (of_table s has))
@@ -98,3 +89,8 @@ module _ (trees : Trees) (t : TableName) (rows : List StoredRow) (read : map col
           let s = read_of one.0 one.2 in
           let shows : Some (shown t one.0) ≡ Some row = sym (ap (option_map (shown t)) one.1) ∙ found_row in
           (s.0, s.1, ap (λ o. unwrap_or o row) (sym shows) ∙ s.2, sym (one_key key (key_of s.0) (sym (key_test s.0 one.0 key at s.1 s.2) ∙ one.3)))
+
+pub has_get_or : {X : Type 0} (xs : List X) (i : ℕ) (d : X) → i < length xs → Has xs (get_or xs i d)
+has_get_or [] i d within = absurd (omega (arith, within))
+has_get_or (x ∷ xs) zero d within = inl refl
+has_get_or (x ∷ xs) (suc i) d within = inr (has_get_or xs i d (omega (arith, within)))

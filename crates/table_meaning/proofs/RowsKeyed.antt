@@ -5,6 +5,7 @@ use Rattle.sqlite_value.specs.Order.{Row}
 use Rattle.sqlite_value.specs.Keys.{plain}
 use Rattle.sqlite_rules.specs.Lists.{Has}
 use Rattle.sqlite_rules.proofs.KeyLemmas.{agree_back, agree_chain}
+use Rattle.sqlite_rules.proofs.ProbeLemmas.{mapped_has, has_mapped}
 use Rattle.sqlite.specs.Effect.{Database}
 use Rattle.sqlite_trees.specs.Tree.{Trees}
 use Rattle.table_meaning.specs.declared.tables.TableName.{TableName}
@@ -12,7 +13,7 @@ use Rattle.table_meaning.specs.declared.rows.StoredRow.{StoredRow}
 use Rattle.table_meaning.specs.Holding.{AreKnown, Contents, Hold}
 use Rattle.table_meaning.specs.Rows.{RowKey, tree_of, key_places, shown, rows_in, columns_of, table_at, key_columns, slots_of, has_key, look_up}
 use Rattle.table_meaning.proofs.EachRow.{columns_told}
-use Rattle.table_meaning.proofs.RowsHeld.{found, mapped, source}
+use Rattle.table_meaning.proofs.RowsHeld.{found}
 
 -- the one member that passes is found
 find_one : {X : Type 0} (p : X → Bool) (xs : List X) (x : X) → Has xs x → p x ≡ true → ((y : X) → Has xs y → p y ≡ true → y ≡ x) → find p xs ≡ Some x
@@ -26,12 +27,16 @@ find_one {X} p (y ∷ ys) x has passes one = go (p y) refl (λ later. find_one p
       | inr later ↦ more later
     ]
 
--- a row of a tree is what stands at its key
-pub stands_at_key : (db : Database) → AreKnown db → (key : RowKey) (raw : Row) → Has (db.trees (tree_of (table_at key))) raw → has_key key raw ≡ true → look_up db.trees key ≡ Some (shown (table_at key) raw)
-stands_at_key db known key raw has own =
+-- a row of a tree is found by its key
+pub found_by_key : (db : Database) → AreKnown db → (key : RowKey) (raw : Row) → Has (db.trees (tree_of (table_at key))) raw → has_key key raw ≡ true → find (has_key key) (db.trees (tree_of (table_at key))) ≡ Some raw
+found_by_key db known key raw has own =
     let t = table_at key in
-    ap (option_map (shown t)) (find_one (has_key key) (db.trees (tree_of t)) raw has own (λ y in_tree same.
-    known.apart t y raw in_tree has (agree_chain plain (key_places t) (slots_of key) (key_places t) y (key_columns key) raw same (agree_back plain (key_places t) (slots_of key) raw (key_columns key) own))))
+    find_one (has_key key) (db.trees (tree_of t)) raw has own (λ y in_tree same.
+    known.apart t y raw in_tree has (agree_chain plain (key_places t) (slots_of key) (key_places t) y (key_columns key) raw same (agree_back plain (key_places t) (slots_of key) raw (key_columns key) own)))
+
+-- and is what stands at it
+pub stands_at_key : (db : Database) → AreKnown db → (key : RowKey) (raw : Row) → Has (db.trees (tree_of (table_at key))) raw → has_key key raw ≡ true → look_up db.trees key ≡ Some (shown (table_at key) raw)
+stands_at_key db known key raw has own = ap (option_map (shown (table_at key))) (found_by_key db known key raw has own)
 
 -- what stands at a key is a row of its table
 pub row_has : (trees : Trees) (key : RowKey) (row : Row) → look_up trees key ≡ Some row → Has (rows_in trees (table_at key)) row
@@ -39,7 +44,7 @@ row_has trees key row is = elim (found (has_key key) (trees (tree_of (table_at k
   | inl none ↦ absurd (none-some row (sym (ap (option_map (shown (table_at key))) none.0) ∙ is))
   | inr one ↦
       subst (Has (rows_in trees (table_at key))) (same_Some (shown (table_at key) one.0) row (sym (ap (option_map (shown (table_at key))) one.1) ∙ is))
-      (mapped (shown (table_at key)) (trees (tree_of (table_at key))) one.0 one.2)
+      (mapped_has (shown (table_at key)) (trees (tree_of (table_at key))) one.0 one.2)
 ]
 
 -- rows are told by their columns, one by one
@@ -80,7 +85,7 @@ module _ (db : Database) (contents : Contents) (holds : Hold db contents) where
     -- stand at keys of it
     pub rows_stand : (r : StoredRow) → Has rows r → (key : RowKey) × (table_at key ≡ t) × (contents key ≡ Some r)
     rows_stand r has =
-        let raw = source (shown t) (db.trees (tree_of t)) (columns_of r) (subst (λ l. Has l (columns_of r)) read (mapped columns_of rows r has)) in
+        let raw = has_mapped (shown t) (db.trees (tree_of t)) (columns_of r) (subst (λ l. Has l (columns_of r)) read (mapped_has columns_of rows r has)) in
         let own = holds.keyed t raw.0 raw.1 in
         let stands = shown_stands own.0 raw.0 (subst (λ u. Has (db.trees (tree_of u)) raw.0) (sym own.1) raw.1) own.2 in
         (own.0, own.1, stands.1 ∙ ap Some (columns_told stands.0 r (sym stands.2 ∙ ap (λ u. shown u raw.0) own.1 ∙ sym raw.2)))
@@ -89,5 +94,5 @@ module _ (db : Database) (contents : Contents) (holds : Hold db contents) where
     pub all_are_read : (key : RowKey) → table_at key ≡ t → (r : StoredRow) → contents key ≡ Some r → Has rows r
     all_are_read key at r is =
         let row = row_has db.trees key (columns_of r) (holds.rows key ∙ ap (option_map columns_of) is) in
-        let one = source columns_of rows (columns_of r) (subst (λ l. Has l (columns_of r)) (sym read) (subst (λ u. Has (rows_in db.trees u) (columns_of r)) at row)) in
+        let one = has_mapped columns_of rows (columns_of r) (subst (λ l. Has l (columns_of r)) (sym read) (subst (λ u. Has (rows_in db.trees u) (columns_of r)) at row)) in
         subst (Has rows) (sym (columns_told r one.0 one.2)) one.1

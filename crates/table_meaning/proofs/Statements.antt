@@ -42,6 +42,7 @@ use Rattle.table_meaning.specs.declared.tables.TableName.{TableName}
 use Rattle.table_meaning.specs.Layouts.{Column, Layout, places_in}
 use Rattle.table_meaning.specs.Schema.{reference_at, sql_table, layouts_at, schema_at}
 use Rattle.table_meaning.specs.Upserts.{change_query, update_query, update_at, put_command}
+use Rattle.table_meaning.proofs.PlacesLists.{kept_for_each}
 use Rattle.table_meaning.proofs.PutRows.{only}
 
 -- a part that gave a value did not stop on the way
@@ -82,12 +83,6 @@ no_acts n tree olds news = none_of_tables (schema_at n) tree olds news (layouts_
 
 -- ---- the rows that an update finds
 
-flat_only : {X Y : Type 0} (test : X → Bool) (f : X → Y) (xs : List X) → flat_map (λ x. cond (test x) (f x ∷ []) []) xs ≡ map f (filter test xs)
-flat_only test f [] = refl
-flat_only test f (x ∷ xs) =
-    elim (test x) as (λ b. cond b (f x ∷ []) [] ++ flat_map (λ y. cond (test y) (f y ∷ []) []) xs ≡ map f (cond b (x ∷ filter test xs) (filter test xs)))
-    [ true ↦ ap (λ l. f x ∷ l) (flat_only test f xs) | false ↦ flat_only test f xs ]
-
 no_permutation : {X : Type 0} (ys : List X) → IsPermutation [] ys → ys ≡ []
 no_permutation [] h = refl
 no_permutation (y ∷ ys) h = absurd (omega (arith, length_permutation [] (y ∷ ys) h))
@@ -103,7 +98,7 @@ module _ (db : Trees) (tree : ℕ) (tests columns : List Term) (params : Row) (o
     kept_from : (found : List Row) → filter passes (db tree) ≡ found → a.kept ≡ map (output (change_query tree tests columns)) (map (λ x. params ∷ x ∷ []) found)
     kept_from found is =
         a.distinct ∙ ap (map (output (change_query tree tests columns)))
-        (a.grouped ∙ ap (flat_map (λ x. cond (passes x) ((params ∷ x ∷ []) ∷ []) [])) own ∙ flat_only passes (λ x. params ∷ x ∷ []) (db tree) ∙ ap (map (λ x. params ∷ x ∷ [])) is)
+        (a.grouped ∙ ap (flat_map (λ x. cond (passes x) ((params ∷ x ∷ []) ∷ []) [])) own ∙ kept_for_each passes (λ x. params ∷ x ∷ []) (db tree) ∙ ap (map (λ x. params ∷ x ∷ [])) is)
 
     shown_from : (ordered : List Output) → a.ordered ≡ ordered → rows ≡ page (change_query tree tests columns) params (map (λ (p : Output). p.1) ordered)
     shown_from ordered is = a.shown ∙ ap (λ os. page (change_query tree tests columns) params (map (λ (p : Output). p.1) os)) is

@@ -36,6 +36,7 @@ use Rattle.table_meaning.proofs.EachTable.{of_each}
 use Rattle.table_meaning.proofs.EachRow.{typed}
 use Rattle.table_meaning.proofs.PutFacts.{facts, written_whole}
 use Rattle.table_meaning.proofs.Putting.{puts}
+use Rattle.table_meaning.proofs.Statements.{went, same_value}
 use Rattle.table_meaning.proofs.LookUps.{hold_put, hold_left}
 use Rattle.table_meaning.proofs.UpdateTexts.{changes_row, tried_first}
 use Rattle.table_meaning.proofs.Updating.{updated}
@@ -45,9 +46,6 @@ use Rattle.table_meaning.proofs.Updating.{updated}
 rows_and_one : (contents : Contents) (rows : List StoredRow) (row : StoredRow) → with_rows contents (rows ++ row ∷ []) ≡ with_row (with_rows contents rows) row
 rows_and_one contents [] row = refl
 rows_and_one contents (r ∷ rows) row = rows_and_one (with_row contents r) rows row
-
-pub moved_none : (s : State) → IsTrue s.in_transaction → Moves s s []
-moved_none s inside = record { inside = inside; puts = λ contents holds. holds }
 
 pub moved_more : (a b c : State) (rows : List StoredRow) (row : StoredRow) → Moves a b rows → Moves b c (row ∷ []) → Moves a c (rows ++ row ∷ [])
 moved_more a b c rows row first one =
@@ -84,9 +82,6 @@ row_updated row text is old new count h = record {
 
 pub keeps_itself : (s : State) → KeepsCommit s s
 keeps_itself s = record { was_open = λ h. h; committed = λ h. refl }
-
-pub keeps_then : (a b c : State) → KeepsCommit a b → KeepsCommit b c → KeepsCommit a c
-keeps_then a b c p q = record { was_open = λ h. p.was_open (q.was_open h); committed = λ h. q.committed h ∙ p.committed (q.was_open h) }
 
 kept_unchanged : (old new : State) → IsUnchanged old new → KeepsCommit old new
 kept_unchanged old new same = record { was_open = λ _. same.0.was_open; committed = λ _. same.0.committed_is }
@@ -190,13 +185,6 @@ module _ {S : Type 0} (g : Ghosts S) (old mid end : Held S) (kept : HasCleanDisk
       }
 
 -- ---- tables made
-
-went : {B E R : Type 0} {b : B} {Stops : E → Type 0} → ((stop : E) × Stops stop × (Ok b ≡ Err stop)) ⊎ R → R
-went (inl stopped) = absurd (let e = stopped.2 in cc)
-went (inr on) = on
-
-same_value : {B E : Type 0} {a b : B} → ◌≡◌ {A = Result B E} (Ok a) (Ok b) → a ≡ b
-same_value e = cc
 
 still_same : (rows : Trees) (tables : List Table) (old new : Trees) → AllByRecursion (λ t. old t.tree ≡ rows t.tree) tables → KeepsRows tables old new → AllByRecursion (λ t. new t.tree ≡ rows t.tree) tables
 still_same rows tables old new was kept = all_both _ _ (λ t. new t.tree ≡ rows t.tree) (λ t before same. same ∙ before) tables was kept

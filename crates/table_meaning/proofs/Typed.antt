@@ -34,9 +34,8 @@ have_types _ _ = false
 
 pub long : (kinds : List Kind) (row : Row) → have_types kinds row ≡ true → length row ≡ length kinds
 long [] [] h = refl
-long [] (v ∷ row) h = absurd (true≢false (sym h))
-long (kind ∷ kinds) [] h = absurd (true≢false (sym h))
 long (kind ∷ kinds) (v ∷ row) h = ap suc (long kinds row (and_parts _ _ h).1)
+long _ _ h = absurd (true≢false (sym h))
 
 pub first_number : (kinds : List Kind) (row : Row) → have_types (number ∷ kinds) row ≡ true → (id : ℤ) × (column row 0 ≡ Int id)
 first_number kinds (Int id ∷ row) h = (id, refl)
@@ -56,11 +55,9 @@ pub cast_null : (kind : Kind) → cast (type_of kind) Null ≡ Null
 unfolding unary
 cast_null number = same_both _ Null
 cast_null integer = same_both _ Null
-cast_null words = refl
 cast_null flag = same_both _ Null
-cast_null octets = refl
 cast_null (optional kind) = cast_null kind
-cast_null (either first other) = refl
+cast_null _ = refl
 
 cast_typed : (kind : Kind) (v : Value) → has_type kind v ≡ true → cast (type_of kind) v ≡ v
 cast_typed number (Int id) h = cast_int id
@@ -69,10 +66,7 @@ cast_typed words (Text t) h = refl
 cast_typed flag (Int id) h = cast_int id
 cast_typed octets v h = refl
 cast_typed (optional kind) Null h = cast_null kind
-cast_typed (optional kind) (Int id) h = cast_typed kind (Int id) h
-cast_typed (optional kind) (Real x) h = cast_typed kind (Real x) h
-cast_typed (optional kind) (Text t) h = cast_typed kind (Text t) h
-cast_typed (optional kind) (Blob b) h = cast_typed kind (Blob b) h
+cast_typed (optional kind) v h = cast_typed kind v h
 cast_typed (either first other) v h = refl
 cast_typed _ _ h = absurd (true≢false (sym h))
 
@@ -99,20 +93,13 @@ is_real (Real x) = true
 is_real _ = false
 
 no_real : (kind : Kind) (v : Value) → has_type kind v ≡ true → is_real v ≡ false
-no_real kind Null h = refl
-no_real kind (Int id) h = refl
-no_real kind (Text t) h = refl
-no_real kind (Blob b) h = refl
 no_real kind (Real x) h = absurd (true≢false (sym h ∙ other kind))
   where
     other : (kind : Kind) → has_type kind (Real x) ≡ false
-    other number = refl
-    other integer = refl
-    other words = refl
-    other flag = refl
-    other octets = refl
     other (optional kind) = other kind
     other (either first second) = ap₂ ◌||◌ (other first) (other second)
+    other _ = refl
+no_real kind _ h = refl
 
 pub no_reals : (kinds : List Kind) (row : Row) → have_types kinds row ≡ true → (at : ℕ) → is_real (column row at) ≡ false
 no_reals kinds [] h at = refl
@@ -121,11 +108,8 @@ no_reals (kind ∷ kinds) (v ∷ row) h zero = no_real kind v (and_parts _ _ h).
 no_reals (kind ∷ kinds) (v ∷ row) h (suc at) = no_reals kinds row (and_parts _ _ h).1 at
 
 bound_same : (v : Value) → is_real v ≡ false → bound_value v ≡ v
-bound_same Null h = refl
-bound_same (Int id) h = refl
-bound_same (Text t) h = refl
-bound_same (Blob b) h = refl
 bound_same (Real x) h = absurd (true≢false h)
+bound_same _ h = refl
 
 pub bound_columns : (kinds : List Kind) (row : Row) → have_types kinds row ≡ true → map bound_value row ≡ row
 bound_columns kinds [] h = refl

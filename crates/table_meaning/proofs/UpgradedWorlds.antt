@@ -18,7 +18,7 @@ use Rattle.sqlite.specs.Effect.{Database}
 use Rattle.sqlite.specs.State.{State}
 use Rattle.table_meaning.specs.declared.rows.StoredRow.TheVariants as stored
 use Rattle.table_meaning.specs.Schema.{newest}
-use Rattle.table_meaning.specs.Rows.{columns_of, RowKey, setting_key, account_key, app_key, version_key, unit_key, host_key, instance_key, kept_key, batch_key, class_key, mark_key, table_at, same_key}
+use Rattle.table_meaning.specs.Rows.{columns_of, RowKey, setting_key, kept_key, class_key, mark_key, table_at, same_key}
 use Rattle.table_meaning.specs.Schemas.{IsSchema, IsEarlier, has_table}
 use Rattle.table_meaning.specs.Holding.{Contents, Hold, with_row}
 use Rattle.table_meaning.specs.Worlds.{BatchText, SlotCalls, version_row, unit_row, call_row, class_row, mark_row, is_marked, contents_of, HoldWorld}
@@ -50,20 +50,14 @@ module _ (w : World) (calls : SlotCalls) (batches : Batches) where
   -- to the second schema, where just the first slots are used
   second_same : ((host slot : ℕ) → slot ≢ 0 → calls host slot ≡ None) → (key : RowKey) → has_table 2 (table_at key) ≡ true → next_contents 1 (λ host. calls host 0) (at 1) key ≡ at 2 key
   second_same others (setting_key name) is = setting_same 1 name
-  second_same others (account_key id) is = refl
-  second_same others (app_key id) is = refl
-  second_same others (version_key id) is = refl
-  second_same others (unit_key id) is = refl
-  second_same others (host_key id) is = refl
-  second_same others (instance_key unit num) is = refl
   second_same others (kept_key host slot) is = slots slot
     where
       slots : (s : ℕ) → cond (s == 0) (option_map (λ k. stored.Kept (call_row host s k)) (calls host 0)) None ≡ option_map (λ k. stored.Kept (call_row host s k)) (calls host s)
       slots zero = refl
       slots (suc s) = let past : (suc s == 0) ≡ false = grind arith in rw past (sym (ap (option_map (λ k. stored.Kept (call_row host (suc s) k))) (others host (suc s) (λ same. omega (arith, same)))))
-  second_same others (batch_key kind name) is = refl
   second_same others (class_key id) is = absurd (true≢false (sym is))
   second_same others (mark_key id) is = absurd (true≢false (sym is))
+  second_same others _ is = refl
 
   at_place : {X : Type 0} (P : X → Type 0) (xs : List X) → All P xs → (n : ℕ) (x : X) → nth xs n ≡ Some x → P x
   at_place P xs all zero x is = absurd (none-some _ is)
@@ -82,16 +76,9 @@ module _ (w : World) (calls : SlotCalls) (batches : Batches) where
     -- to the third
     third_same : (key : RowKey) → has_table 3 (table_at key) ≡ true → next_contents 2 (λ host. calls host 0) (at 2) key ≡ at 3 key
     third_same (setting_key name) is = setting_same 2 name
-    third_same (account_key id) is = refl
-    third_same (app_key id) is = refl
-    third_same (version_key id) is = refl
-    third_same (unit_key id) is = refl
-    third_same (host_key id) is = refl
-    third_same (instance_key unit num) is = refl
-    third_same (kept_key host slot) is = refl
-    third_same (batch_key kind name) is = refl
     third_same (class_key id) is = class_same id (nth w.versions id) refl
     third_same (mark_key id) is = mark_same id (unit_at w id) refl
+    third_same _ is = refl
 
   next_same : (n : ℕ) → IsEarlier n → FitsSchema n w → (n ≡ 1 → (host slot : ℕ) → slot ≢ 0 → calls host slot ≡ None) → (key : RowKey) → has_table (n + 1) (table_at key) ≡ true
       → next_contents n (λ host. calls host 0) (at n) key ≡ at (n + 1) key

@@ -24,7 +24,7 @@ use Rattle.table_meaning.specs.Upgrades.{schema_row_of, PutsSchema, MakesNext, G
 use Rattle.table_meaning.proofs.EachSchema.{LeadsTo, AreDistinct, taken_from, HaveNumbers, of_schema, of_step, of_fill, are_fit, is_brought}
 use Rattle.table_meaning.proofs.Filling.{begun, key_target, calls_stay}
 use Rattle.table_meaning.proofs.LookUps.{hold_put_at}
-use Rattle.table_meaning.proofs.NextRows.{is_of, number_is}
+use Rattle.table_meaning.proofs.Reading.{is_of, number_is}
 use Rattle.table_meaning.proofs.PutFacts.{facts_at}
 use Rattle.table_meaning.proofs.Putting.{puts}
 use Rattle.table_meaning.proofs.RowsHeld.{found}

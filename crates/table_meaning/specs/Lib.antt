@@ -1,4 +1,5 @@
 pub mod ByKey
+pub mod Codes
 pub mod Fills
 pub mod Formats
 pub mod Holding

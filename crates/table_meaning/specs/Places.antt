@@ -18,8 +18,8 @@ use Rattle.sqlite_sql.specs.Term.{Term, lit, col, op2}
 use Rattle.sqlite_sql.specs.Query.{Query}
 use Rattle.sqlite_rules.specs.Lists.{Has}
 use Rattle.sqlite.specs.Held.{Held}
-use Rattle.table_meaning.specs.declared.tables.Page.{Page}
-use Rattle.table_meaning.specs.declared.tables.Page.TheVariants.{First, Further}
+use Rattle.table_meaning.specs.declared.tables.QueuePage.{QueuePage}
+use Rattle.table_meaning.specs.declared.tables.QueuePage.TheVariants.{First, Further}
 use Rattle.table_meaning.specs.declared.rows.StoredRow.{StoredRow}
 use Rattle.table_meaning.specs.Rows.{whole, columns_of, instance_key}
 use Rattle.table_meaning.specs.Formats.{columns_in}
@@ -135,7 +135,7 @@ abbrev pub owned_text : List ℕ
 owned_text = codes "SELECT unit_id, num FROM instance WHERE unit_id > 0 AND num >= 0 AND host_id = ?1 ORDER BY unit_id, num"
 
 -- how many places a page of what waits has at most
-abbrev pub page_size : Page → ℕ
+abbrev pub page_size : QueuePage → ℕ
 page_size First = 8
 page_size Further = 64
 

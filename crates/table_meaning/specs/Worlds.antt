@@ -14,10 +14,6 @@ use Rattle.sched_book.specs.declared.rows.ClassRule.TheVariants.{Any, OfFirst, O
 use Rattle.sched_book.specs.declared.rows.HostRow.{HostRow}
 use Rattle.sched_book.specs.declared.rows.Version.{Version}
 use Rattle.sched_book.specs.declared.instance.Instance.{Instance as Job}
-use Rattle.sched_book.specs.declared.instance.Lapse.{Lapse}
-use Rattle.sched_book.specs.declared.instance.Lapse.TheVariants.{Late, Dropped}
-use Rattle.sched_book.specs.declared.instance.Status.{Status}
-use Rattle.sched_book.specs.declared.instance.Status.TheVariants.{Open, Done, FailedErrors, FailedSuccess, FailedTotal}
 use Rattle.sched_book.specs.declared.instance.UnitBook.{UnitBook}
 use Rattle.sched_book.specs.declared.settings.Settings.{Settings}
 use Rattle.sched_book.specs.declared.world.World.{World}
@@ -34,6 +30,7 @@ use Rattle.table_meaning.specs.declared.rows.StoredCall.{StoredCall}
 use Rattle.table_meaning.specs.declared.rows.StoredVersionClass.{StoredVersionClass}
 use Rattle.table_meaning.specs.declared.rows.StoredUnitMark.{StoredUnitMark}
 use Rattle.table_meaning.specs.declared.rows.StoredRow.TheVariants as stored
+use Rattle.table_meaning.specs.Codes.{status_code, lapse_code}
 use Rattle.table_meaning.specs.Rows.{setting_key, account_key, app_key, version_key, unit_key, host_key, instance_key, kept_key, batch_key, class_key, mark_key}
 use Rattle.table_meaning.specs.Schema.{newest}
 use Rattle.table_meaning.specs.Holding.{Contents, Hold}
@@ -54,18 +51,6 @@ setting_in s name =
 abbrev pub agreement_limit : Agreement → Option ℕ
 agreement_limit Exact = None
 agreement_limit (Within n) = Some n
-
-abbrev pub status_code : Status → ℕ
-status_code Open = 0
-status_code Done = 1
-status_code FailedErrors = 2
-status_code FailedSuccess = 3
-status_code FailedTotal = 4
-
-abbrev pub lapse_code : Option Lapse → ℕ
-lapse_code None = 0
-lapse_code (Some Late) = 1
-lapse_code (Some Dropped) = 2
 
 -- a workunit is marked where it keeps to the versions of one class, or will
 abbrev pub is_marked : ClassRule → Bool

@@ -36,20 +36,20 @@ pub enum Fill {
 
 /// A page of the instances that wait to be given out.
 #[derive(Clone, Copy)]
-pub enum Page {
+pub enum QueuePage {
     /// The first one, which is short: most calls take one job or few.
     First,
     Further,
 }
 
-impl Page {
+impl QueuePage {
     /// How many places it has at most.
     pub fn size(self) -> u32
         ensures { result ≡ page_size self }
     {
         match self {
-            Page::First => 8,
-            Page::Further => 64,
+            QueuePage::First => 8,
+            QueuePage::Further => 64,
         }
     }
 }

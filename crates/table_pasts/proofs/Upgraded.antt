@@ -1,5 +1,5 @@
 -- What was held has no classes, is held after the upgrade, and stands in each of the next eras, and so does the store.
-use Rattle.std.proofs.Common.{◌≡◌, ◌+◌, ◌-◌, ◌<◌, ℕ, zero, suc, List, [], ◌∷◌, ◌++◌, length, replicate, refl, sym, ap, subst, ◌∙◌, arith}
+use Rattle.std.proofs.Common.{◌≡◌, ◌+◌, ◌-◌, ◌<◌, ℕ, zero, suc, List, [], ◌∷◌, ◌++◌, length, replicate, refl, sym, subst, ◌∙◌, arith}
 use Rattle.std.proofs.lemmas.List.{append-nil, append_assoc}
 use Rattle.sqlite_trees.specs.declared.store.Store.{Ghosts}
 use Rattle.stores.specs.Acting.{Parts}
@@ -12,7 +12,7 @@ use Rattle.sched_tables.specs.Views.{held_of}
 use Rattle.sched_tables.specs.declared.tables.Tables.{Tables}
 use Rattle.sched_server.specs.Arrivals.{Came, answered, StandsIn}
 use Rattle.sched_server.specs.Laws.{FormerWorldsAreUnclassed, ReopenedStands, UpgradedStands}
-use Rattle.table_pasts.specs.Laws.{UpgradedTablesStand, with_marks}
+use Rattle.table_pasts.specs.Laws.{UpgradedTablesStand, with_upgrade_points}
 
 left_as_it_is : (held : Held) → IsLeft held held
 left_as_it_is held = record { world_is = refl; calls_are = λ host. refl; batches_are = λ kind batch. refl }
@@ -26,23 +26,23 @@ left_back one other last from to = record {
 }
 
 -- so many upgrades, one after another
-stand_in_later_eras : UpgradedStands → (upgrades era : ℕ) (key : List ℕ) (held : Held) (marks : List ℕ) (before : List Came) → StandsIn era key held marks before
-    → StandsIn (era + upgrades) key held (with_marks upgrades marks before) before
-stand_in_later_eras stands zero era key held marks before st =
+stand_in_later_eras : UpgradedStands → (upgrades era : ℕ) (key : List ℕ) (held : Held) (points : List ℕ) (before : List Came) → StandsIn era key held points before
+    → StandsIn (era + upgrades) key held (with_upgrade_points upgrades points before) before
+stand_in_later_eras stands zero era key held points before st =
     let same : era ≡ era + zero = omega arith in
-    subst (λ e. StandsIn e key held (marks ++ []) before) same (subst (λ ms. StandsIn era key held ms before) (sym (append-nil marks)) st)
-stand_in_later_eras stands (suc upgrades) era key held marks before st =
-    let next = stands era key held held marks before (left_as_it_is held) st in
-    let later = stand_in_later_eras stands upgrades (suc era) key held (marks ++ length (answered before) ∷ []) before next in
+    subst (λ e. StandsIn e key held (points ++ []) before) same (subst (λ ms. StandsIn era key held ms before) (sym (append-nil points)) st)
+stand_in_later_eras stands (suc upgrades) era key held points before st =
+    let next = stands era key held held points before (left_as_it_is held) st in
+    let later = stand_in_later_eras stands upgrades (suc era) key held (points ++ length (answered before) ∷ []) before next in
     let last : suc era + upgrades ≡ era + suc upgrades = omega arith in
-    subst (λ e. StandsIn e key held (with_marks (suc upgrades) marks before) before) last
-    (subst (λ ms. StandsIn (suc era + upgrades) key held ms before) (append_assoc marks (length (answered before) ∷ []) (replicate upgrades (length (answered before)))) later)
+    subst (λ e. StandsIn e key held (with_upgrade_points (suc upgrades) points before) before) last
+    (subst (λ ms. StandsIn (suc era + upgrades) key held ms before) (append_assoc points (length (answered before) ∷ []) (replicate upgrades (length (answered before)))) later)
 
 pub stand_upgraded : {S : Type 0} (store : Ghosts S) (parts : Parts (Tables S)) → FormerWorldsAreUnclassed → UpgradedStands → UpgradedHolds store → ReopenedStands parts
     → ((t : Tables S) → IsLeft (parts.holds t) (held_of store t)) → UpgradedTablesStand store parts
-stand_upgraded store parts unclassed stands holds reopened same old t honest kept upgrades n is w calls batches key marks before held st =
+stand_upgraded store parts unclassed stands holds reopened same old t honest kept upgrades n is w calls batches key points before held st =
     let was = held_with w calls batches in
-    let left = holds old t upgrades n is w calls batches st.sound.world (λ less. let early : n - 1 < era_of_classes = omega (arith, less, is.0) in unclassed (n - 1) key was marks before early st) held in
+    let left = holds old t upgrades n is w calls batches st.sound.world (λ less. let early : n - 1 < era_of_classes = omega (arith, less, is.0) in unclassed (n - 1) key was points before early st) held in
     let last : n - 1 + (newest - n) ≡ newest - 1 = omega (arith, is.0, is.1) in
-    let later = subst (λ e. StandsIn e key was (with_marks (newest - n) marks before) before) last (stand_in_later_eras stands (newest - n) (n - 1) key was marks before st) in
-    reopened t honest kept was (left_back (parts.holds t) was (held_of store t) (same t) left) key (with_marks (newest - n) marks before) before later
+    let later = subst (λ e. StandsIn e key was (with_upgrade_points (newest - n) points before) before) last (stand_in_later_eras stands (newest - n) (n - 1) key was points before st) in
+    reopened t honest kept was (left_back (parts.holds t) was (held_of store t) (same t) left) key (with_upgrade_points (newest - n) points before) before later

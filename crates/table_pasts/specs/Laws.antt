@@ -14,17 +14,17 @@ use Rattle.sched_tables.specs.Views.{state_of}
 use Rattle.sched_tables.specs.declared.tables.Tables.{Tables}
 use Rattle.sched_server.specs.Arrivals.{Came, answered, StandsIn, StoreStandsFor}
 
--- The marks with one for each of so many upgrades after these messages: how many of them were answered.
-abbrev pub with_marks : ℕ → List ℕ → List Came → List ℕ
-with_marks upgrades marks before = marks ++ replicate upgrades (length (answered before))
+-- The upgrade points with one for each of so many upgrades after these messages: how many of them were answered.
+abbrev pub with_upgrade_points : ℕ → List ℕ → List Came → List ℕ
+with_upgrade_points upgrades upgrade_points before = upgrade_points ++ replicate upgrades (length (answered before))
 
 -- What tables of a schema held stood for what came in its era: the number of an era is that of its schema less one. These tables stand for it,
--- with a mark for each upgrade.
+-- with an upgrade point for each upgrade.
 abbrev pub StandUpgraded : {S : Type 0} → Parts (Tables S) → Database → Tables S → Type 0
 StandUpgraded parts old t =
-    (n : ℕ) → IsSchema n → (w : World) (calls : SlotCalls) (batches : Imports) (key marks : List ℕ) (before : List Came)
-    → HoldWorldAt n old w calls batches → StandsIn (n - 1) key (held_with w calls batches) marks before
-    → StoreStandsFor parts key (with_marks (newest - n) marks before) before t
+    (n : ℕ) → IsSchema n → (w : World) (calls : SlotCalls) (batches : Imports) (key upgrade_points : List ℕ) (before : List Came)
+    → HoldWorldAt n old w calls batches → StandsIn (n - 1) key (held_with w calls batches) upgrade_points before
+    → StoreStandsFor parts key (with_upgrade_points (newest - n) upgrade_points before) before t
 
 -- Open tables that are well kept do, if they show what an upgrade made.
 abbrev pub UpgradedTablesStand : {S : Type 0} → Ghosts S → Parts (Tables S) → Type 0

@@ -9,7 +9,7 @@ use sqlite::Alter;
 use stores::Store;
 
 /// Tables of the first or the second schema stood for a list of messages with their answers. Upgraded and opened, they stand
-/// for that list, with the number of answered messages as the mark of each schema that they went up.
+/// for that list, with the number of answered messages as the upgrade point of each schema that they went up.
 pub fn upgraded_tables_stand<S: Alter + Drop>()
     ensures { UpgradedTablesStand S.Store ⟦<Tables<S> as Store>⟧ }
 {

@@ -9,10 +9,7 @@ use Rattle.sched_book.specs.declared.world.World.{World}
 use Rattle.table_meaning.specs.declared.rows.StoredRow.{StoredRow}
 use Rattle.table_meaning.specs.declared.rows.StoredRow.TheVariants as stored
 use Rattle.table_reading.specs.Reading.{AllRows, reading_of, is_call, is_call_of, later_host}
-
-and_assoc : (a b c : Bool) → ((a && b) && c) ≡ (a && (b && c))
-and_assoc true b c = refl
-and_assoc false b c = refl
+use Rattle.sqlite_tied.proofs.RuleLemmas.{and_assoc}
 
 none_fits : (b : Bool) → false ≡ (b && false)
 none_fits true = refl
@@ -31,16 +28,7 @@ stands xs n = elim (slice_get_cases xs (n - 1)).1 [
 
 one_fits : (w : World) (n : ℕ) (r : StoredRow) → (is_call r && nat_le (later_host n r) (length w.hosts)) ≡ (nat_le n (length w.hosts) && is_call_of w r)
 one_fits w n (stored.Kept k) = rw (stands w.hosts k.host_id) (grind (arith, nat_tests))
-one_fits w n (stored.Setting r) = none_fits (nat_le n (length w.hosts))
-one_fits w n (stored.Account r) = none_fits (nat_le n (length w.hosts))
-one_fits w n (stored.App r) = none_fits (nat_le n (length w.hosts))
-one_fits w n (stored.Version r) = none_fits (nat_le n (length w.hosts))
-one_fits w n (stored.Unit r) = none_fits (nat_le n (length w.hosts))
-one_fits w n (stored.Host r) = none_fits (nat_le n (length w.hosts))
-one_fits w n (stored.Instance r) = none_fits (nat_le n (length w.hosts))
-one_fits w n (stored.Batch r) = none_fits (nat_le n (length w.hosts))
-one_fits w n (stored.VersionClass r) = none_fits (nat_le n (length w.hosts))
-one_fits w n (stored.UnitMark r) = none_fits (nat_le n (length w.hosts))
+one_fits w n _ = none_fits (nat_le n (length w.hosts))
 
 calls_fit : (w : World) (b : Bool) (n : ℕ) (calls : List StoredRow) → ((b && list_all is_call calls) && nat_le (fold later_host n calls) (length w.hosts)) ≡ ((b && nat_le n (length w.hosts)) && list_all (is_call_of w) calls)
 calls_fit w b n [] = no_call b (nat_le n (length w.hosts))

@@ -1,9 +1,10 @@
 -- What is noted of rows of workunits, marks and instances tells how many there are of each.
 use Rattle.std.proofs.Common.{◌≡◌, ◌≢◌, ◌≤◌, ◌<◌, ◌⊎◌, ℕ, zero, suc, ◌+◌, ◌-◌, max, Bool, true, false, cond, not, ◌&&◌, ◌==◌, nat_le, List, [], ◌∷◌, ◌++◌, fold, length, get_or, Some, refl, sym, ap, subst, ◌∙◌, arith, inl, inr, true≢false}
 use Rattle.std.specs.List.{AllByRecursion}
-use Rattle.std.specs.Prelude.{slice_get, slice_set}
+use Rattle.std.specs.Prelude.{slice_get}
 use Rattle.std.proofs.lemmas.Bool.{and_parts, and_from, both_ways, cases_Bool}
 use Rattle.std.proofs.lemmas.Bool.Decides.{Decides-eqb, nat_tests}
+use Rattle.std.proofs.lemmas.List.{length-set, length_push, get_or-set_same, get_or-set_other}
 use Rattle.std.proofs.lemmas.Option.{none-some}
 use Rattle.sqlite_rules.specs.Lists.{Has}
 use Rattle.table_meaning.specs.declared.rows.StoredInstance.{StoredInstance}
@@ -17,32 +18,13 @@ use Rattle.table_worlds.proofs.ColumnsBack.{is_unit_row, is_mark_row, is_instanc
 use Rattle.table_reading.specs.Counting.{is_numbered, next_number, counted, noted}
 use Rattle.table_reading.specs.declared.counts.UnitCounts.{UnitCounts}
 
--- ---- lists with one item set
-
-length_set : {X : Type 0} (xs : List X) (i : ℕ) (y : X) → length (slice_set xs i y) ≡ length xs
-length_set [] i y = refl
-length_set (x ∷ xs) zero y = refl
-length_set (x ∷ xs) (suc i) y = ap suc (length_set xs i y)
-
-set_here : {X : Type 0} (xs : List X) (i : ℕ) (y d : X) → i < length xs → get_or (slice_set xs i y) i d ≡ y
-set_here [] i y d within = absurd (omega (arith, within))
-set_here (x ∷ xs) zero y d within = refl
-set_here (x ∷ xs) (suc i) y d within = set_here xs i y d (omega (arith, within))
-
-set_there : {X : Type 0} (xs : List X) (i j : ℕ) (y d : X) → i ≢ j → get_or (slice_set xs i y) j d ≡ get_or xs j d
-set_there [] i j y d other = refl
-set_there (x ∷ xs) zero zero y d other = absurd (other refl)
-set_there (x ∷ xs) zero (suc j) y d other = refl
-set_there (x ∷ xs) (suc i) zero y d other = refl
-set_there (x ∷ xs) (suc i) (suc j) y d other = set_there xs i j y d (λ same. other (ap suc same))
+-- ---- one instance more
 
 one_place : (i j : ℕ) → (i ≡ j) ⊎ (i ≢ j)
 one_place i j = elim (cases_Bool (i == j)) [
   | inl same ↦ inl ((Decides-eqb i j).0 same)
   | inr other ↦ inr (λ same. both_ways _ other ((Decides-eqb i j).1 same))
 ]
-
--- ---- one instance more
 
 past_end : (xs : List ℕ) (j : ℕ) → length xs ≤ j → get_or xs j 0 ≡ 0
 past_end [] j past = refl
@@ -53,7 +35,7 @@ past_end (x ∷ xs) (suc j) past = past_end xs j (omega (arith, past))
 module _ (counts : List ℕ) (unit number : ℕ) where
   pub count_grows : (j : ℕ) → get_or counts j 0 ≤ get_or (counted counts unit number) j 0
   count_grows j = elim (one_place (unit - 1) j) [
-    | inr other ↦ let same : get_or (counted counts unit number) j 0 ≡ get_or counts j 0 = set_there counts (unit - 1) j _ 0 other in omega (arith, same)
+    | inr other ↦ let same : get_or (counted counts unit number) j 0 ≡ get_or counts j 0 = get_or-set_other counts (unit - 1) j _ 0 (λ same. other (sym same)) in omega (arith, same)
     | inl here ↦ at_place j here
   ]
     where
@@ -62,7 +44,7 @@ module _ (counts : List ℕ) (unit number : ℕ) where
         | inl past ↦ let none : get_or counts j 0 ≡ 0 = past_end counts j (grind (arith, nat_tests, past)) in omega (arith, none)
         | inr before ↦
             let within : unit - 1 < length counts = grind (arith, nat_tests, before, here) in
-            let set = set_here counts (unit - 1) (max (get_or counts (unit - 1) 0) (next_number number)) 0 within in
+            let set = get_or-set_same counts (unit - 1) (max (get_or counts (unit - 1) 0) (next_number number)) 0 within in
             let set_j : get_or (counted counts unit number) j 0 ≡ max (get_or counts j 0) (next_number number) =
             subst (λ k. get_or (counted counts unit number) k 0 ≡ max (get_or counts k 0) (next_number number)) here set in
             omega (arith, set_j)
@@ -71,18 +53,18 @@ module _ (counts : List ℕ) (unit number : ℕ) where
   pub count_reaches : is_numbered counts unit ≡ true → next_number number ≤ get_or (counted counts unit number) (unit - 1) 0
   count_reaches is =
       let within : unit - 1 < length counts = grind (arith, nat_tests, is) in
-      let set = set_here counts (unit - 1) (max (get_or counts (unit - 1) 0) (next_number number)) 0 within in
+      let set = get_or-set_same counts (unit - 1) (max (get_or counts (unit - 1) 0) (next_number number)) 0 within in
       omega (arith, set)
 
   pub count_bounded : (most : ℕ → ℕ) → ((j : ℕ) → get_or counts j 0 ≤ most j) → next_number number ≤ most (unit - 1) → is_numbered counts unit ≡ true → (j : ℕ) → get_or (counted counts unit number) j 0 ≤ most j
   count_bounded most before bound is j = elim (one_place (unit - 1) j) [
     | inr other ↦
-        let same : get_or (counted counts unit number) j 0 ≡ get_or counts j 0 = set_there counts (unit - 1) j _ 0 other in
+        let same : get_or (counted counts unit number) j 0 ≡ get_or counts j 0 = get_or-set_other counts (unit - 1) j _ 0 (λ same. other (sym same)) in
         let was = before j in
         omega (arith, same, was)
     | inl here ↦
         let within : unit - 1 < length counts = grind (arith, nat_tests, is) in
-        let set = set_here counts (unit - 1) (max (get_or counts (unit - 1) 0) (next_number number)) 0 within in
+        let set = get_or-set_same counts (unit - 1) (max (get_or counts (unit - 1) 0) (next_number number)) 0 within in
         let was = before (unit - 1) in
         subst (λ k. get_or (counted counts unit number) k 0 ≤ most k) here (omega (arith, set, was, bound))
   ]
@@ -124,7 +106,7 @@ same_count (r ∷ rows) c typed =
     same_count rows (noted c r) typed.1 ∙ ap (λ s. length (noted c s).counts) i.1 ∙ go (is_numbered c.counts i.0.unit_id) i.0 refl
   where
     go : (b : Bool) (i : StoredInstance) → is_numbered c.counts i.unit_id ≡ b → length (noted c (stored.Instance i)).counts ≡ length c.counts
-    go true i is = ap (λ (d : UnitCounts). length d.counts) (one_noted c i is) ∙ length_set c.counts (i.unit_id - 1) _
+    go true i is = ap (λ (d : UnitCounts). length d.counts) (one_noted c i is) ∙ length-set c.counts (i.unit_id - 1) _
     go false i is = ap (λ (d : UnitCounts). length d.counts) (none_of c i is)
 
 grows : (rows : List StoredRow) (c : UnitCounts) → AreInstances rows → (j : ℕ) → get_or c.counts j 0 ≤ get_or (fold noted c rows).counts j 0
@@ -198,10 +180,6 @@ same_mark (r ∷ rows) c typed =
 abbrev AreUnits : List StoredRow → Type 0
 AreUnits rows = AllByRecursion (λ r. table_of r ≡ name.Unit) rows
 
-length_more : (xs : List ℕ) (x : ℕ) → length (xs ++ x ∷ []) ≡ length xs + 1
-length_more [] x = refl
-length_more (y ∷ xs) x = let more = length_more xs x in omega (arith, more)
-
 zero_more : (xs : List ℕ) (j : ℕ) → get_or xs j 0 ≡ 0 → get_or (xs ++ 0 ∷ []) j 0 ≡ 0
 zero_more [] zero is = refl
 zero_more [] (suc j) is = refl
@@ -218,7 +196,7 @@ units_counted [] c typed = omega arith
 units_counted (r ∷ rows) c typed =
     let u = is_unit_row r typed.0 in
     let later = units_counted rows (noted c r) typed.1 in
-    let one : length (noted c r).counts ≡ length c.counts + 1 = ap (λ s. length (noted c s).counts) u.1 ∙ length_more c.counts 0 in
+    let one : length (noted c r).counts ≡ length c.counts + 1 = ap (λ s. length (noted c s).counts) u.1 ∙ length_push c.counts 0 in
     omega (arith, later, one)
 
 pub units_without : (rows : List StoredRow) (c : UnitCounts) → AreUnits rows → ((j : ℕ) → get_or c.counts j 0 ≡ 0) → (j : ℕ) → get_or (fold noted c rows).counts j 0 ≡ 0
@@ -242,7 +220,7 @@ units_told (r ∷ rows) c typed turn =
     let later = units_told rows (noted c r) typed.1 turn in
     let here : (c.are_in_turn && (u.0.id == length c.counts + 1)) ≡ true = sym (ap (λ s. (noted c s).are_in_turn) u.1) ∙ later.0 in
     let parts = and_parts c.are_in_turn (u.0.id == length c.counts + 1) here in
-    let one : length (noted c r).counts ≡ length c.counts + 1 = ap (λ s. length (noted c s).counts) u.1 ∙ length_more c.counts 0 in
+    let one : length (noted c r).counts ≡ length c.counts + 1 = ap (λ s. length (noted c s).counts) u.1 ∙ length_push c.counts 0 in
     (parts.0, λ i s is. at i s is u.0 u.1 ((Decides-eqb u.0.id (length c.counts + 1)).0 parts.1) one later.1)
   where
     at : (i : ℕ) (s : StoredRow) → slice_get (r ∷ rows) i ≡ Some s → (u : StoredUnit) → r ≡ stored.Unit u → u.id ≡ length c.counts + 1 → length (noted c r).counts ≡ length c.counts + 1
@@ -261,7 +239,7 @@ units_turned (r ∷ rows) c typed turn are =
     let u = is_unit_row r typed.0 in
     let key : unit_key u.0.id ≡ unit_key (0 + length c.counts + 1) = sym (ap key_of u.1) ∙ are 0 r refl in
     let id : u.0.id ≡ length c.counts + 1 = same_number u.0.id (0 + length c.counts + 1) key ∙ (let one : 0 + length c.counts + 1 ≡ length c.counts + 1 = omega arith in one) in
-    let one : length (noted c r).counts ≡ length c.counts + 1 = ap (λ s. length (noted c s).counts) u.1 ∙ length_more c.counts 0 in
+    let one : length (noted c r).counts ≡ length c.counts + 1 = ap (λ s. length (noted c s).counts) u.1 ∙ length_push c.counts 0 in
     units_turned rows (noted c r) typed.1
     (ap (λ s. (noted c s).are_in_turn) u.1 ∙ and_from _ _ turn ((Decides-eqb u.0.id (length c.counts + 1)).1 id))
     (λ i s is. are (suc i) s is ∙ ap unit_key (let number : suc i + length c.counts + 1 ≡ i + length (noted c r).counts + 1 = omega (arith, one) in number))

@@ -5,10 +5,10 @@ use Rattle.std.specs.List.{AllByRecursion}
 use Rattle.std.proofs.lemmas.Bool.{and_parts}
 use Rattle.std.proofs.lemmas.Option.{slice_get_within}
 use Rattle.sqlite.specs.Values.{or_null}
+use Rattle.sqlite_rules.proofs.ListLemmas.{all_has}
 use Rattle.sqlite_value.specs.declared.value.Value.TheVariants.{Int, Text}
-use Rattle.texts.specs.Words.{is_word}
+use Rattle.texts.specs.Words.{is_word, IsWord}
 use Rattle.texts.proofs.Words.{IsUtf8-word}
-use Rattle.rpc_records.specs.Ranges.{IsWord}
 use Rattle.reply_register.specs.declared.kept.Kept.{Kept as Call}
 use Rattle.reply_register.specs.Keeping.{most_kept}
 use Rattle.stores.specs.Kinds.{kind_of}
@@ -22,7 +22,7 @@ use Rattle.sched_book.specs.declared.instance.Lapse.{Lapse}
 use Rattle.sched_book.specs.declared.instance.Lapse.TheVariants.{Late, Dropped}
 use Rattle.sched_book.specs.declared.instance.Outcome.{Outcome}
 use Rattle.sched_book.specs.declared.instance.Status.{Status}
-use Rattle.sched_book.specs.declared.instance.Status.TheVariants.{Open, Done, FailedErrors, FailedSuccess, FailedTotal}
+use Rattle.sched_book.specs.declared.instance.Status.TheVariants.{Open}
 use Rattle.sched_book.specs.declared.instance.UnitBook.{UnitBook}
 use Rattle.sched_book.specs.declared.rows.Account.{Account}
 use Rattle.sched_book.specs.declared.rows.Agreement.{Agreement}
@@ -37,14 +37,15 @@ use Rattle.table_meaning.specs.declared.rows.StoredRow.{StoredRow}
 use Rattle.table_meaning.specs.declared.rows.StoredRow.TheVariants as stored
 use Rattle.table_meaning.specs.declared.tables.TableName.{TableName}
 use Rattle.table_meaning.specs.declared.tables.TableName.TheVariants as name
+use Rattle.table_meaning.specs.Codes.{status_code, lapse_code}
 use Rattle.table_meaning.specs.Formats.{IsStored, IsOf, number, integer, words, flag, optional}
 use Rattle.table_meaning.specs.Rows.{setting_key, account_key, app_key, version_key, class_key, unit_key, mark_key, host_key, instance_key, kept_key, batch_key, columns_of, whole}
-use Rattle.table_meaning.specs.Worlds.{BatchText, SlotCalls, agreement_limit, status_code, lapse_code, joined, app_place, is_marked, account_row, app_row, version_row, class_row, host_row, unit_row, mark_row, instance_row, call_row, contents_of}
+use Rattle.table_meaning.specs.Worlds.{BatchText, SlotCalls, agreement_limit, joined, app_place, is_marked, account_row, app_row, version_row, class_row, host_row, unit_row, mark_row, instance_row, call_row, contents_of}
 use Rattle.table_rows.specs.Utf8.{IsUtf8Value, HasUtf8}
 use Rattle.table_worlds.specs.RowsOf.{setting_rows}
 use Rattle.table_worlds.proofs.AppsNamed.{named_app}
 use Rattle.table_worlds.proofs.ByPlace.{all_nth, all_got}
-use Rattle.table_worlds.proofs.RowsHold.{all_have, setting_listed}
+use Rattle.table_worlds.proofs.RowsHold.{setting_listed}
 use Rattle.table_reading.proofs.HeldRows.{HaveFormats, HaveTexts}
 use Rattle.stores.specs.Standing.{last_seqno, most_import_bytes}
 use Rattle.table_reading.specs.Reading.{MayStandBeside, is_call_of, is_import}
@@ -103,10 +104,7 @@ lapse_small (Some Dropped) = omega arith
 
 status_small : (s : Status) → status_code s < 4294967296
 status_small Open = omega arith
-status_small Done = omega arith
-status_small FailedErrors = omega arith
-status_small FailedSuccess = omega arith
-status_small FailedTotal = omega arith
+status_small _ = omega arith
 
 limit_small : (a : Agreement) → distance_of a ≤ 1000000000 → IfSome (agreement_limit a) (λ n. n < 4294967296)
 limit_small Exact le = tt
@@ -253,7 +251,7 @@ have_formats w calls batches sound beside texts (setting_key text) = go (content
   where
     go : (o : Option StoredRow) → contents_of w calls batches (setting_key text) ≡ o → IfSome o (λ r. IsStored name.Setting (columns_of r))
     go None is = tt
-    go (Some r) is = all_have (λ s. IsStored name.Setting (columns_of s)) (setting_rows w.settings) r (setting_formats w sound) (setting_listed w.settings (setting_key text) r is)
+    go (Some r) is = all_has (λ s. IsStored name.Setting (columns_of s)) (setting_rows w.settings) r (setting_formats w sound) (setting_listed w.settings (setting_key text) r is)
 have_formats w calls batches sound beside texts (account_key id) = made (λ (a : Account). stored.Account (account_row id a)) name.Account (nth w.accounts id) (texts (account_key id)) (account_format w sound id)
 have_formats w calls batches sound beside texts (app_key id) = made (λ (a : App). stored.App (app_row id a)) name.App (nth w.apps id) (texts (app_key id)) (λ a is _. app_format w sound id a is)
 have_formats w calls batches sound beside texts (version_key id) = made (λ (v : Version). stored.Version (version_row w id v)) name.Version (nth w.versions id) (texts (version_key id)) (λ v is _. version_format w sound id v is)

@@ -1,11 +1,12 @@
 -- Tables that hold a sound world, with what may be kept beside it, are read as that world, however they are read.
-use Rattle.std.proofs.Common.{◌≡◌, ℕ, Bool, true, List, [], ◌∷◌, map, Option, Some, None, option_map, refl, sym, ap, subst, ◌∙◌, inl, inr, IsTrue}
+use Rattle.std.proofs.Common.{◌≡◌, ℕ, true, List, map, Option, Some, None, option_map, refl, sym, ap, subst, ◌∙◌, inl, IsTrue}
 use Rattle.std.specs.Prelude.{IfSome}
 use Rattle.std.specs.List.{list_all}
-use Rattle.std.proofs.lemmas.Bool.{and_from}
 use Rattle.std.proofs.lemmas.Option.{none-some, same_Some}
 use Rattle.sqlite.specs.Effect.{Database}
 use Rattle.sqlite_rules.specs.Lists.{Has}
+use Rattle.sqlite_rules.proofs.ProbeLemmas.{has_mapped}
+use Rattle.sqlite_rules.proofs.ListLemmas.{test_has, test_from}
 use Rattle.sqlite_value.specs.Order.{Row, column}
 use Rattle.reply_register.specs.declared.kept.Kept.{Kept as Call}
 use Rattle.sched_book.specs.Sound.{Sound}
@@ -18,17 +19,13 @@ use Rattle.table_meaning.specs.Holding.{Contents, Hold}
 use Rattle.table_meaning.specs.Kept.{call_of, batch_of, calls_in, batches_in}
 use Rattle.table_meaning.specs.Rows.{RowKey, kept_key, batch_key, table_at, key_columns, columns_of, rows_in, look_up}
 use Rattle.table_meaning.specs.Worlds.{BatchText, SlotCalls, call_row, contents_of, HoldWorld}
-use Rattle.table_meaning.proofs.EachRow.{columns_told, number_in}
-use Rattle.table_meaning.proofs.RowsHeld.{source, held_row}
+use Rattle.table_meaning.proofs.EachRow.{columns_told, number_in, key_of_table}
+use Rattle.table_meaning.proofs.RowsHeld.{held_row}
 use Rattle.table_meaning.proofs.RowsKeyed.{rows_told, rows_stand}
 use Rattle.table_rows.specs.Utf8.{HasUtf8}
-use Rattle.table_worlds.proofs.RowsAre.{key_of_table, rows_of_world}
-use Rattle.table_reading.proofs.KeptRows.{import_row, each_passes, call_table, import_table, call_shown, import_shown}
+use Rattle.table_worlds.proofs.RowsAre.{rows_of_world}
+use Rattle.table_reading.proofs.KeptRows.{import_row, call_table, import_table, call_shown, import_shown}
 use Rattle.table_reading.specs.Reading.{AllRows, AreAllRead, StandFor, ReadFrom, StandForNone, HasBadTable, HasOtherSchema, MayStandBeside, is_call_of, is_import}
-
-all_pass : {X : Type 0} (p : X → Bool) (xs : List X) → ((x : X) → Has xs x → p x ≡ true) → list_all p xs ≡ true
-all_pass p [] each = refl
-all_pass p (x ∷ xs) each = and_from (p x) (list_all p xs) (each x (inl refl)) (all_pass p xs (λ y has. each y (inr has)))
 
 -- what is made of an option passes where that passes
 made_passes : {X : Type 0} (P : StoredRow → Type 0) (f : X → StoredRow) (o : Option X) (r : StoredRow) → option_map f o ≡ Some r → IfSome o (λ x. P (f x)) → P r
@@ -41,8 +38,8 @@ module _ (db : Database) (w : World) (all : AllRows) (read : AreAllRead db.trees
   call_fits : (host slot : ℕ) (o : Option Row) → look_up db.trees (kept_key host slot) ≡ o → IfSome (option_map call_of o) (λ k. IsTrue (is_call_of w (stored.Kept (call_row host slot k))))
   call_fits host slot None is = tt
   call_fits host slot (Some row) is =
-      let s = held_row db.trees name.Kept all.calls read.calls (λ r has. call_table w r (each_passes (is_call_of w) all.calls r stand.calls has)) (kept_key host slot) refl row is in
-      let passes = each_passes (is_call_of w) all.calls s.0 stand.calls s.1 in
+      let s = held_row db.trees name.Kept all.calls read.calls (λ r has. call_table w r (test_has (is_call_of w) all.calls r stand.calls has)) (kept_key host slot) refl row is in
+      let passes = test_has (is_call_of w) all.calls s.0 stand.calls s.1 in
       let one = columns_told s.0 (stored.Kept (call_row host slot (call_of (columns_of s.0)))) (call_shown w host slot s.0 passes s.3) in
       subst (λ (r : Row). is_call_of w (stored.Kept (call_row host slot (call_of r))) ≡ true) (sym s.2) (sym (ap (is_call_of w) one) ∙ passes)
 
@@ -50,8 +47,8 @@ module _ (db : Database) (w : World) (all : AllRows) (read : AreAllRead db.trees
       → IfSome (option_map batch_of o) (λ b. IsTrue (is_import (stored.Batch (record { kind = kind; name = text; text = b.0; answer = b.1 }))))
   import_fits kind text None is = tt
   import_fits kind text (Some row) is =
-      let s = held_row db.trees name.Batch all.batches read.batches (λ r has. import_table r (each_passes is_import all.batches r stand.batches has)) (batch_key kind text) refl row is in
-      let passes = each_passes is_import all.batches s.0 stand.batches s.1 in
+      let s = held_row db.trees name.Batch all.batches read.batches (λ r has. import_table r (test_has is_import all.batches r stand.batches has)) (batch_key kind text) refl row is in
+      let passes = test_has is_import all.batches s.0 stand.batches s.1 in
       let one = columns_told s.0 (import_row kind text (columns_of s.0)) (import_shown kind text s.0 passes s.3) in
       subst (λ (r : Row). is_import (import_row kind text r) ≡ true) (sym s.2) (sym (ap is_import one) ∙ passes)
 
@@ -76,7 +73,7 @@ pub formed : (db : Database) (contents : Contents) → Hold db contents → Have
 formed db contents holds formats bad =
     let t = bad.0 in
     let rows = rows_told db contents holds t in
-    let one = source columns_of rows.0 bad.1.0 (subst (λ l. Has l bad.1.0) (sym rows.1) bad.1.1) in
+    let one = has_mapped columns_of rows.0 bad.1.0 (subst (λ l. Has l bad.1.0) (sym rows.1) bad.1.1) in
     let stands = rows_stand db contents holds t rows.0 rows.1 one.0 one.1 in
     let stored : IsStored (table_at stands.0) (columns_of one.0) = of_some (λ r. IsStored (table_at stands.0) (columns_of r)) (contents stands.0) one.0 stands.2 (formats stands.0) in
     bad.1.2 (subst (λ u. IsStored u bad.1.0) stands.1 (subst (IsStored (table_at stands.0)) (sym one.2) stored))
@@ -90,7 +87,7 @@ module _ (db : Database) (w : World) (calls : SlotCalls) (batches : List ℕ →
   contents = contents_of w calls batches
 
   calls_pass : (rows : List StoredRow) → map columns_of rows ≡ rows_in db.trees name.Kept → list_all (is_call_of w) rows ≡ true
-  calls_pass rows read = all_pass (is_call_of w) rows (λ r has.
+  calls_pass rows read = test_from (is_call_of w) rows (λ r has.
       let stands = rows_stand db contents holds name.Kept rows read r has in
       let columns = key_columns stands.0 in
       let host = number_in (column columns 0) in
@@ -99,7 +96,7 @@ module _ (db : Database) (w : World) (calls : SlotCalls) (batches : List ℕ →
       (sym (ap contents (key_of_table name.Kept stands.0 stands.1)) ∙ stands.2) (beside.calls_fit host slot))
 
   imports_pass : (rows : List StoredRow) → map columns_of rows ≡ rows_in db.trees name.Batch → list_all is_import rows ≡ true
-  imports_pass rows read = all_pass is_import rows (λ r has.
+  imports_pass rows read = test_from is_import rows (λ r has.
       let stands = rows_stand db contents holds name.Batch rows read r has in
       go stands.0 stands.1 r stands.2)
     where

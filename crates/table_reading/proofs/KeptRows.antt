@@ -1,9 +1,8 @@
 -- Rows that stand for a world hold it, with what is kept beside it.
-use Rattle.std.proofs.Common.{◌≡◌, ℕ, Bool, true, List, [], ◌∷◌, map, Option, Some, None, option_map, refl, sym, ap, subst, ◌∙◌, inl, inr, true≢false}
+use Rattle.std.proofs.Common.{◌≡◌, ℕ, true, List, map, Option, Some, None, option_map, refl, sym, ap, subst, true≢false}
 use Rattle.std.specs.List.{list_all}
-use Rattle.std.proofs.lemmas.Bool.{and_parts}
 use Rattle.sqlite.specs.Effect.{Database}
-use Rattle.sqlite_rules.specs.Lists.{Has}
+use Rattle.sqlite_rules.proofs.ListLemmas.{test_has}
 use Rattle.sqlite_trees.specs.Tree.{Trees}
 use Rattle.sqlite_value.specs.Order.{Row}
 use Rattle.sched_book.specs.declared.world.World.{World}
@@ -12,7 +11,7 @@ use Rattle.table_meaning.specs.declared.rows.StoredRow.TheVariants as stored
 use Rattle.table_meaning.specs.declared.tables.TableName.TheVariants as name
 use Rattle.table_meaning.specs.Holding.{AreKnown}
 use Rattle.table_meaning.specs.Kept.{call_of, batch_of, calls_in, batches_in}
-use Rattle.table_meaning.specs.Rows.{RowKey, kept_key, batch_key, table_at, columns_of, key_of, rows_in, look_up}
+use Rattle.table_meaning.specs.Rows.{kept_key, batch_key, table_at, columns_of, key_of, rows_in, look_up}
 use Rattle.table_meaning.specs.Worlds.{call_row, contents_of, HoldWorld}
 use Rattle.table_meaning.proofs.RowsHeld.{held_row, keyed_by}
 use Rattle.table_worlds.proofs.RowsHold.{world_held, world_keyed}
@@ -20,36 +19,13 @@ use Rattle.table_reading.specs.Reading.{AllRows, AreAllRead, StandFor, is_call_o
 
 -- ---- what passes is of its table
 
-pub each_passes : {X : Type 0} (p : X → Bool) (xs : List X) (x : X) → list_all p xs ≡ true → Has xs x → p x ≡ true
-each_passes p [] x all has = absurd has
-each_passes p (y ∷ ys) x all (inl same) = ap p same ∙ (and_parts (p y) (list_all p ys) all).0
-each_passes p (y ∷ ys) x all (inr later) = each_passes p ys x (and_parts (p y) (list_all p ys) all).1 later
-
 pub call_table : (w : World) (r : StoredRow) → is_call_of w r ≡ true → table_at (key_of r) ≡ name.Kept
 call_table w (stored.Kept k) is = refl
-call_table w (stored.Setting r) is = absurd (true≢false (sym is))
-call_table w (stored.Account r) is = absurd (true≢false (sym is))
-call_table w (stored.App r) is = absurd (true≢false (sym is))
-call_table w (stored.Version r) is = absurd (true≢false (sym is))
-call_table w (stored.Unit r) is = absurd (true≢false (sym is))
-call_table w (stored.Host r) is = absurd (true≢false (sym is))
-call_table w (stored.Instance r) is = absurd (true≢false (sym is))
-call_table w (stored.Batch r) is = absurd (true≢false (sym is))
-call_table w (stored.VersionClass r) is = absurd (true≢false (sym is))
-call_table w (stored.UnitMark r) is = absurd (true≢false (sym is))
+call_table w _ is = absurd (true≢false (sym is))
 
 pub import_table : (r : StoredRow) → is_import r ≡ true → table_at (key_of r) ≡ name.Batch
 import_table (stored.Batch b) is = refl
-import_table (stored.Setting r) is = absurd (true≢false (sym is))
-import_table (stored.Account r) is = absurd (true≢false (sym is))
-import_table (stored.App r) is = absurd (true≢false (sym is))
-import_table (stored.Version r) is = absurd (true≢false (sym is))
-import_table (stored.Unit r) is = absurd (true≢false (sym is))
-import_table (stored.Host r) is = absurd (true≢false (sym is))
-import_table (stored.Instance r) is = absurd (true≢false (sym is))
-import_table (stored.Kept r) is = absurd (true≢false (sym is))
-import_table (stored.VersionClass r) is = absurd (true≢false (sym is))
-import_table (stored.UnitMark r) is = absurd (true≢false (sym is))
+import_table _ is = absurd (true≢false (sym is))
 
 -- ---- a row at a key is what is kept there
 
@@ -60,53 +36,19 @@ shown_call host slot row = stored.Kept (call_row host slot (call_of row))
 abbrev pub import_row : List ℕ → List ℕ → Row → StoredRow
 import_row kind text row = stored.Batch (record { kind = kind; name = text; text = (batch_of row).0; answer = (batch_of row).1 })
 
-host_in : RowKey → ℕ
-host_in (kept_key host slot) = host
-host_in other = 0
-
-slot_in : RowKey → ℕ
-slot_in (kept_key host slot) = slot
-slot_in other = 0
-
-kind_in : RowKey → List ℕ
-kind_in (batch_key kind text) = kind
-kind_in other = []
-
-name_in : RowKey → List ℕ
-name_in (batch_key kind text) = text
-name_in other = []
-
 pub call_shown : (w : World) (host slot : ℕ) (s : StoredRow) → is_call_of w s ≡ true → key_of s ≡ kept_key host slot → columns_of s ≡ columns_of (shown_call host slot (columns_of s))
-unfolding host_in slot_in
 call_shown w host slot (stored.Kept k) is key =
-    ap (λ h. columns_of (stored.Kept (record k { host_id = h }))) (ap host_in key)
-    ∙ ap (λ s. columns_of (stored.Kept (record k { host_id = host; slot = s }))) (ap slot_in key)
-call_shown w host slot (stored.Setting r) is key = absurd (true≢false (sym is))
-call_shown w host slot (stored.Account r) is key = absurd (true≢false (sym is))
-call_shown w host slot (stored.App r) is key = absurd (true≢false (sym is))
-call_shown w host slot (stored.Version r) is key = absurd (true≢false (sym is))
-call_shown w host slot (stored.Unit r) is key = absurd (true≢false (sym is))
-call_shown w host slot (stored.Host r) is key = absurd (true≢false (sym is))
-call_shown w host slot (stored.Instance r) is key = absurd (true≢false (sym is))
-call_shown w host slot (stored.Batch r) is key = absurd (true≢false (sym is))
-call_shown w host slot (stored.VersionClass r) is key = absurd (true≢false (sym is))
-call_shown w host slot (stored.UnitMark r) is key = absurd (true≢false (sym is))
+    let of_host : k.host_id ≡ host = cc in
+    let in_slot : k.slot ≡ slot = cc in
+    λ i. columns_of (stored.Kept (record k { host_id = of_host i; slot = in_slot i }))
+call_shown w host slot _ is key = absurd (true≢false (sym is))
 
 pub import_shown : (kind text : List ℕ) (s : StoredRow) → is_import s ≡ true → key_of s ≡ batch_key kind text → columns_of s ≡ columns_of (import_row kind text (columns_of s))
-unfolding kind_in name_in
 import_shown kind text (stored.Batch b) is key =
-    ap (λ k. columns_of (stored.Batch (record { kind = k; name = b.name; text = b.text; answer = b.answer }))) (ap kind_in key)
-    ∙ ap (λ n. columns_of (stored.Batch (record { kind = kind; name = n; text = b.text; answer = b.answer }))) (ap name_in key)
-import_shown kind text (stored.Setting r) is key = absurd (true≢false (sym is))
-import_shown kind text (stored.Account r) is key = absurd (true≢false (sym is))
-import_shown kind text (stored.App r) is key = absurd (true≢false (sym is))
-import_shown kind text (stored.Version r) is key = absurd (true≢false (sym is))
-import_shown kind text (stored.Unit r) is key = absurd (true≢false (sym is))
-import_shown kind text (stored.Host r) is key = absurd (true≢false (sym is))
-import_shown kind text (stored.Instance r) is key = absurd (true≢false (sym is))
-import_shown kind text (stored.Kept r) is key = absurd (true≢false (sym is))
-import_shown kind text (stored.VersionClass r) is key = absurd (true≢false (sym is))
-import_shown kind text (stored.UnitMark r) is key = absurd (true≢false (sym is))
+    let of_kind : b.kind ≡ kind = cc in
+    let of_name : b.name ≡ text = cc in
+    λ i. columns_of (stored.Batch (record b { kind = of_kind i; name = of_name i }))
+import_shown kind text _ is key = absurd (true≢false (sym is))
 
 module _ (trees : Trees) (w : World) where
   calls_stand : (calls : List StoredRow) → map columns_of calls ≡ rows_in trees name.Kept → list_all (is_call_of w) calls ≡ true → (host slot : ℕ)
@@ -116,8 +58,8 @@ module _ (trees : Trees) (w : World) where
       go : (o : Option Row) → look_up trees (kept_key host slot) ≡ o → o ≡ option_map columns_of (option_map (λ k. stored.Kept (call_row host slot k)) (option_map call_of o))
       go None is = refl
       go (Some row) is =
-          let s = held_row trees name.Kept calls read (λ r has. call_table w r (each_passes (is_call_of w) calls r fit has)) (kept_key host slot) refl row is in
-          let passes = each_passes (is_call_of w) calls s.0 fit s.1 in
+          let s = held_row trees name.Kept calls read (λ r has. call_table w r (test_has (is_call_of w) calls r fit has)) (kept_key host slot) refl row is in
+          let passes = test_has (is_call_of w) calls s.0 fit s.1 in
           subst (λ (r : Row). Some r ≡ Some (columns_of (shown_call host slot r))) (sym s.2) (ap Some (call_shown w host slot s.0 passes s.3))
 
   imports_stand : (batches : List StoredRow) → map columns_of batches ≡ rows_in trees name.Batch → list_all is_import batches ≡ true → (kind text : List ℕ)
@@ -127,8 +69,8 @@ module _ (trees : Trees) (w : World) where
       go : (o : Option Row) → look_up trees (batch_key kind text) ≡ o → o ≡ option_map columns_of (option_map (λ b. stored.Batch (record { kind = kind; name = text; text = b.0; answer = b.1 })) (option_map batch_of o))
       go None is = refl
       go (Some row) is =
-          let s = held_row trees name.Batch batches read (λ r has. import_table r (each_passes is_import batches r fit has)) (batch_key kind text) refl row is in
-          let passes = each_passes is_import batches s.0 fit s.1 in
+          let s = held_row trees name.Batch batches read (λ r has. import_table r (test_has is_import batches r fit has)) (batch_key kind text) refl row is in
+          let passes = test_has is_import batches s.0 fit s.1 in
           subst (λ (r : Row). Some r ≡ Some (columns_of (import_row kind text r))) (sym s.2) (ap Some (import_shown kind text s.0 passes s.3))
 
 pub held_by_rows : (db : Database) (w : World) (all : AllRows) → AreKnown db → AreAllRead db.trees all → StandFor w all → HoldWorld db w (calls_in db.trees) (batches_in db.trees)
@@ -136,6 +78,6 @@ held_by_rows db w all known read stand = record {
   known = known;
   rows = world_held db.trees w all.world read.world stand.rows (calls_in db.trees) (batches_in db.trees) (calls_stand db.trees w all.calls read.calls stand.calls) (imports_stand db.trees w all.batches read.batches stand.batches);
   keyed = world_keyed db.trees w all.world read.world stand.rows
-      (keyed_by db.trees name.Kept all.calls read.calls (λ r has. call_table w r (each_passes (is_call_of w) all.calls r stand.calls has)))
-      (keyed_by db.trees name.Batch all.batches read.batches (λ r has. import_table r (each_passes is_import all.batches r stand.batches has)));
+      (keyed_by db.trees name.Kept all.calls read.calls (λ r has. call_table w r (test_has (is_call_of w) all.calls r stand.calls has)))
+      (keyed_by db.trees name.Batch all.batches read.batches (λ r has. import_table r (test_has is_import all.batches r stand.batches has)));
 }

@@ -1,5 +1,5 @@
 -- What a reading of all tables holds of their rows.
-use Rattle.std.proofs.Common.{◌≡◌, Bool, true, false, ◌&&◌, List, [], ◌∷◌, ◌++◌, map, fold, Option, Some, None, refl, sym, ap, subst, ◌∙◌, inl, inr}
+use Rattle.std.proofs.Common.{◌≡◌, ◌&&◌, List, [], ◌∷◌, ◌++◌, map, fold, Option, Some, None, refl, sym, ap, subst, ◌∙◌, inl, inr}
 use Rattle.std.specs.Prelude.{IfSome}
 use Rattle.std.specs.List.{AllByRecursion, list_all}
 use Rattle.std.proofs.lemmas.List.{append-nil, append_assoc}
@@ -9,16 +9,17 @@ use Rattle.table_meaning.specs.declared.rows.StoredRow.TheVariants as stored
 use Rattle.table_meaning.specs.declared.tables.TableName.{TableName}
 use Rattle.table_meaning.specs.declared.tables.TableName.TheVariants as name
 use Rattle.sqlite_rules.specs.Lists.{Has}
+use Rattle.sqlite_rules.proofs.ProbeLemmas.{has_mapped}
+use Rattle.sqlite_rules.proofs.ListLemmas.{all_has}
 use Rattle.sqlite_value.specs.Order.{Row}
 use Rattle.table_meaning.specs.Rows.{table_of, table_at, columns_of, rows_in, look_up}
-use Rattle.table_meaning.proofs.RowsHeld.{source}
 use Rattle.table_meaning.proofs.RowsKeyed.{row_has}
 use Rattle.table_rows.specs.Utf8.{HasUtf8}
 use Rattle.table_rows.specs.Visits.{VisitsAll, VisitsRows, VisitsTables}
-use Rattle.table_worlds.proofs.RowsHold.{all_have}
 use Rattle.table_reading.specs.declared.rows.Reading.{Reading}
 use Rattle.table_reading.specs.Counting.{noted}
 use Rattle.table_reading.specs.Reading.{AllRows, AreAllRead, AreTyped, AreUtf8, all_tables, is_call, is_import, later_host, no_rows, reading_of, with_row}
+use Rattle.sqlite_tied.proofs.RuleLemmas.{and_assoc, and_true}
 
 abbrev pub Takes : Reading → StoredRow → Reading → Type 0
 Takes old row new = new ≡ with_row old row
@@ -36,14 +37,6 @@ with_more name.Host r rows = record r { rows = record r.rows { hosts = r.rows.ho
 with_more name.Instance r rows = record r { units = fold noted r.units rows }
 with_more name.Kept r rows = record r { are_calls = r.are_calls && list_all is_call rows; last_host = fold later_host r.last_host rows }
 with_more name.Batch r rows = record r { are_imports = r.are_imports && list_all is_import rows }
-
-and_true : (b : Bool) → (b && true) ≡ b
-and_true true = refl
-and_true false = refl
-
-and_assoc : (a b c : Bool) → ((a && b) && c) ≡ (a && (b && c))
-and_assoc true b c = refl
-and_assoc false b c = refl
 
 none_more : (t : TableName) (r : Reading) → with_more t r [] ≡ r
 none_more name.Setting r = ap (λ xs. record r { rows = record r.rows { settings = xs } }) (append-nil r.rows.settings)
@@ -91,8 +84,8 @@ tables_utf8 : (trees : Trees) (tables : List TableName) (old new : Reading) → 
 tables_utf8 trees [] old new same t has row there = absurd has
 tables_utf8 trees (first ∷ ts) old new (mid, (rows, are, of_table, texts, took), rest) t (inl is) row there =
     let among : Has (map columns_of rows) row = subst (λ l. Has l row) (ap (rows_in trees) is ∙ sym are) there in
-    let one = source columns_of rows row among in
-    subst HasUtf8 (sym one.2) (all_have (λ r. HasUtf8 (columns_of r)) rows one.0 texts one.1)
+    let one = has_mapped columns_of rows row among in
+    subst HasUtf8 (sym one.2) (all_has (λ r. HasUtf8 (columns_of r)) rows one.0 texts one.1)
 tables_utf8 trees (first ∷ ts) old new (mid, visited, rest) t (inr later) row there = tables_utf8 trees ts mid new rest t later row there
 
 each_table : (t : TableName) → Has all_tables t

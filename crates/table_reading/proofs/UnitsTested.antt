@@ -4,7 +4,7 @@ use Rattle.std.specs.List.{list_any}
 use Rattle.std.specs.declared.result.Result.{Result}
 use Rattle.std.specs.Prelude.{slice_get, unwrap_or, replicate}
 use Rattle.std.specs.Str.{bytes_eq}
-use Rattle.std.proofs.lemmas.List.{append_assoc, append-nil}
+use Rattle.std.proofs.lemmas.List.{append_assoc, append-nil, length_push}
 use Rattle.std.proofs.lemmas.List.Folds.{list_any-append, list_any_at, Any-from_list_any}
 use Rattle.std.proofs.lemmas.List.Quantifiers.{all_pairs_push}
 use Rattle.std.proofs.lemmas.Option.{none-some, slice_get_within, get_or_from_slice_get}
@@ -21,6 +21,7 @@ use Rattle.table_meaning.specs.declared.rows.StoredInstance.{StoredInstance}
 use Rattle.table_meaning.specs.declared.rows.StoredRow.TheVariants as stored
 use Rattle.table_meaning.specs.Rows.{columns_of, instance_key, look_up}
 use Rattle.table_meaning.specs.Worlds.{instance_row}
+use Rattle.table_meaning.proofs.ByComputing.{or_false}
 use Rattle.table_worlds.specs.ReadBack.{unit_in, job_in}
 use Rattle.table_worlds.specs.RowsOf.{having, rows_of_unit}
 use Rattle.table_worlds.specs.Totals.{with_unit, with_units, totals_of}
@@ -31,13 +32,9 @@ use Rattle.table_worlds.proofs.ReadBack.{unit_back, job_back}
 use Rattle.table_worlds.proofs.TotalsCounted.{unit_more, no_unit_left, all_counted}
 use Rattle.table_reading.specs.Testing.{AreInstancesFound, AreFound, HasGap, StandsAt, AreTested, has_name}
 use Rattle.texts.specs.declared.seen_set.SeenSet.{SeenSet}
+use Rattle.sqlite.proofs.StateLemmas.{is_cached as stands_within}
 
 -- ---- lists by index
-
-pub stands_within : {X : Type 0} (xs : List X) (i : ℕ) → i < length xs → (x : X) × (slice_get xs i ≡ Some x)
-stands_within [] i before = absurd (omega (arith, before))
-stands_within (x ∷ xs) zero before = (x, refl)
-stands_within (x ∷ xs) (suc i) before = stands_within xs i (omega (arith, before))
 
 pub same_each : {X : Type 0} (xs ys : List X) → length xs ≡ length ys → ((k : ℕ) (x y : X) → slice_get xs k ≡ Some x → slice_get ys k ≡ Some y → x ≡ y) → xs ≡ ys
 same_each [] [] few each = refl
@@ -54,21 +51,14 @@ got_more [] x (suc j) y is = absurd (none-some y is)
 got_more (z ∷ xs) x zero y is = inl is
 got_more (z ∷ xs) x (suc j) y is = elim (got_more xs x j y is) [ inl before ↦ inl before | inr last ↦ inr (ap suc last.0, last.1) ]
 
-one_row : (r s : Row) (o : Option Row) → o ≡ Some r → o ≡ Some s → r ≡ s
+pub one_row : (r s : Row) (o : Option Row) → o ≡ Some r → o ≡ Some s → r ≡ s
 one_row r s o first other = ap (λ p. unwrap_or p r) (sym first ∙ other)
-
-length_more : {X : Type 0} (xs : List X) (x : X) → length (xs ++ x ∷ []) ≡ length xs + 1
-length_more [] x = refl
-length_more (y ∷ xs) x = let more = length_more xs x in omega (arith, more)
 
 -- ---- instances at their keys
 
-pub none_found : (trees : Trees) (id : ℕ) → AreInstancesFound trees id 0 []
-none_found trees id = record { count = refl; at = λ k i is. absurd (none-some i is) }
-
 pub found_more : (trees : Trees) (id n : ℕ) (rows : List StoredInstance) (row : StoredInstance) → AreInstancesFound trees id n rows → look_up trees (instance_key id n) ≡ Some (columns_of (stored.Instance row)) → AreInstancesFound trees id (n + 1) (rows ++ row ∷ [])
 found_more trees id n rows row found here = record {
-  count = length_more rows row ∙ ap (λ m. m + 1) found.count;
+  count = length_push rows row ∙ ap (λ m. m + 1) found.count;
   at = λ k i is. elim (got_more rows row k i is) [
     | inl before ↦ found.at k i before
     | inr last ↦
@@ -136,16 +126,12 @@ or_turned true false = refl
 or_turned false true = refl
 or_turned false false = refl
 
-or_none : (a : Bool) → (a || false) ≡ a
-or_none true = refl
-or_none false = refl
-
 pub names_more : (names next : SeenSet (List ℕ)) (books : List UnitBook) (b : UnitBook) → AreNames names books → ((other : List ℕ) → has_name next other ≡ (bytes_eq other b.unit.name || has_name names other)) → AreNames next (books ++ b ∷ [])
 names_more names next books b are seen name =
     seen name
     ∙ ap (λ (s : Bool). bytes_eq name b.unit.name || s) (are name)
     ∙ or_turned (bytes_eq name b.unit.name) (list_any (λ (a : UnitBook). bytes_eq name a.unit.name) books)
-    ∙ ap (λ (s : Bool). list_any (λ (a : UnitBook). bytes_eq name a.unit.name) books || s) (sym (or_none (bytes_eq name b.unit.name)))
+    ∙ ap (λ (s : Bool). list_any (λ (a : UnitBook). bytes_eq name a.unit.name) books || s) (sym (or_false (bytes_eq name b.unit.name)))
     ∙ sym (list_any-append (λ (a : UnitBook). bytes_eq name a.unit.name) books (b ∷ []))
 
 pub counted_more : (apps : List App) (before now next : List Total) (books : List UnitBook) (b : UnitBook) → AreCounted apps before books now → next ≡ map_from 1 (with_unit apps b) now → AreCounted apps before (books ++ b ∷ []) next
@@ -162,14 +148,11 @@ counted_from w books n before after count none made =
     made ∙ ap (map_from 1 (with_units w.apps books)) (none ∙ ap (λ m. replicate m (record { held = 0; credit = 0 })) count) ∙ all_counted (having w books)
 
 module _ (trees : Trees) (w : World) (counts : List ℕ) where
-  pub none_tested : AreTested trees w counts 0 []
-  none_tested = record { all = refl; each = λ i n b count is. absurd (none-some b is); names = λ i j d lt within. absurd (omega (arith, within)) }
-
   -- one more, whose name none before it has
   pub tested_more : (i n : ℕ) (books : List UnitBook) (b : UnitBook) (names : SeenSet (List ℕ)) → AreTested trees w counts i books → slice_get counts i ≡ Some n → StandsAt trees w (i + 1) n b
       → AreNames names books → has_name names b.unit.name ≡ false → AreTested trees w counts (i + 1) (books ++ b ∷ [])
   tested_more i n books b names tested count stands are new = record {
-    all = length_more books b ∙ ap (λ m. m + 1) tested.all;
+    all = length_push books b ∙ ap (λ m. m + 1) tested.all;
     each = λ j m c counted is. elim (got_more books b j c is) [
       | inl before ↦ tested.each j m c counted before
       | inr last ↦

@@ -1,13 +1,16 @@
 -- Rows are those of a sound world just where its workunits stand at their keys with their marks, and the other rows are those
 -- of it beside them.
-use Rattle.std.proofs.Common.{◌≡◌, ◌≤◌, ◌<◌, ℕ, zero, suc, ◌+◌, ◌-◌, true, List, [], ◌∷◌, map, filter_map, fold, length, get_or, Option, Some, option_map, All, refl, sym, ap, subst, ◌∙◌, inl, inr, arith}
-use Rattle.std.specs.List.{AllByRecursion, cons_option, range_with_len}
+use Rattle.std.proofs.Common.{◌≡◌, ◌≤◌, ◌<◌, ℕ, zero, suc, ◌+◌, ◌-◌, true, List, [], ◌∷◌, map, filter_map, fold, length, get_or, Option, Some, option_map, All, refl, sym, ap, subst, ◌∙◌, arith}
+use Rattle.std.specs.List.{cons_option, range_with_len}
 use Rattle.std.specs.Prelude.{slice_get, unwrap_or, option_and_then}
 use Rattle.std.proofs.lemmas.Bool.Decides.{nat_tests}
-use Rattle.std.proofs.lemmas.Option.{none-some, slice_get_within, get_or_from_slice_get}
+use Rattle.std.proofs.lemmas.Option.{slice_get_within, get_or_from_slice_get}
 use Rattle.sqlite.specs.Effect.{Database}
+use Rattle.sqlite.proofs.StateLemmas.{is_cached as stands_within}
+use Rattle.sqlite.proofs.RunLemmas.{has_got}
 use Rattle.sqlite_rules.specs.Lists.{Has}
-use Rattle.sqlite_value.specs.Order.{Row}
+use Rattle.sqlite_rules.proofs.ListLemmas.{all_has}
+use Rattle.sqlite_keyed.proofs.ListLemmas.{all-slice_get}
 use Rattle.sched_book.specs.Numbered.{map_from}
 use Rattle.sched_book.specs.Limits.{most_instances}
 use Rattle.sched_book.specs.Sound.{Sound, IsSoundUnit}
@@ -32,7 +35,6 @@ use Rattle.table_worlds.proofs.ByPlace.{nth_next, all_got}
 use Rattle.table_worlds.proofs.ColumnsBack.{one_instance, is_unit_row, is_mark_row, is_instance_row}
 use Rattle.table_worlds.proofs.HostTotals.{slice_get-map_from}
 use Rattle.table_worlds.proofs.InstanceRows.{own_rows, own_listed, listed_own}
-use Rattle.table_worlds.proofs.Members.{has_got}
 use Rattle.table_worlds.proofs.RowsFound.{found_at_key}
 use Rattle.table_worlds.proofs.UnitRowsRead.{length-map_from, written_at}
 use Rattle.table_decoding.specs.Decoding.{of_unit, of_mark}
@@ -45,26 +47,13 @@ use Rattle.table_reading.specs.declared.rows.Reading.{Reading}
 use Rattle.table_reading.proofs.CallsTested.{calls_tested}
 use Rattle.table_reading.proofs.CountsNoted.{AreInTurn, AreOfUnits, same_count, same_mark, in_turn_told, was_in_turn, of_units_counted, units_counted, units_without, units_marked, units_told, units_turned, marks_count, marks_told, marks_turned}
 use Rattle.table_reading.proofs.KeptRows.{held_by_rows}
-use Rattle.table_reading.proofs.UnitsTested.{stands_within, same_each}
+use Rattle.table_reading.proofs.UnitsTested.{same_each, one_row}
 
 -- ---- lists
-
-each_at : {X : Type 0} (P : X → Type 0) (xs : List X) (i : ℕ) (x : X) → slice_get xs i ≡ Some x → AllByRecursion P xs → P x
-each_at P [] i x is all = absurd (none-some x is)
-each_at P (y ∷ xs) zero x is all = subst P (ap (λ o. unwrap_or o y) is) all.0
-each_at P (y ∷ xs) (suc i) x is all = each_at P xs i x is all.1
-
-each_of : {X : Type 0} (P : X → Type 0) (xs : List X) (x : X) → Has xs x → AllByRecursion P xs → P x
-each_of P [] x has all = absurd has
-each_of P (y ∷ xs) x (inl same) all = subst P (sym same) all.0
-each_of P (y ∷ xs) x (inr later) all = each_of P xs x later all.1
 
 same_rows : (f g : WorldKey → Option StoredRow) (key : ℕ → WorldKey) → ((id : ℕ) → f (key id) ≡ g (key id)) → (ids : List ℕ) → filter_map f (map key ids) ≡ filter_map g (map key ids)
 same_rows f g key each [] = refl
 same_rows f g key each (id ∷ ids) = ap (λ o. cons_option o (filter_map f (map key ids))) (each id) ∙ ap (λ rows. cons_option (g (key id)) rows) (same_rows f g key each ids)
-
-one_row : (r s : Row) (o : Option Row) → o ≡ Some r → o ≡ Some s → r ≡ s
-one_row r s o first other = ap (λ p. unwrap_or p r) (sym first ∙ other)
 
 numbered_within : (cs : List ℕ) (n : ℕ) → is_numbered cs n ≡ true → (1 ≤ n) × (n ≤ length cs)
 numbered_within cs n is = (grind (arith, nat_tests, is), grind (arith, nat_tests, is))
@@ -72,8 +61,8 @@ numbered_within cs n is = (grind (arith, nat_tests, is), grind (arith, nat_tests
 numbered_is : (cs : List ℕ) (n : ℕ) → 1 ≤ n → n ≤ length cs → is_numbered cs n ≡ true
 numbered_is cs n from until = grind (arith, nat_tests, from, until)
 
-same_instance : (x y : StoredInstance) → stored.Instance x ≡ stored.Instance y → x ≡ y
-same_instance x y e = cc
+instance_in_row : (x y : StoredInstance) → stored.Instance x ≡ stored.Instance y → x ≡ y
+instance_in_row x y e = cc
 
 module _ (db : Database) (known : AreKnown db) (all : AllRows) (read : AreAllRead db.trees all) (typed : AreTyped all) (d : World) (books : List UnitBook) where
   abbrev w : World
@@ -106,7 +95,7 @@ module _ (db : Database) (known : AreKnown db) (all : AllRows) (read : AreAllRea
   last_mark = same_mark all.world.instances before typed.instances
 
   instances_of_table : (r : StoredRow) → Has all.world.instances r → table_at (key_of r) ≡ name.Instance
-  instances_of_table r has = let x = is_instance_row r (each_of (λ s. table_of s ≡ name.Instance) all.world.instances r has typed.instances) in ap (λ s. table_at (key_of s)) x.1
+  instances_of_table r has = let x = is_instance_row r (all_has (λ s. table_of s ≡ name.Instance) all.world.instances r typed.instances has) in ap (λ s. table_at (key_of s)) x.1
 
   -- a row stands at its key
   found_at : (r : StoredRow) {q : StoredRow} → r ≡ q → (key : RowKey) → key_of r ≡ key → look_up db.trees (key_of q) ≡ Some (columns_of q)
@@ -166,14 +155,14 @@ module _ (db : Database) (known : AreKnown db) (all : AllRows) (read : AreAllRea
 
     unit_found : (i : ℕ) (r : StoredRow) → slice_get all.world.units i ≡ Some r → look_up db.trees (unit_key (i + 1)) ≡ Some (columns_of r)
     unit_found i r is =
-        let u = is_unit_row r (each_at (λ q. table_of q ≡ name.Unit) all.world.units i r is typed.units) in
+        let u = is_unit_row r (all-slice_get (λ q. table_of q ≡ name.Unit) all.world.units i r is typed.units) in
         let has : Has all.world.units (stored.Unit u.0) = subst (Has all.world.units) u.1 (has_got all.world.units i r is) in
         found_at r u.1 (unit_key (i + 1)) (units_in_turn i r is ∙ ap unit_key (let same : i + 0 + 1 ≡ i + 1 = omega arith in same))
         (found_at_key db known (stored.Unit u.0) all.world.units read.world.units has)
 
     mark_found : (i : ℕ) (r : StoredRow) → slice_get all.world.marks i ≡ Some r → look_up db.trees (mark_key (i + 1)) ≡ Some (columns_of r)
     mark_found i r is =
-        let m = is_mark_row r (each_at (λ q. table_of q ≡ name.UnitMark) all.world.marks i r is typed.marks) in
+        let m = is_mark_row r (all-slice_get (λ q. table_of q ≡ name.UnitMark) all.world.marks i r is typed.marks) in
         let has : Has all.world.marks (stored.UnitMark m.0) = subst (Has all.world.marks) m.1 (has_got all.world.marks i r is) in
         found_at r m.1 (mark_key (i + 1)) (marks_in_turn.1 i r is ∙ ap mark_key (let same : i + of_all_units.last_mark + 1 ≡ i + 1 = omega (arith, no_mark) in same))
         (found_at_key db known (stored.UnitMark m.0) all.world.marks read.world.marks has)
@@ -208,7 +197,7 @@ module _ (db : Database) (known : AreKnown db) (all : AllRows) (read : AreAllRea
 
     listed : (r : StoredRow) → Has all.world.instances r → Has (own_rows w) r
     listed r has =
-        let x = is_instance_row r (each_of (λ q. table_of q ≡ name.Instance) all.world.instances r has typed.instances) in
+        let x = is_instance_row r (all_has (λ q. table_of q ≡ name.Instance) all.world.instances r typed.instances has) in
         subst (Has (own_rows w)) (sym x.1) (of_row x.0 (subst (Has all.world.instances) x.1 has))
 
     -- and each of these was read
@@ -219,7 +208,7 @@ module _ (db : Database) (known : AreKnown db) (all : AllRows) (read : AreAllRea
         let number = p.0.number in
         let found = instance_at p.1.index number at.0 p.1.book p.1.instance at.2 p.1.instance_is in
         let s = held_row db.trees name.Instance all.world.instances read.world.instances instances_of_table (instance_key (p.1.index + 1) number) refl _ found in
-        let x = is_instance_row s.0 (each_of (λ q. table_of q ≡ name.Instance) all.world.instances s.0 s.1 typed.instances) in
+        let x = is_instance_row s.0 (all_has (λ q. table_of q ≡ name.Instance) all.world.instances s.0 typed.instances s.1) in
         let same : instance_row d p.1.book (p.1.index + 1) number p.1.instance ≡ x.0 = one_instance _ x.0 (s.2 ∙ ap columns_of x.1) in
         subst (Has all.world.instances) (x.1 ∙ ap stored.Instance (sym same) ∙ sym p.1.row_is) s.1
 
@@ -316,7 +305,7 @@ module _ (db : Database) (known : AreKnown db) (all : AllRows) (read : AreAllRea
     instance_of : (i : StoredInstance) → Has all.world.instances (stored.Instance i) → IsOf i
     instance_of i has =
         let p = listed_own w (stored.Instance i) (stand.rows.instances.0 (stored.Instance i) has) in
-        let row = same_instance i (instance_row w p.1.book (p.1.index + 1) p.0.number p.1.instance) p.1.row_is in
+        let row = instance_in_row i (instance_row w p.1.book (p.1.index + 1) p.0.number p.1.instance) p.1.row_is in
         let number : i.num ≡ p.0.number = ap (λ (x : StoredInstance). x.num) row in
         let within = slice_get_within p.1.book.instances p.0.number p.1.instance p.1.instance_is in
         (p.1.index, p.1.book, p.1.book_is, ap (λ (x : StoredInstance). x.unit_id) row, omega (arith, number, within))

@@ -1,19 +1,10 @@
 -- Two lists that are looked through side by side.
-use Rattle.std.proofs.Common.{◌≡◌, ℕ, zero, suc, ◌+◌, ◌<◌, Bool, false, true≢false, List, [], ◌∷◌, ◌++◌, length, take, get_or, refl, sym, ap, ap₂, subst, ◌∙◌, inl, inr, arith}
+use Rattle.std.proofs.Common.{◌≡◌, ℕ, ◌+◌, ◌<◌, Bool, false, true≢false, List, [], ◌∷◌, ◌++◌, length, take, get_or, sym, ap, ap₂, subst, ◌∙◌, inl, inr}
 use Rattle.std.specs.Bool.{Decides}
-use Rattle.std.proofs.lemmas.List.{take_more}
+use Rattle.std.proofs.lemmas.List.{take_more, get_or_default}
 use Rattle.sqlite_rules.specs.Lists.{Has}
 use Rattle.table_rows.specs.Plain.{Each}
-
-one_item : {X : Type 0} (xs : List X) (i : ℕ) (a b : X) → i < length xs → get_or xs i a ≡ get_or xs i b
-one_item [] i a b within = absurd (omega (arith, within))
-one_item (x ∷ xs) zero a b within = refl
-one_item (x ∷ xs) (suc i) a b within = one_item xs i a b (omega (arith, within))
-
-has_item : {X : Type 0} (xs : List X) (i : ℕ) (d : X) → i < length xs → Has xs (get_or xs i d)
-has_item [] i d within = absurd (omega (arith, within))
-has_item (x ∷ xs) zero d within = inl refl
-has_item (x ∷ xs) (suc i) d within = inr (has_item xs i d (omega (arith, within)))
+use Rattle.table_meaning.proofs.RowsHeld.{has_get_or}
 
 each_more : {X : Type 0} (P : X → Type 0) (xs : List X) (y : X) → Each P xs → P y → Each P (xs ++ y ∷ [])
 each_more P [] y each plain = λ x has. elim has [ inl this ↦ subst P (sym this) plain | inr later ↦ absurd later ]
@@ -28,8 +19,8 @@ module _ {X : Type 0} (P : X → Type 0) (xs ys : List X) (i : ℕ) (x y : X) (i
   items_differ alike differ decides = (
     λ no. absurd (true≢false (sym no)),
     λ both.
-        let same : x ≡ y = is_x ∙ ap (λ l. get_or l i x) both.0 ∙ one_item ys i x y in_ys ∙ sym is_y in
-        let plain : P y = both.1 y (subst (Has ys) (sym is_y) (has_item ys i y in_ys)) in
+        let same : x ≡ y = is_x ∙ ap (λ l. get_or l i x) both.0 ∙ get_or_default ys i x y in_ys ∙ sym is_y in
+        let plain : P y = both.1 y (subst (Has ys) (sym is_y) (has_get_or ys i y in_ys)) in
         absurd (true≢false (sym (decides.1 (same, plain)) ∙ differ)),
   )
 

@@ -6,23 +6,17 @@ use Rattle.sqlite.specs.Listing.{understood}
 use Rattle.table_meaning.specs.Rows.{shown, whole}
 use Rattle.table_meaning.proofs.LastRow.{IsLast}
 use Rattle.table_rows.specs.declared.names.CountedTable.{CountedTable}
-use Rattle.table_rows.specs.declared.names.CountedTable.TheVariants.{Account, App, Version, Unit, Host}
+use Rattle.table_rows.specs.declared.names.CountedTable.TheVariants.{Account}
 use Rattle.table_rows.specs.Counted.{counted_table, last_text}
 
 pub last_is_read : (t : CountedTable) → IsLast (counted_table t) (codes "id" ∷ []) (last_text t)
 unfolding understood everything
 last_is_read Account = (refl, (refl, refl), refl)
-last_is_read App = (refl, (refl, refl), refl)
-last_is_read Version = (refl, (refl, refl), refl)
-last_is_read Unit = (refl, (refl, refl), refl)
-last_is_read Host = (refl, (refl, refl), refl)
+last_is_read _ = (refl, (refl, refl), refl)
 
 pub number_first : (t : CountedTable) (r : Row) → column (shown (counted_table t) r) 0 ≡ column r 0
 number_first Account r = refl
-number_first App r = refl
-number_first Version r = refl
-number_first Unit r = refl
-number_first Host r = refl
+number_first _ r = refl
 
 pub or_none : (found : Option ℕ) → whole (unwrap_or found 0) ≡ unwrap_or (option_map whole found) (whole 0)
 or_none None = refl

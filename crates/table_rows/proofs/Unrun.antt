@@ -1,7 +1,7 @@
 -- A call that runs no statement leaves what a read leaves.
 use Rattle.std.proofs.Common.{◌≡◌, ℕ, false, true≢false, IsTrue, List, sym, ◌∙◌, subst, inl, inr}
 use Rattle.sqlite_trees.specs.declared.error.StoreError.{StoreError}
-use Rattle.sqlite_trees.specs.declared.error.StoreError.TheVariants.{OutOfMemory, Io, Corrupt, Full, Broken, Unstorable}
+use Rattle.sqlite_trees.specs.declared.error.StoreError.TheVariants.{Broken}
 use Rattle.sqlite_value.specs.Order.{Row}
 use Rattle.sqlite.specs.State.{State, HasCleanDisk, Survives, IsUnchanged, IsNoStatement, IsNotRun, HasCause, store_error}
 use Rattle.sqlite.specs.declared.error.Error.{Error}
@@ -32,12 +32,8 @@ module _ (old new : State) (survives : Survives old new (λ _. ⊥)) (idle : old
 
 -- only a connection that was shut says so
 was_shut : (old new : State) (cause : StoreError) → store_error cause ≡ SqliteFailure code.Closed → HasCause old new ⊥ cause → old.is_open ≡ false
-was_shut old new OutOfMemory says why = cc
-was_shut old new Io says why = cc
-was_shut old new Corrupt says why = cc
-was_shut old new Full says why = cc
 was_shut old new Broken says why = why
-was_shut old new Unstorable says why = cc
+was_shut old new _ says why = cc
 
 never_closed : (s : State) (sql : List ℕ) (params : Row) (e : Error) → IsNoStatement s sql params e → e ≡ SqliteFailure code.Closed → ⊥
 never_closed s sql params e (inl (fault, is, says)) closed = let never = sym says ∙ closed in cc

@@ -7,6 +7,7 @@ use Rattle.sqlite_schema.specs.declared.command.Returning.{Returning}
 use Rattle.sqlite_trees.specs.declared.store.Store.{Ghosts}
 use Rattle.std.proofs.lemmas.List.{append_assoc, map-append}
 use Rattle.sqlite_rules.specs.Lists.{Has}
+use Rattle.sqlite_rules.proofs.ListLemmas.{has_left, has_right}
 use Rattle.sqlite_typed.proofs.AnswerLemmas.{unfiltered}
 use Rattle.sqlite.specs.declared.error.Error.{Error}
 use Rattle.sqlite.specs.Effect.{Database}
@@ -36,15 +37,6 @@ given_first t s known rows h =
       start.1.0,
       passing_rows s.now.trees (tree_of t) [] [] (λ _. true) (own_rows t s.now.trees) (known.ordered t) (λ _. refl) (places_of t) (rows ++ start.1.0) (start.1.1 Null) ∙ ap (map (shown t)) (unfiltered (s.now.trees (tree_of t)) refl),
     )
-
-has_front : (xs ys : List Row) (x : Row) → Has xs x → Has (xs ++ ys) x
-has_front [] ys x has = absurd has
-has_front (y ∷ xs) ys x (inl same) = inl same
-has_front (y ∷ xs) ys x (inr later) = inr (has_front xs ys x later)
-
-has_last : (xs : List Row) (x : Row) → Has (xs ++ x ∷ []) x
-has_last [] x = inl refl
-has_last (y ∷ xs) x = inr (has_last xs x)
 
 pub visits_more : {V : Type 0} (takes : V → StoredRow → V → Type 0) (old mid new : V) (rows : List StoredRow) (row : StoredRow) → VisitsAll takes old rows mid → takes mid row new → VisitsAll takes old (rows ++ row ∷ []) new
 visits_more takes old mid new [] row same took = (new, subst (λ v. takes v row new) same took, refl)
@@ -108,7 +100,7 @@ module _ {S : Type 0} (g : Ghosts S) (t : TableName) (first now : Held S) (same 
   pub given_has : (given : List Row) (row : Row) → HasGiven g (read_text t) [] now (given ++ row ∷ []) → Has (rows_in (state g first).now.trees t) row
   given_has given row h =
       let is = given_are (given ++ row ∷ []) h in
-      subst (λ (rows : List Row). Has rows row) is.1 (has_front (given ++ row ∷ []) is.0 row (has_last given row))
+      subst (λ (rows : List Row). Has rows row) is.1 (has_left (given ++ row ∷ []) is.0 row (has_right given (row ∷ []) row (inl refl)))
 
   -- where no row follows those that were given, they are all
   pub given_all : (last : State) (given : List Row) → Shown (read_text t) [] (state g now) last given → given ≡ rows_in (state g first).now.trees t

@@ -26,7 +26,7 @@ use sqlite::types::ValueRef;
 use sqlite::{Alter, Connection, Row};
 use std::alloc::Global;
 use table_meaning::rows::{StoredInstance, StoredRow};
-use table_meaning::tables::{Page, TableName};
+use table_meaning::tables::{QueuePage, TableName};
 use texts::Listed;
 
 /// A moment as a parameter, in seconds since 1970-01-01T00:00:00Z.
@@ -165,7 +165,7 @@ pub fn queued_from<S: Alter>(
     alloc: Global,
     conn: &mut Connection<S>,
     from: Place,
-    page: Page,
+    page: QueuePage,
 ) -> Result<Listed<Place>, OpenFault>
     ensures reads { Reads (state S.Store conn.old) (state S.Store conn.new) }
     ensures queued { HasCleanDisk (state S.Store conn.new) → (contents : Contents) (places : List BookPlace) → Hold (state S.Store conn.old).now contents → AreAllPlaces contents places

@@ -1,13 +1,14 @@
 -- What is left of a step of an upgrade, and of an upgrade that took several steps, or looked at the tables first.
-use Rattle.std.proofs.Common.{◌≡◌, ◌⊎◌, ◌+◌, ◌-◌, ◌≤◌, ◌<◌, ℕ, suc, false, IsTrue, refl, sym, subst, ◌∙◌, inl, inr, arith}
+use Rattle.std.proofs.Common.{◌≡◌, ◌⊎◌, ◌+◌, ◌-◌, ◌≤◌, ◌<◌, ℕ, suc, IsTrue, refl, sym, subst, ◌∙◌, inl, inr, arith}
 use Rattle.sqlite.specs.Effect.{Database}
 use Rattle.sqlite.specs.State.{State, HasCleanDisk, Survives}
 use Rattle.sqlite.proofs.StateLemmas.{survives_then, survives_weaker}
 use Rattle.table_meaning.specs.Schema.{newest, schema_at}
 use Rattle.table_meaning.specs.Schemas.{IsSchema, IsEarlier}
 use Rattle.table_meaning.specs.Reads.{Reads}
-use Rattle.table_meaning.specs.Upgrades.{MakesNext, Goes, IsLeftFrom, IsLeftBehind, StopsWithin, StaysOrGoes}
+use Rattle.table_meaning.specs.Upgrades.{MakesNext, Goes, IsLeftFrom, IsLeftBehind, StopsWithin}
 use Rattle.table_meaning.proofs.StepLemmas.{survives_itself}
+use Rattle.table_meaning.proofs.Listings.{here_or_later}
 use Rattle.table_upgrades.specs.Frames.{IsCommitted, OutsideTransaction}
 
 -- ---- one step
@@ -43,9 +44,6 @@ gone_nowhere n earlier old = record {
   later = λ less. absurd (omega (arith, less));
 }
 
-at_or_past : (n next : ℕ) → n ≤ next → (next ≡ n) ⊎ (n < next)
-at_or_past n next le = grind (arith, le)
-
 module _ (n next : ℕ) (old mid new : State) (gone : HasGone n next old mid) (less : next < newest)
     (step : Survives mid new (λ trees. IsTrue mid.is_open × (db : Database) × MakesNext next mid.now db × (trees ≡ db.trees))) where
   -- the next step is made
@@ -76,7 +74,7 @@ module _ (n next : ℕ) (old mid new : State) (gone : HasGone n next old mid) (l
 
   -- the next step is refused
   pub gone_no_further : HasCleanDisk new → (new.now ≡ mid.now) × (new.committed ≡ mid.committed) → StopsWithin n old new
-  gone_no_further clean same = elim (at_or_past n next gone.from) [
+  gone_no_further clean same = elim (here_or_later n next gone.from) [
     | inl at ↦
         let none : next - n ≡ 0 = omega (arith, at) in
         inl (same.0 ∙ subst (λ k. Goes n k old.now mid.now) none (gone.goes early), same.1 ∙ gone.first at early)
@@ -110,9 +108,3 @@ module _ (n : ℕ) (is_n : IsSchema n) (old mid new : State) (is : old.now.schem
       (λ clean db it.
       let early : HasCleanDisk mid = omega (arith, stop.clean) in
       (reads.was_open early it.0, it.1, (n, is_n, is, subst (λ (before : Database). IsLeftFrom n before it.1) (looked_at early it.0).0 it.2), it.3)) reads.survives stop
-
-  -- a refusal leaves what was looked at
-  pub refused_then : HasCleanDisk mid → IsTrue mid.is_open → StopsWithin n mid new → StaysOrGoes old new
-  refused_then clean is_open left =
-      let same = looked_at clean is_open in
-      elim left [ inl stays ↦ inl (stays.0 ∙ same.0, stays.1 ∙ same.1) | inr gone ↦ inr ((n, is_n, is, subst (λ (before : Database). IsLeftFrom n before new.committed) same.0 gone.0), gone.1) ]

@@ -4,7 +4,8 @@ use Rattle.std.specs.Borrow.{MutBor}
 use Rattle.sqlite_trees.specs.declared.store.Store.{Ghosts}
 use Rattle.sqlite.specs.Held.{Held, state}
 use Rattle.sqlite.specs.State.{HasCleanDisk}
-use Rattle.table_meaning.proofs.StepLemmas.{survives_on, keeps_then}
+use Rattle.sqlite.proofs.InsideLemmas.{keeps_then}
+use Rattle.table_meaning.proofs.StepLemmas.{survives_on}
 use Rattle.table_upgrades.specs.Frames.{WithinTransaction, StaysWithin}
 
 module _ {S : Type 0} (g : Ghosts S) (a b c : MutBor (Held S)) (first : WithinTransaction g a b) (stays : StaysWithin g a b) (then : WithinTransaction g b c) where

@@ -1,5 +1,5 @@
 -- The rows of a workunit, of its mark and of an instance are told by their columns.
-use Rattle.std.proofs.Common.{◌≡◌, refl, ap}
+use Rattle.std.proofs.Common.{◌≡◌, refl}
 use Rattle.table_meaning.specs.declared.rows.StoredInstance.{StoredInstance}
 use Rattle.table_meaning.specs.declared.rows.StoredUnit.{StoredUnit}
 use Rattle.table_meaning.specs.declared.rows.StoredUnitMark.{StoredUnitMark}
@@ -10,62 +10,23 @@ use Rattle.table_meaning.specs.Rows.{columns_of, table_of}
 use Rattle.table_meaning.proofs.EachRow.{columns_told}
 
 pub one_unit : (u v : StoredUnit) → columns_of (stored.Unit u) ≡ columns_of (stored.Unit v) → u ≡ v
-one_unit u v same = ap (unit_in u) (columns_told (stored.Unit u) (stored.Unit v) same)
-  where
-    unit_in : StoredUnit → StoredRow → StoredUnit
-    unit_in other (stored.Unit x) = x
-    unit_in other row = other
+one_unit u v same = let rows = columns_told (stored.Unit u) (stored.Unit v) same in cc
 
 pub one_mark : (m n : StoredUnitMark) → columns_of (stored.UnitMark m) ≡ columns_of (stored.UnitMark n) → m ≡ n
-one_mark m n same = ap (mark_in m) (columns_told (stored.UnitMark m) (stored.UnitMark n) same)
-  where
-    mark_in : StoredUnitMark → StoredRow → StoredUnitMark
-    mark_in other (stored.UnitMark x) = x
-    mark_in other row = other
+one_mark m n same = let rows = columns_told (stored.UnitMark m) (stored.UnitMark n) same in cc
 
 pub one_instance : (x y : StoredInstance) → columns_of (stored.Instance x) ≡ columns_of (stored.Instance y) → x ≡ y
-one_instance x y same = ap (instance_in x) (columns_told (stored.Instance x) (stored.Instance y) same)
-  where
-    instance_in : StoredInstance → StoredRow → StoredInstance
-    instance_in other (stored.Instance i) = i
-    instance_in other row = other
+one_instance x y same = let rows = columns_told (stored.Instance x) (stored.Instance y) same in cc
 
 -- a row of their table is theirs
 pub is_unit_row : (r : StoredRow) → table_of r ≡ name.Unit → (u : StoredUnit) × (r ≡ stored.Unit u)
 is_unit_row (stored.Unit x) is = (x, refl)
-is_unit_row (stored.Setting x) is = absurd (cc)
-is_unit_row (stored.Account x) is = absurd (cc)
-is_unit_row (stored.App x) is = absurd (cc)
-is_unit_row (stored.Version x) is = absurd (cc)
-is_unit_row (stored.Host x) is = absurd (cc)
-is_unit_row (stored.Instance x) is = absurd (cc)
-is_unit_row (stored.Kept x) is = absurd (cc)
-is_unit_row (stored.Batch x) is = absurd (cc)
-is_unit_row (stored.VersionClass x) is = absurd (cc)
-is_unit_row (stored.UnitMark x) is = absurd (cc)
+is_unit_row _ is = absurd (cc)
 
 pub is_mark_row : (r : StoredRow) → table_of r ≡ name.UnitMark → (m : StoredUnitMark) × (r ≡ stored.UnitMark m)
 is_mark_row (stored.UnitMark x) is = (x, refl)
-is_mark_row (stored.Setting x) is = absurd (cc)
-is_mark_row (stored.Account x) is = absurd (cc)
-is_mark_row (stored.App x) is = absurd (cc)
-is_mark_row (stored.Version x) is = absurd (cc)
-is_mark_row (stored.Unit x) is = absurd (cc)
-is_mark_row (stored.Host x) is = absurd (cc)
-is_mark_row (stored.Instance x) is = absurd (cc)
-is_mark_row (stored.Kept x) is = absurd (cc)
-is_mark_row (stored.Batch x) is = absurd (cc)
-is_mark_row (stored.VersionClass x) is = absurd (cc)
+is_mark_row _ is = absurd (cc)
 
 pub is_instance_row : (r : StoredRow) → table_of r ≡ name.Instance → (x : StoredInstance) × (r ≡ stored.Instance x)
 is_instance_row (stored.Instance x) is = (x, refl)
-is_instance_row (stored.Setting x) is = absurd (cc)
-is_instance_row (stored.Account x) is = absurd (cc)
-is_instance_row (stored.App x) is = absurd (cc)
-is_instance_row (stored.Version x) is = absurd (cc)
-is_instance_row (stored.Unit x) is = absurd (cc)
-is_instance_row (stored.Host x) is = absurd (cc)
-is_instance_row (stored.Kept x) is = absurd (cc)
-is_instance_row (stored.Batch x) is = absurd (cc)
-is_instance_row (stored.VersionClass x) is = absurd (cc)
-is_instance_row (stored.UnitMark x) is = absurd (cc)
+is_instance_row _ is = absurd (cc)

@@ -3,6 +3,7 @@ use Rattle.std.proofs.Common.{◌≡◌, ℕ, zero, suc, ◌+◌, List, filter_m
 use Rattle.std.specs.Prelude.{slice_get, unwrap_or, option_and_then}
 use Rattle.std.proofs.lemmas.Option.{none-some}
 use Rattle.sqlite_rules.specs.Lists.{Has}
+use Rattle.sqlite_rules.proofs.ProbeLemmas.{mapped_has, has_mapped}
 use Rattle.sched_book.specs.Places.{places, unit_at}
 use Rattle.sched_book.specs.declared.instance.Instance.{Instance as Job}
 use Rattle.sched_book.specs.declared.instance.Place.{Place}
@@ -11,7 +12,6 @@ use Rattle.sched_book.specs.declared.world.World.{World}
 use Rattle.table_meaning.specs.declared.rows.StoredRow.{StoredRow}
 use Rattle.table_meaning.specs.declared.rows.StoredRow.TheVariants as stored
 use Rattle.table_meaning.specs.Worlds.{instance_row}
-use Rattle.table_meaning.proofs.RowsHeld.{mapped, source}
 use Rattle.sched_book.proofs.PlacesOf.{nth-suc}
 use Rattle.table_worlds.specs.declared.keys.WorldKey.TheVariants.{Instance}
 use Rattle.table_worlds.specs.Keys.{row_in}
@@ -69,12 +69,12 @@ module _ (w : World) where
       ∙ ap (option_map (λ (y : Job). stored.Instance (instance_row w b (index + 1) number y))) there in
       elim (instance_listed w (index + 1) number) [
         | inl none ↦ absurd (none-some _ (sym none ∙ stands))
-        | inr has ↦ kept_by (row_in w) (map Instance (places w)) (Instance (place (index + 1) number)) _ (mapped Instance (places w) (place (index + 1) number) has) stands
+        | inr has ↦ kept_by (row_in w) (map Instance (places w)) (Instance (place (index + 1) number)) _ (mapped_has Instance (places w) (place (index + 1) number) has) stands
       ]
 
   -- and each of these is one
   pub listed_own : (r : StoredRow) → Has own_rows r → (p : Place) × IsRowAt p.unit p.number r
   listed_own r has =
       let from = given_by (row_in w) (map Instance (places w)) r has in
-      let at = source Instance (places w) from.0 from.1 in
+      let at = has_mapped Instance (places w) from.0 from.1 in
       (at.0, row_stands at.0.unit at.0.number r (ap (row_in w) (sym at.2) ∙ from.2))

@@ -1,13 +1,13 @@
 -- Words that commas join are the parts between the commas.
-use Rattle.std.proofs.Common.{◌≡◌, ℕ, Bool, true, false, ◌&&◌, List, [], ◌∷◌, ◌++◌, ap, ◌∙◌, arith, refl}
+use Rattle.std.proofs.Common.{◌≡◌, ℕ, true, false, List, [], ◌∷◌, ◌++◌, ap, ◌∙◌, arith, refl}
 use Rattle.std.specs.Prelude.{◌≤◌, codes, flat_map, length, All}
 use Rattle.std.specs.List.{list_all, slice_split, AllByRecursion}
 use Rattle.std.proofs.lemmas.Bool.Decides.{nat_tests}
+use Rattle.std.proofs.lemmas.Bool.{and_parts}
 use Rattle.std.proofs.lemmas.List.{append-nil}
 use Rattle.std.proofs.lemmas.List.Elements.{All-from_recursion, All-head, All-tail}
 use Rattle.std.proofs.lemmas.List.Splits.{slice_split_none, slice_split_at}
-use Rattle.texts.specs.Words.{is_word_byte, is_word}
-use Rattle.rpc_records.specs.Ranges.{IsWord}
+use Rattle.texts.specs.Words.{is_word_byte, is_word, IsWord}
 use Rattle.table_meaning.specs.Worlds.{joined}
 use Rattle.table_worlds.specs.ReadBack.{is_comma}
 
@@ -15,18 +15,12 @@ use Rattle.table_worlds.specs.ReadBack.{is_comma}
 word_byte_is_none : (b : ℕ) → is_word_byte b ≡ true → is_comma b ≡ false
 word_byte_is_none b h = grind (arith, nat_tests)
 
-and_left : (a b : Bool) → (a && b) ≡ true → a ≡ true
-and_left a b h = grind arith
-
-and_right : (a b : Bool) → (a && b) ≡ true → b ≡ true
-and_right a b h = grind arith
-
 no_commas : (text : List ℕ) → list_all is_word_byte text ≡ true → AllByRecursion (λ b. is_comma b ≡ false) text
 no_commas [] h = tt
-no_commas (b ∷ bs) h = (word_byte_is_none b (and_left (is_word_byte b) (list_all is_word_byte bs) h), no_commas bs (and_right (is_word_byte b) (list_all is_word_byte bs) h))
+no_commas (b ∷ bs) h = (word_byte_is_none b (and_parts (is_word_byte b) (list_all is_word_byte bs) h).0, no_commas bs (and_parts (is_word_byte b) (list_all is_word_byte bs) h).1)
 
 word_has_none : (text : List ℕ) → is_word text ≡ true → All (λ b. is_comma b ≡ false) text
-word_has_none text h = All-from_recursion (λ b. is_comma b ≡ false) text (no_commas text (and_right _ (list_all is_word_byte text) h))
+word_has_none text h = All-from_recursion (λ b. is_comma b ≡ false) text (no_commas text (and_parts _ (list_all is_word_byte text) h).1)
 
 -- a word with more behind it
 split_more : (word : List ℕ) (more : List (List ℕ)) → is_word word ≡ true → All IsWord more → slice_split is_comma (word ++ flat_map (λ w. codes "," ++ w) more) ≡ word ∷ more

@@ -1,9 +1,11 @@
 -- Every key at which a world has a row is among its keys, and the row has that key.
-use Rattle.std.proofs.Common.{◌≡◌, ◌⊎◌, ℕ, zero, suc, ◌+◌, ◌<◌, true, List, [], ◌∷◌, ◌++◌, map, length, Option, Some, None, option_map, option_and_then, refl, sym, ap, subst, ◌∙◌, arith, inl, inr}
+use Rattle.std.proofs.Common.{◌≡◌, ◌⊎◌, ℕ, zero, suc, ◌+◌, ◌<◌, true, List, [], ◌∷◌, length, Option, Some, None, option_map, option_and_then, refl, sym, ap, subst, ◌∙◌, arith, inl, inr}
 use Rattle.std.specs.Prelude.{slice_get, unwrap_or}
 use Rattle.std.specs.List.{range_with_len}
 use Rattle.std.proofs.lemmas.Option.{none-some}
 use Rattle.sqlite_rules.specs.Lists.{Has}
+use Rattle.sqlite_rules.proofs.ProbeLemmas.{mapped_has}
+use Rattle.sqlite_rules.proofs.ListLemmas.{has_left, has_right}
 use Rattle.sched_book.specs.Places.{nth, unit_at, places_in, places_among, places}
 use Rattle.sched_book.specs.declared.instance.Instance.{Instance as Job}
 use Rattle.sched_book.specs.declared.instance.Place.{Place}
@@ -14,33 +16,15 @@ use Rattle.table_meaning.specs.declared.rows.StoredRow.{StoredRow}
 use Rattle.table_meaning.specs.declared.rows.StoredRow.TheVariants as stored
 use Rattle.table_meaning.specs.Rows.{RowKey, key_of}
 use Rattle.table_meaning.specs.Worlds.{instance_row}
+use Rattle.table_meaning.proofs.Listings.{in_range}
 use Rattle.table_worlds.specs.declared.keys.NumberedTable.{NumberedTable}
 use Rattle.table_worlds.specs.declared.keys.WorldKey.{WorldKey}
-use Rattle.table_worlds.specs.declared.keys.WorldKey.TheVariants.{Account, App, Version, Class, Unit, Mark, Host, Instance}
+use Rattle.table_worlds.specs.declared.keys.WorldKey.TheVariants.{Instance}
 use Rattle.table_worlds.specs.Keys.{row_key, row_in, keyed, numbered}
 
 -- ---- members of lists put together
 
-pub has_first : {X : Type 0} (xs ys : List X) (x : X) → Has xs x → Has (xs ++ ys) x
-has_first [] ys x has = absurd has
-has_first (y ∷ xs) ys x (inl same) = inl same
-has_first (y ∷ xs) ys x (inr more) = inr (has_first xs ys x more)
-
-pub has_later : {X : Type 0} (xs ys : List X) (x : X) → Has ys x → Has (xs ++ ys) x
-has_later [] ys x has = has
-has_later (y ∷ xs) ys x has = inr (has_later xs ys x has)
-
-has_mapped : {X Y : Type 0} (f : X → Y) (xs : List X) (x : X) → Has xs x → Has (map f xs) (f x)
-has_mapped f [] x has = absurd has
-has_mapped f (y ∷ xs) x (inl same) = inl (ap f same)
-has_mapped f (y ∷ xs) x (inr more) = inr (has_mapped f xs x more)
-
 -- ---- keys by number
-
-in_range : (a n i : ℕ) → i < n → Has (range_with_len a n) (i + a)
-in_range a zero i before = absurd (omega (arith, before))
-in_range a (suc n) zero before = inl (let same : 0 + a ≡ a = omega arith in same)
-in_range a (suc n) (suc i) before = inr (subst (Has (range_with_len (a + 1) n)) (let same : i + (a + 1) ≡ suc i + a = omega arith in same) (in_range (a + 1) n i (omega (arith, before))))
 
 -- nothing stands at an index, or it is one of the list
 within : {X : Type 0} (xs : List X) (i : ℕ) → (slice_get xs i ≡ None) ⊎ (i < length xs)
@@ -52,7 +36,7 @@ pub by_number : {X : Type 0} (t : NumberedTable) (xs : List X) (id : ℕ) → (n
 by_number t xs zero = inl refl
 by_number t xs (suc i) = elim (within xs i) [
   | inl none ↦ inl (nth-suc xs i ∙ none)
-  | inr before ↦ inr (has_mapped (keyed t) (range_with_len 1 (length xs)) (suc i) (subst (Has (range_with_len 1 (length xs))) (let same : i + 1 ≡ suc i = omega arith in same) (in_range 1 (length xs) i before)))
+  | inr before ↦ inr (mapped_has (keyed t) (range_with_len 1 (length xs)) (suc i) (in_range (length xs) 1 (suc i) (omega arith) (omega (arith, before))))
 ]
 
 -- ---- keys of instances
@@ -72,13 +56,13 @@ among : (from j k : ℕ) (bs : List UnitBook) → (option_and_then (λ (b : Unit
 among from j k [] = inl refl
 among from zero k (b ∷ bs) = elim (in_unit from 0 k b.instances) [
   | inl none ↦ inl none
-  | inr has ↦ inr (has_first (places_in from 0 (λ x. true) b.instances) (places_among (from + 1) (λ b x. true) bs) (place (0 + from) k)
+  | inr has ↦ inr (has_left (places_in from 0 (λ x. true) b.instances) (places_among (from + 1) (λ b x. true) bs) (place (0 + from) k)
       (let number : k + 0 ≡ k = omega arith in let unit : from ≡ 0 + from = omega arith in
       subst (λ u. Has (places_in from 0 (λ x. true) b.instances) (place u k)) unit (subst (λ n. Has (places_in from 0 (λ x. true) b.instances) (place from n)) number has)))
 ]
 among from (suc j) k (b ∷ bs) = elim (among (from + 1) j k bs) [
   | inl none ↦ inl none
-  | inr has ↦ inr (has_later (places_in from 0 (λ x. true) b.instances) (places_among (from + 1) (λ b x. true) bs) (place (suc j + from) k)
+  | inr has ↦ inr (has_right (places_in from 0 (λ x. true) b.instances) (places_among (from + 1) (λ b x. true) bs) (place (suc j + from) k)
       (subst (λ u. Has (places_among (from + 1) (λ b x. true) bs) (place u k)) (let same : j + (from + 1) ≡ suc j + from = omega arith in same) has))
 ]
 
@@ -107,16 +91,10 @@ of_row f key has None r is = absurd (none-some r is)
 of_row f key has (Some x) r is = ap (λ o. key_of (unwrap_or o (f x))) (sym is) ∙ has x
 
 pub row_has_key : (w : World) (key : WorldKey) (r : StoredRow) → row_in w key ≡ Some r → key_of r ≡ row_key key
-row_has_key w (Account id) r is = of_row _ _ (λ x. refl) _ r is
-row_has_key w (App id) r is = of_row _ _ (λ x. refl) _ r is
-row_has_key w (Version id) r is = of_row _ _ (λ x. refl) _ r is
-row_has_key w (Class id) r is = of_row _ _ (λ x. refl) _ r is
-row_has_key w (Unit id) r is = of_row _ _ (λ x. refl) _ r is
-row_has_key w (Mark id) r is = of_row _ _ (λ x. refl) _ r is
-row_has_key w (Host id) r is = of_row _ _ (λ x. refl) _ r is
 row_has_key w (Instance p) r is = of_unit (unit_at w p.unit) is
   where
     of_unit : (o : Option UnitBook) → option_and_then (λ (b : UnitBook). option_map (λ (x : Job). stored.Instance (instance_row w b p.unit p.number x)) (slice_get b.instances p.number)) o ≡ Some r
         → key_of r ≡ row_key (Instance p)
     of_unit None none = absurd (none-some r none)
     of_unit (Some b) found = of_row _ _ (λ x. refl) (slice_get b.instances p.number) r found
+row_has_key w _ r is = of_row _ _ (λ x. refl) _ r is

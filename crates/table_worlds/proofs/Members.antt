@@ -1,20 +1,8 @@
 -- Members of lists, as loops meet them.
-use Rattle.std.proofs.Common.{◌≡◌, ◌≢◌, ◌⊎◌, Bool, true, false, true≢false, ℕ, zero, suc, ◌<◌, List, [], ◌∷◌, length, get_or, filter_map, Option, Some, Result, Ok, Err, IfOk, refl, sym, ap, subst, ◌∙◌, arith, inl, inr}
+use Rattle.std.proofs.Common.{◌≡◌, ◌≢◌, ◌⊎◌, Bool, true, false, true≢false, List, [], ◌∷◌, filter_map, Option, refl, sym, subst, ◌∙◌, inl, inr}
 use Rattle.std.specs.Bool.{Decides}
-use Rattle.std.specs.Prelude.{slice_get, unwrap_or}
 use Rattle.std.specs.List.{cons_option}
-use Rattle.std.proofs.lemmas.Option.{none-some}
 use Rattle.sqlite_rules.specs.Lists.{Has}
-
-pub has_got : {X : Type 0} (xs : List X) (i : ℕ) (x : X) → slice_get xs i ≡ Some x → Has xs x
-has_got [] i x is = absurd (none-some x is)
-has_got (y ∷ xs) zero x is = inl (sym (ap (λ o. unwrap_or o x) is))
-has_got (y ∷ xs) (suc i) x is = inr (has_got xs i x is)
-
-pub has_get_or : {X : Type 0} (xs : List X) (i : ℕ) (d : X) → i < length xs → Has xs (get_or xs i d)
-has_get_or [] i d within = absurd (omega (arith, within))
-has_get_or (y ∷ xs) zero d within = inl refl
-has_get_or (y ∷ xs) (suc i) d within = inr (has_get_or xs i d (omega (arith, within)))
 
 -- each member is one of those that are left to look at, or passes
 abbrev pub LeftOr : {X : Type 0} → (X → Type 0) → List X → List X → Type 0
@@ -45,7 +33,3 @@ SameLeft f rows left keys more = (rows ≡ filter_map f keys → left ≡ filter
 module _ {X Y : Type 0} (f : X → Option Y) (rows left : List Y) (keys more : List X) (x : X) where
   pub none_behind : ((behind : List Y) → left ≢ cons_option (f x) behind) → SameLeft f rows left keys (x ∷ more) → rows ≢ filter_map f keys
   none_behind none before = λ same. none (filter_map f more) (before.0 same)
-
-pub if_ok : {T E : Type 0} (r : Result T E) (P Q : T → Type 0) → ((x : T) → P x → Q x) → IfOk r P → IfOk r Q
-if_ok (Ok x) P Q f is = f x is
-if_ok (Err e) P Q f is = tt

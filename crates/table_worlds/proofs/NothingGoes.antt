@@ -3,7 +3,7 @@ use Rattle.std.proofs.Common.{◌≡◌, ℕ, zero, suc, ◌+◌, ◌-◌, ◌�
 use Rattle.std.specs.Prelude.{slice_get, slice_set}
 use Rattle.std.proofs.lemmas.Bool.{eqb-true}
 use Rattle.std.proofs.lemmas.List.{length-append, length-set}
-use Rattle.std.proofs.lemmas.Option.{none-some}
+use Rattle.std.proofs.lemmas.Option.{none-some, slice_get_past}
 use Rattle.sched_book.specs.Delta.{set_at, set_nth, with_instance, applied_one, applied}
 use Rattle.sched_book.specs.Classes.{with_class}
 use Rattle.sched_book.specs.Imports.{new_unit}
@@ -14,7 +14,6 @@ use Rattle.sched_book.specs.declared.delta.Change.TheVariants as change
 use Rattle.sched_book.specs.declared.instance.Instance.{Instance as Job}
 use Rattle.sched_book.specs.declared.instance.UnitBook.{UnitBook}
 use Rattle.sched_book.specs.declared.world.World.{World}
-use Rattle.sched_book.proofs.Fitting.{settings_stay as settings_one}
 use Rattle.sched_book.proofs.PlacesOf.{nth-suc, nth-push, nth-modify_nth, length-modify_nth}
 use Rattle.table_meaning.specs.declared.rows.StoredRow.{StoredRow}
 use Rattle.table_worlds.specs.declared.keys.WorldKey.{WorldKey}
@@ -28,13 +27,8 @@ beyond [] i none = omega arith
 beyond (x ∷ xs) zero none = absurd (none-some x (sym none))
 beyond (x ∷ xs) (suc i) none = omega (arith, beyond xs i none)
 
-none_beyond : {X : Type 0} (xs : List X) (i : ℕ) → length xs ≤ i → slice_get xs i ≡ None
-none_beyond [] i past = refl
-none_beyond (x ∷ xs) zero past = absurd (omega (arith, past))
-none_beyond (x ∷ xs) (suc i) past = none_beyond xs i (omega (arith, past))
-
 no_more : {X : Type 0} (xs ys : List X) (i : ℕ) → length xs ≤ length ys → slice_get ys i ≡ None → slice_get xs i ≡ None
-no_more xs ys i fewer none = none_beyond xs i (omega (arith, fewer, beyond ys i none))
+no_more xs ys i fewer none = slice_get_past xs i (omega (arith, fewer, beyond ys i none))
 
 none_at : {X : Type 0} (xs ys : List X) (n : ℕ) → length xs ≤ length ys → nth ys n ≡ None → nth xs n ≡ None
 none_at xs ys zero fewer none = refl
@@ -95,7 +89,7 @@ new_unit_jobs bs b unit number none =
       where
         past : (n : ℕ) → length bs + 1 ≡ n → nth bs n ≡ None
         past zero is = refl
-        past (suc i) is = nth-suc bs i ∙ none_beyond bs i (omega (arith, is))
+        past (suc i) is = nth-suc bs i ∙ slice_get_past bs i (omega (arith, is))
     cases false old none = none
 
 changed_jobs : (f : UnitBook → UnitBook) → ((b : UnitBook) → length b.instances ≤ length (f b).instances)
@@ -107,63 +101,37 @@ changed_jobs f more p bs unit number none = cases (eqb p unit) (nth bs unit) (sy
     cases true (Some b) none = no_more b.instances (f b).instances number (more b) none
     cases false o none = none
 
-one_change : (w : World) (c : Change) → NoFewer w (applied_one w c)
-one_change w (change.Account a) = record {
-  accounts = more_pushed w.accounts a;
-  apps = same (length w.apps);
-  versions = same (length w.versions);
-  units = same (length w.units);
-  hosts = same (length w.hosts);
-  jobs = λ unit number none. none;
-}
-one_change w (change.App a) = record {
-  accounts = same (length w.accounts);
-  apps = more_pushed w.apps a;
-  versions = same (length w.versions);
-  units = same (length w.units);
-  hosts = same (length w.hosts);
-  jobs = λ unit number none. none;
-}
-one_change w (change.Version v) = record {
-  accounts = same (length w.accounts);
-  apps = same (length w.apps);
-  versions = more_pushed w.versions v;
-  units = same (length w.units);
-  hosts = same (length w.hosts);
-  jobs = λ unit number none. none;
-}
-one_change w (change.Workunit u) = record {
-  accounts = same (length w.accounts);
-  apps = same (length w.apps);
-  versions = same (length w.versions);
-  units = more_pushed w.units (new_unit u);
-  hosts = same (length w.hosts);
-  jobs = new_unit_jobs w.units (new_unit u);
-}
-one_change w (change.Host number h) = record {
-  accounts = same (length w.accounts);
-  apps = same (length w.apps);
-  versions = same (length w.versions);
-  units = same (length w.units);
-  hosts = more_put w.hosts number h;
-  jobs = λ unit number none. none;
-}
-one_change w (change.Instance p x) = record {
-  accounts = same (length w.accounts);
-  apps = same (length w.apps);
-  versions = same (length w.versions);
-  units = let long = length-modify_nth (with_instance p.number x) w.units p.unit in omega (arith, long);
-  hosts = same (length w.hosts);
-  jobs = changed_jobs (with_instance p.number x) (λ b. more_set b.instances p.number x) p.unit w.units;
-}
-one_change w (change.Class unit class) = record {
-  accounts = same (length w.accounts);
-  apps = same (length w.apps);
-  versions = same (length w.versions);
-  units = let long = length-modify_nth (with_class class) w.units unit in omega (arith, long);
-  hosts = same (length w.hosts);
-  jobs = changed_jobs (with_class class) (λ b. same (length b.instances)) unit w.units;
-}
+module _ (w : World) where
+  accounts_stay : (c : Change) → length w.accounts ≤ length (applied_one w c).accounts
+  accounts_stay (change.Account a) = more_pushed w.accounts a
+  accounts_stay _ = same (length w.accounts)
+
+  apps_stay : (c : Change) → length w.apps ≤ length (applied_one w c).apps
+  apps_stay (change.App a) = more_pushed w.apps a
+  apps_stay _ = same (length w.apps)
+
+  versions_stay : (c : Change) → length w.versions ≤ length (applied_one w c).versions
+  versions_stay (change.Version v) = more_pushed w.versions v
+  versions_stay _ = same (length w.versions)
+
+  units_stay : (c : Change) → length w.units ≤ length (applied_one w c).units
+  units_stay (change.Workunit u) = more_pushed w.units (new_unit u)
+  units_stay (change.Instance p x) = let long = length-modify_nth (with_instance p.number x) w.units p.unit in omega (arith, long)
+  units_stay (change.Class unit class) = let long = length-modify_nth (with_class class) w.units unit in omega (arith, long)
+  units_stay _ = same (length w.units)
+
+  hosts_stay : (c : Change) → length w.hosts ≤ length (applied_one w c).hosts
+  hosts_stay (change.Host number h) = more_put w.hosts number h
+  hosts_stay _ = same (length w.hosts)
+
+  jobs_stay : (c : Change) (unit number : ℕ) → job_at number (unit_at (applied_one w c) unit) ≡ None → job_at number (unit_at w unit) ≡ None
+  jobs_stay (change.Workunit u) = new_unit_jobs w.units (new_unit u)
+  jobs_stay (change.Instance p x) = changed_jobs (with_instance p.number x) (λ b. more_set b.instances p.number x) p.unit w.units
+  jobs_stay (change.Class unit class) = changed_jobs (with_class class) (λ b. same (length b.instances)) unit w.units
+  jobs_stay _ = λ unit number none. none
+
+  one_change : (c : Change) → NoFewer w (applied_one w c)
+  one_change c = record { accounts = accounts_stay c; apps = apps_stay c; versions = versions_stay c; units = units_stay c; hosts = hosts_stay c; jobs = jobs_stay c }
 
 none_between : (w w' : World) → NoFewer w w' → (key : WorldKey) → row_in w' key ≡ None → row_in w key ≡ None
 none_between w w' grown (Account id) none = ap (option_map _) (none_at w.accounts w'.accounts id grown.accounts (no_source _ _ none))
@@ -179,7 +147,3 @@ none_between w w' grown (Instance p) none = no_job_row _ p.number (unit_at w p.u
 pub none_goes : (w : World) (cs : List Change) (key : WorldKey) → row_in (applied w cs) key ≡ None → row_in w key ≡ None
 none_goes w [] key none = none
 none_goes w (c ∷ cs) key none = none_between w (applied_one w c) (one_change w c) key (none_goes (applied_one w c) cs key none)
-
-pub settings_stay : (w : World) (cs : List Change) → (applied w cs).settings ≡ w.settings
-settings_stay w [] = refl
-settings_stay w (c ∷ cs) = settings_stay (applied_one w c) cs ∙ settings_one w c

@@ -1,7 +1,6 @@
 -- Accounts, applications, versions, workunits, hosts and instances are what is read back from the columns of their rows.
 use Rattle.std.proofs.Common.{◌≡◌, ◌≤◌, ℕ, pos, Bool, true, false, List, length, Option, Some, None, option_map, refl}
 use Rattle.std.specs.Prelude.{All, ◌==◌, if◌then◌else◌, option_and_then}
-use Rattle.rpc_records.specs.Ranges.{IsWord}
 use Rattle.sched_book.specs.Classes.{class_of}
 use Rattle.sched_book.specs.Imports.{has_app}
 use Rattle.sched_book.specs.declared.rows.Account.{Account}
@@ -9,12 +8,10 @@ use Rattle.sched_book.specs.declared.rows.Agreement.{Agreement}
 use Rattle.sched_book.specs.declared.rows.Agreement.TheVariants.{Exact, Within}
 use Rattle.sched_book.specs.declared.rows.App.{App}
 use Rattle.sched_book.specs.declared.rows.ClassRule.{ClassRule}
-use Rattle.sched_book.specs.declared.rows.ClassRule.TheVariants.{Any, OfFirst, Only}
+use Rattle.sched_book.specs.declared.rows.ClassRule.TheVariants.{Any}
 use Rattle.sched_book.specs.declared.rows.HostRow.{HostRow}
 use Rattle.sched_book.specs.declared.rows.Version.{Version}
 use Rattle.sched_book.specs.declared.instance.Instance.{Instance as Job}
-use Rattle.sched_book.specs.declared.instance.Lapse.{Lapse}
-use Rattle.sched_book.specs.declared.instance.Lapse.TheVariants.{Late, Dropped}
 use Rattle.sched_book.specs.declared.instance.Outcome.{Outcome}
 use Rattle.sched_book.specs.declared.instance.Owner.{Owner}
 use Rattle.sched_book.specs.declared.instance.UnitBook.{UnitBook}
@@ -25,10 +22,12 @@ use Rattle.sqlite_value.specs.Order.{bytes}
 use Rattle.table_meaning.specs.declared.rows.StoredRow.TheVariants as stored
 use Rattle.table_meaning.specs.Kept.{number_of}
 use Rattle.table_meaning.specs.Rows.{columns_of, whole}
-use Rattle.table_meaning.specs.Worlds.{is_marked, agreement_limit, lapse_code, account_row, app_row, version_row, class_row, unit_row, mark_row, host_row, instance_row}
-use Rattle.table_worlds.specs.ReadBack.{number_in, account_in, agreement_in, app_in, version_in, rule_in, unit_in, host_in, owner_in, lapse_in, report_in, job_in}
+use Rattle.table_meaning.specs.Worlds.{is_marked, agreement_limit, account_row, app_row, version_row, class_row, unit_row, mark_row, host_row, instance_row}
+use Rattle.table_meaning.proofs.CodesBack.{lapse_back}
+use Rattle.table_worlds.specs.ReadBack.{number_in, account_in, agreement_in, app_in, version_in, rule_in, unit_in, host_in, owner_in, report_in, job_in}
 use Rattle.table_worlds.proofs.AppsNamed.{name_back}
 use Rattle.table_worlds.proofs.JoinedWords.{split_joined}
+use Rattle.texts.specs.Words.{IsWord}
 
 -- ---- what a column tells
 
@@ -57,8 +56,7 @@ app_back id a = λ i. record { name = a.name; agreement = agreement_back a.agree
 -- the rule of a workunit is told by the columns of its mark
 rule_back : (id : ℕ) (rule : ClassRule) → rule_in (columns_of (stored.UnitMark (record { unit_id = id; marked = is_marked rule; class = class_of rule }))) ≡ rule
 rule_back id Any = refl
-rule_back id OfFirst = refl
-rule_back id (Only class) = refl
+rule_back id _ = refl
 
 module _ (apps : List App) (w : World) (are : apps ≡ w.apps) (id : ℕ) where
   -- a version of an application that stands is told by its row and its class
@@ -82,12 +80,6 @@ owner_back : (o : Option Owner)
     → owner_in (number_in (or_null whole (option_map (λ (o : Owner). o.host) o))) (number_of (or_null Int (option_map (λ (o : Owner). pos o.sent) o))) (number_of (or_null Int (option_map (λ (o : Owner). pos o.deadline) o))) ≡ o
 owner_back None = refl
 owner_back (Some o) = refl
-
--- a lapse or none is told by its code
-lapse_back : (l : Option Lapse) → lapse_in (lapse_code l) ≡ l
-lapse_back None = refl
-lapse_back (Some Late) = refl
-lapse_back (Some Dropped) = refl
 
 -- a success is told by its code
 success_back : (success : Bool) → ((if success then 1 else 3) == 1) ≡ success

@@ -1,10 +1,12 @@
 -- Tables whose rows are those of a world hold the world.
-use Rattle.std.proofs.Common.{◌≡◌, ◌⊎◌, ℕ, Bool, true, false, ◌||◌, List, [], ◌∷◌, map, length, Option, Some, None, option_map, refl, sym, ap, subst, ◌∙◌, inl, inr, true≢false, filter_map}
+use Rattle.std.proofs.Common.{◌≡◌, ◌⊎◌, ℕ, List, [], ◌∷◌, map, length, Option, Some, None, option_map, refl, sym, ap, subst, ◌∙◌, inl, inr, filter_map}
 use Rattle.std.specs.Prelude.{unwrap_or}
-use Rattle.std.specs.List.{AllByRecursion, list_any, range_with_len, cons_option}
+use Rattle.std.specs.List.{range_with_len, cons_option}
 use Rattle.std.proofs.lemmas.Bool.{cases_Bool}
 use Rattle.std.proofs.lemmas.Option.{none-some}
 use Rattle.sqlite_rules.specs.Lists.{Has}
+use Rattle.sqlite_rules.proofs.ProbeLemmas.{mapped_has, has_mapped}
+use Rattle.sqlite_rules.proofs.ListLemmas.{all_has, some_has}
 use Rattle.sqlite_trees.specs.Tree.{Trees}
 use Rattle.sched_book.specs.Places.{nth, places}
 use Rattle.sched_book.specs.Step.{empty_world}
@@ -20,7 +22,7 @@ use Rattle.table_meaning.specs.Holding.{HaveKeys}
 use Rattle.table_meaning.specs.Rows.{RowKey, tree_of, setting_key, account_key, app_key, version_key, class_key, unit_key, mark_key, host_key, instance_key, kept_key, batch_key, table_at, key_of, columns_of, rows_in, look_up, same_key}
 use Rattle.table_meaning.specs.Worlds.{BatchText, SlotCalls, setting_in, contents_of}
 use Rattle.table_meaning.proofs.Keys.{is_put, one_key}
-use Rattle.table_meaning.proofs.RowsHeld.{held_at, keyed_by, mapped, source}
+use Rattle.table_meaning.proofs.RowsHeld.{held_at, keyed_by}
 use Rattle.table_worlds.specs.declared.keys.NumberedTable.{NumberedTable}
 use Rattle.table_worlds.specs.declared.keys.NumberedTable.TheVariants as table
 use Rattle.table_worlds.specs.declared.keys.WorldKey.{WorldKey}
@@ -63,12 +65,7 @@ table_name table.Host = name.Host
 
 pub table_of_key : (t : NumberedTable) (id : ℕ) → table_at (row_key (keyed t id)) ≡ table_name t
 table_of_key table.Account id = refl
-table_of_key table.App id = refl
-table_of_key table.Version id = refl
-table_of_key table.Class id = refl
-table_of_key table.Unit id = refl
-table_of_key table.Mark id = refl
-table_of_key table.Host id = refl
+table_of_key _ id = refl
 
 module _ (trees : Trees) (w : World) where
   -- the rows of some keys, as a table
@@ -87,15 +84,15 @@ module _ (trees : Trees) (w : World) where
       → (id : ℕ) → ((nth xs id ≡ None) → row_in w (keyed t id) ≡ None) → look_up trees (row_key (keyed t id)) ≡ option_map columns_of (row_in w (keyed t id))
   numbered_at t xs rows read are id none =
       at_key (table_name t) (numbered t (length xs)) rows read (λ r. subst (λ l. Has l r) are) (λ r. subst (λ l. Has l r) (sym are))
-      (λ k has. let from = source (keyed t) (range_with_len 1 (length xs)) k has in ap (λ j. table_at (row_key j)) from.2 ∙ table_of_key t from.0)
+      (λ k has. let from = has_mapped (keyed t) (range_with_len 1 (length xs)) k has in ap (λ j. table_at (row_key j)) from.2 ∙ table_of_key t from.0)
       (keyed t id) (table_of_key t id) (elim (by_number t xs id) [ inl gone ↦ inl (none gone) | inr has ↦ inr has ])
 
   instances_at : (rows : List StoredRow) → map columns_of rows ≡ rows_in trees name.Instance → HaveSame rows (filter_map (row_in w) (map Instance (places w))) → (p : Place)
       → look_up trees (row_key (Instance p)) ≡ option_map columns_of (row_in w (Instance p))
   instances_at rows read same p =
       at_key name.Instance (map Instance (places w)) rows read same.0 same.1
-      (λ k has. let from = source Instance (places w) k has in ap (λ j. table_at (row_key j)) from.2)
-      (Instance p) refl (elim (instance_listed w p.unit p.number) [ inl gone ↦ inl gone | inr has ↦ inr (mapped Instance (places w) p has) ])
+      (λ k has. let from = has_mapped Instance (places w) k has in ap (λ j. table_at (row_key j)) from.2)
+      (Instance p) refl (elim (instance_listed w p.unit p.number) [ inl gone ↦ inl gone | inr has ↦ inr (mapped_has Instance (places w) p has) ])
 
   -- each of their rows has a key
   rows_keyed : (t : TableName) (keys : List WorldKey) (rows : List StoredRow) → map columns_of rows ≡ rows_in trees t → ((r : StoredRow) → Has rows r → Has (filter_map (row_in w) keys) r)
@@ -106,22 +103,9 @@ module _ (trees : Trees) (w : World) where
   numbered_keyed : (t : NumberedTable) (count : ℕ) (rows : List StoredRow) → map columns_of rows ≡ rows_in trees (table_name t) → rows ≡ filter_map (row_in w) (numbered t count) → HaveKeys (table_name t) (trees (tree_of (table_name t)))
   numbered_keyed t count rows read are =
       rows_keyed (table_name t) (numbered t count) rows read (λ r. subst (λ l. Has l r) are)
-      (λ k has. let from = source (keyed t) (range_with_len 1 count) k has in ap (λ j. table_at (row_key j)) from.2 ∙ table_of_key t from.0)
+      (λ k has. let from = has_mapped (keyed t) (range_with_len 1 count) k has in ap (λ j. table_at (row_key j)) from.2 ∙ table_of_key t from.0)
 
 -- ---- settings
-
-has_where : (p : StoredRow → Bool) (rows : List StoredRow) → list_any p rows ≡ true → (r : StoredRow) × Has rows r × (p r ≡ true)
-has_where p [] is = absurd (true≢false (sym is))
-has_where p (r ∷ rows) is = go (p r) refl is (has_where p rows)
-  where
-    go : (b : Bool) → p r ≡ b → (b || list_any p rows) ≡ true → (list_any p rows ≡ true → (s : StoredRow) × Has rows s × (p s ≡ true)) → (s : StoredRow) × Has (r ∷ rows) s × (p s ≡ true)
-    go true here any more = (r, inl refl, here)
-    go false here any more = let one = more any in (one.0, inr one.1, one.2)
-
-pub all_have : (P : StoredRow → Type 0) (rows : List StoredRow) (r : StoredRow) → AllByRecursion P rows → Has rows r → P r
-all_have P [] r all has = absurd has
-all_have P (s ∷ rows) r all (inl same) = subst P (sym same) all.0
-all_have P (s ∷ rows) r all (inr later) = all_have P rows r all.1 later
 
 module _ (s : Settings) where
   abbrev empty : RowKey → Option StoredRow
@@ -131,22 +115,22 @@ module _ (s : Settings) where
   pub setting_listed : (key : RowKey) (r : StoredRow) → empty key ≡ Some r → Has (setting_rows s) r
   setting_listed key r is = elim (cases_Bool (is_put (setting_rows s) key)) [
     | inl put ↦
-        let one = has_where (λ row. same_key key (key_of row)) (setting_rows s) put in
+        let one = some_has (λ row. same_key key (key_of row)) (setting_rows s) put in
         let same : key ≡ key_of one.0 = one_key key (key_of one.0) one.2 in
-        let stands : Some one.0 ≡ Some r = sym (ap empty same ∙ all_have (λ q. empty (key_of q) ≡ Some q) (setting_rows s) one.0 (each_stands s) one.1) ∙ is in
+        let stands : Some one.0 ≡ Some r = sym (ap empty same ∙ all_has (λ q. empty (key_of q) ≡ Some q) (setting_rows s) one.0 (each_stands s) one.1) ∙ is in
         subst (Has (setting_rows s)) (ap (λ o. unwrap_or o r) stands) one.1
     | inr other ↦ absurd (none-some r (others_none s key other ∙ is))
   ]
 
   pub table_of_setting : (r : StoredRow) → Has (setting_rows s) r → table_at (key_of r) ≡ name.Setting
-  table_of_setting r has = all_have (λ q. table_at (key_of q) ≡ name.Setting) (setting_rows s) r (refl, (refl, (refl, (refl, (refl, (refl, (refl, (refl, tt)))))))) has
+  table_of_setting r has = all_has (λ q. table_at (key_of q) ≡ name.Setting) (setting_rows s) r (refl, (refl, (refl, (refl, (refl, (refl, (refl, (refl, tt)))))))) has
 
   settings_at : (trees : Trees) (rows : List StoredRow) → map columns_of rows ≡ rows_in trees name.Setting → HaveSame rows (setting_rows s) → (text : List ℕ)
       → look_up trees (setting_key text) ≡ option_map columns_of (empty (setting_key text))
   settings_at trees rows read same text =
       held_at trees name.Setting rows read (λ r has. table_of_setting r (same.0 r has)) (setting_key text) refl (empty (setting_key text))
       (λ r is. (same.1 r (setting_listed (setting_key text) r is), of_setting (setting_in s text) r is))
-      (λ r has key. ap empty (sym key) ∙ all_have (λ q. empty (key_of q) ≡ Some q) (setting_rows s) r (each_stands s) (same.0 r has))
+      (λ r has key. ap empty (sym key) ∙ all_has (λ q. empty (key_of q) ≡ Some q) (setting_rows s) r (each_stands s) (same.0 r has))
     where
       of_setting : (o : Option SettingValue) (r : StoredRow) → option_map (λ v. stored.Setting (record { name = text; value = v })) o ≡ Some r → key_of r ≡ setting_key text
       of_setting None r is = absurd (none-some r is)
@@ -182,6 +166,6 @@ world_keyed trees w rows read are calls imports name.Unit = numbered_keyed trees
 world_keyed trees w rows read are calls imports name.UnitMark = numbered_keyed trees w table.Mark (length w.units) rows.marks read.marks are.marks
 world_keyed trees w rows read are calls imports name.Host = numbered_keyed trees w table.Host (length w.hosts) rows.hosts read.hosts are.hosts
 world_keyed trees w rows read are calls imports name.Instance =
-    rows_keyed trees w name.Instance (map Instance (places w)) rows.instances read.instances are.instances.0 (λ k has. let from = source Instance (places w) k has in ap (λ j. table_at (row_key j)) from.2)
+    rows_keyed trees w name.Instance (map Instance (places w)) rows.instances read.instances are.instances.0 (λ k has. let from = has_mapped Instance (places w) k has in ap (λ j. table_at (row_key j)) from.2)
 world_keyed trees w rows read are calls imports name.Kept = calls
 world_keyed trees w rows read are calls imports name.Batch = imports

@@ -1,5 +1,5 @@
 -- What `==` says of two rows of a table: just that they are one.
-use Rattle.std.proofs.Common.{◌≡◌, Bool, true≢false, Option, Some, None, rules, refl, sym, ap}
+use Rattle.std.proofs.Common.{◌≡◌, Bool, true≢false, Option, Some, None, rules, refl, sym, ap, subst}
 use Rattle.std.specs.Bool.{Decides}
 use Rattle.std.specs.Cmp.{booleans_Decides}
 use Rattle.std.specs.Cmp.Rules.{hashing}
@@ -66,7 +66,12 @@ class_same x y = search (hashing, rules)
 pub mark_same : (x y : StoredUnitMark) → Decides ((mark.ghosts).eq x y) (x ≡ y)
 mark_same x y = search (hashing, rules)
 
--- it has too many options for a search
+-- two rows of instances have the same columns
+abbrev AreSame : StoredInstance → StoredInstance → Type 0
+AreSame x y = (x.unit_id ≡ y.unit_id) × ((x.num ≡ y.num) × ((x.host_id ≡ y.host_id) × ((x.sent ≡ y.sent) × ((x.deadline ≡ y.deadline) × ((x.lapse ≡ y.lapse)
+    × ((x.outcome ≡ y.outcome) × ((x.output ≡ y.output) × ((x.place ≡ y.place) × (x.queued ≡ y.queued)))))))))
+
+-- they have too many options for a search
 pub instance_same : (x y : StoredInstance) → Decides ((instance.ghosts).eq x y) (x ≡ y)
 instance_same x y =
     let host = option_same Decides-eqb x.host_id y.host_id in
@@ -79,7 +84,7 @@ instance_same x y =
     let owner = Decides-and _ _ host (Decides-and _ _ sent (Decides-and _ _ deadline (Decides-and _ _ (Decides-eqb x.lapse y.lapse) report))) in
     let all = Decides-and _ _ (Decides-eqb x.unit_id y.unit_id) (Decides-and _ _ (Decides-eqb x.num y.num) owner) in
     Decides-like _
-    (λ p i. record {
+    (λ (p : AreSame x y) i. record {
       unit_id = p.0 i;
       num = p.1.0 i;
       host_id = p.1.1.0 i;
@@ -91,28 +96,6 @@ instance_same x y =
       place = p.1.1.1.1.1.1.1.1.0 i;
       queued = p.1.1.1.1.1.1.1.1.1 i;
     })
-    (λ is. (
-      ap (λ (r : StoredInstance). r.unit_id) is,
-      (
-        ap (λ (r : StoredInstance). r.num) is,
-        (
-          ap (λ (r : StoredInstance). r.host_id) is,
-          (
-            ap (λ (r : StoredInstance). r.sent) is,
-            (
-              ap (λ (r : StoredInstance). r.deadline) is,
-              (
-                ap (λ (r : StoredInstance). r.lapse) is,
-                (
-                  ap (λ (r : StoredInstance). r.outcome) is,
-                  (ap (λ (r : StoredInstance). r.output) is, (ap (λ (r : StoredInstance). r.place) is, ap (λ (r : StoredInstance). r.queued) is)),
-                ),
-              ),
-            ),
-          ),
-        ),
-      ),
-    ))
-    all
+    (λ is. subst (AreSame x) is (refl, (refl, (refl, (refl, (refl, (refl, (refl, (refl, (refl, refl)))))))))) all
 
 pub ruleset same_rows = (Decides-at, setting_same, account_same, app_same, version_same, unit_same, host_same, instance_same, call_same, batch_same, class_same, mark_same)

@@ -1,19 +1,17 @@
 -- A sound world is told by its rows, and stays so where changes bring what is told by theirs.
-use Rattle.std.proofs.Common.{◌≡◌, ◌≤◌, ℕ, zero, suc, Bool, true, false, ◌||◌, cond, List, [], ◌∷◌, ◌++◌, length, ap, ◌∙◌, arith}
+use Rattle.std.proofs.Common.{◌≡◌, ◌≤◌, ℕ, Bool, true, false, ◌||◌, cond, List, [], ◌∷◌, ◌++◌, length, ap, ◌∙◌, arith}
 use Rattle.std.specs.Prelude.{All, ◌==◌, ◌-◌, nat_le, nat_lt, slice_set}
 use Rattle.std.specs.List.{list_all, list_any}
 use Rattle.std.specs.Str.{bytes_eq}
 use Rattle.std.proofs.lemmas.Bool.{and_parts}
 use Rattle.std.proofs.lemmas.Bool.Decides.{nat_tests}
-use Rattle.std.proofs.lemmas.List.Elements.{All-nil, All-cons, All-head, All-tail, All-push, All-set, All-weaker}
+use Rattle.std.proofs.lemmas.List.Elements.{All-push, All-set, All-weaker}
 use Rattle.std.proofs.lemmas.List.Folds.{list_any-append}
 use Rattle.std.proofs.lemmas.List.Sums.{AllPass-from_list_all}
-use Rattle.texts.specs.Words.{is_word}
-use Rattle.rpc_records.specs.Ranges.{IsWord}
+use Rattle.texts.specs.Words.{is_word, IsWord}
 use Rattle.sched_book.specs.Classes.{with_class}
 use Rattle.sched_book.specs.Delta.{set_nth, with_instance, applied_one}
 use Rattle.sched_book.specs.Imports.{has_app, new_unit}
-use Rattle.sched_book.specs.Reports.{modify_at, modify_nth}
 use Rattle.sched_book.specs.Sound.{IsSoundHost, IsSoundUnit, IsSoundVersion}
 use Rattle.sched_book.specs.declared.delta.Change.{Change}
 use Rattle.sched_book.specs.declared.delta.Change.TheVariants as change
@@ -22,6 +20,7 @@ use Rattle.sched_book.specs.declared.rows.App.{App}
 use Rattle.sched_book.specs.declared.rows.HostRow.{HostRow}
 use Rattle.sched_book.specs.declared.rows.Version.{Version}
 use Rattle.sched_book.specs.declared.world.World.{World}
+use Rattle.sched_book.proofs.Fitting.{all_changed_nth}
 use Rattle.table_worlds.specs.Readable.{IsReadable, are_words, is_readable_change, are_readable_changes, SoundIsReadable, StaysReadable}
 
 -- ---- what is asked of versions, workunits and hosts
@@ -54,19 +53,6 @@ all_put P xs n x all one = at_place (n == 0) (nat_lt (n - 1) (length xs))
     at_place false true = All-set P xs (n - 1) x one all
     at_place false false = All-push P xs x all one
 
--- and with one changed that keeps what holds of it
-all_changed_at : {X : Type 0} (P : X → Type 0) (f : X → X) → ((x : X) → P x → P (f x)) → (xs : List X) (i : ℕ) → All P xs → All P (modify_at f xs i)
-all_changed_at P f keeps [] i all = All-nil P
-all_changed_at P f keeps (x ∷ xs) zero all = All-cons P (f x) xs (keeps x (All-head P x xs all)) (All-tail P x xs all)
-all_changed_at P f keeps (x ∷ xs) (suc i) all = All-cons P x (modify_at f xs i) (All-head P x xs all) (all_changed_at P f keeps xs i (All-tail P x xs all))
-
-all_changed : {X : Type 0} (P : X → Type 0) (f : X → X) → ((x : X) → P x → P (f x)) → (xs : List X) (n : ℕ) → All P xs → All P (modify_nth f xs n)
-all_changed P f keeps xs n all = at_place (n == 0)
-  where
-    at_place : (none : Bool) → All P (cond none xs (modify_at f xs (n - 1)))
-    at_place true = all
-    at_place false = all_changed_at P f keeps xs (n - 1) all
-
 -- an application stands among more
 still_has : (apps : List App) (a : App) (name : List ℕ) → has_app apps name ≡ true → has_app (apps ++ a ∷ []) name ≡ true
 still_has apps a name has =
@@ -82,33 +68,28 @@ words_by_test words pass =
 
 -- ---- changes
 
-after_one : (w : World) (c : Change) → IsReadable w → is_readable_change w c ≡ true → IsReadable (applied_one w c)
-after_one w (change.Account a) readable pass = record { versions = readable.versions; units = readable.units; hosts = readable.hosts }
-after_one w (change.App a) readable pass = record {
-  versions = All-weaker (NamesApp w.apps) (NamesApp (w.apps ++ a ∷ [])) (λ v has. still_has w.apps a v.app has) w.versions readable.versions;
-  units = All-weaker (IsOfApp w.apps) (IsOfApp (w.apps ++ a ∷ [])) (λ b has. still_has w.apps a b.unit.app has) w.units readable.units;
-  hosts = readable.hosts;
-}
-after_one w (change.Version v) readable pass = record { versions = All-push (NamesApp w.apps) w.versions v readable.versions pass; units = readable.units; hosts = readable.hosts }
-after_one w (change.Workunit u) readable pass = record { versions = readable.versions; units = All-push (IsOfApp w.apps) w.units (new_unit u) readable.units pass; hosts = readable.hosts }
-after_one w (change.Host number h) readable pass = record {
-  versions = readable.versions;
-  units = readable.units;
-  hosts = all_put HasWords w.hosts number h readable.hosts (words_by_test h.platforms pass);
-}
-after_one w (change.Instance p x) readable pass = record {
-  versions = readable.versions;
-  units = all_changed (IsOfApp w.apps) (with_instance p.number x) (λ b has. has) w.units p.unit readable.units;
-  hosts = readable.hosts;
-}
-after_one w (change.Class unit class) readable pass = record {
-  versions = readable.versions;
-  units = all_changed (IsOfApp w.apps) (with_class class) (λ b has. has) w.units unit readable.units;
-  hosts = readable.hosts;
-}
+module _ (w : World) (readable : IsReadable w) where
+  versions_after : (c : Change) → is_readable_change w c ≡ true → All (NamesApp (applied_one w c).apps) (applied_one w c).versions
+  versions_after (change.App a) pass = All-weaker (NamesApp w.apps) (NamesApp (w.apps ++ a ∷ [])) (λ v has. still_has w.apps a v.app has) w.versions readable.versions
+  versions_after (change.Version v) pass = All-push (NamesApp w.apps) w.versions v readable.versions pass
+  versions_after _ pass = readable.versions
+
+  units_after : (c : Change) → is_readable_change w c ≡ true → All (IsOfApp (applied_one w c).apps) (applied_one w c).units
+  units_after (change.App a) pass = All-weaker (IsOfApp w.apps) (IsOfApp (w.apps ++ a ∷ [])) (λ b has. still_has w.apps a b.unit.app has) w.units readable.units
+  units_after (change.Workunit u) pass = All-push (IsOfApp w.apps) w.units (new_unit u) readable.units pass
+  units_after (change.Instance p x) pass = all_changed_nth (IsOfApp w.apps) (with_instance p.number x) (λ b has. has) w.units p.unit readable.units
+  units_after (change.Class unit class) pass = all_changed_nth (IsOfApp w.apps) (with_class class) (λ b has. has) w.units unit readable.units
+  units_after _ pass = readable.units
+
+  hosts_after : (c : Change) → is_readable_change w c ≡ true → All HasWords (applied_one w c).hosts
+  hosts_after (change.Host number h) pass = all_put HasWords w.hosts number h readable.hosts (words_by_test h.platforms pass)
+  hosts_after _ pass = readable.hosts
+
+  after_one : (c : Change) → is_readable_change w c ≡ true → IsReadable (applied_one w c)
+  after_one c pass = record { versions = versions_after c pass; units = units_after c pass; hosts = hosts_after c pass }
 
 pub stays_readable : StaysReadable
 stays_readable w [] readable pass = readable
 stays_readable w (c ∷ cs) readable pass =
     let parts = and_parts (is_readable_change w c) (are_readable_changes (applied_one w c) cs) pass in
-    stays_readable (applied_one w c) cs (after_one w c readable parts.0) parts.1
+    stays_readable (applied_one w c) cs (after_one w readable c parts.0) parts.1

@@ -20,7 +20,7 @@ use Rattle.table_worlds.specs.declared.totals.Total.{Total}
 abbrev pub total : ℕ → ℕ → Total
 total held credit = record { held = held; credit = credit }
 
-same_total : (h k c d : ℕ) → h ≡ k → c ≡ d → total h c ≡ total k d
+pub same_total : (h k c d : ℕ) → h ≡ k → c ≡ d → total h c ≡ total k d
 same_total h k c d held credit = ap (λ m. total m c) held ∙ ap (total k) credit
 
 -- an instance that nobody was given is counted of no host

@@ -4,7 +4,6 @@ use Rattle.std.specs.Prelude.{All, codes, option_and_then, slice_get, unwrap_or,
 use Rattle.sqlite.specs.Effect.{Database}
 use Rattle.sqlite_trees.specs.Tree.{Trees}
 use Rattle.sqlite_value.specs.Order.{Row}
-use Rattle.rpc_records.specs.Ranges.{IsWord}
 use Rattle.sched_book.specs.Imports.{has_app}
 use Rattle.sched_book.specs.Places.{unit_at, held_by, host_credit}
 use Rattle.sched_book.specs.declared.instance.Instance.{Instance as Job}
@@ -24,6 +23,7 @@ use Rattle.table_worlds.specs.StoredWorld.{settings_in, accounts_in, apps_in, ve
 use Rattle.table_worlds.proofs.ByNumber.{list_back, places_found, places_back}
 use Rattle.table_worlds.proofs.ByPlace.{all_nth}
 use Rattle.table_worlds.proofs.ReadBack.{account_back, app_back, version_back, unit_back, host_back, job_back}
+use Rattle.texts.specs.Words.{IsWord}
 
 -- a switch is told by its number
 switch_back : (on : Bool) → ((if on then 1 else 0) == 1) ≡ on

@@ -1,11 +1,13 @@
 -- Tables that hold a world hold the world after changes, once the rows that lead there are put.
-use Rattle.std.proofs.Common.{◌≡◌, ℕ, Bool, true, false, ◌||◌, List, [], ◌∷◌, ◌++◌, Option, Some, option_map, refl, sym, ap, ◌∙◌, inl, inr, true≢false}
+use Rattle.std.proofs.Common.{◌≡◌, ℕ, false, List, [], ◌∷◌, ◌++◌, Option, Some, option_map, refl, sym, ap, ◌∙◌, inl, inr}
 use Rattle.std.specs.List.{AllByRecursion}
 use Rattle.std.proofs.lemmas.List.Folds.{list_any-append}
+use Rattle.std.proofs.lemmas.Bool.{or_parts}
 use Rattle.reply_register.specs.declared.kept.Kept.{Kept as Call}
 use Rattle.sched_book.specs.Delta.{applied}
 use Rattle.sched_book.specs.declared.delta.Change.{Change}
 use Rattle.sched_book.specs.declared.world.World.{World}
+use Rattle.sched_book.proofs.Fitting.{all_settings_stay}
 use Rattle.table_meaning.specs.declared.rows.StoredRow.{StoredRow}
 use Rattle.table_meaning.specs.declared.rows.StoredRow.TheVariants as stored
 use Rattle.table_meaning.specs.Rows.{RowKey, setting_key, account_key, app_key, version_key, class_key, unit_key, mark_key, host_key, instance_key, kept_key, batch_key, key_of}
@@ -17,22 +19,12 @@ use Rattle.table_worlds.specs.declared.keys.WorldKey.TheVariants.{Account, App, 
 use Rattle.table_worlds.specs.Keys.{row_key, row_in}
 use Rattle.table_worlds.specs.Changes.{AreChanges}
 use Rattle.table_worlds.proofs.KeysStand.{row_has_key}
-use Rattle.table_worlds.proofs.NothingGoes.{none_goes, settings_stay}
+use Rattle.table_worlds.proofs.NothingGoes.{none_goes}
 
 -- what the tables hold at a key of a world is its row there, whatever is kept
 at_world_key : (w : World) (calls : SlotCalls) (batches : List ℕ → List ℕ → Option BatchText) (key : WorldKey) → contents_of w calls batches (row_key key) ≡ row_in w key
 at_world_key w calls batches (Account id) = refl
-at_world_key w calls batches (App id) = refl
-at_world_key w calls batches (Version id) = refl
-at_world_key w calls batches (Class id) = refl
-at_world_key w calls batches (Unit id) = refl
-at_world_key w calls batches (Mark id) = refl
-at_world_key w calls batches (Host id) = refl
-at_world_key w calls batches (Instance p) = refl
-
-neither : (a b : Bool) → (a || b) ≡ false → (a ≡ false) × (b ≡ false)
-neither true b h = absurd (true≢false h)
-neither false b h = (refl, h)
+at_world_key w calls batches _ = refl
 
 module _ (w : World) (cs : List Change) (rows : List StoredRow) (changes : AreChanges w (applied w cs) rows)
     (calls calls' : SlotCalls) (batches batches' : List ℕ → List ℕ → Option BatchText) (more : List StoredRow)
@@ -51,7 +43,7 @@ module _ (w : World) (cs : List Change) (rows : List StoredRow) (changes : AreCh
   )
 
   not_put : (key : RowKey) → is_put (rows ++ more) key ≡ false → (is_put rows key ≡ false) × (is_put more key ≡ false)
-  not_put key none = neither (is_put rows key) (is_put more key) (sym (list_any-append _ rows more) ∙ none)
+  not_put key none = or_parts (is_put rows key) (is_put more key) (sym (list_any-append _ rows more) ∙ none)
 
   same_at : (key : WorldKey) → is_put (rows ++ more) (row_key key) ≡ false → row_in w key ≡ row_in w' key
   same_at key none = elim (changes.others key (not_put (row_key key) none).0) [
@@ -60,7 +52,7 @@ module _ (w : World) (cs : List Change) (rows : List StoredRow) (changes : AreCh
   ]
 
   others_hold : (key : RowKey) → is_put (rows ++ more) key ≡ false → contents_of w calls batches key ≡ contents_of w' calls' batches' key
-  others_hold (setting_key name) none = ap (λ s. option_map (λ v. stored.Setting (record { name = name; value = v })) (setting_in s name)) (sym (settings_stay w cs))
+  others_hold (setting_key name) none = ap (λ s. option_map (λ v. stored.Setting (record { name = name; value = v })) (setting_in s name)) (sym (all_settings_stay w cs))
   others_hold (account_key id) none = same_at (Account id) none
   others_hold (app_key id) none = same_at (App id) none
   others_hold (version_key id) none = same_at (Version id) none

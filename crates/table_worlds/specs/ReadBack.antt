@@ -12,13 +12,12 @@ use Rattle.sched_book.specs.declared.rows.HostRow.{HostRow}
 use Rattle.sched_book.specs.declared.rows.Version.{Version}
 use Rattle.sched_book.specs.declared.rows.Workunit.{Workunit}
 use Rattle.sched_book.specs.declared.instance.Instance.{Instance as Job}
-use Rattle.sched_book.specs.declared.instance.Lapse.{Lapse}
-use Rattle.sched_book.specs.declared.instance.Lapse.TheVariants.{Late, Dropped}
 use Rattle.sched_book.specs.declared.instance.Outcome.{Outcome}
 use Rattle.sched_book.specs.declared.instance.Owner.{Owner}
 use Rattle.sqlite_value.specs.declared.value.Value.{Value}
 use Rattle.sqlite_value.specs.declared.value.Value.TheVariants.{Int, Text}
 use Rattle.sqlite_value.specs.Order.{Row, bytes, column}
+use Rattle.table_meaning.specs.Codes.{lapse_in}
 use Rattle.table_meaning.specs.Kept.{number_of}
 
 -- ---- what a column tells
@@ -116,10 +115,6 @@ host_in row = record {
 abbrev pub owner_in : Option ℕ → ℕ → ℕ → Option Owner
 owner_in None sent deadline = None
 owner_in (Some host) sent deadline = Some (record { host = host; sent = sent; deadline = deadline })
-
--- the lapse of a code
-abbrev pub lapse_in : ℕ → Option Lapse
-lapse_in code = if code == 1 then Some Late else (if code == 2 then Some Dropped else None)
 
 -- what was reported: its code, its output and its place
 abbrev pub report_in : Option ℕ → List ℕ → Option ℕ → Option Outcome

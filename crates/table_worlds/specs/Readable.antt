@@ -1,8 +1,7 @@
 -- Rule. The worlds that are told by their rows, and the changes that keep them so.
 use Rattle.std.specs.Prelude.{◌≤◌, Bool, true, ◌&&◌, nat_le, IsTrue, ℕ, List, [], ◌∷◌, All, length}
 use Rattle.std.specs.List.{list_all}
-use Rattle.texts.specs.Words.{is_word}
-use Rattle.rpc_records.specs.Ranges.{IsWord}
+use Rattle.texts.specs.Words.{is_word, IsWord}
 use Rattle.sched_book.specs.Delta.{applied_one, applied}
 use Rattle.sched_book.specs.Imports.{has_app}
 use Rattle.sched_book.specs.Sound.{Sound}

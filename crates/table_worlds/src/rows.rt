@@ -7,7 +7,7 @@ ghost use Rattle.sched_book.specs.Places.{status_of};
 ghost use Rattle.sched_book.specs.declared.instance.UnitBook.{UnitBook};
 ghost use Rattle.sched_book.specs.declared.rows.ClassRule.{ClassRule as Rule};
 ghost use Rattle.sched_book.specs.declared.world.World.{World};
-ghost use Rattle.table_meaning.specs.Worlds.{agreement_limit, status_code, lapse_code, joined, app_place, is_queued, is_marked, account_row, app_row, version_row, class_row, unit_row, mark_row, host_row, instance_row};
+ghost use Rattle.table_meaning.specs.Worlds.{agreement_limit, joined, app_place, is_queued, is_marked, account_row, app_row, version_row, class_row, unit_row, mark_row, host_row, instance_row};
 ghost use Rattle.table_worlds.specs.Keys.{row_in, row_beside};
 ghost use Rattle.table_worlds.specs.RowsOf.{having};
 ghost use Rattle.table_worlds.specs.declared.keys.WorldKey.TheVariants as key;
@@ -18,10 +18,11 @@ use crate::totals::Total;
 use sched_book::count::book_status;
 use sched_book::limits::MOST_INSTANCES;
 use sched_book::{
-    Account, Agreement, App, ClassRule, HostRow, Instance, Lapse, Outcome, Place, Status,
-    Unavailable, UnitBook, Version, Workunit, World, nth,
+    Account, Agreement, App, ClassRule, HostRow, Instance, Outcome, Place, Status, Unavailable,
+    UnitBook, Version, Workunit, World, nth,
 };
 use std::alloc::Global;
+use table_meaning::codes::{lapse_code, status_code};
 use table_meaning::rows::{
     StoredAccount, StoredApp, StoredHost, StoredInstance, StoredRow, StoredUnit, StoredUnitMark,
     StoredVersion, StoredVersionClass,
@@ -42,28 +43,6 @@ fn agreement_limit(agreement: Agreement) -> Option<u32>
     match agreement {
         Agreement::Exact => None,
         Agreement::Within(distance) => Some(distance),
-    }
-}
-
-fn status_code(status: Status) -> u32
-    ensures { result ≡ status_code status }
-{
-    match status {
-        Status::Open => 0,
-        Status::Done => 1,
-        Status::FailedErrors => 2,
-        Status::FailedSuccess => 3,
-        Status::FailedTotal => 4,
-    }
-}
-
-fn lapse_code(lapse: Option<Lapse>) -> u32
-    ensures { result ≡ lapse_code lapse }
-{
-    match lapse {
-        None => 0,
-        Some(Lapse::Late) => 1,
-        Some(Lapse::Dropped) => 2,
     }
 }
 

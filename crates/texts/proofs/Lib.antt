@@ -1,2 +1,3 @@
 pub mod SeenKeys
 pub mod Words
+pub mod Digits

@@ -1,5 +1,5 @@
 -- Rule. Words, the names that accounts, hosts, platforms, batches and applications go by. (This profile.)
-use Rattle.std.specs.Prelude.{ℕ, Bool, ◌&&◌, ◌||◌, ◌==◌, nat_le, if◌then◌else◌, List, length, Option, Some, None}
+use Rattle.std.specs.Prelude.{ℕ, Bool, ◌&&◌, ◌||◌, ◌==◌, nat_le, if◌then◌else◌, List, length, Option, Some, None, IsTrue}
 use Rattle.std.specs.Char.{is_ascii_alphanumeric}
 use Rattle.std.specs.List.{list_all}
 
@@ -10,6 +10,9 @@ is_word_byte b = is_ascii_alphanumeric b || (b == 95) || (b == 45) || (b == 46)
 -- 1 to 64 such bytes
 abbrev pub is_word : List ℕ → Bool
 is_word text = nat_le 1 (length text) && nat_le (length text) 64 && list_all is_word_byte text
+
+abbrev pub IsWord : List ℕ → Type 0
+IsWord text = IsTrue (is_word text)
 
 -- the word that these bytes are, where they are one
 abbrev pub word_of : List ℕ → Option (List ℕ)

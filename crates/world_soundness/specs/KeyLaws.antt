@@ -9,7 +9,7 @@ use Rattle.sched_book.specs.Imports.{same_version}
 use Rattle.sched_book.specs.Sound.{HaveOtherKeys}
 use Rattle.sched_book.specs.declared.rows.HostRow.{HostRow}
 use Rattle.sched_book.specs.declared.rows.Version.{Version}
-use Rattle.world_soundness.specs.Keys.{Key, named, version_key, host_key}
+use Rattle.sched_book.specs.Keys.{Key, named, version_key, host_key}
 
 pub names_apart : (s t : List ℕ) → (s ≢ t) ↔ (named s ≢ named t)
 names_apart s t = (λ apart e. apart (ap (λ (k : Key). k.2) e), λ apart e. apart (ap named e))

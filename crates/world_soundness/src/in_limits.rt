@@ -5,7 +5,7 @@ ghost use Rattle.std.specs.Prelude.{◌≤◌, ◌↔◌, IsTrue, IfSome};
 ghost use Rattle.sched_book.specs.Classes.{class_of};
 ghost use Rattle.sched_book.specs.Limits.{distance_of, AreSettingsInLimits, IsAccountInLimits, IsAppInLimits, IsVersionInLimits, IsUnitInLimits, IsHostInLimits, IsInstanceInLimits};
 ghost use Rattle.rpc_records.specs.Members.{is_output};
-ghost use Rattle.rpc_records.specs.Ranges.{IsWord};
+ghost use Rattle.texts.specs.Words.{IsWord};
 
 use sched_book::limits::{
     LEAST_KEY_BYTES, MOST_AMOUNT, MOST_CREDIT, MOST_DELAY, MOST_DISTANCE, MOST_HOSTS,

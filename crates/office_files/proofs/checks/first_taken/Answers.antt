@@ -2,8 +2,9 @@
 use Rattle.std.proofs.Common.{◌+◌, ◌<◌, sym, ◌∙◌, ap, length, take, arith, rules}
 use Rattle.std.specs.Prelude.{◌||◌}
 use Rattle.std.specs.List.{list_any}
-use Rattle.office_files.specs.Keys.{same_key, lent_key}
-use Rattle.office_files.proofs.TakenNames.{taken, one_more, found, passed}
+use Rattle.sched_book.specs.Keys.{same_key, lent_key}
+use Rattle.sched_book.proofs.KeysSeen.{one_more}
+use Rattle.office_files.proofs.TakenNames.{taken, found, passed}
 use Rattle.office_files.proofs.checks.first_taken.Goals as goal
 
 pub loop-index-init : goal.loop-index-init
@@ -26,7 +27,7 @@ returns-then-branch-clause-answer g c = λ honest kept.
     let x = c.index-rows-index.result in
     let within : i < length rows = omega arith in
     let same = g.R.NamedRow.same in
-    let key_of = g.R.NamedRow.key_of in
+    let key_of = g.R.Keyed.key_of in
     let shelf = g.R.NamedRow.shelf in
     let now =
     taken rows i x within c.index-rows-index.is same key_of g.met.R.NamedRow.same_by_key (shelf (g.D.Units.world c.args.desk.now))
@@ -45,14 +46,14 @@ loop-index-preserved g c =
     let x = c.index-rows-index.result in
     let within : i < length rows = omega arith in
     let same = g.R.NamedRow.same in
-    let key_of = g.R.NamedRow.key_of in
+    let key_of = g.R.Keyed.key_of in
     let shelf = g.R.NamedRow.shelf in
     record {
       reads = desk.reads_on _ _ _ inv.reads c.is_taken.ensures.reads;
       seen = λ key.
           c.in_ok-is_taken.ensures.seen key
           ∙ ap (λ b. same_key key (key_of x) || b) (inv.seen key)
-          ∙ one_more rows i x within c.index-rows-index.is same key_of g.met.R.NamedRow.same_by_key key;
+          ∙ one_more key_of rows i x within c.index-rows-index.is key;
       left = λ honest kept.
           let before = desk.stays_honest _ _ c.is_taken.ensures.reads honest in
           let well = desk.stays_kept _ _ inv.reads before kept in

@@ -1,7 +1,7 @@
 -- The key of the row has come by, too.
 use Rattle.std.proofs.Common.{◌∙◌, ap}
 use Rattle.std.specs.Prelude.{◌||◌}
-use Rattle.office_files.specs.Keys.{same_key, lent_key, has_key}
+use Rattle.sched_book.specs.Keys.{same_key, lent_key, has_key}
 use Rattle.office_files.proofs.checks.is_taken.Goals as goal
 
 pub returns-then-is_known-clause-seen : goal.returns-then-is_known-clause-seen

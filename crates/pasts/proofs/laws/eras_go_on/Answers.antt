@@ -1,4 +1,4 @@
-use Rattle.pasts.proofs.Marks.{eras_go_on}
+use Rattle.pasts.proofs.UpgradePoints.{eras_go_on}
 use Rattle.pasts.proofs.laws.eras_go_on.Goals as goal
 
 pub returns : goal.returns

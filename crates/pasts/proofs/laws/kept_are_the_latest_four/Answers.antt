@@ -1,4 +1,4 @@
-use Rattle.pasts.proofs.Marks.{kept_are_the_latest_four}
+use Rattle.pasts.proofs.UpgradePoints.{kept_are_the_latest_four}
 use Rattle.pasts.proofs.laws.kept_are_the_latest_four.Goals as goal
 
 pub returns : goal.returns

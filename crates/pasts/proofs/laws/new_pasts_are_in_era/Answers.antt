@@ -1,4 +1,4 @@
-use Rattle.pasts.proofs.Marks.{new_pasts_are_in_era}
+use Rattle.pasts.proofs.UpgradePoints.{new_pasts_are_in_era}
 use Rattle.pasts.proofs.laws.new_pasts_are_in_era.Goals as goal
 
 pub returns : goal.returns

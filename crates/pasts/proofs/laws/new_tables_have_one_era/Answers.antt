@@ -1,4 +1,4 @@
-use Rattle.pasts.proofs.Marks.{new_tables_have_one_era}
+use Rattle.pasts.proofs.UpgradePoints.{new_tables_have_one_era}
 use Rattle.pasts.proofs.laws.new_tables_have_one_era.Goals as goal
 
 pub returns : goal.returns

@@ -1,4 +1,4 @@
-use Rattle.pasts.proofs.Marks.{upgrades_lead_on}
+use Rattle.pasts.proofs.UpgradePoints.{upgrades_lead_on}
 use Rattle.pasts.proofs.laws.upgrades_lead_on.Goals as goal
 
 pub returns : goal.returns

@@ -6,11 +6,11 @@ use Rattle.quorum_credit.proofs.host_quotas.new_quotas.Goals as goal
 
 pub returns-clause-answer : goal.returns-clause-answer
 returns-clause-answer g c = λ honest kept.
-    let marks = c.args.marks.now in
+    let scores = c.args.scores.now in
     let sums = c.as_slice.result.now in
     let w = g.S.Units.world c.args.sheet.now in
     let limit = ap (λ s. s.daily_result_quota) (c.settings.ensures kept ∙ sym (ap (λ v. v.settings) (g.met.S.Draft.rest_stays _ kept))) in
     IfOk-weaker c.quotas_in_turn.result _ _
     (λ quotas is.
-    are_quotas marks sums w _ quotas (subst (AreSums marks) (sym c.as_slice.ensures.value) c.in_ok-sums.ensures) limit is)
+    are_quotas scores sums w _ quotas (subst (AreSums scores) (sym c.as_slice.ensures.value) c.in_ok-sums.ensures) limit is)
     (c.quotas_in_turn.ensures.answer honest kept)

@@ -8,4 +8,4 @@ pub returns : goal.returns
 returns c =
     let tallies = c.in_ok-tallies.tallies in
     let are : c.in_ok-collect.field-0.items ≡ values tallies = search rules in
-    subst (AreSums c.args.marks.now) (sym are) (sums_are c.args.marks.now tallies c.values.ensures.ordered c.in_ok-tallies.ensures)
+    subst (AreSums c.args.scores.now) (sym are) (sums_are c.args.scores.now tallies c.values.ensures.ordered c.in_ok-tallies.ensures)

@@ -1,4 +1,4 @@
-use Rattle.std.proofs.Common.{sym, ap, subst}
+use Rattle.std.proofs.Common.{sym, subst}
 use Rattle.quorum_credit.specs.Settling.{TouchJust}
 use Rattle.quorum_credit.proofs.SettledAll.{read_touch, settled_touch_just}
 use Rattle.quorum_credit.proofs.settling.settle_read.Given
@@ -15,18 +15,18 @@ touched g c kept =
     (draft.rest_stays sheet kept) (draft.leaves_are sheet kept) c.in_ok-touched.ensures)
 
 pub returns-clause-settled : goal.returns-clause-settled
-returns-clause-settled g c = λ honest kept sound fits. c.in_ok-marks.ensures.settled honest kept sound fits (touched g c kept)
+returns-clause-settled g c = λ honest kept sound fits. c.in_ok-scores.ensures.settled honest kept sound fits (touched g c kept)
 
 pub returns-clause-fits : goal.returns-clause-fits
-returns-clause-fits g c = λ honest kept sound fits. c.in_ok-marks.ensures.fits honest kept sound fits (touched g c kept)
+returns-clause-fits g c = λ honest kept sound fits. c.in_ok-scores.ensures.fits honest kept sound fits (touched g c kept)
 
-pub returns-clause-marks : goal.returns-clause-marks
-returns-clause-marks g c = λ honest kept sound fits.
+pub returns-clause-scores : goal.returns-clause-scores
+returns-clause-scores g c = λ honest kept sound fits.
     let entry = g.S.Draft.entry c.args.sheet.now in
     let just = touched g c kept in
     record {
       units = c.as_slice.result.now;
-      just = subst (TouchJust c.as_slice.result.now entry) (sym (c.in_ok-marks.ensures.settled honest kept sound fits just))
+      just = subst (TouchJust c.as_slice.result.now entry) (sym (c.in_ok-scores.ensures.settled honest kept sound fits just))
           (settled_touch_just c.as_slice.result.now entry (g.S.Units.world c.args.sheet.now) sound just);
-      are = c.in_ok-marks.ensures.marks honest kept;
+      are = c.in_ok-scores.ensures.scores honest kept;
     }

@@ -2,7 +2,7 @@ use Rattle.std.proofs.Common.{◌≡◌, ◌+◌, ◌≤◌, [], ◌∷◌, ◌+
 use Rattle.std.specs.Prelude.{IfSome}
 use Rattle.sched_book.specs.Delta.{applied, applied_one}
 use Rattle.sched_book.specs.declared.delta.Change.TheVariants as change
-use Rattle.sched_machine.proofs.EntryHosts.{makes, enters}
+use Rattle.sched_machine.proofs.Calls.Entry.{makes, enters}
 use Rattle.sched_machine.proofs.caller.make_host.Goals as goal
 
 pub returns-in-Some-clause-entered : goal.returns-in-Some-clause-entered

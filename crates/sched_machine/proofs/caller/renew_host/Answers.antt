@@ -2,7 +2,7 @@ use Rattle.std.proofs.Common.{[], ◌∷◌, ◌++◌, sym, ap, ◌∙◌}
 use Rattle.sched_book.specs.Delta.{applied, applied_one}
 use Rattle.sched_book.specs.Places.{host_at}
 use Rattle.sched_book.specs.declared.delta.Change.TheVariants as change
-use Rattle.sched_machine.proofs.EntryHosts.{renews, enters}
+use Rattle.sched_machine.proofs.Calls.Entry.{renews, enters}
 use Rattle.sched_machine.proofs.caller.renew_host.Goals as goal
 
 pub returns-clause-entered : goal.returns-clause-entered

@@ -2,7 +2,7 @@ use Rattle.std.proofs.Common.{sym, ap, ◌∙◌}
 use Rattle.std.proofs.lemmas.Result.{IfOk-weaker}
 use Rattle.sched_book.specs.Fits.{version_for}
 use Rattle.sched_book.specs.declared.world.World.{World}
-use Rattle.sched_machine.proofs.JobsSaid.{version_none, version_some}
+use Rattle.sched_machine.proofs.Calls.Said.{version_none, version_some}
 use Rattle.sched_machine.proofs.jobs.version_at_unit.Goals as goal
 
 -- the row of the workunit is as it was

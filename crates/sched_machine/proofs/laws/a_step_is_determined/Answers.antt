@@ -1,4 +1,4 @@
-use Rattle.sched_machine.proofs.RunOne.{a_step_is_determined}
+use Rattle.sched_machine.proofs.Runs.One.{a_step_is_determined}
 use Rattle.sched_machine.proofs.laws.a_step_is_determined.Goals as goal
 
 pub returns : goal.returns

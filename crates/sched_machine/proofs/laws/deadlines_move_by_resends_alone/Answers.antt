@@ -1,4 +1,4 @@
-use Rattle.sched_machine.proofs.RunDeadlines.{deadlines_move_by_resends_alone}
+use Rattle.sched_machine.proofs.Runs.Deadlines.{deadlines_move_by_resends_alone}
 use Rattle.sched_machine.proofs.laws.deadlines_move_by_resends_alone.Goals as goal
 
 pub returns : goal.returns

@@ -1,4 +1,4 @@
-use Rattle.sched_machine.proofs.RunStretches.{deadlines_move_by_resends_in_runs}
+use Rattle.sched_machine.proofs.Runs.Stretches.{deadlines_move_by_resends_in_runs}
 use Rattle.sched_machine.proofs.laws.deadlines_move_by_resends_in_runs.Goals as goal
 
 pub returns : goal.returns

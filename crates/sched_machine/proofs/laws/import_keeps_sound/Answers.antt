@@ -1,4 +1,4 @@
-use Rattle.sched_machine.proofs.RowsImport.{import_keeps_sound}
+use Rattle.sched_machine.proofs.Rows.Import.{import_keeps_sound}
 use Rattle.sched_machine.proofs.laws.import_keeps_sound.Goals as goal
 
 pub returns : goal.returns

@@ -1,4 +1,4 @@
-use Rattle.sched_machine.proofs.UnitsReported.{reports_keep_well}
+use Rattle.sched_machine.proofs.Units.Reported.{reports_keep_well}
 use Rattle.sched_machine.proofs.laws.reports_keep_well.Goals as goal
 
 pub returns : goal.returns

@@ -1,4 +1,4 @@
-use Rattle.sched_machine.proofs.RunLasting.{reports_stay}
+use Rattle.sched_machine.proofs.Runs.Lasting.{reports_stay}
 use Rattle.sched_machine.proofs.laws.reports_stay.Goals as goal
 
 pub returns : goal.returns

@@ -1,4 +1,4 @@
-use Rattle.sched_machine.proofs.ResentBounds.{resent_seconds_are_bounded}
+use Rattle.sched_machine.proofs.Credit.Resent.{resent_seconds_are_bounded}
 use Rattle.sched_machine.proofs.laws.resent_seconds_are_bounded.Goals as goal
 
 pub returns : goal.returns

@@ -1,4 +1,4 @@
-use Rattle.sched_machine.proofs.StepsSound.{the_empty_world_is_sound}
+use Rattle.sched_machine.proofs.Moves.Sound.{the_empty_world_is_sound}
 use Rattle.sched_machine.proofs.laws.the_empty_world_is_sound.Goals as goal
 
 pub returns : goal.returns

@@ -1,4 +1,4 @@
-use Rattle.sched_machine.proofs.DecidedRuns.{verdicts_stay}
+use Rattle.sched_machine.proofs.Decided.Runs.{verdicts_stay}
 use Rattle.sched_machine.proofs.laws.verdicts_stay.Goals as goal
 
 pub returns : goal.returns

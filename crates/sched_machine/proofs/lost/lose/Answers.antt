@@ -7,8 +7,8 @@ use Rattle.lost_jobs.specs.Fated.{fate_change}
 use Rattle.lost_jobs.specs.Fates.{fate}
 use Rattle.lost_jobs.specs.declared.fates.Fate.{Fate}
 use Rattle.sched_machine.specs.Asked.{resent_places}
-use Rattle.sched_machine.proofs.JobsFit.{lost_fit}
-use Rattle.sched_machine.proofs.JobsLost.{AreLost, fates_are, before_is, put_is, left_known, resent_known}
+use Rattle.sched_machine.proofs.Calls.Fit.{lost_fit}
+use Rattle.sched_machine.proofs.Calls.Lost.{AreLost, fates_are, before_is, put_is, left_known, resent_known}
 use Rattle.sched_machine.proofs.lost.lose.Given
 use Rattle.sched_machine.proofs.lost.lose.Goals as goal
 

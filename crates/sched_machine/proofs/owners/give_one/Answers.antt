@@ -2,7 +2,7 @@ use Rattle.std.proofs.Common.{rules, [], ◌∷◌, ◌++◌, sym, ap, ◌∙◌
 use Rattle.sched_book.specs.Delta.{applied_one}
 use Rattle.sched_book.specs.declared.delta.Change.TheVariants as change
 use Rattle.sched_machine.specs.Granting.{given_on}
-use Rattle.sched_machine.proofs.GrantingDone.{given_is, given_fits}
+use Rattle.sched_machine.proofs.Calls.Granted.{given_is, given_fits}
 use Rattle.sched_machine.proofs.owners.give_one.Goals as goal
 
 pub returns-in_ok-put_instance-in-Some-clause-left : goal.returns-in_ok-put_instance-in-Some-clause-left

@@ -1,5 +1,5 @@
 use Rattle.std.proofs.Common.{◌∙◌}
-use Rattle.sched_machine.proofs.ClassesTaken.{next_taken, job_fits}
+use Rattle.sched_machine.proofs.Calls.Taken.{next_taken, job_fits}
 use Rattle.sched_machine.proofs.owners.take_classes.Goals as goal
 
 pub loop-job-preserved : goal.loop-job-preserved

@@ -4,7 +4,7 @@ use Rattle.sched_book.specs.declared.world.World.{World}
 use Rattle.lost_jobs.specs.Holding.{HoldsNoMore}
 use Rattle.sched_machine.specs.Calling.{IsEntered}
 use Rattle.sched_machine.specs.Prepared.{IsSettledCall}
-use Rattle.sched_machine.proofs.PreparedCalls.{ready_call, still_entered}
+use Rattle.sched_machine.proofs.Calls.Prepared.{ready_call, still_entered}
 use Rattle.sched_machine.proofs.preparing.prepare.Goals as goal
 
 -- each part is work on the one sheet

@@ -1,5 +1,5 @@
 use Rattle.std.proofs.Common.{◌∙◌}
-use Rattle.sched_machine.proofs.HeldNow.{held_now_is}
+use Rattle.sched_machine.proofs.Held.Now.{held_now_is}
 use Rattle.sched_machine.proofs.preparing.wish_of.Goals as goal
 
 pub returns-clause-held : goal.returns-clause-held

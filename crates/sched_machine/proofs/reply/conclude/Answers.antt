@@ -6,8 +6,8 @@ use Rattle.sched_book.specs.Step.{IsCaller, job_at, user_name}
 use Rattle.sched_book.specs.declared.instance.Place.{Place}
 use Rattle.sched_book.specs.declared.world.World.{World}
 use Rattle.job_choice.specs.Chosen.{places_of}
-use Rattle.quorum_credit.specs.Marks.{credits_in}
-use Rattle.quorum_credit.specs.declared.marks.Mark.{Mark}
+use Rattle.quorum_credit.specs.Scores.{credits_in}
+use Rattle.quorum_credit.specs.declared.scores.Score.{Score}
 use Rattle.sched_machine.specs.Granting.{AreRunBy, FitWithHost}
 use Rattle.sched_machine.specs.Totals.{user_credits_in}
 use Rattle.sched_machine.proofs.reply.conclude.Given
@@ -92,11 +92,11 @@ returns-clause-told g c = λ honest kept called runs.
           same_4;
       host_credit =
           c.in_ok-host_credit.ensures.answer honest_1 kept_0
-          ∙ ap₂ (λ (e : World) (ms : List Mark). host_credit e call.number + credits_in ms call.number) entry_0 c.as_slice.ensures;
+          ∙ ap₂ (λ (e : World) (ms : List Score). host_credit e call.number + credits_in ms call.number) entry_0 c.as_slice.ensures;
       user_credit =
           c.in_ok-user_credit.ensures.answer honest_2 kept_1
           ∙ ap₂ (λ (e z : World). user_credit e call.caller.account + user_credits_in z.hosts call.caller.account c.as_slice-2.result.now) entry_1 same_1
-          ∙ ap (λ (ms : List Mark). user_credit w call.caller.account + user_credits_in v.hosts call.caller.account ms) c.as_slice-2.ensures;
+          ∙ ap (λ (ms : List Score). user_credit w call.caller.account + user_credits_in v.hosts call.caller.account ms) c.as_slice-2.ensures;
       user_name =
           c.in_ok-user_name.ensures.answer honest_3 kept_2 (subst (λ (e : World). IsCaller e call.caller c.args.request.now) (sym entry_2) called)
           ∙ ap (λ (e : World). user_name e call.caller.account) entry_2;

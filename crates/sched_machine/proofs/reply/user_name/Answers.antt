@@ -3,7 +3,7 @@ use Rattle.std.specs.Prelude.{option_map, unwrap_or}
 use Rattle.sched_book.specs.Desk.{account_by_key}
 use Rattle.sched_book.specs.declared.desk.Placed.{Placed}
 use Rattle.sched_book.specs.declared.rows.Account.{Account}
-use Rattle.sched_machine.proofs.RowsAdmitted.{name_is}
+use Rattle.sched_machine.proofs.Rows.Admitted.{name_is}
 use Rattle.sched_machine.proofs.reply.user_name.Goals as goal
 
 -- the name of the account that was found

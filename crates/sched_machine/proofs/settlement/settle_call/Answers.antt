@@ -5,9 +5,9 @@ use Rattle.sched_book.specs.Settle.{settled}
 use Rattle.sched_book.specs.Sound.{Sound}
 use Rattle.sched_book.specs.Step.{after_reports, after_lost, resent_of}
 use Rattle.sched_book.specs.declared.world.World.{World}
-use Rattle.quorum_credit.specs.Settling.{AreMarks}
+use Rattle.quorum_credit.specs.Settling.{AreScores}
 use Rattle.sched_machine.specs.Calling.{IsCalling}
-use Rattle.sched_machine.proofs.SettledCalls.{entered_within, reports_known, settled_call}
+use Rattle.sched_machine.proofs.Calls.Settled.{entered_within, reports_known, settled_call}
 use Rattle.sched_machine.proofs.settlement.settle_call.Goals as goal
 
 pub returns-clause-settled : goal.returns-clause-settled
@@ -36,10 +36,10 @@ returns-clause-settled g c = λ honest kept entered held.
     let resent = subst (λ (e : World). IsCalling e r k → c.args.held.now ≡ held_by e k.number → world c.record_on.new.sheet ≡ after_reports e k.caller r
     → c.in_ok-resent.resent ≡ resent_of e k.caller r) entry_1 (c.in_ok-resent.ensures.resent honest_2 kept_1) calling held reported in
     let settles = subst (λ (e : World). Sound e → Fits e (delta c.lose.new.sheet) → world c.settle_read.new.sheet ≡ settled e (world c.lose.new.sheet)) entry_2
-    (c.in_ok-marks.ensures.settled honest kept_2) calling.sound fits in
+    (c.in_ok-scores.ensures.settled honest kept_2) calling.sound fits in
     let fits_then = subst (λ (e : World). Sound e → Fits e (delta c.lose.new.sheet) → Fits e (delta c.settle_read.new.sheet)) entry_2
-    (c.in_ok-marks.ensures.fits honest kept_2) calling.sound fits in
-    let marks = subst (λ (e : World). Sound e → Fits e (delta c.lose.new.sheet) → AreMarks e (world c.settle_read.new.sheet) c.in_ok-marks.marks) entry_2
-    (c.in_ok-marks.ensures.marks honest kept_2) calling.sound fits in
+    (c.in_ok-scores.ensures.fits honest kept_2) calling.sound fits in
+    let scores = subst (λ (e : World). Sound e → Fits e (delta c.lose.new.sheet) → AreScores e (world c.settle_read.new.sheet) c.in_ok-scores.scores) entry_2
+    (c.in_ok-scores.ensures.scores honest kept_2) calling.sound fits in
     settled_call w (world c.lose.new.sheet) (world c.settle_read.new.sheet) r k c.args.now _ (delta c.settle_read.new.sheet)
-    lost settles fits_then c.in_ok-acked.ensures.acked resent marks
+    lost settles fits_then c.in_ok-acked.ensures.acked resent scores

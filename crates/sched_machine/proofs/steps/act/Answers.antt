@@ -9,7 +9,7 @@ use Rattle.call_sheet.specs.declared.page.Page.{Page}
 use Rattle.sched_machine.specs.Calling.{IsAdmitted}
 use Rattle.sched_machine.specs.Prepared.{IsReady}
 use Rattle.sched_machine.specs.Replying.{IsGranted}
-use Rattle.sched_machine.proofs.CallsDone.{call_is_step}
+use Rattle.sched_machine.proofs.Calls.Done.{call_is_step}
 use Rattle.sched_machine.proofs.steps.act.Given
 use Rattle.sched_machine.proofs.steps.act.Goals as goal
 

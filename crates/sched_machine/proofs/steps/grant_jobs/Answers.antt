@@ -7,8 +7,8 @@ use Rattle.call_sheet.specs.Sheets.{IsPageOf}
 use Rattle.call_sheet.specs.declared.page.Page.{Page}
 use Rattle.sched_machine.specs.Granting.{with_classes, AreRunBy, CanTake, FitWithHost}
 use Rattle.sched_machine.specs.Replying.{IsTold, IsGranted}
-use Rattle.sched_machine.proofs.CallsDone.{granted_is}
-use Rattle.sched_machine.proofs.ReadyChoice.{choice_settled, choice_ends, jobs_run}
+use Rattle.sched_machine.proofs.Calls.Done.{granted_is}
+use Rattle.sched_machine.proofs.Calls.Choice.{choice_settled, choice_ends, jobs_run}
 use Rattle.sched_machine.proofs.steps.grant_jobs.Goals as goal
 
 -- both calls read one world, and the sheet gave back its desk and its page as the grant left them

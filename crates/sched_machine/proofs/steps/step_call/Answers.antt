@@ -6,7 +6,7 @@ use Rattle.sched_book.specs.declared.machine.Answered.TheVariants as answered
 use Rattle.sched_book.specs.declared.machine.Call.TheVariants as call
 use Rattle.sched_book.specs.declared.world.World.{World}
 use Rattle.sched_machine.specs.Calling.{IsAdmitted}
-use Rattle.sched_machine.proofs.StepsSound.{step_keeps_sound}
+use Rattle.sched_machine.proofs.Moves.Sound.{step_keeps_sound}
 use Rattle.sched_machine.proofs.steps.step_call.Goals as goal
 
 pub returns-clause-step : goal.returns-clause-step

@@ -7,7 +7,7 @@ use Rattle.sched_book.specs.Sound.{Sound}
 use Rattle.sched_book.specs.Step.{TickStep}
 use Rattle.sched_book.specs.declared.world.World.{World}
 use Rattle.quorum_credit.specs.Late.{lapsed_at}
-use Rattle.sched_machine.proofs.StepsSound.{tick_keeps_sound}
+use Rattle.sched_machine.proofs.Moves.Sound.{tick_keeps_sound}
 use Rattle.sched_machine.proofs.steps.step_tick.Goals as goal
 
 pub returns-clause-sound : goal.returns-clause-sound

@@ -3,11 +3,11 @@ use Rattle.sched_book.specs.Places.{user_credit}
 use Rattle.sched_machine.specs.Totals.{user_credits_in}
 use Rattle.sched_machine.proofs.totals.user_total.Given as goal
 
--- the sum so far, and what the marks bring that are left
-abbrev pub invariant-loop-mark : goal.invariant-loop-mark
-invariant-loop-mark g l = record {
+-- the sum so far, and what the scores bring that are left
+abbrev pub invariant-loop-score : goal.invariant-loop-score
+invariant-loop-score g l = record {
   reads : g.S.Units.reads l.fn.sheet l.sheet;
   known : g.S.Units.honest l.sheet → g.S.Units.well_kept l.fn.sheet
-      → l.credit + user_credits_in (g.S.Units.world l.fn.sheet).hosts l.account (drop l.mark-index l.marks)
-      ≡ user_credit (g.S.Draft.entry l.fn.sheet) l.account + user_credits_in (g.S.Units.world l.fn.sheet).hosts l.account l.marks;
+      → l.credit + user_credits_in (g.S.Units.world l.fn.sheet).hosts l.account (drop l.score-index l.scores)
+      ≡ user_credit (g.S.Draft.entry l.fn.sheet) l.account + user_credits_in (g.S.Units.world l.fn.sheet).hosts l.account l.scores;
 }

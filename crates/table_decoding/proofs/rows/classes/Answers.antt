@@ -1,7 +1,7 @@
 use Rattle.std.proofs.Common.{rules}
-use Rattle.rpc_records.specs.Ranges.{IsWord}
 use Rattle.table_decoding.specs.Decoding.{of_word}
 use Rattle.table_worlds.proofs.ByPlace.{all_nth}
+use Rattle.texts.specs.Words.{IsWord}
 use Rattle.table_decoding.proofs.rows.classes.Goals as goal
 
 pub returns : goal.returns

@@ -1,8 +1,8 @@
 use Rattle.std.proofs.Common.{◌≡◌, sym, ap, subst, ◌∙◌}
-use Rattle.rpc_records.specs.Ranges.{IsWord}
 use Rattle.table_meaning.specs.declared.rows.StoredVersionClass.{StoredVersionClass}
 use Rattle.table_decoding.specs.Decoding.{Gives}
 use Rattle.table_decoding.proofs.Refusals.{same_class_row}
+use Rattle.texts.specs.Words.{IsWord}
 use Rattle.table_decoding.proofs.rows.told_class.Goals as goal
 
 pub returns-in-VersionClass : goal.returns-in-VersionClass

@@ -1,8 +1,8 @@
 use Rattle.std.proofs.Common.{◌≡◌, refl, subst}
 use Rattle.std.proofs.lemmas.Option.{slice_get_read}
 use Rattle.sqlite_rules.specs.Lists.{Has}
-use Rattle.table_worlds.proofs.Members.{has_got}
 use Rattle.table_decoding.specs.Decoding.{schema_row}
+use Rattle.sqlite.proofs.RunLemmas.{has_got}
 use Rattle.table_decoding.proofs.settings.tells_schema.Goals as goal
 
 pub returns-then-is_schema : goal.returns-then-is_schema

@@ -2,7 +2,7 @@ use Rattle.std.proofs.Common.{◌≡◌, ap, sym, subst, ◌∙◌}
 use Rattle.std.proofs.lemmas.Result.{IfOk-weaker}
 use Rattle.sched_book.specs.Offers.{unsent, Offered, OffersSome, Leads}
 use Rattle.sched_book.specs.declared.desk.Flow.{Flow}
-use Rattle.table_meaning.specs.declared.tables.Page.TheVariants.{Further}
+use Rattle.table_meaning.specs.declared.tables.QueuePage.TheVariants.{Further}
 use Rattle.table_desk.specs.Pages.{candidates_at, next_page, unsent_on}
 use Rattle.table_desk.proofs.AskedOn.{asked_before, asked_after}
 use Rattle.table_desk.proofs.PagesOffered.{on_any, none_offered, page_passed, page_stopped, page_ended}

@@ -2,10 +2,11 @@ use Rattle.std.proofs.Common.{◌≤◌, ◌<◌, IsTrue, length, sym, ◌∙◌
 use Rattle.std.proofs.lemmas.Bool.{true_from_ne_false}
 use Rattle.sqlite.specs.Held.{state}
 use Rattle.sqlite.specs.State.{HasCleanDisk}
+use Rattle.sqlite.proofs.InsideLemmas.{keeps_then}
 use Rattle.table_meaning.specs.Schema.{parts_at}
 use Rattle.table_meaning.specs.Texts.{definitions}
 use Rattle.table_meaning.proofs.Definitions.{parts_within}
-use Rattle.table_meaning.proofs.StepLemmas.{survives_on, keeps_then, defined_more, all_defined}
+use Rattle.table_meaning.proofs.StepLemmas.{survives_on, defined_more, all_defined}
 use Rattle.table_rows.proofs.definitions.define.Goals as goal
 
 pub loop-at-preserved : goal.loop-at-preserved

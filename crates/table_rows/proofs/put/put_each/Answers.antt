@@ -2,8 +2,9 @@ use Rattle.std.proofs.Common.{◌≡◌, ◌+◌, [], ◌∷◌, ◌++◌, take,
 use Rattle.std.proofs.lemmas.List.{take_more}
 use Rattle.sqlite.specs.Held.{state}
 use Rattle.sqlite.specs.State.{HasCleanDisk}
+use Rattle.sqlite.proofs.InsideLemmas.{keeps_then}
 use Rattle.table_meaning.specs.Steps.{Moves}
-use Rattle.table_meaning.proofs.StepLemmas.{survives_on, keeps_then, moved_more}
+use Rattle.table_meaning.proofs.StepLemmas.{survives_on, moved_more}
 use Rattle.sqlite_keyed.proofs.ListLemmas.{all-append}
 use Rattle.table_meaning.specs.Rows.{columns_of}
 use Rattle.table_rows.specs.Utf8.{HasUtf8, HaveUtf8}

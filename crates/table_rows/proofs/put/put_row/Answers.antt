@@ -2,11 +2,12 @@ use Rattle.std.proofs.Common.{◌≡◌, false, true, [], ◌∷◌, map, if◌t
 use Rattle.sqlite_value.specs.Value.{owned}
 use Rattle.sqlite.specs.Held.{state}
 use Rattle.sqlite.specs.State.{HasCleanDisk, ExecutesInside}
+use Rattle.sqlite.proofs.InsideLemmas.{keeps_then}
 use Rattle.table_meaning.specs.Texts.{update_first}
 use Rattle.table_meaning.specs.Rows.{table_at, columns_of, key_of}
 use Rattle.table_meaning.specs.Steps.{Moves}
 use Rattle.table_meaning.proofs.TypedRows.{bound_as}
-use Rattle.table_meaning.proofs.StepLemmas.{keeps_then, kept_by, moved_more, row_moved, row_updated}
+use Rattle.table_meaning.proofs.StepLemmas.{kept_by, moved_more, row_moved, row_updated}
 use Rattle.table_rows.proofs.put.put_row.Goals.{then-not-stood+in_ok-execute-in-Some, else-not-stood}
 use Rattle.table_rows.proofs.put.put_row.Goals as goal
 

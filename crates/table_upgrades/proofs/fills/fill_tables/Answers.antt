@@ -1,4 +1,4 @@
-use Rattle.std.proofs.Common.{◌≡◌, ◌∙◌, ◌∷◌, ◌+◌, ◌<◌, ◌≤◌, length, drop, get_or, refl, sym, subst, rules, arith}
+use Rattle.std.proofs.Common.{◌≡◌, ◌∙◌, ◌∷◌, ◌+◌, ◌<◌, ◌≤◌, length, drop, get_or, refl, sym, subst, rules}
 use Rattle.std.proofs.lemmas.List.{drop_all, at_drop_more}
 use Rattle.sqlite.specs.Held.{state}
 use Rattle.table_meaning.specs.declared.tables.Fill.TheVariants.{Calls}

@@ -1,7 +1,8 @@
 use Rattle.std.proofs.Common.{rules, get_or}
 use Rattle.table_worlds.specs.RowsOf.{having, IsTableBeside}
 use Rattle.table_worlds.specs.declared.keys.NumberedTable.TheVariants.{Account}
-use Rattle.table_worlds.proofs.Members.{has_get_or, one_fails}
+use Rattle.table_worlds.proofs.Members.{one_fails}
+use Rattle.table_meaning.proofs.RowsHeld.{has_get_or}
 use Rattle.table_worlds.proofs.matching.are_tables.Goals as goal
 
 pub returns-then-not-branch : goal.returns-then-not-branch

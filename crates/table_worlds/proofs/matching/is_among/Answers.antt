@@ -1,6 +1,7 @@
 use Rattle.std.proofs.Common.{rules, ◌≡◌, get_or, sym, subst}
 use Rattle.sqlite_rules.specs.Lists.{Has}
-use Rattle.table_worlds.proofs.Members.{has_get_or, found_here}
+use Rattle.table_worlds.proofs.Members.{found_here}
+use Rattle.table_meaning.proofs.RowsHeld.{has_get_or}
 use Rattle.table_worlds.proofs.matching.is_among.Goals as goal
 
 pub returns-then-same_row : goal.returns-then-same_row

@@ -1,4 +1,4 @@
-use Rattle.std.proofs.Common.{sym, ◌∙◌}
+use Rattle.std.proofs.Common.{◌∙◌}
 use Rattle.call_sheet.proofs.Pages.{class_put}
 use Rattle.call_sheet.proofs.page.Page.put_class.Goals as goal
 

@@ -24,9 +24,9 @@ returns-clause-exact g c = λ honest kept.
     c.respond.ensures
 
 pub returns-clause-stands : goal.returns-clause-stands
-returns-clause-stands g c = λ marks before st clean.
+returns-clause-stands g c = λ points before st clean.
     handled_stands (parts_of g.S.Units g.S.Store.holds g.S.Store.clean g.S.Store.lasting g.S.Store.may_leave g.S.Store.reopens) g.met.S.Store.settled _ _ _ c.respond.result _ c.answer-told.new.store
-    (returns-clause-acts g c) (returns-clause-exact g c) marks before st clean
+    (returns-clause-acts g c) (returns-clause-exact g c) points before st clean
 
 pub returns-clause-reopens : goal.returns-clause-reopens
 returns-clause-reopens g c = λ kept reopens.

@@ -13,8 +13,8 @@ invariant-loop-arrival g l =
     × (length l.answers.items ≡ l.arrival-index)
     × (g.S.Store.clean (store_of l.self) → g.S.Store.clean (store_of l.fn.self))
     × (g.S.Store.lasting → g.S.Units.honest (store_of l.fn.self) → g.S.Units.honest (store_of l.self))
-    × ((marks : List ℕ) (before : List Came) → StoreStandsFor (parts_of g.S.Units g.S.Store.holds g.S.Store.clean g.S.Store.lasting g.S.Store.may_leave g.S.Store.reopens) (key_of l.fn.self) marks before (store_of l.fn.self) → g.S.Store.clean (store_of l.self)
-    → StoreStandsFor (parts_of g.S.Units g.S.Store.holds g.S.Store.clean g.S.Store.lasting g.S.Store.may_leave g.S.Store.reopens) (key_of l.fn.self) marks
+    × ((points : List ℕ) (before : List Came) → StoreStandsFor (parts_of g.S.Units g.S.Store.holds g.S.Store.clean g.S.Store.lasting g.S.Store.may_leave g.S.Store.reopens) (key_of l.fn.self) points before (store_of l.fn.self) → g.S.Store.clean (store_of l.self)
+    → StoreStandsFor (parts_of g.S.Units g.S.Store.holds g.S.Store.clean g.S.Store.lasting g.S.Store.may_leave g.S.Store.reopens) (key_of l.fn.self) points
     (followed before (take l.arrival-index l.arrivals) l.answers.items) (store_of l.self))
     × (g.S.Units.honest (store_of l.self) → g.S.Units.well_kept (store_of l.fn.self)
     → HandledInTurn (key_of l.fn.self) (followed [] (take l.arrival-index l.arrivals) l.answers.items) (g.S.Store.holds (store_of l.fn.self)) (g.S.Store.holds (store_of l.self)))

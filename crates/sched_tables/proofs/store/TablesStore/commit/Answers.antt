@@ -6,7 +6,7 @@ use Rattle.sched_tables.specs.Entries.{MakesWith, calls_of, batches_of}
 use Rattle.table_meaning.specs.Kept.{calls_in}
 use Rattle.table_worlds.specs.StoredWorld.{world_in}
 use Rattle.sched_tables.specs.Remembering.{AreRemembered}
-use Rattle.sched_tables.specs.Marks.{IsMarkOf}
+use Rattle.sched_tables.specs.DueFrom.{NothingIsDueBefore}
 use Rattle.sched_tables.specs.ReadLaws.{left_world, left_kept, left_beside, never_shut}
 use Rattle.sched_tables.specs.Views.{state_of, world_of, AreKept}
 use Rattle.sched_tables.proofs.EntriesKept.{kept_then, beside_then, committed}
@@ -40,15 +40,15 @@ returns-clause-acts g c =
             c.commit.ensures.apps (c.commit.ensures.rests honest) (c.commit.ensures.made honest kept)
             (λ apps rests made. (
               kept_then old new w cs c.args.entry.now kept.0 made rests idle,
-              beside_then old new w cs c.args.entry.now kept.0 made _ after.settings before.apps after.apps before.remembered after.remembered before.mark after.mark
-                  (record { settings_are = c.commit.ensures.settings ∙ kept.1.settings_are; apps_are = kept.1.apps_are; rows_are = kept.1.rows_are; mark_is = kept.1.mark_is }) apps (c.commit.ensures.remembers honest kept) (c.commit.ensures.mark honest kept),
+              beside_then old new w cs c.args.entry.now kept.0 made _ after.settings before.apps after.apps before.remembered after.remembered before.due_from after.due_from
+                  (record { settings_are = c.commit.ensures.settings ∙ kept.1.settings_are; apps_are = kept.1.apps_are; rows_are = kept.1.rows_are; due_from_is = kept.1.due_from_is }) apps (c.commit.ensures.remembers honest kept) (c.commit.ensures.due_from honest kept),
             )))
             (c.commit.ensures.left honest kept)
             (λ all. all)
             (λ left. (
               left_kept old new left.0 left.1 kept.0 idle,
-              left_beside old new left.0 left.1 kept.0 before.settings after.settings before.apps after.apps before.remembered after.remembered before.mark after.mark c.commit.ensures.settings left.2 (subst (λ (db : Database). AreRemembered (world_in db.trees) (calls_in db.trees) after.remembered) left.0 (c.commit.ensures.remembers honest kept))
-                  (subst (λ (db : Database). IsMarkOf (world_in db.trees) after.mark) left.0 (c.commit.ensures.mark honest kept)) kept.1,
+              left_beside old new left.0 left.1 kept.0 before.settings after.settings before.apps after.apps before.remembered after.remembered before.due_from after.due_from c.commit.ensures.settings left.2 (subst (λ (db : Database). AreRemembered (world_in db.trees) (calls_in db.trees) after.remembered) left.0 (c.commit.ensures.remembers honest kept))
+                  (subst (λ (db : Database). NothingIsDueBefore (world_in db.trees) after.due_from) left.0 (c.commit.ensures.due_from honest kept)) kept.1,
             ));
         left = λ h found.
             elim (found_is_ahead old new w h cs c.args.entry.now (AreKept g.S.Store before) (λ well. well.0) c.commit.ensures.crash found) [

@@ -12,8 +12,8 @@ use Rattle.sched_book.specs.Delta.{applied}
 use Rattle.sched_book.specs.declared.delta.Change.{Change}
 use Rattle.table_rows.specs.Utf8.{HaveUtf8}
 use Rattle.table_worlds.specs.StoredWorld.{world_in}
-use Rattle.sched_tables.specs.Marks.{IsMarkOf, lowered}
-use Rattle.sched_tables.proofs.MarksStay.{lowered_before, lowered_then}
+use Rattle.sched_tables.specs.DueFrom.{NothingIsDueBefore, lowered}
+use Rattle.sched_tables.proofs.DueFromStays.{lowered_before, lowered_then}
 use Rattle.sched_tables.specs.Carrying.{IsPut, IsUnput}
 use Rattle.sched_tables.specs.Remembering.{AreRemembered}
 use Rattle.sched_tables.proofs.EntriesKept.{world_then}
@@ -37,40 +37,40 @@ returns-clause-made g c = λ honest kept.
     (subst (ArePutWith (world_of g.S.Store before) c.args.delta.now (calls_in (state g.S.Store before.conn).now.trees) c.args.entry.now) (sym c.as_slice-put.ensures) (c.in_ok-rows.ensures.rows (clean, was_open) kept))
     puts (was_ok c.put_rows.result (HaveUtf8 c.as_slice-put.result.now) (search rules) c.put_rows.ensures.utf8)
 
--- where the rows are as they were, a lowered mark is one
-mark_left : (old new : State) (mark lower : ℕ) (cs : List Change) → lower ≡ lowered mark cs → new.now ≡ old.now → IsMarkOf (world_in old.now.trees) mark → IsMarkOf (world_in new.now.trees) lower
-mark_left old new mark lower cs is same marked =
-    subst (λ (db : Database). IsMarkOf (world_in db.trees) lower) (sym same) (subst (IsMarkOf (world_in old.now.trees)) (sym is) (lowered_before (world_in old.now.trees) mark cs marked))
+-- where the rows are as they were, nothing is due before a lowered `due_from` either
+due_from_left : (old new : State) (due_from lower : ℕ) (cs : List Change) → lower ≡ lowered due_from cs → new.now ≡ old.now → NothingIsDueBefore (world_in old.now.trees) due_from → NothingIsDueBefore (world_in new.now.trees) lower
+due_from_left old new due_from lower cs is same marked =
+    subst (λ (db : Database). NothingIsDueBefore (world_in db.trees) lower) (sym same) (subst (NothingIsDueBefore (world_in old.now.trees)) (sym is) (lowered_before (world_in old.now.trees) due_from cs marked))
 
-pub returns-in_err-rows-clause-mark : goal.returns-in_err-rows-clause-mark
-returns-in_err-rows-clause-mark g c = λ honest kept.
+pub returns-in_err-rows-clause-due_from : goal.returns-in_err-rows-clause-due_from
+returns-in_err-rows-clause-due_from g c = λ honest kept.
     let before = c.args.self.now in
-    mark_left (state g.S.Store before.conn) (state g.S.Store c.rows_with-rows.new.self.conn) before.mark c.lowered-mark.result c.args.delta.now c.lowered-mark.ensures
-    (c.rows_with-rows.ensures.reads.0.same honest.0 honest.1 kept.0.rests).0 kept.1.mark_is
+    due_from_left (state g.S.Store before.conn) (state g.S.Store c.rows_with-rows.new.self.conn) before.due_from c.lowered-due_from.result c.args.delta.now c.lowered-due_from.ensures
+    (c.rows_with-rows.ensures.reads.0.same honest.0 honest.1 kept.0.rests).0 kept.1.due_from_is
 
-pub returns-in_err-apps-clause-mark : goal.returns-in_err-apps-clause-mark
-returns-in_err-apps-clause-mark g c = λ honest kept.
+pub returns-in_err-apps-clause-due_from : goal.returns-in_err-apps-clause-due_from
+returns-in_err-apps-clause-due_from g c = λ honest kept.
     let before = c.args.self.now in
-    mark_left (state g.S.Store before.conn) (state g.S.Store c.rows_with-rows.new.self.conn) before.mark c.lowered-mark.result c.args.delta.now c.lowered-mark.ensures
-    (c.rows_with-rows.ensures.reads.0.same honest.0 honest.1 kept.0.rests).0 kept.1.mark_is
+    due_from_left (state g.S.Store before.conn) (state g.S.Store c.rows_with-rows.new.self.conn) before.due_from c.lowered-due_from.result c.args.delta.now c.lowered-due_from.ensures
+    (c.rows_with-rows.ensures.reads.0.same honest.0 honest.1 kept.0.rests).0 kept.1.due_from_is
 
-pub returns-then-is_err-clause-mark : goal.returns-then-is_err-clause-mark
-returns-then-is_err-clause-mark g c = λ honest kept.
+pub returns-then-is_err-clause-due_from : goal.returns-then-is_err-clause-due_from
+returns-then-is_err-clause-due_from g c = λ honest kept.
     let before = c.args.self.now in
     let mid = state g.S.Store c.rows_with-rows.new.self.conn in
     let clean : HasCleanDisk mid = omega (arith, c.put_rows.ensures.crash.clean, honest.0) in
     let was_open = c.put_rows.ensures.was_open honest.0 honest.1 in
-    mark_left (state g.S.Store before.conn) (state g.S.Store c.put_rows.new.conn) before.mark c.lowered-mark.result c.args.delta.now c.lowered-mark.ensures
-    ((was_err c.put_rows.result _ (search rules) (c.put_rows.ensures.neither honest.0 honest.1)).0 ∙ (c.rows_with-rows.ensures.reads.0.same clean was_open kept.0.rests).0) kept.1.mark_is
+    due_from_left (state g.S.Store before.conn) (state g.S.Store c.put_rows.new.conn) before.due_from c.lowered-due_from.result c.args.delta.now c.lowered-due_from.ensures
+    ((was_err c.put_rows.result _ (search rules) (c.put_rows.ensures.neither honest.0 honest.1)).0 ∙ (c.rows_with-rows.ensures.reads.0.same clean was_open kept.0.rests).0) kept.1.due_from_is
 
-pub returns-clause-mark : goal.returns-clause-mark
-returns-clause-mark g c = λ honest kept.
+pub returns-clause-due_from : goal.returns-clause-due_from
+returns-clause-due_from g c = λ honest kept.
     let before = c.args.self.now in
     let w = world_of g.S.Store before in
     let cs = c.args.delta.now in
-    let mark = c.lowered-mark.result in
+    let due_from = c.lowered-due_from.result in
     let then = world_then (state g.S.Store before.conn) (state g.S.Store c.put_rows.new.conn) w cs c.args.entry.now kept.0 (returns-clause-made g c honest kept) in
-    subst (λ u. IsMarkOf u mark) (sym then) (subst (IsMarkOf (applied w cs)) (sym c.lowered-mark.ensures) (lowered_then w before.mark cs kept.1.mark_is))
+    subst (λ u. NothingIsDueBefore u due_from) (sym then) (subst (NothingIsDueBefore (applied w cs)) (sym c.lowered-due_from.ensures) (lowered_then w before.due_from cs kept.1.due_from_is))
 
 pub returns-clause-remembers : goal.returns-clause-remembers
 returns-clause-remembers g c = λ honest kept.

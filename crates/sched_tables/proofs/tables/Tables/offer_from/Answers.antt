@@ -17,7 +17,7 @@ returns-clause-reads g c = (
   λ honest kept.
       let taken = c.take_page-page.ensures _ _ kept.1.rows_are in
       c.remember_page.ensures _ _ taken.0 (told g.S.Store c.args.self.now c.unsent_from-offered.new.conn _ c.unsent_from-offered.ensures.page honest kept taken.1),
-  λ honest kept. kept.1.mark_is,
+  λ honest kept. kept.1.due_from_is,
 )
 
 pub returns-clause-all : goal.returns-clause-all

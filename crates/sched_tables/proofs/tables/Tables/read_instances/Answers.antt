@@ -6,4 +6,4 @@ pub returns-clause-answer : goal.returns-clause-answer
 returns-clause-answer g c = λ honest kept. told g.S.Store c.args.self.now c.instances_at.new.conn _ c.in_ok-found.ensures.answer honest kept
 
 pub returns-clause-reads : goal.returns-clause-reads
-returns-clause-reads g c = (search rules, search rules, search rules, λ honest kept. c.remember_instances.ensures _ _ kept.1.rows_are (returns-clause-answer g c honest kept), λ honest kept. kept.1.mark_is)
+returns-clause-reads g c = (search rules, search rules, search rules, λ honest kept. c.remember_instances.ensures _ _ kept.1.rows_are (returns-clause-answer g c honest kept), λ honest kept. kept.1.due_from_is)

@@ -1,0 +1,223 @@
+//! What settlement counts for the hosts of instances, and against them, and the credit that it brings them.
+
+ghost use Rattle.std.specs.Prelude.{◌≡◌, ◌≤◌, ◌++◌, length, IfOk, OnOk};
+ghost use Rattle.sched_book.specs.Count.{is_invalid};
+ghost use Rattle.sched_book.specs.Limits.{most_instances};
+ghost use Rattle.sched_book.specs.Settle.{is_late};
+ghost use Rattle.sched_book.specs.Trusted.{Trusted};
+ghost use Rattle.quorum_credit.specs.Scores.{one_if_new, charges_between, credit_between};
+ghost use Rattle.quorum_credit.specs.Scoring.{owned_standing, standings_in, standing_of, score_of, scores_from, scores_at, scores_of_units};
+ghost use Rattle.quorum_credit.specs.declared.scores.Score.{Score};
+
+use crate::settlement::canonical;
+use call_sheet::Draft;
+use sched_book::{Agreement, Instance, Lapse, Owner, Unavailable, Verdict, Workunit, count};
+use std::alloc::Global;
+use texts::{Listed, Memory};
+
+/// How an instance stands.
+#[derive(Clone, Copy, Debug, PartialEq, Eq)]
+pub(crate) struct Standing {
+    /// A client error was reported of it and judged.
+    pub has_error: bool,
+    /// It lapsed at its deadline.
+    pub is_late: bool,
+    pub verdict: Option<Verdict>,
+}
+
+/// What is new of one instance of a host. Something is: it counts for the host or against it.
+#[derive(Clone, Copy, Debug, PartialEq, Eq)]
+pub struct Score {
+    pub host: u32,
+    /// How much counts against the host.
+    pub charges: u32,
+    /// How much counts for it.
+    pub merits: u32,
+    /// The millicredits that it brings the host: those of the workunit where its result is valid now and was not before,
+    /// else 0.
+    pub credit: u32,
+}
+
+/// To which host an instance was given, and how it stands.
+#[derive(Clone, Copy)]
+struct OwnedStanding {
+    owner: Option<Owner>,
+    standing: Standing,
+}
+
+/// Whether a lapse is one at the deadline.
+fn is_late(lapse: Option<Lapse>) -> bool
+    ensures { result ≡ is_late lapse }
+{
+    match lapse {
+        Some(Lapse::Late) => true,
+        Some(Lapse::Dropped) | None => false,
+    }
+}
+
+/// To which host the instance was given, and how it stands, with this verdict on it.
+fn owned_standing(verdict: Option<Verdict>, instance: &Instance) -> OwnedStanding
+    ensures { result ≡ owned_standing verdict instance.now }
+{
+    OwnedStanding {
+        owner: instance.owner,
+        standing: Standing {
+            has_error: instance.is_judged_error(),
+            is_late: is_late(instance.lapse),
+            verdict,
+        },
+    }
+}
+
+/// How the instances of a workunit stand.
+fn standings_in(
+    alloc: Global,
+    agreement: &Agreement,
+    unit: &Workunit,
+    instances: &[Instance],
+) -> Result<Vec<OwnedStanding>, Memory>
+    requires { length instances.now ≤ most_instances }
+    ensures { IfOk result (λ rows. rows.items ≡ standings_in agreement.now unit.now instances.now) }
+{
+    let canonical = canonical(agreement, unit, instances);
+    instances
+        .iter()
+        .map(|instance| {
+            owned_standing(
+                count::verdict_by(agreement, instances, canonical, instance),
+                instance,
+            )
+        })
+        .collect(alloc)
+}
+
+/// How the instance of a number stands among these.
+fn standing_of(rows: &[OwnedStanding], number: usize) -> Standing
+    ensures { result ≡ standing_of rows.now number }
+{
+    match rows.get(number) {
+        None => Standing {
+            has_error: false,
+            is_late: false,
+            verdict: None,
+        },
+        Some(row) => row.standing,
+    }
+}
+
+/// One where a test passes that did not pass before.
+fn one_if_new(new: bool, old: bool) -> u32
+    ensures value { result ≡ one_if_new new old }
+    ensures small { result ≤ 1 }
+{
+    if new && !old { 1 } else { 0 }
+}
+
+/// Whether a verdict says that the result is invalid.
+fn is_invalid(verdict: Option<Verdict>) -> bool
+    ensures { result ≡ is_invalid verdict }
+{
+    match verdict {
+        Some(Verdict::Invalid) => true,
+        Some(Verdict::Valid) | None => false,
+    }
+}
+
+/// What is new and counts against the host.
+fn charges_between(old: Standing, new: Standing) -> u32
+    ensures { result ≡ charges_between old new }
+{
+    one_if_new(new.has_error, old.has_error)
+        + one_if_new(new.is_late, old.is_late)
+        + one_if_new(is_invalid(new.verdict), is_invalid(old.verdict))
+}
+
+/// The millicredits that are new: those of the workunit where the result is valid now and was not before.
+fn credit_between(credit: u32, old: Standing, new: Standing) -> u32
+    ensures { result ≡ credit_between credit old new }
+{
+    if count::is_valid(new.verdict) && !count::is_valid(old.verdict) {
+        credit
+    } else {
+        0
+    }
+}
+
+/// What is new of an instance of a workunit of this credit; none where it has no owner or nothing is new, and one that
+/// counts nothing brings no credit either.
+fn score_of(credit: u32, old: Standing, new: &OwnedStanding) -> Option<Score>
+    ensures { result ≡ score_of credit old new.now }
+{
+    let owner = new.owner?;
+    let score = Score {
+        host: owner.host,
+        charges: charges_between(old, new.standing),
+        merits: one_if_new(
+            count::is_valid(new.standing.verdict),
+            count::is_valid(old.verdict),
+        ),
+        credit: credit_between(credit, old, new.standing),
+    };
+    if score.charges == 0 && score.merits == 0 {
+        None
+    } else {
+        Some(score)
+    }
+}
+
+/// Puts the scores of the instances of a workunit of this credit behind the others.
+fn push_scores(
+    scores: &mut Listed<Score>,
+    credit: u32,
+    old: &[OwnedStanding],
+    new: &[OwnedStanding],
+) -> Result<(), Memory>
+    ensures { OnOk result (scores.new ≡ scores.old ++ scores_from credit old.now 0 new.now) }
+{
+    for (number, row) in new.iter().enumerate() {
+        if let Some(score) = score_of(credit, standing_of(old, number), row) {
+            scores.push(score)?;
+        }
+    }
+    Ok(())
+}
+
+/// Puts what is new of the instances of the workunit at a place behind the other scores.
+#[tactic(auto, using(crate::proofs::OnLeaves::scores_steps))]
+fn add_scores<S: Draft>(
+    alloc: Global,
+    sheet: &mut S,
+    scores: &mut Listed<Score>,
+    unit: u32,
+) -> Result<(), Unavailable>
+    ensures reads { S.reads sheet.old sheet.new }
+    ensures answer { Trusted S.Units sheet.old sheet.new (
+        OnOk result (scores.new ≡ scores.old ++ scores_at (S.entry sheet.old) (S.world sheet.old) unit)) }
+{
+    sheet.read(alloc, unit)?;
+    let Some(leaf) = sheet.leaf(unit) else {
+        return Ok(());
+    };
+    let old = standings_in(alloc, &leaf.agreement, &leaf.unit, leaf.before.as_slice())?;
+    let new = standings_in(alloc, &leaf.agreement, &leaf.unit, leaf.present.as_slice())?;
+    push_scores(scores, leaf.unit.credit, old.as_slice(), new.as_slice())?;
+    Ok(())
+}
+
+/// What is new of the instances of these workunits since the call came: a score for each that has a host and of which
+/// something is new.
+pub(crate) fn scores_of_units<S: Draft>(
+    alloc: Global,
+    sheet: &mut S,
+    units: &[u32],
+) -> Result<Listed<Score>, Unavailable>
+    ensures reads { S.reads sheet.old sheet.new }
+    ensures answer { Trusted S.Units sheet.old sheet.new (
+        IfOk result (λ scores. scores ≡ scores_of_units (S.entry sheet.old) (S.world sheet.old) units.now)) }
+{
+    let mut scores = Listed::new(alloc);
+    for unit in units {
+        add_scores(alloc, sheet, &mut scores, *unit)?;
+    }
+    Ok(scores)
+}

@@ -1,0 +1,7 @@
+-- The classes of versions that workunits keep to.
+pub mod Words
+pub mod Left
+pub mod Kept
+pub mod Owners
+pub mod Sound
+pub mod Runs

@@ -1,0 +1,70 @@
+//! What is due. It is looked for from the moment `due_from` on, since nothing is due before it.
+
+ghost use Rattle.std.specs.Prelude.{◌≡◌, IfOk};
+ghost use Rattle.sched_book.specs.Places.{overdue};
+ghost use Rattle.sched_tables.specs.Held.{IsHonest};
+ghost use Rattle.sched_tables.specs.DueFrom.{raised, lowered_to, lowered};
+ghost use Rattle.sched_tables.specs.Views.{state_of, world_of, AreKept, AreReadOn};
+
+use crate::tables::Tables;
+use sched_book::{Change, Delta, Instance, Place, Unavailable};
+use sqlite::Alter;
+use std::alloc::Global;
+use texts::Listed;
+
+/// `due_from` after a look-up of what is due at the moment `now`: that moment if nothing is due, and if it is later.
+fn raised(due_from: u64, now: u64, due: &[Place]) -> u64
+    ensures { result ≡ raised due_from now due.now }
+{
+    if due.len() == 0 {
+        due_from.max(now)
+    } else {
+        due_from
+    }
+}
+
+/// `due_from`, lowered to the deadline of an instance that is held.
+fn lowered_to(due_from: u64, instance: &Instance) -> u64
+    ensures { result ≡ lowered_to due_from instance.now }
+{
+    match &instance.owner {
+        Some(owner) if instance.is_held() => due_from.min(owner.deadline),
+        Some(_) | None => due_from,
+    }
+}
+
+/// `due_from`, lowered to the least deadline that changes give to an instance that is held.
+pub(crate) fn lowered(due_from: u64, delta: &Delta) -> u64
+    ensures { result ≡ lowered due_from delta.now }
+{
+    let mut lower = due_from;
+    for change in delta.as_slice() {
+        if let Change::Instance { row, .. } = change {
+            lower = lowered_to(lower, row);
+        }
+    }
+    lower
+}
+
+impl<S: Alter> Tables<S> {
+    /// The places of the held instances whose deadline is before the moment `now`, in order, by a statement over the
+    /// deadlines from `due_from` on. If there is none, `due_from` rises to that moment.
+    pub(crate) fn read_due(&mut self, alloc: Global, now: u64) -> Result<Listed<Place>, Unavailable>
+        ensures reads { AreReadOn S.Store self.old self.new }
+        ensures answer { IsHonest (state_of S.Store self.new) → AreKept S.Store self.old → IfOk result (λ r. r ≡ overdue (world_of S.Store self.old) now) }
+    {
+        let due = table_desk::due_before(alloc, &mut self.conn, self.due_from, now)?;
+        self.due_from = raised(self.due_from, now, due.as_slice());
+        Ok(due)
+    }
+
+    /// Raises `due_from` to the moment that was asked about last, if nothing is held any more that was due then.
+    pub(crate) fn raise_due_from(&mut self, alloc: Global) -> Result<(), Unavailable>
+        ensures reads { AreReadOn S.Store self.old self.new }
+    {
+        if self.due_from < self.asked {
+            self.read_due(alloc, self.asked)?;
+        }
+        Ok(())
+    }
+}
