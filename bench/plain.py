@@ -1,5 +1,5 @@
 #!/usr/bin/env python3
-"""The scheduler in plain Python, over lists and dicts: the twin that `bench/run` measures the program against.
+"""The scheduler in plain Python, over lists and dicts. `bench/run` measures the program against it.
 
 usage: plain.py [SETTING=NUMBER..]
 Reads the lines of a replay on standard input and prints the answers; docs/PROFILE.md states the formats and the rules.

@@ -11,7 +11,7 @@ from .tables import COPY_NAME, Tables, copies_in, moment_of, opened
 
 DAY = 86400
 STATUSES = {0: "open", 1: "done", 2: "failed by errors", 3: "failed by successes", 4: "failed by the total"}
-# how many rows there may be (docs/PROFILE.md, "Imports"); of hosts it is a setting
+# how many rows there may be (docs/PROFILE.md, "What it knows"); of hosts it is a setting
 MOST = {"account": 10_000, "app": 100, "version": 1_000, "unit": 200_000}
 NOUNS = {"account": "accounts", "app": "apps", "version": "versions", "unit": "workunits", "host": "hosts"}
 IS_HELD = "host_id IS NOT NULL AND outcome IS NULL AND lapse = 0"
