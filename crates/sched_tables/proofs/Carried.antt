@@ -1,13 +1,14 @@
 -- What is still remembered behind rows that were put is what the world after has.
-use Rattle.std.proofs.Common.{◌≡◌, ◌<◌, ℕ, zero, suc, Bool, true, false, cond, eqb, arith, option_map, length, ◌||◌, List, [], ◌∷◌, ◌++◌, Option, Some, None, refl, sym, subst, ◌∙◌, inl, inr, ap}
+use Rattle.std.proofs.Common.{◌≡◌, ◌<◌, ℕ, zero, suc, ◌+◌, Bool, true, false, true≢false, cond, eqb, arith, option_map, length, ◌||◌, List, [], ◌∷◌, ◌++◌, Option, Some, None, refl, sym, subst, ◌∙◌, inl, inr, ap}
 use Rattle.std.specs.Prelude.{◌⊎◌, All, IfSome, get_or, option_and_then, slice_get, slice_set}
 use Rattle.std.proofs.Math.Dec.{eqb-suc-zero, eqb-zero-suc, eqb-suc-suc}
 use Rattle.std.specs.Cmp.Lexicographic.{slice_cmp}
 use Rattle.std.specs.List.{list_any, cons_option, AllByRecursion}
 use Rattle.std.specs.Ordering.{nat_cmp}
 use Rattle.std.specs.declared.cmp.Ordering.{Ordering}
+use Rattle.std.proofs.lemmas.Bool.{eqb-true, eq-eqb}
+use Rattle.std.proofs.lemmas.List.{append-nil, append_assoc}
 use Rattle.std.proofs.lemmas.List.Elements.{All-nil}
-use Rattle.std.specs.BTreeMap.{get}
 use Rattle.sched_book.specs.Delta.{applied}
 use Rattle.sched_book.specs.Desk.{placed_where, workunit_at, instances_at}
 use Rattle.sched_book.specs.Fits.{version_among, version_at}
@@ -20,7 +21,9 @@ use Rattle.sched_book.specs.declared.rows.App.{App}
 use Rattle.sched_book.specs.declared.rows.HostRow.{HostRow}
 use Rattle.sched_book.specs.declared.world.World.{World}
 use Rattle.sched_book.proofs.ByPlace.{same_by_index}
+use Rattle.table_desk.specs.Columns.{counted_host_at}
 use Rattle.table_desk.specs.FirstPage.{IsFirstPageOf}
+use Rattle.table_desk.specs.declared.hosts.CountedHost.{CountedHost}
 use Rattle.table_meaning.specs.declared.rows.StoredRow.{StoredRow}
 use Rattle.table_meaning.specs.declared.rows.StoredInstance.{StoredInstance}
 use Rattle.table_meaning.specs.declared.rows.StoredRow.TheVariants as stored
@@ -38,13 +41,14 @@ use Rattle.stores.specs.declared.entry.Entry.{Entry}
 use Rattle.stores.specs.declared.entry.Entry.TheVariants as entry
 use Rattle.sched_tables.specs.Commits.{ArePut}
 use Rattle.sched_tables.specs.Entries.{IsRowOf, ArePutWith}
-use Rattle.sched_tables.specs.Carrying.{IsOtherKey, IsUnput, IsPut, IsRenewed, IsStillKnown, job_of, counted_of, AreCarried}
+use Rattle.sched_tables.specs.Carrying.{IsOtherKey, IsUnput, IsPut, IsRenewed, IsStillKnown, job_of, counted_of, with_host, with_hosts, shares, AreCarried, AreOfHosts}
 use Rattle.sched_tables.specs.Remembering.{IsAccountOf, IsVersionOf, IsSlotOf, AreRemembered}
 use Rattle.sched_tables.specs.RowsRead.{HoldOfEach, AreSome}
 use Rattle.sched_tables.specs.declared.remembered.Remembered.{Remembered}
 use Rattle.sched_tables.specs.declared.remembered.VersionRead.{VersionRead}
 use Rattle.sched_tables.specs.declared.rows_read.RowsRead.{RowsRead}
 use Rattle.sched_tables.proofs.ToldByRows.{same_accounts, same_apps, same_versions, same_workunit, same_host, host_told, job_told}
+use Rattle.sched_tables.proofs.CreditMoves.{credit_shared}
 
 -- ---- keys at which no row is put
 
@@ -163,10 +167,6 @@ module _ (rows : List StoredRow) (r : StoredRow) where
         let later = two.instances n zs is in
         let earlier = one.instances n later.0 later.1 in
         (earlier.0, earlier.1, λ num. known_on job_of (instance_key n num) (slice_get earlier.0 num) (slice_get later.0 num) (slice_get zs num) (earlier.2 num) (later.2 num));
-    hosts = λ n h is. elim (two.hosts n h is) [
-      | inl later ↦ known_on counted_of (host_key n) (get nat_cmp old.hosts.rows n) (Some h) (Some h) (one.hosts n h (sym later.1)) (inl (later.0, refl))
-      | inr put ↦ inr (put.0, put_last rows r put.0 put.1, put.2, put.3)
-    ];
     accounts = some_of_some (slice_cmp nat_cmp) _ _ _ old.accounts mid.accounts new.accounts (λ _ a b id. unput_more rows r _ (a id) (b id)) one.accounts two.accounts;
     versions = elim two.versions [
       | inl gone ↦ inl gone
@@ -179,6 +179,46 @@ module _ (rows : List StoredRow) (r : StoredRow) where
       ]
     ];
   }
+
+-- ---- hosts of rows that are put
+
+-- the host of a number is the one that was there, if its row stays, or else that of a row that is put
+number_of_host : RowKey → ℕ
+number_of_host (host_key number) = number
+number_of_host other = 0
+
+one_host : (r : StoredRow) (hosts : ℕ → Option CountedHost) (number : ℕ) → IsStillKnown (IsOtherKey r) (λ s. s ≡ r) counted_of (host_key number) (hosts number) (with_host hosts r number)
+unfolding number_of_host
+one_host (stored.Host row) hosts number = cases (eqb row.id number) refl
+  where
+    cases : (b : Bool) → eqb row.id number ≡ b
+        → IsStillKnown (IsOtherKey (stored.Host row)) (λ s. s ≡ stored.Host row) counted_of (host_key number) (hosts number) (cond b (Some (counted_of (stored.Host row))) (hosts number))
+    cases true is = inr (stored.Host row, refl, ap host_key (eqb-true row.id number is), refl)
+    cases false is = inl ((λ same. true≢false (sym (eq-eqb row.id number (ap number_of_host same)) ∙ is)), refl)
+one_host (stored.Setting row) hosts number = inl ((λ same. absurd cc), refl)
+one_host (stored.Account row) hosts number = inl ((λ same. absurd cc), refl)
+one_host (stored.App row) hosts number = inl ((λ same. absurd cc), refl)
+one_host (stored.Version row) hosts number = inl ((λ same. absurd cc), refl)
+one_host (stored.Unit row) hosts number = inl ((λ same. absurd cc), refl)
+one_host (stored.Instance row) hosts number = inl ((λ same. absurd cc), refl)
+one_host (stored.Kept row) hosts number = inl ((λ same. absurd cc), refl)
+one_host (stored.Batch row) hosts number = inl ((λ same. absurd cc), refl)
+one_host (stored.VersionClass row) hosts number = inl ((λ same. absurd cc), refl)
+one_host (stored.UnitMark row) hosts number = inl ((λ same. absurd cc), refl)
+
+pub host_known : (rows : List StoredRow) (hosts : ℕ → Option CountedHost) (number : ℕ) → IsStillKnown (IsUnput rows) (IsPut rows) counted_of (host_key number) (hosts number) (with_hosts hosts rows number)
+host_known rows hosts number = go rows [] hosts (inl (tt, refl))
+  where
+    go : (left done : List StoredRow) (now : ℕ → Option CountedHost) → IsStillKnown (IsUnput done) (IsPut done) counted_of (host_key number) (hosts number) (now number)
+        → IsStillKnown (IsUnput (done ++ left)) (IsPut (done ++ left)) counted_of (host_key number) (hosts number) (with_hosts now left number)
+    go [] done now known = subst (λ rs. IsStillKnown (IsUnput rs) (IsPut rs) counted_of (host_key number) (hosts number) (now number)) (sym (append-nil done)) known
+    go (r ∷ left) done now known =
+        let then = known_on done r counted_of (host_key number) (hosts number) (now number) (with_host now r number) known (one_host r now number) in
+        subst (λ rs. IsStillKnown (IsUnput rs) (IsPut rs) counted_of (host_key number) (hosts number) (with_hosts now (r ∷ left) number)) (append_assoc done (r ∷ []) left) (go left (done ++ r ∷ []) (with_host now r) then)
+
+-- what is known of a world's hosts and of the credit of their users is theirs
+pub known_of_world : (w : World) (calls : SlotCalls) (r : Remembered) → AreRemembered w calls r → AreOfHosts (counted_host_at w) r.hosts r.credits
+known_of_world w calls r known = record { each = known.hosts; end = suc (length w.hosts); credited = λ account credit is more. known.credits account credit is ∙ credit_shared w account more }
 
 -- ---- instances of a row that is put
 
@@ -202,7 +242,8 @@ holds_of_some cmp Of Before After old new some before carry = λ k row is.
 
 module _ (w w' : World) (readable : IsReadable w) (readable' : IsReadable w') (Stays : RowKey → Type 0) (stay : (k : WorldKey) → Stays (row_key k) → row_in w k ≡ row_in w' k)
     (Puts : StoredRow → Type 0) (put : (r : StoredRow) (k : WorldKey) → Puts r → key_of r ≡ row_key k → row_in w' k ≡ Some r)
-    (calls calls' : SlotCalls) (old new : Remembered) (left : AreCarried Stays Puts old new) (none : new.slot ≡ None) (no_page : new.page ≡ None) (before : AreRemembered w calls old) where
+    (hosts : ℕ → Option CountedHost) (known : (n : ℕ) → IsStillKnown Stays Puts counted_of (host_key n) (counted_host_at w n) (hosts n))
+    (calls calls' : SlotCalls) (old new : Remembered) (of_hosts : AreOfHosts hosts new.hosts new.credits) (left : AreCarried Stays Puts old new) (none : new.slot ≡ None) (no_page : new.page ≡ None) (before : AreRemembered w calls old) where
   apps_stay : ((id : ℕ) → Stays (row_key (key.App id))) → w.apps ≡ w'.apps
   apps_stay unput = same_apps w w' readable readable' (λ n. stay (key.App n) (unput n))
 
@@ -224,6 +265,12 @@ module _ (w w' : World) (readable : IsReadable w) (readable' : IsReadable w') (S
       same ∙ ap (λ js. slice_get js num) was ∙ job_told w readable n num ∙ ap (option_map job_of) (stay (key.Instance (record { unit = n; number = num })) still) ∙ sym (job_told w' readable' n num)
   jobs_then n num ys xs was (inr (r, is, at, told)) = told ∙ sym (ap (option_map job_of) (put r (key.Instance (record { unit = n; number = num })) is at)) ∙ sym (job_told w' readable' n num)
 
+  are_then : (n : ℕ) → hosts n ≡ counted_host_at w' n
+  are_then n = elim (known n) [
+    | inl still ↦ still.1 ∙ same_host w w' readable readable' n (stay (key.Host n) still.0)
+    | inr told ↦ told.3 ∙ sym (ap (option_map counted_of) (put told.0 (key.Host n) told.1 told.2)) ∙ sym (host_told w' readable' n)
+  ]
+
   pub remembered_then : AreRemembered w' calls' new
   remembered_then = record {
     units = holds_of_some nat_cmp _ (λ n u. workunit_at w n ≡ Some u) (λ n u. workunit_at w' n ≡ Some u) old.units new.units left.units before.units
@@ -231,10 +278,11 @@ module _ (w w' : World) (readable : IsReadable w) (readable' : IsReadable w') (S
     instances = λ n xs is.
         let was = left.instances n xs is in
         same_by_index xs (instances_at w' n) (λ num. jobs_then n num was.0 xs (before.instances n was.0 was.1) (was.2 num));
-    hosts = λ n h is. elim (left.hosts n h is) [
-      | inl still ↦ sym (same_host w w' readable readable' n (stay (key.Host n) still.0)) ∙ before.hosts n h (sym still.1)
-      | inr told ↦ host_told w' readable' n ∙ ap (option_map counted_of) (put told.0 (key.Host n) told.1 told.2) ∙ sym told.3
-    ];
+    hosts = λ n h is. sym (are_then n) ∙ of_hosts.each n h is;
+    credits = λ account credit is.
+        let until : suc (length w'.hosts) + of_hosts.end ≡ of_hosts.end + suc (length w'.hosts) = omega arith in
+        of_hosts.credited account credit is (suc (length w'.hosts)) ∙ ap (shares hosts account) (sym until)
+        ∙ (λ i. shares (λ n. are_then n i) account (suc (length w'.hosts) + of_hosts.end)) ∙ sym (credit_shared w' account of_hosts.end);
     accounts = holds_of_some (slice_cmp nat_cmp) _ (IsAccountOf w) (IsAccountOf w') old.accounts new.accounts left.accounts before.accounts
         (λ name a unput is. subst (λ (accounts : List Account). placed_where (λ (a : Account). bytes_eq a.authenticator name) accounts ≡ Some (record { place = a.place; row = a.row })) (same_accounts w w' readable readable' (λ n. stay (key.Account n) (unput n))) is);
     versions = versions_left old.versions.items new.versions.items left.versions before.versions;

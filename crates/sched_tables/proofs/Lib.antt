@@ -15,5 +15,6 @@ pub mod ToldByRows
 pub mod Upgraded
 pub mod UpgradedTexts
 pub mod TextsKept
+pub mod CreditMoves
 mod AppsBrought
 mod Memory

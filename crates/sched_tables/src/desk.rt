@@ -161,7 +161,10 @@ impl<S: Alter> Desk for Tables<S> {
     }
 
     fn credit_of_user(&mut self, account: u32) -> Result<u64, Unavailable> {
-        table_desk::credit_of_user(self.alloc, &mut self.conn, account)
+        match self.remembered.credit(account) {
+            Some(credit) => Ok(credit),
+            None => self.read_credit(account),
+        }
     }
 
     fn version_for(

@@ -4,6 +4,7 @@ ghost use Rattle.std.specs.Prelude.{◌≡◌, ◌≤◌, length, IfOk};
 ghost use Rattle.sched_book.specs.Desk.{account_by_key, workunit_at, instances_at};
 ghost use Rattle.sched_book.specs.Fits.{version_at};
 ghost use Rattle.sched_book.specs.Limits.{most_instances};
+ghost use Rattle.sched_book.specs.Places.{user_credit};
 ghost use Rattle.table_desk.specs.Columns.{counted_host_at};
 ghost use Rattle.sched_tables.specs.Held.{IsHonest};
 ghost use Rattle.sched_tables.specs.Views.{state_of, world_of, AreKept, AreReadOn};
@@ -68,6 +69,16 @@ impl<S: Alter> Tables<S> {
             Some(found) => Ok(Some(found)),
             None => self.read_host(alloc, host),
         }
+    }
+
+    /// The credit of the user of this account, in millicredits, by a statement.
+    pub(crate) fn read_credit(&mut self, account: u32) -> Result<u64, Unavailable>
+        ensures reads { AreReadOn S.Store self.old self.new }
+        ensures answer { IsHonest (state_of S.Store self.new) → AreKept S.Store self.old → IfOk result (λ r. r ≡ user_credit (world_of S.Store self.old) account) }
+    {
+        let credit = table_desk::credit_of_user(self.alloc, &mut self.conn, account)?;
+        self.remembered.remember_credit(account, credit);
+        Ok(credit)
     }
 
     /// The account with this authenticator, by a statement.

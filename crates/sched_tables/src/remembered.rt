@@ -1,15 +1,17 @@
 //! What was read, and is as it was read or as it was put since, so that no row is asked for twice.
 
-ghost use Rattle.std.specs.Prelude.{◌≡◌, All, None, Some, IfOk, IfSome};
+ghost use Rattle.std.specs.Prelude.{◌≡◌, ◌+◌, ℕ, suc, All, None, Option, Some, IfOk, IfSome};
 ghost use Rattle.sched_book.specs.Desk.{account_by_key, workunit_at, instances_at};
 ghost use Rattle.sched_book.specs.Fits.{version_at};
+ghost use Rattle.sched_book.specs.Places.{user_credit};
 ghost use Rattle.sched_book.specs.declared.rows.HostRow.{HostRow as BookHost};
 ghost use Rattle.sched_book.specs.declared.world.World.{World};
 ghost use Rattle.table_desk.specs.Columns.{counted_host_at};
+ghost use Rattle.table_desk.specs.declared.hosts.CountedHost.{CountedHost as Counted};
 ghost use Rattle.table_desk.specs.FirstPage.{IsFirstPageOf};
 ghost use Rattle.table_meaning.specs.Worlds.{SlotCalls};
 ghost use Rattle.table_meaning.specs.declared.rows.StoredRow.TheVariants as stored;
-ghost use Rattle.sched_tables.specs.Carrying.{counted_of, AreCarried, AreHostsCarried, AreInstancesCarried, IsOtherKey, IsPut, IsRenewed, IsUnput};
+ghost use Rattle.sched_tables.specs.Carrying.{counted_of, with_counted, with_host, with_hosts, AreCarried, AreCreditsOf, AreInstancesCarried, AreOfHosts, IsOtherKey, IsPut, IsRenewed, IsUnput};
 ghost use Rattle.sched_tables.specs.Remembering.{AreRemembered, IsUnitOf, IsVersionOf};
 ghost use Rattle.sched_tables.specs.Slots.{IsSlotFor};
 
@@ -140,22 +142,61 @@ fn counted(alloc: Global, row: &StoredHost) -> Option<CountedHost>
     }
 }
 
-/// Renews what is known of a host by the row of it that was put.
-fn renew_host(alloc: Global, known: &mut RowsRead<u32, CountedHost>, row: &StoredHost)
-    ensures { AreHostsCarried (IsOtherKey (stored.Host row.now)) (λ s. s ≡ stored.Host row.now) known.old known.new }
+/// The credit of an account, if a host of it has this credit in place of an older one. `None` if it is out of its range.
+fn moved(credit: u64, old: u64, new: u64) -> Option<u64>
+    ensures { IfSome result (λ moved. moved + old ≡ credit + new) }
 {
-    known.forget(&row.id);
-    if let Some(host) = counted(alloc, row) {
-        known.put(row.id, host);
+    credit.checked_sub(old)?.checked_add(new)
+}
+
+/// Moves what is known of the credit of a host's account, if the host was `old` and is `new`. If it was not known, or was of
+/// another account, everything that is known of credits is forgotten.
+fn move_credit(credits: &mut RowsRead<u32, u64>, old: &Option<CountedHost>, new: &CountedHost)
+    ensures { (hosts : ℕ → Option Counted) (number end : ℕ) → IfSome old.now (λ h. hosts number ≡ Some h)
+        → AreCreditsOf hosts end credits.old → AreCreditsOf (with_counted hosts number new.now) (end + suc number) credits.new }
+{
+    let Some(old) = old else {
+        credits.forget_all();
+        return;
+    };
+    let account = new.row.account;
+    if old.row.account != account {
+        credits.forget_all();
+        return;
+    }
+    let Some(credit) = credits.take(&account) else {
+        return;
+    };
+    if let Some(moved) = moved(credit, old.credit, new.credit) {
+        credits.put(account, moved);
     }
 }
 
-/// What was read, and is as it was read or as it was put since: rows by their keys, versions, the slot for the next call of
-/// the host whose calls were read last, and the first places of what waits that were read last.
+/// Renews what is known of a host, and of the credit of its account, by the row of the host that was put.
+fn renew_host(
+    alloc: Global,
+    hosts: &mut RowsRead<u32, CountedHost>,
+    credits: &mut RowsRead<u32, u64>,
+    row: &StoredHost,
+)
+    ensures { (f : ℕ → Option Counted) → AreOfHosts f hosts.old credits.old → AreOfHosts (with_host f (stored.Host row.now)) hosts.new credits.new }
+{
+    let old = hosts.take(&row.id);
+    let Some(new) = counted(alloc, row) else {
+        credits.forget_all();
+        return;
+    };
+    move_credit(credits, &old, &new);
+    hosts.put(row.id, new);
+}
+
+/// What was read, and is as it was read or as it was put since: rows by their keys, credits by accounts, versions, the slot
+/// for the next call of the host whose calls were read last, and the first places of what waits that were read last.
 pub(crate) struct Remembered {
     units: RowsRead<u32, Workunit>,
     instances: RowsRead<u32, Listed<Instance>>,
     hosts: RowsRead<u32, CountedHost>,
+    credits: RowsRead<u32, u64>,
     accounts: RowsRead<Text, AccountRead>,
     versions: Vec<VersionRead>,
     slot: Option<SlotRead>,
@@ -169,6 +210,7 @@ impl Drop for Remembered {
             units: _units,
             instances: _instances,
             hosts: _hosts,
+            credits: _credits,
             accounts: _accounts,
             versions: _versions,
             slot: _slot,
@@ -186,6 +228,7 @@ impl Remembered {
             units: RowsRead::new(alloc),
             instances: RowsRead::new(alloc),
             hosts: RowsRead::new(alloc),
+            credits: RowsRead::new(alloc),
             accounts: RowsRead::new(alloc),
             versions: Vec::new(alloc),
             slot: None,
@@ -239,6 +282,20 @@ impl Remembered {
         if let Some(row) = found {
             self.hosts.remember(number, row);
         }
+    }
+
+    /// The credit of the user of this account, in millicredits.
+    pub(crate) fn credit(&self, account: u32) -> Option<u64>
+        ensures { (w : World) (calls : SlotCalls) → AreRemembered w calls self.now → IfSome result (λ credit. credit ≡ user_credit w account) }
+    {
+        self.credits.value(&account)
+    }
+
+    /// Remembers the credit of the user of an account.
+    pub(crate) fn remember_credit(&mut self, account: u32, credit: u64)
+        ensures { (w : World) (calls : SlotCalls) → AreRemembered w calls self.old → credit ≡ user_credit w account → AreRemembered w calls self.new }
+    {
+        self.credits.put(account, credit);
     }
 
     /// The account with this authenticator.
@@ -336,13 +393,14 @@ impl Remembered {
 
     /// Takes note of a row that was put.
     fn note_row(&mut self, alloc: Global, row: &StoredRow)
-        ensures { AreCarried (IsOtherKey row.now) (λ s. s ≡ row.now) self.old self.new }
+        ensures carried { AreCarried (IsOtherKey row.now) (λ s. s ≡ row.now) self.old self.new }
+        ensures hosts { (f : ℕ → Option Counted) → AreOfHosts f self.old.hosts self.old.credits → AreOfHosts (with_host f row.now) self.new.hosts self.new.credits }
     {
         match row {
             StoredRow::Unit(row) => self.units.forget(&row.id),
             StoredRow::UnitMark(row) => self.units.forget(&row.unit_id),
             StoredRow::Instance(row) => renew_instance(&mut self.instances, row),
-            StoredRow::Host(row) => renew_host(alloc, &mut self.hosts, row),
+            StoredRow::Host(row) => renew_host(alloc, &mut self.hosts, &mut self.credits, row),
             StoredRow::Account(_) => self.accounts.forget_all(),
             StoredRow::Version(_) | StoredRow::VersionClass(_) => self.versions.clear(),
             StoredRow::App(_) => {
@@ -353,10 +411,11 @@ impl Remembered {
         }
     }
 
-    /// Takes note of rows that were put: what they tell of hosts and of instances is renewed, and what else was read of them is
-    /// forgotten, with the slot for a call and the places that wait.
+    /// Takes note of rows that were put. What they say of hosts, of the credit of their users, and of instances is renewed.
+    /// Everything else that was read of them is forgotten, with the slot for a call and the places that wait.
     pub(crate) fn note_put(&mut self, alloc: Global, changes: &[RowChange])
         ensures carried { AreCarried (IsUnput changes.now) (IsPut changes.now) self.old self.new }
+        ensures hosts { (f : ℕ → Option Counted) → AreOfHosts f self.old.hosts self.old.credits → AreOfHosts (with_hosts f changes.now) self.new.hosts self.new.credits }
         ensures slot { self.new.slot ≡ None }
         ensures page { self.new.page ≡ None }
     {
@@ -374,6 +433,7 @@ impl Remembered {
         self.units.forget_all();
         self.instances.forget_all();
         self.hosts.forget_all();
+        self.credits.forget_all();
         self.accounts.forget_all();
         self.versions.clear();
         self.slot = None;

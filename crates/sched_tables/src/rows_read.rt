@@ -83,3 +83,12 @@ impl<K: Ord + Drop, T: Same + Drop> RowsRead<K, T> {
         }
     }
 }
+
+impl<K: Ord, T: Copy> RowsRead<K, T> {
+    /// The row of this key, if it was read.
+    pub(crate) fn value(&self, key: &K) -> Option<T>
+        ensures { result ≡ get K.cmp self.now.rows key.now }
+    {
+        self.rows.get(key).copied()
+    }
+}

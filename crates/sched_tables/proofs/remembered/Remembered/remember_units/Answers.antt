@@ -13,6 +13,7 @@ loop-unit-preserved c = λ w calls before all.
       units = holds_with nat_cmp one_number (λ n u. workunit_at w n ≡ Some u) c.loop-unit.self.units c.remember.new.self c.unit-item.result.place c.unit-item.result.row c.remember.ensures so_far.units is;
       instances = so_far.instances;
       hosts = so_far.hosts;
+      credits = so_far.credits;
       accounts = so_far.accounts;
       versions = so_far.versions;
       slot = so_far.slot;
