@@ -31,7 +31,7 @@ units_lower n (b ∷ bs) = let first = each_lowers n b.instances in let later = 
 
 -- ---- so nothing is due before a moment that is no later
 
-not_due : (n until : ℕ) (x : Instance) → until ≤ lowered_to n x → is_overdue until x ≡ false
+pub not_due : (n until : ℕ) (x : Instance) → until ≤ lowered_to n x → is_overdue until x ≡ false
 not_due n until x = cases (is_held x) x.owner
   where
     no_sooner : (deadline : ℕ) → until ≤ min n deadline → nat_lt deadline until ≡ false

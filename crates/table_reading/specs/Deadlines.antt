@@ -1,4 +1,4 @@
--- Words. A moment that is lowered to the least deadline of the instances that are held.
+-- Rule. A moment that is lowered to the least deadline of the instances that are held.
 use Rattle.std.specs.Prelude.{ℕ, min, if◌then◌else◌, List, fold}
 use Rattle.sched_book.specs.Count.{is_held}
 use Rattle.sched_book.specs.Places.{deadline_of}
