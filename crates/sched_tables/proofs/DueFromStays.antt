@@ -1,5 +1,5 @@
 -- Nothing is due before a moment: in the world that was looked through, and in a world with changes made.
-use Rattle.std.proofs.Common.{◌≡◌, ℕ, zero, suc, ◌+◌, ◌-◌, ◌≤◌, min, max, Bool, true, false, ◌&&◌, cond, eqb, List, [], ◌∷◌, ◌++◌, length, Option, Some, None, refl, sym, ◌⊎◌, inl, inr, arith}
+use Rattle.std.proofs.Common.{◌≡◌, ℕ, zero, suc, ◌+◌, ◌-◌, ◌≤◌, max, Bool, true, false, ◌&&◌, cond, eqb, List, [], ◌∷◌, ◌++◌, length, Option, Some, None, refl, sym, ◌⊎◌, inl, inr, arith}
 use Rattle.std.specs.Prelude.{◌==◌, nat_lt, slice_set, replicate}
 use Rattle.std.specs.List.{AllByRecursion}
 use Rattle.std.proofs.lemmas.Bool.Decides.{nat_tests}
@@ -9,7 +9,7 @@ use Rattle.sched_book.specs.Classes.{with_class}
 use Rattle.sched_book.specs.Count.{is_held}
 use Rattle.sched_book.specs.Delta.{set_at, with_instance, applied_one, applied}
 use Rattle.sched_book.specs.Imports.{new_unit}
-use Rattle.sched_book.specs.Places.{option_any, is_overdue, overdue, deadline_of, places_in, places_among}
+use Rattle.sched_book.specs.Places.{option_any, is_overdue, overdue, places_in, places_among}
 use Rattle.sched_book.specs.Reports.{modify_at, modify_nth}
 use Rattle.sched_book.specs.Settle.{fresh}
 use Rattle.sched_book.specs.declared.delta.Change.{Change}
@@ -20,7 +20,9 @@ use Rattle.sched_book.specs.declared.instance.Place.{Place}
 use Rattle.sched_book.specs.declared.instance.UnitBook.{UnitBook}
 use Rattle.sched_book.specs.declared.world.World.{World}
 use Rattle.table_desk.proofs.PlacesNone.{append_none, cons-nil}
-use Rattle.sched_tables.specs.DueFrom.{NothingIsDueBefore, raised, lowered_to, lowered_by, lowered}
+use Rattle.table_reading.specs.Deadlines.{lowered_to}
+use Rattle.table_reading.proofs.NoneDue.{low_enough, not_due}
+use Rattle.sched_tables.specs.DueFrom.{NothingIsDueBefore, raised, lowered_by, lowered}
 
 -- ---- lists
 
@@ -138,24 +140,6 @@ raised_is w due_from now (p ∷ ps) some is = let more : (length (p ∷ ps) == 0
 
 -- ---- changes
 
-low_enough : (due_from : ℕ) (x : Instance) → lowered_to due_from x ≤ due_from
-low_enough due_from x = cases (is_held x)
-  where
-    cases : (held : Bool) → cond held (min due_from (deadline_of x.owner)) due_from ≤ due_from
-    cases true = omega arith
-    cases false = omega arith
-
-not_due : (due_from : ℕ) (x : Instance) → is_overdue (lowered_to due_from x) x ≡ false
-not_due due_from x = cases (is_held x) x.owner
-  where
-    at_least : (deadline : ℕ) → nat_lt deadline (min due_from deadline) ≡ false
-    at_least deadline = grind (arith, nat_tests)
-
-    cases : (held : Bool) (o : Option Owner) → (held && option_any (λ (owner : Owner). nat_lt owner.deadline (cond held (min due_from (deadline_of o)) due_from)) o) ≡ false
-    cases false o = refl
-    cases true None = refl
-    cases true (Some o) = at_least o.deadline
-
 below_due_from : (due_from : ℕ) (c : Change) → lowered_by due_from c ≤ due_from
 below_due_from due_from (change.Account a) = omega arith
 below_due_from due_from (change.App a) = omega arith
@@ -176,7 +160,7 @@ lowered_one w due_from (change.Host number h) is = is
 lowered_one w due_from (change.Instance p x) is =
     let lower = lowered_to due_from x in
     is_due_from (applied_one w (change.Instance p x)) lower
-    (all_modified (HasNone (is_overdue lower)) (with_instance p.number x) (λ b none. all_put (Fails (is_overdue lower)) b.instances p.number x (not_due due_from x) none) w.units p.unit
+    (all_modified (HasNone (is_overdue lower)) (with_instance p.number x) (λ b none. all_put (Fails (is_overdue lower)) b.instances p.number x (not_due due_from lower x (omega arith)) none) w.units p.unit
     (lower_due w.units due_from lower (low_enough due_from x) (none_due w due_from is)))
 lowered_one w due_from (change.Class unit class) is =
     is_due_from (applied_one w (change.Class unit class)) due_from (all_modified (HasNone (is_overdue due_from)) (with_class class) (λ b none. none) w.units unit (none_due w due_from is))

@@ -1,5 +1,5 @@
 -- Tables that were read as those of a world are well kept.
-use Rattle.std.proofs.Common.{◌≡◌, List, sym, ap, subst, ◌∙◌, arith}
+use Rattle.std.proofs.Common.{◌≡◌, ℕ, List, sym, ap, subst, ◌∙◌, arith}
 use Rattle.sqlite.specs.Effect.{Database}
 use Rattle.sqlite.specs.State.{State, HasCleanDisk, Opens}
 use Rattle.sched_book.specs.Sound.{Sound}
@@ -14,7 +14,7 @@ use Rattle.table_reading.specs.Reading.{WereKnown, ReadFrom}
 use Rattle.table_worlds.specs.StoredWorld.{world_in}
 use Rattle.table_worlds.proofs.StaysReadable.{sound_is_readable}
 use Rattle.sched_tables.specs.Held.{IsHonest, AreWellKept, AreBeside}
-use Rattle.sched_tables.proofs.DueFromStays.{none_before}
+use Rattle.sched_tables.specs.DueFrom.{NothingIsDueBefore}
 use Rattle.sched_tables.specs.Remembering.{AreRemembered}
 use Rattle.sched_tables.specs.declared.remembered.Remembered.{Remembered}
 
@@ -48,13 +48,13 @@ module _ (taken read : State) (opens : HasCleanDisk taken → Opens taken) (know
       readable = sound_is_readable (world_in read.now.trees) opened_sound;
     }
 
-    pub opened_beside : (settings : Settings) (apps : List App) (rows : Remembered) → settings ≡ (world_in taken.now.trees).settings → apps ≡ (world_in taken.now.trees).apps → ((v : World) (calls : SlotCalls) → AreRemembered v calls rows)
-        → AreBeside (world_in read.now.trees) (calls_in read.now.trees) settings apps rows 0
-    opened_beside settings apps rows of_world also nothing = record {
+    pub opened_beside : (settings : Settings) (apps : List App) (rows : Remembered) (due_from : ℕ) → settings ≡ (world_in taken.now.trees).settings → apps ≡ (world_in taken.now.trees).apps → ((v : World) (calls : SlotCalls) → AreRemembered v calls rows)
+        → NothingIsDueBefore (world_in taken.now.trees) due_from → AreBeside (world_in read.now.trees) (calls_in read.now.trees) settings apps rows due_from
+    opened_beside settings apps rows due_from of_world also nothing none = record {
       settings_are = of_world ∙ sym (ap (λ (v : World). v.settings) opened_world);
       apps_are = also ∙ sym (ap (λ (v : World). v.apps) opened_world);
       rows_are = nothing _ _;
-      due_from_is = none_before (world_in read.now.trees);
+      due_from_is = subst (λ (v : World). NothingIsDueBefore v due_from) (sym opened_world) none;
     }
 
     pub opened_rows : ReadFrom read.now.trees (world_in read.now.trees)

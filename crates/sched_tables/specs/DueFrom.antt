@@ -1,12 +1,11 @@
 -- Rule. The moment from which what is due is looked for: nothing is due before it.
-use Rattle.std.specs.Prelude.{◌≡◌, ℕ, min, max, ◌==◌, if◌then◌else◌, List, [], length, fold}
-use Rattle.sched_book.specs.Count.{is_held}
-use Rattle.sched_book.specs.Places.{deadline_of, overdue}
+use Rattle.std.specs.Prelude.{◌≡◌, ℕ, max, ◌==◌, if◌then◌else◌, List, [], length, fold}
+use Rattle.sched_book.specs.Places.{overdue}
 use Rattle.sched_book.specs.declared.delta.Change.{Change}
 use Rattle.sched_book.specs.declared.delta.Change.TheVariants as change
-use Rattle.sched_book.specs.declared.instance.Instance.{Instance}
 use Rattle.sched_book.specs.declared.instance.Place.{Place}
 use Rattle.sched_book.specs.declared.world.World.{World}
+use Rattle.table_reading.specs.Deadlines.{lowered_to}
 
 -- No instance that is held has its deadline before this moment.
 abbrev pub NothingIsDueBefore : World → ℕ → Type 0
@@ -16,11 +15,7 @@ NothingIsDueBefore w due_from = overdue w due_from ≡ []
 abbrev pub raised : ℕ → ℕ → List Place → ℕ
 raised due_from now due = if length due == 0 then max due_from now else due_from
 
--- `due_from`, lowered to the deadline of an instance that is held
-abbrev pub lowered_to : ℕ → Instance → ℕ
-lowered_to due_from x = if is_held x then min due_from (deadline_of x.owner) else due_from
-
--- `due_from`, lowered to the deadline that a change gives
+-- `due_from`, lowered to the deadline that a change gives to an instance that is held
 abbrev pub lowered_by : ℕ → Change → ℕ
 lowered_by due_from (change.Instance p x) = lowered_to due_from x
 lowered_by due_from other = due_from

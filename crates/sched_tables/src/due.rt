@@ -3,13 +3,14 @@
 ghost use Rattle.std.specs.Prelude.{◌≡◌, IfOk};
 ghost use Rattle.sched_book.specs.Places.{overdue};
 ghost use Rattle.sched_tables.specs.Held.{IsHonest};
-ghost use Rattle.sched_tables.specs.DueFrom.{raised, lowered_to, lowered};
+ghost use Rattle.sched_tables.specs.DueFrom.{raised, lowered};
 ghost use Rattle.sched_tables.specs.Views.{state_of, world_of, AreKept, AreReadOn};
 
 use crate::tables::Tables;
-use sched_book::{Change, Delta, Instance, Place, Unavailable};
+use sched_book::{Change, Delta, Place, Unavailable};
 use sqlite::Alter;
 use std::alloc::Global;
+use table_reading::lowered_to;
 use texts::Listed;
 
 /// `due_from` after a look-up of what is due at the moment `now`: that moment if nothing is due, and if it is later.
@@ -20,16 +21,6 @@ fn raised(due_from: u64, now: u64, due: &[Place]) -> u64
         due_from.max(now)
     } else {
         due_from
-    }
-}
-
-/// `due_from`, lowered to the deadline of an instance that is held.
-fn lowered_to(due_from: u64, instance: &Instance) -> u64
-    ensures { result ≡ lowered_to due_from instance.now }
-{
-    match &instance.owner {
-        Some(owner) if instance.is_held() => due_from.min(owner.deadline),
-        Some(_) | None => due_from,
     }
 }
 

@@ -87,7 +87,7 @@ impl<S: Alter + Drop> Tables<S> {
                 settings: kept.settings,
                 apps: kept.apps,
                 remembered: Remembered::new(alloc),
-                due_from: 0,
+                due_from: kept.due_from,
                 asked: 0,
             }),
             Err(fault) => Err(Refused::of(fault, conn)),

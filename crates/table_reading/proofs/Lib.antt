@@ -3,6 +3,7 @@ pub mod CountsNoted
 pub mod Formatted
 pub mod HeldRows
 pub mod KeptRows
+pub mod NoneDue
 pub mod ReadsOn
 pub mod RowsTaken
 pub mod StoredWorlds

@@ -1,6 +1,7 @@
 -- The world that rows stand for is the one that they tell, and there is one at most.
-use Rattle.std.proofs.Common.{◌≡◌, Bool, true, false, true≢false, List, sym, ap, subst, ◌∙◌}
+use Rattle.std.proofs.Common.{◌≡◌, ℕ, Bool, true, false, true≢false, List, [], sym, ap, subst, ◌∙◌}
 use Rattle.sqlite.specs.Effect.{Database}
+use Rattle.sched_book.specs.Places.{overdue}
 use Rattle.sched_book.specs.declared.instance.UnitBook.{UnitBook}
 use Rattle.sched_book.specs.declared.world.World.{World}
 use Rattle.table_meaning.specs.Holding.{AreKnown}
@@ -34,6 +35,9 @@ module _ (db : Database) (known : AreKnown db) (all : AllRows) (read : AreAllRea
 
     pub apps_told : w.apps ≡ (world_in db.trees).apps
     apps_told = ap (λ (v : World). v.apps) (sym is_told)
+
+    pub none_due_told : (due_from : ℕ) → overdue w due_from ≡ [] → overdue (world_in db.trees) due_from ≡ []
+    none_due_told due_from none = subst (λ (v : World). overdue v due_from ≡ []) (sym is_told) none
 
   -- where the world without its workunits is told, and no workunits make it one that stands, none does
   pub none_stands : (d : World) → ((w : World) → StandFor w all → d ≡ without_units w) → ((books : List UnitBook) → StandFor (having d books) all → ⊥) → StandForNone db.trees

@@ -1,3 +1,4 @@
 pub mod Counting
+pub mod Deadlines
 pub mod Reading
 pub mod Testing

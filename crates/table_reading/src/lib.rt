@@ -2,11 +2,13 @@
 #![tactic(auto)]
 
 mod counts;
+mod due;
 mod kept;
 mod rows;
 mod units;
 mod world;
 
 pub use counts::UnitCounts;
+pub use due::lowered_to;
 pub use rows::Reading;
 pub use world::{KeptBeside, stored_world};

@@ -13,9 +13,11 @@ ghost use Rattle.table_meaning.specs.Rows.{unit_key, mark_key, instance_key, col
 ghost use Rattle.table_meaning.specs.declared.rows.StoredRow.TheVariants as stored;
 ghost use Rattle.table_worlds.specs.RowsOf.{rows_of_unit};
 ghost use Rattle.table_worlds.specs.Totals.{with_unit, with_units};
+ghost use Rattle.table_reading.specs.Deadlines.{lowered_to_each, lowered_to_units};
 ghost use Rattle.table_reading.specs.Reading.{WereKnown};
 ghost use Rattle.table_reading.specs.Testing.{AreInstancesFound, AreFound, LacksRow, HasGap, StandsAt, AreTested, has_name};
 
+use crate::due::lowered_to_each;
 use sched_book::{UnitBook, World};
 use sqlite::{Alter, Connection};
 use std::alloc::Global;
@@ -141,8 +143,8 @@ fn unit_rows<S: Alter>(
     })
 }
 
-/// Tests a workunit against its rows and takes note of its name, and of what its hosts hold and earned. `BadRow` where the
-/// rows are others, it is not sound, or its name came by.
+/// Tests a workunit against its rows. Takes note of its name, of what its hosts hold and earned, and of the least deadline of
+/// what they hold. `BadRow` where the rows are others, it is not sound, or its name came by.
 fn test_book(
     world: &World,
     id: u32,
@@ -150,11 +152,12 @@ fn test_book(
     rows: &UnitRows,
     names: &mut SeenSet<Text>,
     totals: &mut [Total],
+    due_from: &mut u64,
 ) -> Result<(), OpenFault>
     ensures passes { OnOk result (IsSoundUnit world.now.hosts world.now.apps book.now × (rows.now ≡ rows_of_unit world.now id book.now)) }
     ensures name { OnOk result ((has_name names.old book.now.unit.name ≡ false)
         × ((other : List ℕ) → has_name names.new other ≡ (bytes_eq other book.now.unit.name || has_name names.old other))) }
-    ensures counts { OnOk result (totals.new ≡ map_from 1 (with_unit world.now.apps book.now) totals.old) }
+    ensures counts { OnOk result ((totals.new ≡ map_from 1 (with_unit world.now.apps book.now) totals.old) × (due_from.new ≡ lowered_to_each due_from.old book.now.instances)) }
     ensures bad { IfErr result (λ e. e ≡ OpenFault.BadRow → IsSoundUnit world.now.hosts world.now.apps book.now → rows.now ≡ rows_of_unit world.now id book.now
         → IsTrue (has_name names.old book.now.unit.name)) }
 {
@@ -168,6 +171,7 @@ fn test_book(
         return Err(OpenFault::BadRow);
     }
     count_unit(totals, world.apps.as_slice(), book)?;
+    *due_from = lowered_to_each(*due_from, book.instances.as_slice());
     Ok(())
 }
 
@@ -180,10 +184,11 @@ fn test_rows(
     rows: &UnitRows,
     names: &mut SeenSet<Text>,
     totals: &mut [Total],
+    due_from: &mut u64,
 ) -> Result<(), OpenFault>
     ensures passes { OnOk result ((b : Book) × IsSoundUnit world.now.hosts world.now.apps b × (rows.now ≡ rows_of_unit world.now id b)
         × (has_name names.old b.unit.name ≡ false) × ((other : List ℕ) → has_name names.new other ≡ (bytes_eq other b.unit.name || has_name names.old other))
-        × (totals.new ≡ map_from 1 (with_unit world.now.apps b) totals.old)) }
+        × (totals.new ≡ map_from 1 (with_unit world.now.apps b) totals.old) × (due_from.new ≡ lowered_to_each due_from.old b.instances)) }
     ensures bad { IfErr result (λ e. e ≡ OpenFault.BadRow → (b : Book) → IsSoundUnit world.now.hosts world.now.apps b → rows.now ≡ rows_of_unit world.now id b
         → IsTrue (has_name names.old b.unit.name)) }
 {
@@ -192,7 +197,7 @@ fn test_rows(
         Err(RowFault::BadRow) => return Err(OpenFault::BadRow),
         Err(RowFault::Unavailable) => return Err(OpenFault::Unavailable),
     };
-    test_book(world, id, &book, rows, names, totals)
+    test_book(world, id, &book, rows, names, totals, due_from)
 }
 
 /// Reads the rows of a workunit with so many instances by their keys, and tests it as [`test_book`] does. `BadRow` where it
@@ -205,30 +210,34 @@ fn test_unit<S: Alter>(
     count: u32,
     names: &mut SeenSet<Text>,
     totals: &mut [Total],
+    due_from: &mut u64,
 ) -> Result<(), OpenFault>
     ensures reads { Reads (state S.Store conn.old) (state S.Store conn.new) }
     ensures stands { WereKnown (state S.Store conn.old) (state S.Store conn.new) → OnOk result ((b : Book) × StandsAt (state S.Store conn.old).now.trees world.now id count b
         × (has_name names.old b.unit.name ≡ false) × ((other : List ℕ) → has_name names.new other ≡ (bytes_eq other b.unit.name || has_name names.old other))
-        × (totals.new ≡ map_from 1 (with_unit world.now.apps b) totals.old)) }
+        × (totals.new ≡ map_from 1 (with_unit world.now.apps b) totals.old) × (due_from.new ≡ lowered_to_each due_from.old b.instances)) }
     ensures bad { WereKnown (state S.Store conn.old) (state S.Store conn.new)
         → IfErr result (λ e. e ≡ OpenFault.BadRow → (b : Book) → StandsAt (state S.Store conn.old).now.trees world.now id count b → IsTrue (has_name names.old b.unit.name)) }
 {
     let rows = unit_rows(alloc, conn, id, count)?;
-    test_rows(alloc, world, id, &rows, names, totals)
+    test_rows(alloc, world, id, &rows, names, totals, due_from)
 }
 
-/// Tests the workunits of the tables in the order of their numbers, of which each has so many instances, and counts for each
-/// host what it holds of them and what it earned. `BadRow` where one does not stand, or two have the same name.
+/// Tests the workunits of the tables in the order of their numbers, of which each has so many instances. Counts for each host
+/// what it holds of them and what it earned, and lowers `due_from` to the least deadline of an instance that is held. `BadRow`
+/// where one does not stand, or two have the same name.
 pub(crate) fn test_units<S: Alter>(
     alloc: Global,
     conn: &mut Connection<S>,
     world: &World,
     counts: &[u32],
     totals: &mut [Total],
+    due_from: &mut u64,
 ) -> Result<(), OpenFault>
     ensures reads { Reads (state S.Store conn.old) (state S.Store conn.new) }
     ensures stand { WereKnown (state S.Store conn.old) (state S.Store conn.new) → OnOk result ((books : List Book)
-        × AreTested (state S.Store conn.old).now.trees world.now counts.now (length counts.now) books × (totals.new ≡ map_from 1 (with_units world.now.apps books) totals.old)) }
+        × AreTested (state S.Store conn.old).now.trees world.now counts.now (length counts.now) books × (totals.new ≡ map_from 1 (with_units world.now.apps books) totals.old)
+        × (due_from.new ≡ lowered_to_units due_from.old books)) }
     ensures bad { WereKnown (state S.Store conn.old) (state S.Store conn.new)
         → IfErr result (λ e. e ≡ OpenFault.BadRow → (books : List Book) → ¬ AreTested (state S.Store conn.old).now.trees world.now counts.now (length counts.now) books) }
 {
@@ -237,7 +246,7 @@ pub(crate) fn test_units<S: Alter>(
         let Ok(id) = u32::try_from(index + 1) else {
             return Err(OpenFault::Unavailable);
         };
-        test_unit(alloc, conn, world, id, *count, &mut names, totals)?;
+        test_unit(alloc, conn, world, id, *count, &mut names, totals, due_from)?;
     }
     Ok(())
 }

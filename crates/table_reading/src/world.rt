@@ -3,6 +3,7 @@
 ghost use Rattle.std.specs.Prelude.{◌≡◌, ◌≢◌, ◌↔◌, ◌⊎◌, ℕ, [], List, length, IsTrue, IfOk, IfErr, OnOk};
 ghost use Rattle.sqlite.specs.Held.{state};
 ghost use Rattle.sqlite_rules.specs.Lists.{Has};
+ghost use Rattle.sched_book.specs.Places.{overdue};
 ghost use Rattle.sched_book.specs.Sound.{Sound};
 ghost use Rattle.sched_book.specs.declared.instance.UnitBook.{UnitBook as Book};
 ghost use Rattle.sched_book.specs.declared.world.World.{World as Known};
@@ -15,6 +16,7 @@ ghost use Rattle.table_decoding.specs.Decoding.{schema_row};
 ghost use Rattle.table_reading.specs.Reading.{AllRows, AreAllRead, AreTyped, AreUtf8, reading_of, WereKnown, ReadFrom, StandFor, StandForNone, HasBadTable, HasOtherSchema};
 ghost use Rattle.table_reading.specs.Testing.{AreTested, IsFit};
 
+use crate::due::LAST_DEADLINE;
 use crate::kept::are_calls_of;
 use crate::rows::{Reading, read_all};
 use crate::units::test_units;
@@ -33,6 +35,8 @@ use world_soundness::is_sound;
 pub struct KeptBeside {
     pub settings: Settings,
     pub apps: Listed<App>,
+    /// No held instance has its deadline before this moment, in seconds since 1970-01-01T00:00:00Z.
+    pub due_from: u64,
 }
 
 /// Whether a world without its workunits is sound, these are numbered in turn and not too many, each has a mark, and what is
@@ -51,45 +55,50 @@ fn is_fit(alloc: Global, world: &World, reading: &Reading) -> Result<bool, Unava
     )
 }
 
-/// Tests the workunits of the tables one by one, and with what is counted of them the rows that were read. `BadRow` where no
-/// workunits stand at their keys, or the rows are not those of the world with these.
+/// Tests the workunits of the tables one by one, and with what is counted of them the rows that were read. Returns a moment
+/// before which no held instance has its deadline. `BadRow` where no workunits stand at their keys, or the rows are not those
+/// of the world with these.
 fn test_rows<S: Alter>(
     alloc: Global,
     conn: &mut Connection<S>,
     world: &World,
     reading: &Reading,
-) -> Result<(), OpenFault>
+) -> Result<u64, OpenFault>
     ensures reads { Reads (state S.Store conn.old) (state S.Store conn.new) }
-    ensures stand { WereKnown (state S.Store conn.old) (state S.Store conn.new) → OnOk result ((books : List Book)
-        × AreTested (state S.Store conn.old).now.trees world.now reading.now.units.counts (length reading.now.units.counts) books × AreRowsBeside (having world.now books) reading.now.rows) }
+    ensures stand { WereKnown (state S.Store conn.old) (state S.Store conn.new) → IfOk result (λ due_from. (books : List Book)
+        × AreTested (state S.Store conn.old).now.trees world.now reading.now.units.counts (length reading.now.units.counts) books × AreRowsBeside (having world.now books) reading.now.rows
+        × (overdue (having world.now books) due_from ≡ [])) }
     ensures bad { WereKnown (state S.Store conn.old) (state S.Store conn.new) → IfErr result (λ e. e ≡ OpenFault.BadRow → (books : List Book)
         → AreTested (state S.Store conn.old).now.trees world.now reading.now.units.counts (length reading.now.units.counts) books → ¬ AreRowsBeside (having world.now books) reading.now.rows) }
 {
     let mut totals = no_totals(alloc, world.hosts.len())?;
+    let mut due_from = LAST_DEADLINE;
     test_units(
         alloc,
         conn,
         world,
         reading.units.counts.as_slice(),
         totals.as_mut_slice(),
+        &mut due_from,
     )?;
     if are_rows_beside(alloc, world, totals.as_slice(), &reading.rows)? {
-        Ok(())
+        Ok(due_from)
     } else {
         Err(OpenFault::BadRow)
     }
 }
 
-/// Tests whether all rows are those of a sound world, which is this one with some workunits: `BadRow` where not.
+/// Tests whether all rows are those of a sound world, which is this one with some workunits: `BadRow` where not. Returns a
+/// moment before which no held instance has its deadline.
 fn test_world<S: Alter>(
     alloc: Global,
     conn: &mut Connection<S>,
     world: &World,
     reading: &Reading,
-) -> Result<(), OpenFault>
+) -> Result<u64, OpenFault>
     ensures reads { Reads (state S.Store conn.old) (state S.Store conn.new) }
     ensures stands { WereKnown (state S.Store conn.old) (state S.Store conn.new) → (all : AllRows) → AreAllRead (state S.Store conn.old).now.trees all → AreTyped all
-        → reading.now ≡ reading_of all → OnOk result ((books : List Book) × StandFor (having world.now books) all) }
+        → reading.now ≡ reading_of all → IfOk result (λ due_from. (books : List Book) × StandFor (having world.now books) all × (overdue (having world.now books) due_from ≡ [])) }
     ensures bad { WereKnown (state S.Store conn.old) (state S.Store conn.new) → (all : AllRows) → AreAllRead (state S.Store conn.old).now.trees all → AreTyped all
         → reading.now ≡ reading_of all → world.now.units ≡ [] → IfErr result (λ e. e ≡ OpenFault.BadRow → (books : List Book) → ¬ StandFor (having world.now books) all) }
 {
@@ -116,9 +125,9 @@ fn world_beside(alloc: Global, reading: &Reading) -> Result<World, OpenFault>
 }
 
 /// The settings and the applications of the sound world that the tables of a connection hold, if their schema is the known
-/// one. `NotTables` where no setting tells this schema; `BadRow` where a row has not the format of its table, or the rows
-/// stand for no sound world: a value is out of its range, a reference leads to nothing, a number is left out, or what is
-/// counted of other rows is off. The connection shows what it showed.
+/// one, and a moment before which no held instance has its deadline. `NotTables` where no setting tells this schema; `BadRow`
+/// where a row has not the format of its table, or the rows stand for no sound world: a value is out of its range, a reference
+/// leads to nothing, a number is left out, or what is counted of other rows is off. The connection shows what it showed.
 ///
 /// Workunits, marks and instances are read by their keys, one workunit at a time; of the others the rows are held while they are
 /// tested, and of each workunit its name and how many instances it has.
@@ -134,6 +143,7 @@ pub fn stored_world<S: Alter>(
     ensures utf8 { WereKnown (state S.Store conn.old) (state S.Store conn.new) → OnOk result (AreUtf8 (state S.Store conn.old).now.trees) }
     ensures kept { WereKnown (state S.Store conn.old) (state S.Store conn.new) → IfOk result (λ kept.
         (kept.settings ≡ (world_in (state S.Store conn.old).now.trees).settings) × (kept.apps ≡ (world_in (state S.Store conn.old).now.trees).apps)) }
+    ensures due_from { WereKnown (state S.Store conn.old) (state S.Store conn.new) → IfOk result (λ kept. overdue (world_in (state S.Store conn.old).now.trees) kept.due_from ≡ []) }
     ensures other_schema { WereKnown (state S.Store conn.old) (state S.Store conn.new)
         → IfErr result (λ e. e ≡ OpenFault.NotTables → HasOtherSchema (state S.Store conn.old).now.trees) }
     ensures bad { WereKnown (state S.Store conn.old) (state S.Store conn.new)
@@ -149,9 +159,10 @@ pub fn stored_world<S: Alter>(
     };
     let world = world_beside(alloc, &reading)?;
     match test_world(alloc, conn, &world, &reading) {
-        Ok(()) => Ok(KeptBeside {
+        Ok(due_from) => Ok(KeptBeside {
             settings: world.settings,
             apps: world.apps,
+            due_from,
         }),
         Err(OpenFault::BadRow) => Err(OpenFault::BadRow),
         Err(OpenFault::NotTables | OpenFault::OldSchema(_) | OpenFault::Unavailable) => {

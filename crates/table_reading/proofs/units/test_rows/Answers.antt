@@ -9,7 +9,7 @@ use Rattle.table_reading.proofs.units.test_rows.Goals as goal
 
 pub returns-clause-passes : goal.returns-clause-passes
 returns-clause-passes c =
-    on_ok_each c.test_book.result _ _ _ _ (λ passes name counts. (c.in-Ok.book, passes.0, passes.1, name.0, name.1, counts)) c.test_book.ensures.passes c.test_book.ensures.name c.test_book.ensures.counts
+    on_ok_each c.test_book.result _ _ _ _ (λ passes name counts. (c.in-Ok.book, passes.0, passes.1, name.0, name.1, counts.0, counts.1)) c.test_book.ensures.passes c.test_book.ensures.name c.test_book.ensures.counts
 
 pub returns-clause-bad : goal.returns-clause-bad
 returns-clause-bad c =

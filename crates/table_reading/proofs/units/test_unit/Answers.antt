@@ -17,7 +17,7 @@ pub returns-clause-stands : goal.returns-clause-stands
 returns-clause-stands g c = λ was.
     let trees = (state g.S.Store c.args.conn.now).now.trees in
     on_ok_weaker c.test_rows.result
-    (λ passes. (passes.0, record { sound = passes.1; found = subst (AreFound trees c.args.id c.args.count) passes.2 (c.in_ok-rows.ensures.found was) }, passes.3, passes.4, passes.5)) c.test_rows.ensures.passes
+    (λ passes. (passes.0, record { sound = passes.1; found = subst (AreFound trees c.args.id c.args.count) passes.2 (c.in_ok-rows.ensures.found was) }, passes.3, passes.4, passes.5, passes.6)) c.test_rows.ensures.passes
 
 pub returns-clause-bad : goal.returns-clause-bad
 returns-clause-bad g c = λ was.

@@ -5,6 +5,7 @@ use Rattle.sqlite.specs.Effect.{Database}
 use Rattle.sqlite.specs.Held.{state}
 use Rattle.table_meaning.proofs.StepLemmas.{reads_on}
 use Rattle.table_reading.specs.Testing.{StandsAt, AreTested}
+use Rattle.table_reading.proofs.NoneDue.{lowered_more}
 use Rattle.table_reading.proofs.ReadsOn.{known_before, known_after, shows_first, of_first, refused_on}
 use Rattle.table_reading.proofs.UnitsTested.{tested_more, names_more, counted_more, counted_all, stands_next, name_is_new}
 use Rattle.table_reading.proofs.units.test_units.Goals as goal
@@ -31,6 +32,7 @@ loop-index-preserved g c =
             tested_more first.now.trees w counts i n so_far.0 one.0 c.loop-index.names so_far.1 count stands so_far.2 one.2,
             names_more c.loop-index.names c.test_unit.new.names so_far.0 one.0 so_far.2 one.3,
             counted_more w.apps c.args.totals.now c.loop-index.totals c.test_unit.new.totals so_far.0 one.0 so_far.3 one.4,
+            lowered_more c.args.due_from.now c.loop-index.due_from c.test_unit.new.due_from so_far.0 one.0 so_far.4 one.5,
           ),
     )
 
@@ -41,7 +43,7 @@ returns-clause-stand g c = λ was.
     let counts = c.args.counts.now in
     let all = c.loop-index.invariant.1 was in
     let end : c.loop-index.index ≡ length counts = omega arith in
-    (all.0, subst (λ k. AreTested first.now.trees w counts k all.0) end all.1, counted_all w.apps c.args.totals.now c.loop-index.totals all.0 all.3)
+    (all.0, subst (λ k. AreTested first.now.trees w counts k all.0) end all.1, counted_all w.apps c.args.totals.now c.loop-index.totals all.0 all.3, all.4)
 
 pub returns-in_err-test_unit-clause-bad : goal.returns-in_err-test_unit-clause-bad
 returns-in_err-test_unit-clause-bad g c = λ was.

@@ -1,10 +1,12 @@
-use Rattle.std.proofs.Common.{◌≡◌, ℕ, List, length, false, subst, ◌∙◌, rules}
+use Rattle.std.proofs.Common.{◌≡◌, ℕ, List, [], length, false, sym, subst, ◌∙◌, rules}
 use Rattle.std.proofs.lemmas.Bool.{both_ways}
 use Rattle.std.proofs.lemmas.List.{with_items_is}
 use Rattle.sqlite.specs.Held.{state}
+use Rattle.sched_book.specs.Places.{overdue}
 use Rattle.sched_book.specs.declared.instance.UnitBook.{UnitBook}
 use Rattle.table_worlds.specs.RowsOf.{having, AreRowsBeside}
 use Rattle.table_reading.specs.Testing.{AreTested}
+use Rattle.table_reading.proofs.NoneDue.{none_is_due}
 use Rattle.table_reading.proofs.UnitsTested.{counted_from, one_list}
 use Rattle.table_reading.proofs.world.test_rows.Goals as goal
 
@@ -21,6 +23,7 @@ returns-then-branch-clause-stand g c = λ was.
       tested.0,
       subst (λ (ns : List ℕ). AreTested (state g.S.Store c.args.conn.now).now.trees w ns (length ns) tested.0) counts tested.1,
       (c.in_ok-are_rows_beside.ensures tested.0 (totals ∙ counted)).0 (search rules),
+      subst (λ n. overdue (having w tested.0) n ≡ []) (sym tested.3) (none_is_due w _ tested.0),
     )
 
 pub returns-clause-bad : goal.returns-clause-bad

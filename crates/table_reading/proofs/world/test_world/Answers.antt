@@ -1,6 +1,6 @@
 use Rattle.std.proofs.Common.{◌≡◌, false, rules}
 use Rattle.std.proofs.lemmas.Bool.{both_ways}
-use Rattle.std.proofs.lemmas.Result.{IfErr-weaker, on_ok_weaker}
+use Rattle.std.proofs.lemmas.Result.{IfErr-weaker, IfOk-weaker}
 use Rattle.sqlite.specs.Held.{state}
 use Rattle.table_reading.proofs.WorldStands.{stand_read, fit_read, tested_read, beside_read}
 use Rattle.table_reading.proofs.world.test_world.Goals as goal
@@ -8,8 +8,8 @@ use Rattle.table_reading.proofs.world.test_world.Goals as goal
 pub returns-clause-stands : goal.returns-clause-stands
 returns-clause-stands g c = λ was all read typed is.
     let db = (state g.S.Store c.args.conn.now).now in
-    on_ok_weaker c.test_rows.result
-    (λ tested. (tested.0, stand_read db was.known all read typed c.args.reading.now is c.args.world.now tested.0 (search rules) tested.1 tested.2)) (c.test_rows.ensures.stand was)
+    IfOk-weaker c.test_rows.result _ _
+    (λ due_from tested. (tested.0, stand_read db was.known all read typed c.args.reading.now is c.args.world.now tested.0 (search rules) tested.1 tested.2, tested.3)) (c.test_rows.ensures.stand was)
 
 pub returns-clause-bad : goal.returns-clause-bad
 returns-clause-bad g c = λ was all read typed is none.

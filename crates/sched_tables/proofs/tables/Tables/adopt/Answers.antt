@@ -46,7 +46,7 @@ returns-in-Ok-clause-held g c = λ clean.
     let held = c.in-Ok.ensures.held were in
     let kept = c.in-Ok.ensures.kept were in (
       opened_kept taken after opens known reads honest stands held,
-      opened_beside taken after opens known reads honest stands held c.in-Ok.kept.settings c.in-Ok.kept.apps c.new.result kept.0 kept.1 c.new.ensures,
+      opened_beside taken after opens known reads honest stands held c.in-Ok.kept.settings c.in-Ok.kept.apps c.new.result c.in-Ok.kept.due_from kept.0 kept.1 c.new.ensures (c.in-Ok.ensures.due_from were),
     )
 
 pub returns-in-Ok-clause-same : goal.returns-in-Ok-clause-same
