@@ -7,7 +7,7 @@ use Rattle.table_reading.specs.Testing.{AreTested}
 use Rattle.table_reading.proofs.UnitsTested.{AreNames, AreCounted}
 use Rattle.table_reading.proofs.units.test_units.Given as goal
 
--- the workunits so far, with their names, and what is counted of them
+-- the workunits so far, with their names and totals
 abbrev pub invariant-loop-index : goal.invariant-loop-index
 invariant-loop-index g l =
     let old = state g.S.Store l.fn.conn in
