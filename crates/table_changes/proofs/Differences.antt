@@ -1,4 +1,4 @@
--- The sums over two lists differ by what the places at which the lists differ give in each.
+-- The sums over two lists differ by the values at the places where the lists differ.
 use Rattle.std.proofs.Common.{◌≡◌, ℕ, zero, suc, ◌+◌, ◌<◌, true, false, eqb, List, [], ◌∷◌, length, option_map, sym, refl, ap, ◌∙◌, arith}
 use Rattle.std.specs.Prelude.{◌||◌, sum_by, unwrap_or}
 use Rattle.std.proofs.lemmas.Bool.{or_right}

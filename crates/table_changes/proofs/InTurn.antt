@@ -59,7 +59,7 @@ pub no_instance : (k : WorldKey) → is_instance_among [] k ≡ true → (P : Ty
 no_instance (Account id) is P = absurd (true≢false (sym is))
 no_instance _ is P = absurd (true≢false (sym is))
 
--- the key is that of one of the first so many instances of a workunit
+-- the key is that of one of the first `n` instances of a workunit
 abbrev pub is_instance_below : ℕ → ℕ → WorldKey → Bool
 is_instance_below unit n (Instance p) = eqb unit p.unit && ltb p.number n
 is_instance_below unit n _ = false

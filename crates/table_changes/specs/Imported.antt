@@ -8,7 +8,7 @@ use Rattle.table_meaning.specs.declared.rows.StoredRow.{StoredRow}
 use Rattle.table_worlds.specs.Changes.{AreChanges}
 use Rattle.table_worlds.specs.Readable.{IsReadable}
 
--- The rows change the world before the import into the present one. The present world has so many rows of each kind, and its rows determine it.
+-- The rows change the world before the import into the present one. The present world has `count` rows of each kind, and its rows determine it.
 -- Its list of applications begins with that of the world before.
 pub record AreImported (before present : World) (count : Counts) (rows : List StoredRow) : Type 0 where
   pub counted : count ≡ counts present

@@ -20,8 +20,8 @@ use texts::Listed;
 /// # Errors
 ///
 /// [`Unavailable`] if out of memory, if the desk is unavailable, or if a table can't hold a number of a row. Also if
-/// the changes are of both kinds, name an application that does not exist, give a host platforms that are not words, or
-/// put a host or an instance beyond the next.
+/// the changes are of both kinds, or name an application that does not exist. Also if they give a host platforms that
+/// are not words, or put a host or an instance beyond the next.
 pub fn rows_of_changes<D: Desk>(
     alloc: Global,
     desk: &mut D,

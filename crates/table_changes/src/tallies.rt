@@ -35,7 +35,7 @@ pub(crate) fn tally(totals: &BTreeMap<u32, Total>, host: u32) -> Total
     }
 }
 
-/// Adds so many held instances and so much credit to a host.
+/// Adds `held` held instances and `credit` millicredits to a host.
 fn count_more(
     totals: &mut BTreeMap<u32, Total>,
     host: u32,
@@ -49,7 +49,7 @@ fn count_more(
     Ok(())
 }
 
-/// Counts an instance that earned so much, if it was sent to a host.
+/// Counts an instance that earned `credit` millicredits, if it was sent to a host.
 fn count_instance(
     totals: &mut BTreeMap<u32, Total>,
     instance: &Instance,

@@ -41,7 +41,7 @@ abbrev pub source_by : Key → Row → Row
 source_by numbered c = column c 0 ∷ behind_by numbered c
 source_by (by_first n) c = Null ∷ c
 
--- If so many columns are the parameters: the terms of the columns that UPDATE sets, of the row that is put, and of the columns that DO UPDATE sets.
+-- If `count` columns are the parameters: the terms for the columns that UPDATE sets, for the row that is put, and for those that DO UPDATE sets.
 abbrev pub given_terms : Key → ℕ → List Term
 given_terms numbered count = lit Null ∷ map (col 0) (range_with_len 1 (count - 1))
 given_terms (by_first n) count = map (col 0) (range_with_len 0 count)

@@ -206,7 +206,7 @@ key_from table.Batch cols = batch_key (bytes_of (column cols 0)) (bytes_of (colu
 key_from table.VersionClass cols = class_key (number_in (column cols 0))
 key_from table.UnitMark cols = mark_key (number_in (column cols 0))
 
--- what is computed for each key: its columns have the form of a key, they determine it, and there are as many as the table's key has
+-- what is computed for each key: its columns have the form of a key and determine it, and there are as many as in its table's key
 pub key_is : (key : RowKey) → (is_key_row (key_columns key) ≡ true) × (key_from (table_at key) (key_columns key) ≡ key) × (length (key_places (table_at key)) ≡ length (key_columns key))
 key_is (setting_key name) = (refl, refl, refl)
 key_is _ = (refl, refl, refl)

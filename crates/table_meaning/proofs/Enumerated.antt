@@ -1,4 +1,4 @@
--- The rows of a table by an enumeration of its keys: at most one row is found at each key, each row is found at one of them, and the row found at a key is the one held there.
+-- The rows of a table by an enumeration of its keys. At most one row is found at each key, and each row is found at one of them. The row found at a key is the one held there.
 use Rattle.std.proofs.Common.{◌≡◌, true, List, map, find, Option, Some, None, option_map, refl, sym, ap, subst, ◌∙◌, Ordering, Less, Equal, IsPermutation}
 use Rattle.std.specs.Prelude.{filter_map}
 use Rattle.std.proofs.lemmas.Cmp.{tied_itself}

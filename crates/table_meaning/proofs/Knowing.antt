@@ -70,7 +70,7 @@ module _ (rows : List Row) (shaped : IsShaped TableTree rows) (a b : Row) (is_a 
       back true h = refl
       back false h = absurd (cc)
 
--- No two rows of a table have the same key: the key is their number, or the first list of columns that UNIQUE and PRIMARY KEY keep apart.
+-- No two rows of a table have the same key. The key is their number, or the first list of columns that UNIQUE and PRIMARY KEY keep apart.
 apart_by : (key : Key) (count : ℕ) (others : List (List ℕ)) (rows : List Row) → IsShaped TableTree rows
     → ((ps : List ℕ) (row : Row) → slice_get (uniques_with key (take (key_width key) (places_by key count)) others) 0 ≡ Some ps → Has rows row → clashes plain ps rows row ≡ false)
     → AreApart (take (key_width key) (places_by key count)) rows

@@ -1,4 +1,4 @@
--- The rows of the instances, in the order of their places: each place has at most one, and each row of the table has a place.
+-- The rows of the instances, in the order of their places. Each place has at most one, and each row of the table has a place.
 use Rattle.std.proofs.Common.{◌≡◌, ℕ, pos, ◌≤◌, Bool, true, false, ◌&&◌, List, [], ◌∷◌, map, filter, find, Option, Some, None, refl, sym, ap, ap₂, subst, ◌∙◌, inl, inr, arith, true≢false, Less, Equal, IsPermutation}
 use Rattle.std.specs.Prelude.{filter_map}
 use Rattle.std.specs.List.{AllByRecursion}

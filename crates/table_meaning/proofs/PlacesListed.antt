@@ -83,7 +83,7 @@ module _ (db : Database) (contents : Contents) (held : Hold db contents) (places
         let all_of_them : limited (Some most) in_turn ≡ in_turn = take_all most in_turn (subst (λ n. n ≤ most) (sym (length_permutation _ _ same_in_turn)) few) in
         subst (IsPermutation picked) (sym (shown ∙ all_of_them)) same_in_turn
 
-    -- by place, and at most so many
+    -- by place and up to a limit
     pub listed_in_order : order ≡ by_place → rows ≡ limited (as_count (eval limit (params ∷ []))) picked
     listed_in_order is_by_place =
         let same : answer.ordered ≡ map out (standing db contents held places are test) = sorted_unique (output_cmp q) (output_cmp_total q) _ _ rises same_outputs answer.sorted in

@@ -80,7 +80,7 @@ module _ (rows : List Row) (shaped : IsShaped TableTree rows) (n : ℕ) (x : Row
   pub number_is : is_of n x ≡ true → rowid x ≡ whole n
   number_is same = int_number ∙ ap Int (same_int _ _ (sym is_of_int ∙ same))
 
--- the values of some terms for the rows of a tree that pass others, in the order of the tree, and at most so many
+-- the values of some terms for the rows of a tree that pass others, in the order of the tree and up to a limit
 abbrev pub projecting_query : ℕ → List Term → List Term → List Collation → Term → Query
 projecting_query tree terms project collations limit = record (read_query tree []) { filter = terms; project = project; collations = collations; limit = limit }
 

@@ -1,4 +1,4 @@
--- What UPDATE of the row at a key does to the tables: that row gets the columns, or there is none and everything is as it was.
+-- What UPDATE of the row at a key does to the tables: that row gets the columns. If there is none, everything is as it was.
 use Rattle.std.proofs.Common.{◌≡◌, ◌≢◌, ◌⊎◌, ◌<◌, ℕ, ℤ, Bool, true, false, List, [], ◌∷◌, map, length, slice_get, Some, None, Ok, refl, sym, ap, subst, ◌∙◌, inl, inr, arith}
 use Rattle.std.specs.Prelude.{◌==◌, unwrap_or}
 use Rattle.std.specs.List.{list_all, range_with_len}

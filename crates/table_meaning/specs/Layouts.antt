@@ -17,7 +17,7 @@ pub record Column : Type 0 where
 pub data Key : Type 0 where
   -- the first column, which is the number of the row in its tree
   numbered : Key
-  -- so many first columns; the number of the row is not one of its columns
+  -- the first columns, as many as this number; the number of the row is not one of its columns
   by_first : ℕ → Key
 
 pub record Layout : Type 0 where

@@ -1,4 +1,4 @@
--- Words. The instances by place: the list of all places that have an instance, the places whose rows pass a test, and the statements that list them.
+-- Words. The instances by place: all places that have an instance, those whose rows pass a test, and the statements that list them.
 use Rattle.std.specs.Prelude.{◌≡◌, ◌⊎◌, ◌≤◌, ◌<◌, ℕ, ℤ, Bool, true, false, ◌&&◌, ◌||◌, ◌==◌, List, [], ◌∷◌, ◌++◌, map, filter, filter_map, codes, Option, Some, None}
 use Rattle.std.specs.List.{AllByRecursion}
 use Rattle.sched_book.specs.declared.instance.Place.{Place}
@@ -121,7 +121,7 @@ by_place = (col 1 1, ascending Binary) ∷ (col 1 2, ascending Binary) ∷ []
 abbrev pub newest_first : List (Term × Key)
 newest_first = (col 1 4, record { collation = Binary; descending = true }) ∷ []
 
--- the instances that pass the terms, at these columns, in an order, and at most so many
+-- the instances that pass the terms, shown at these columns, in this order and up to this limit
 abbrev pub instance_query : List Term → List ℕ → List (Term × Key) → Term → Query
 instance_query terms columns order limit = record (read_query 12 columns) { filter = of_a_place ++ terms; order = order; limit = limit }
 

@@ -39,7 +39,7 @@ next_contents n calls contents = with_row (fold (with_brought calls) (only_at n 
 abbrev pub MakesNext : ℕ → Database → Database → Type 0
 MakesNext n old new = (contents : Contents) (calls : HostCalls) → HoldAllAt n old contents calls → HoldAt (n + 1) new (next_contents n calls contents)
 
--- so many steps, one after another, from the schema of a number
+-- `k` steps, one after another, from the schema of number `n`
 abbrev pub Goes : (n k : ℕ) → Database → Database → Type 0
 Goes n zero old new = new ≡ old
 Goes n (suc k) old new = (mid : Database) × Goes n k old mid × MakesNext (n + k) mid new
@@ -48,7 +48,7 @@ Goes n (suc k) old new = (mid : Database) × Goes n k old mid × MakesNext (n + 
 abbrev pub Upgrades : Database → Database → Type 0
 Upgrades old new = (n : ℕ) → IsSchema n → old.schema ≡ schema_at n → Goes n (newest - n) old new
 
--- What a stop may leave of an upgrade from a schema, if not the tables as they were: it was done as far as some later schema.
+-- What a stop may leave of an upgrade from a schema, if not the tables as they were: tables of some later schema, made step by step.
 abbrev pub IsLeftFrom : ℕ → Database → Database → Type 0
 IsLeftFrom n old new = (k : ℕ) × (n + suc k ≤ newest) × Goes n (suc k) old new
 

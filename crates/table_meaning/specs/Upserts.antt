@@ -1,4 +1,4 @@
--- Words. The form of the statements that put a row: INSERT with DO UPDATE of the row that has the key, or UPDATE of that row alone.
+-- Words. The form of the statements that put a row: INSERT with DO UPDATE of the row at its key, or UPDATE of that row alone.
 use Rattle.std.specs.Prelude.{ℕ, pos, negsuc, false, List, [], ◌∷◌, Some, None}
 use Rattle.sqlite_value.specs.declared.value.Value.TheVariants.{Int}
 use Rattle.sqlite_value.specs.declared.keys.Collation.TheVariants.{Binary}

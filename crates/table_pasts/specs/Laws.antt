@@ -14,12 +14,12 @@ use Rattle.sched_tables.specs.Views.{state_of}
 use Rattle.sched_tables.specs.declared.tables.Tables.{Tables}
 use Rattle.sched_server.specs.Arrivals.{Came, answered, StandsIn, StoreStandsFor}
 
--- The upgrade points, and for each of so many upgrades after these messages one more: how many of the messages were answered.
+-- Adds to the upgrade points one for each of some upgrades after these messages: how many of the messages were answered.
 abbrev pub with_upgrade_points : ℕ → List ℕ → List Came → List ℕ
 with_upgrade_points upgrades upgrade_points before = upgrade_points ++ replicate upgrades (length (answered before))
 
 -- Suppose what tables of a schema held agreed with what came, in that schema's era. (The number of an era is that of its schema minus one.)
--- Then these tables agree with it too, with one more upgrade point for each upgrade.
+-- Then these tables agree with it too. For each upgrade they have one more upgrade point.
 abbrev pub StandUpgraded : {S : Type 0} → Parts (Tables S) → Database → Tables S → Type 0
 StandUpgraded parts old t =
     (n : ℕ) → IsSchema n → (w : World) (calls : SlotCalls) (batches : Imports) (key upgrade_points : List ℕ) (before : List Came)

@@ -190,7 +190,7 @@ zero_more (x ∷ xs) (suc j) is = zero_more xs j is
 abbrev pub AreInTurn : (ℕ → RowKey) → ℕ → List StoredRow → Type 0
 AreInTurn key before rows = (i : ℕ) (r : StoredRow) → slice_get rows i ≡ Some r → key_of r ≡ key (i + before + 1)
 
--- so many more workunits, with no instance yet
+-- more workunits are counted, with no instance yet
 pub units_counted : (rows : List StoredRow) (c : UnitCounts) → AreUnits rows → length (fold noted c rows).counts ≡ length c.counts + length rows
 units_counted [] c typed = omega arith
 units_counted (r ∷ rows) c typed =

@@ -1,4 +1,4 @@
--- The rows of a sound world, and of calls and imports that may be kept with it, have the formats of their tables if their texts are in UTF-8.
+-- If their texts are in UTF-8, the rows of a sound world and of what may be kept with it have the formats of their tables.
 use Rattle.std.proofs.Common.{◌≡◌, ℕ, zero, suc, ◌≤◌, ◌<◌, ℤ, pos, Bool, true, false, ◌&&◌, List, length, Option, Some, None, option_map, refl, sym, ◌∙◌, inl, inr, arith, IsTrue}
 use Rattle.std.specs.Prelude.{IfSome, codes, is_some, nat_le, nat_lt, option_and_then, slice_get, if◌then◌else◌}
 use Rattle.std.specs.List.{AllByRecursion}

@@ -1,5 +1,5 @@
--- Rows are those of a sound world exactly if its workunits are at their keys with their marks, and the other rows are those
--- of this world.
+-- Rows are those of a sound world exactly if two things hold: its workunits are at their keys with their marks, and the other rows
+-- are those of this world.
 use Rattle.std.proofs.Common.{◌≡◌, ◌≤◌, ◌<◌, ℕ, zero, suc, ◌+◌, ◌-◌, true, List, [], ◌∷◌, map, filter_map, fold, length, get_or, Option, Some, option_map, All, refl, sym, ap, subst, ◌∙◌, arith}
 use Rattle.std.specs.List.{cons_option, range_with_len}
 use Rattle.std.specs.Prelude.{slice_get, unwrap_or, option_and_then}
@@ -106,7 +106,7 @@ module _ (db : Database) (known : AreKnown db) (all : AllRows) (read : AreAllRea
   -- ---- if everything was tested
 
   module _ (fit : IsFit d (reading_of all)) (tested : AreTested db.trees d counts (length counts) books) (beside : AreRowsBeside w (rows_beside all.world)) where
-    -- the workunit at an index passes, with so many instances
+    -- the workunit at an index passes, with `n` instances
     stands : (i : ℕ) (b : UnitBook) → slice_get books i ≡ Some b → (n : ℕ) × (slice_get counts i ≡ Some n) × StandsAt db.trees d (i + 1) n b
     stands i b is =
         let within = slice_get_within books i b is in

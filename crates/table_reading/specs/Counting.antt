@@ -5,7 +5,7 @@ use Rattle.table_meaning.specs.declared.rows.StoredRow.{StoredRow}
 use Rattle.table_meaning.specs.declared.rows.StoredRow.TheVariants as stored
 use Rattle.table_reading.specs.declared.counts.UnitCounts.{UnitCounts}
 
--- the number is that of one of so many workunits
+-- the number is that of one of the counted workunits
 abbrev pub is_numbered : List ℕ → ℕ → Bool
 is_numbered counts unit = not (unit == 0) && nat_le unit (length counts)
 

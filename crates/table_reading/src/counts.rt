@@ -17,8 +17,8 @@ pub struct UnitCounts {
     pub counts: Listed<u32>,
     /// The number of the workunit of the mark that was read last.
     pub last_mark: u32,
-    /// Whether three things hold: the workunits are numbered from 1 in turn, the marks are those of the workunits from
-    /// 1 in turn, and each instance is of one of the workunits.
+    /// Whether three things hold. The workunits are numbered from 1 in turn. The marks are those of the workunits from
+    /// 1 in turn. Each instance is of one of the workunits.
     pub are_in_turn: bool,
 }
 

@@ -35,8 +35,8 @@ pub struct KeptBeside {
     pub apps: Listed<App>,
 }
 
-/// Whether a world without its workunits is sound, whether the workunits are numbered in turn and not too many, whether
-/// each has a mark, and whether the calls and imports may be kept with the world.
+/// Whether a world fits its reading. The world without its workunits is sound. The workunits are numbered in turn and
+/// not too many, and each has a mark. The calls and imports may be kept with the world.
 fn is_fit(alloc: Global, world: &World, reading: &Reading) -> Result<bool, Unavailable>
     ensures { IfOk result (λ fit. IsTrue fit ↔ IsFit world.now reading.now) }
 {
@@ -117,8 +117,8 @@ fn world_beside(alloc: Global, reading: &Reading) -> Result<World, OpenFault>
 
 /// Reads the sound world that the tables of a connection hold, if their schema is the newest one, and returns its
 /// settings and applications. `NotTables` if no setting names this schema. `BadRow` if a row does not have the format
-/// of its table, or if the rows represent no sound world: a value is out of range, a reference leads to nothing, a
-/// number is left out, or a counted column is wrong. What the connection shows is unchanged.
+/// of its table, or if the rows represent no sound world. In the second case a value is out of range, a reference leads
+/// to nothing, a number is left out, or a counted column is wrong. What the connection shows is unchanged.
 ///
 /// Workunits, marks and instances are read by their keys, one workunit at a time. The other rows are held in memory
 /// while they are tested. So are the name and the number of instances of each workunit.

@@ -1,7 +1,7 @@
 //! Whether two schemas are equal, by what they define.
 //!
-//! The stored tables have no default, no CHECK and no view. So these are not compared: a schema that has one is equal
-//! to no other here.
+//! The stored tables have no default, no CHECK and no view. So these are not compared: a schema that has one never
+//! counts as equal.
 
 ghost use Rattle.std.specs.Prelude.{◌≡◌, ⊤};
 ghost use Rattle.std.specs.Bool.{Decides};

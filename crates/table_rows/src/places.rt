@@ -1,5 +1,5 @@
-//! The places of the instances that pass a test. Each look-up returns `Unavailable` if memory or the disk fails, and
-//! `BadRow` if a row that it reads does not have the form of its table.
+//! The places of the instances that pass a test. Each look-up returns `Unavailable` if memory or the disk fails. It
+//! returns `BadRow` if a row that it reads does not have the form of its table.
 
 ghost use Rattle.std.specs.Prelude.{◌≡◌, ◌≤◌, Bool, List, length, map, take, IfOk, IsPermutation};
 ghost use Rattle.sched_book.specs.declared.instance.Place.{Place as BookPlace};
@@ -120,8 +120,8 @@ pub fn instances_in<S: Alter>(
     instances(alloc, rows.as_slice())
 }
 
-/// Reads the places of the instances that the host of this number holds, if it holds at most so many. It looks from the
-/// newest one on and stops once it has found so many. What the connection shows is unchanged.
+/// Reads the places of the instances that the host of this number holds, if it holds at most `most`. It looks from the
+/// newest one on and stops once it has found `most` of them. What the connection shows is unchanged.
 pub fn places_held<S: Alter>(
     alloc: Global,
     conn: &mut Connection<S>,
@@ -159,8 +159,8 @@ pub fn places_owned<S: Alter>(
     )
 }
 
-/// Reads a page of the places of the instances that are waiting to be sent, from this place on: the first ones, at most
-/// as many as the page has. What the connection shows is unchanged.
+/// Reads the places of instances that are waiting to be sent: the first ones from this place on, at most one page. What
+/// the connection shows is unchanged.
 pub fn queued_from<S: Alter>(
     alloc: Global,
     conn: &mut Connection<S>,

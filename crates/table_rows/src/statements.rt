@@ -1,5 +1,5 @@
-//! The SQL statements: those that make the tables, those that read a whole table, those that insert and update a row,
-//! and those that fill a table that a schema adds.
+//! The SQL statements. They make the tables, read a whole table, insert and update a row, and fill a table that a
+//! schema adds.
 
 ghost use Rattle.std.specs.Prelude.{◌≡◌, ◌≤◌, [], length, option_map, slice_index_or};
 ghost use Rattle.table_meaning.specs.Schema.{parts_at, newest};

@@ -1,4 +1,4 @@
--- Words. What every step of an upgrade leaves, with anything else that it does: within its transaction, and on a connection with none open.
+-- Words. What every step of an upgrade leaves, regardless of what else it does: within its transaction, and on a connection with none open.
 use Rattle.std.specs.Prelude.{◌≡◌, false, IsTrue}
 use Rattle.std.specs.Borrow.{MutBor}
 use Rattle.sqlite_trees.specs.declared.store.Store.{Ghosts}

@@ -1,4 +1,4 @@
--- If the items of a list are in a table, each at its number, the list is what is found at the numbers up to the greatest one there.
+-- If a table has the items of a list, each at its number, the list is what is found at the numbers up to the table's greatest.
 use Rattle.std.proofs.Common.{◌≡◌, ◌≤◌, ◌<◌, ℕ, zero, suc, ◌+◌, List, [], ◌∷◌, length, Option, Some, None, option_map, refl, ap, subst, ◌∙◌, arith, inl, inr}
 use Rattle.std.specs.Prelude.{filter_map, slice_get}
 use Rattle.std.specs.List.{range_with_len, cons_option}
@@ -43,7 +43,7 @@ all_found f (x ∷ xs) from (suc count) few is =
 
 -- ---- tables by numbers
 
--- A table whose keys are the numbers in a column, how an item is written as a row, and what is found at a number: nothing if there is no row.
+-- A table whose keys are the numbers in a column, the row of an item, and what is found at a number: nothing if there is no row.
 module _ {X : Type 0} (trees : Trees) (t : TableName) (column : ℕ) (key : ℕ → RowKey) (of_table : (n : ℕ) → table_at (key n) ≡ t)
     (row : ℕ → X → StoredRow) (numbered : (n : ℕ) (x : X) → number_at (columns_of (row n x)) column ≡ n)
     (found : ℕ → Option X) (nothing : (n : ℕ) → look_up trees (key n) ≡ None → found n ≡ None) (xs : List X) where

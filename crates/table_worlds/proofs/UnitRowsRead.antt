@@ -25,13 +25,13 @@ module _ {X Y : Type 0} (f : ℕ → X → Y) where
     pub written_at : ys ≡ map_from 1 f xs → slice_get ys i ≡ option_map (f (i + 1)) (slice_get xs i)
     written_at are = ap (λ l. slice_get l i) are ∙ slice_get-map_from f 1 xs i
 
-    -- if the first so many rows are right, and these are all, all are right
+    -- if the first `i` rows are those of the first `i` items, and these are all, so are all rows
     pub first_all : length ys ≡ length xs → length xs ≡ i → take i ys ≡ map_from 1 f (take i xs) → ys ≡ map_from 1 f xs
     first_all few all are =
         sym (take_all i ys (omega (arith, few, all))) ∙ are ∙ ap (map_from 1 f) (take_all i xs (omega (arith, all)))
 
     module _ (y : Y) (x : X) (row : slice_get ys i ≡ Some y) (item : slice_get xs i ≡ Some x) where
-      -- the first so many rows, and one more
+      -- the first `i` rows, and one more
       pub first_more : y ≡ f (i + 1) x → take i ys ≡ map_from 1 f (take i xs) → take (i + 1) ys ≡ map_from 1 f (take (i + 1) xs)
       first_more is are =
           let within = slice_get_within xs i x item in

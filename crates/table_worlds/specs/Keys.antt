@@ -45,6 +45,6 @@ keyed table.Unit id = Unit id
 keyed table.Mark id = Mark id
 keyed table.Host id = Host id
 
--- the keys of so many rows of a table, from number 1 on
+-- the keys of the first `count` rows of a table
 abbrev pub numbered : NumberedTable → ℕ → List WorldKey
 numbered t count = map (keyed t) (range_with_len 1 count)

@@ -16,15 +16,15 @@ total_of w host = record { held = length (held_by w host); credit = host_credit 
 abbrev pub totals_of : World → List Total
 totals_of w = map_from 1 (λ n h. total_of w n) w.hosts
 
--- a total with so many more instances held, and so much more credit
+-- a total with `held` more instances held and `credit` more credit
 abbrev pub more : Total → ℕ → ℕ → Total
 more t held credit = record { held = t.held + held; credit = t.credit + credit }
 
--- a host's total with one more instance that earned so much
+-- a host's total with one more instance, which earned `credit`
 abbrev pub with_instance : Instance → ℕ → ℕ → Total → Total
 with_instance x credit host t = if is_owned_by host x then more t (if is_held x then 1 else 0) credit else t
 
--- a host's total with more instances, of which each valid one earned so much
+-- a host's total with more instances, of which each valid one earned `credit`
 abbrev pub with_instances : (Instance → Bool) → ℕ → List Instance → ℕ → Total → Total
 with_instances valid credit xs host t = more t (count_by (is_held_by host) xs) (credit * count_by (λ x. is_owned_by host x && valid x) xs)
 

@@ -22,8 +22,8 @@ pub struct Total {
 }
 
 impl Total {
-    /// Adds so many held instances and so much credit. `Unavailable` if a sum does not fit. That can't happen in a
-    /// world whose tables are within their limits: it has at most 20 million instances and 2 * 10^15 millicredits.
+    /// Adds `held` held instances and `credit` millicredits. `Unavailable` if a sum does not fit. That can't happen in
+    /// a world whose tables are within their limits: it has at most 20 million instances and 2 * 10^15 millicredits.
     pub fn plus(self, held: u32, credit: u64) -> Result<Total, Unavailable>
         ensures { IfOk result (λ total. total ≡ more self held credit) }
     {
@@ -34,7 +34,7 @@ impl Total {
     }
 }
 
-/// Adds so many held instances and so much credit to the host of a number, if it exists.
+/// Adds `held` held instances and `credit` millicredits to the host of a number, if it exists.
 fn count_more(totals: &mut [Total], host: u32, held: u32, credit: u64) -> Result<(), Unavailable>
     ensures { OnOk result (totals.new ≡ modify_nth (λ t. more t held credit) totals.old host) }
 {
@@ -49,7 +49,7 @@ fn count_more(totals: &mut [Total], host: u32, held: u32, credit: u64) -> Result
     Ok(())
 }
 
-/// Counts an instance that earned so much, if it was sent to a host.
+/// Counts an instance that earned `credit` millicredits, if it was sent to a host.
 fn count_instance(totals: &mut [Total], instance: &Instance, credit: u64) -> Result<(), Unavailable>
     ensures { OnOk result (totals.new ≡ map_from 1 (with_instance instance.now credit) totals.old) }
 {
@@ -95,7 +95,7 @@ pub fn count_unit(totals: &mut [Total], apps: &[App], book: &UnitBook) -> Result
     Ok(())
 }
 
-/// Makes totals of so many hosts, with nothing counted yet.
+/// Makes the totals of `count` hosts, with nothing counted yet.
 pub fn no_totals(alloc: Global, count: usize) -> Result<Vec<Total>, Memory>
     ensures { IfOk result (λ totals. totals.items ≡ replicate count (record { held = 0; credit = 0 })) }
 {
