@@ -105,7 +105,7 @@ instance_told row = record {
   queued = number_of (column row 9) == 1;
 }
 
--- The row with these columns. Their number determines its table; if several tables have as many columns, the types of some columns do.
+-- The row with these columns. Their number determines its table. If several tables have as many columns, it depends on which of them are texts.
 row_told : Row → StoredRow
 row_told row =
     if length row == 2 then (if is_text (column row 0) then Setting (record { name = bytes_of (column row 0); value = setting_of (column row 1) })

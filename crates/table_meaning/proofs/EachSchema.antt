@@ -141,7 +141,7 @@ pub record OfFill (f : Fill) : Type 0 where
   pub own : (trees : Trees) → overlay trees [] (source_of f).tree ≡ trees (source_of f).tree
   pub unstamped : (n : ℕ) → stamped (table_by (target_of f)) (whole n ∷ []) ≡ whole n ∷ []
   pub shows : (params r : Row) → eval_all (fill_terms f) (params ∷ r ∷ []) ≡ source_by (key_by (target_of f)) (filled_columns f (map (column r) (places_in (source_of f))))
-  -- the tables exist, and they are different
+  -- the tables exist, and the filled one differs from the other two
   pub is_schema : IsSchema (schema_with f)
   pub source_stands : has_tree (schema_with f) (source_of f).tree ≡ true
   pub target_stands : has_table (schema_with f) (target_of f) ≡ true

@@ -25,7 +25,7 @@ pub record Layout : Type 0 where
   pub tree : ℕ
   pub key : Key
   pub columns : List Column
-  -- columns that identify a row as well as the key does, each list as places among the columns
+  -- the lists of columns, other than the key, that identify a row; each as places among the columns
   pub uniques : List (List ℕ)
 
 -- ---- the tables

@@ -8,7 +8,7 @@ use Rattle.table_meaning.specs.Schema.{stored_schema}
 use Rattle.table_meaning.specs.Rows.{tree_of}
 use Rattle.table_meaning.specs.Holding.{Contents, Hold, with_rows}
 
--- For any contents of the tables, these rows are put there, one after another.
+-- If the old tables hold some contents, the new ones hold them with these rows put, one after another.
 abbrev pub PutsRows : Database → Database → List StoredRow → Type 0
 PutsRows old new rows = (contents : Contents) → Hold old contents → Hold new (with_rows contents rows)
 

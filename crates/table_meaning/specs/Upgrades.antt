@@ -18,7 +18,7 @@ use Rattle.table_meaning.specs.Fills.{fills_of, HostCalls, KeepCalls, with_broug
 abbrev pub schema_row_of : ℕ → StoredRow
 schema_row_of n = Setting (record { name = codes "schema"; value = Number n })
 
--- For any contents of these tables of a schema, that row is put there.
+-- If these tables of a schema held some contents, they now hold them with that row put.
 abbrev pub PutsSchema : ℕ → Database → Database → Type 0
 PutsSchema n old new = (contents : Contents) → HoldAt n old contents → HoldAt n new (with_row contents (schema_row_of n))
 
