@@ -212,7 +212,7 @@ units_marked (r ∷ rows) c typed =
     let u = is_unit_row r typed.0 in
     units_marked rows (noted c r) typed.1 ∙ ap (λ s. (noted c s).last_mark) u.1
 
--- if all is in turn after them, so it was before, and they are in turn
+-- they are in turn exactly if that is noted
 pub units_told : (rows : List StoredRow) (c : UnitCounts) → AreUnits rows → (fold noted c rows).are_in_turn ≡ true → (c.are_in_turn ≡ true) × AreInTurn unit_key (length c.counts) rows
 units_told [] c typed turn = (turn, λ i r is. absurd (none-some r is))
 units_told (r ∷ rows) c typed turn =

@@ -35,7 +35,7 @@ module _ (db : Database) (known : AreKnown db) (all : AllRows) (read : AreAllRea
     pub apps_told : w.apps ≡ (world_in db.trees).apps
     apps_told = ap (λ (v : World). v.apps) (sym is_told)
 
-  -- if the rows determine the world without its workunits, and with no workunits they represent it, they represent no world
+  -- Suppose the rows determine the world without its workunits. If no list of workunits makes it a world that they represent, they represent none.
   pub none_stands : (d : World) → ((w : World) → StandFor w all → d ≡ without_units w) → ((books : List UnitBook) → StandFor (having d books) all → ⊥) → StandForNone db.trees
   none_stands d told none = (all, read, λ w stand. none w.units (subst (λ (v : World). StandFor (having v w.units) all) (sym (told w stand)) stand))
 
