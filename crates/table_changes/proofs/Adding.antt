@@ -1,4 +1,4 @@
--- Rows put behind others, as changes at more keys.
+-- Rows appended to others, as changes at more keys.
 use Rattle.std.proofs.Common.{◌≡◌, ◌⊎◌, Bool, true, false, ◌||◌, List, [], ◌∷◌, ◌++◌, Option, Some, None, refl, sym, ap, subst, ◌∙◌, inl, inr, true≢false, append-nil, append_assoc}
 use Rattle.std.specs.List.{AllByRecursion, cons_option}
 use Rattle.std.proofs.lemmas.Bool.{or_parts}
@@ -14,7 +14,7 @@ use Rattle.table_worlds.specs.Changes.{IsChange, AreChanges}
 use Rattle.table_worlds.proofs.KeysStand.{row_has_key}
 use Rattle.table_changes.specs.Added.{is_put, AreChangesAt, AreAdded}
 
--- at a key the row after is none, or that before
+-- at a key, the world after has no row, or that of the world before
 abbrev pub IsSettled : World → World → WorldKey → Type 0
 IsSettled before after key = (row_in after key ≡ None) ⊎ (row_in before key ≡ row_in after key)
 
@@ -29,7 +29,7 @@ pub all_so : {X : Type 0} (P Q : X → Type 0) → ((x : X) → P x → Q x) →
 all_so P Q so [] all = tt
 all_so P Q so (x ∷ xs) all = (so x all.0, all_so P Q so xs all.1)
 
--- what is put of two lists
+-- a key that two lists together do not put is put by neither
 pub put_of_neither : (xs ys : List StoredRow) (k : WorldKey) → is_put (xs ++ ys) k ≡ false → (is_put xs k ≡ false) × (is_put ys k ≡ false)
 put_of_neither xs ys k none =
     or_parts (is_put xs k) (is_put ys k) (sym (list_any-append (λ r. same_key (row_key k) (key_of r)) xs ys) ∙ none)
@@ -39,7 +39,7 @@ pub puts_own : (w : World) (key : WorldKey) (r : StoredRow) (rows : List StoredR
 puts_own w key r rows is =
     ap (λ b. b || is_put rows key) (ap (λ j. same_key j (key_of r)) (sym (row_has_key w key r is)) ∙ key_itself (key_of r))
 
--- more rows, which are of the world after and settle what is more
+-- more rows, which are of the world after and settle the further keys
 pub changes_more : (at wider : WorldKey → Bool) (before after : World) (xs ys : List StoredRow)
     → ((k : WorldKey) → wider k ≡ true → (at k ≡ true) ⊎ (is_put ys k ≡ false → IsSettled before after k)) → AllByRecursion (IsRowOf after) ys
     → AreChangesAt at before after xs → AreChangesAt wider before after (xs ++ ys)
@@ -50,7 +50,7 @@ changes_more at wider before after xs ys split rows so_far = record {
       elim (split k is) [ inl here ↦ so_far.others k here parts.0 | inr settled ↦ settled parts.1 ];
 }
 
--- the row at one key, where it is another
+-- the row at one key, if it changed
 one_row : (before after : World) (key : WorldKey) (row : Option StoredRow) → IsChange (row_in before key) (row_in after key) row → AllByRecursion (IsRowOf after) (cons_option row [])
 one_row before after key None change = tt
 one_row before after key (Some r) (inl same) = absurd (none-some r (sym same.0))
@@ -83,7 +83,7 @@ none_added at before after rows settled = record {
   changes = record { each = tt; others = λ k is not_put. settled k is };
 }
 
--- at other keys of which each is one of these, or settled
+-- at a wider set of keys: each is one of these keys, or settled
 pub added_at : (at wider : WorldKey → Bool) (before after : World) (old new : List StoredRow)
     → ((k : WorldKey) → wider k ≡ true → (at k ≡ true) ⊎ IsSettled before after k) → AreAdded at before after old new → AreAdded wider before after old new
 added_at at wider before after old new split added = record {
@@ -95,7 +95,7 @@ added_at at wider before after old new split added = record {
   };
 }
 
--- further ones
+-- further rows after them
 pub added_then : (first second wider : WorldKey → Bool) (before after : World) (old mid new : List StoredRow)
     → ((k : WorldKey) → wider k ≡ true → (first k ≡ true) ⊎ (second k ≡ true)) → AreAdded first before after old mid → AreAdded second before after mid new
     → AreAdded wider before after old new
@@ -107,7 +107,7 @@ added_then first second wider before after old mid new split one two = record {
       two.changes.each one.changes;
 }
 
--- all of them, where at the other keys nothing is another
+-- all rows, if nothing changed at the other keys
 pub all_added : (at : WorldKey → Bool) (before after : World) (old new : List StoredRow) → ((k : WorldKey) → at k ≡ false → IsSettled before after k) → old ≡ []
     → AreAdded at before after old new → AreChanges before after new
 all_added at before after old new settled none added =
@@ -120,11 +120,11 @@ all_added at before after old new settled none added =
     cases k true is not_put = added.changes.others k is not_put
     cases k false is not_put = settled k is
 
--- a world keeps its rows
+-- a world has all rows of another
 abbrev pub KeepsRows : World → World → Type 0
 KeepsRows w v = (key : WorldKey) (r : StoredRow) → row_in w key ≡ Some r → row_in v key ≡ Some r
 
--- changes upon changes, of which the later ones keep the rows that stand
+-- changes after changes, where the later ones keep the rows that exist
 pub changes_then : (w v u : World) (rows more new : List StoredRow) → KeepsRows v u → new ≡ rows ++ more → AreChanges v u more → AreChanges w v rows → AreChanges w u new
 changes_then w v u rows more new keeps behind later so_far =
     subst (AreChanges w u) (sym behind) (record {

@@ -1,4 +1,4 @@
--- Applications found by their names, and names among more applications.
+-- Applications found by their names, and names in a longer list of applications.
 use Rattle.std.proofs.Common.{◌≡◌, ℕ, ◌+◌, Bool, true, false, ◌||◌, cond, List, [], ◌∷◌, ◌++◌, Option, Some, None, option_map, option_and_then, sym, refl, ap, ◌∙◌, true≢false}
 use Rattle.std.specs.Prelude.{find, unwrap_or}
 use Rattle.std.specs.List.{list_any, position_from}
@@ -16,7 +16,7 @@ use Rattle.sched_book.proofs.PlacesOf.{place_where-is, find-is}
 use Rattle.table_meaning.specs.Worlds.{app_place}
 
 module _ {X : Type 0} (p : X → Bool) where
-  -- where one is found, one passes
+  -- if an item is found, one passes
   found_passes : (xs : List X) (x : X) → find p xs ≡ Some x → list_any p xs ≡ true
   found_passes [] x found = absurd (none-some x found)
   found_passes (y ∷ ys) x found = cases (p y) found (found_passes ys x)
@@ -25,7 +25,7 @@ module _ {X : Type 0} (p : X → Bool) where
       cases true found later = refl
       cases false found later = later found
 
-  -- the first that passes stays the first where more come behind
+  -- the first item that passes is still the first if more are appended
   first_stays : (n : ℕ) (xs ys : List X) → list_any p xs ≡ true → position_from p n (xs ++ ys) ≡ position_from p n xs
   first_stays n [] ys any = absurd (true≢false (sym any))
   first_stays n (x ∷ xs) ys any = cases (p x) any (first_stays (n + 1) xs ys)
@@ -46,7 +46,7 @@ module _ {X : Type 0} (p : X → Bool) where
 abbrev named : List ℕ → App → Bool
 named name a = bytes_eq a.name name
 
--- the application that a desk found stands at its place
+-- the application that a desk found, and that exists
 record IsFound (w : World) (name : List ℕ) (a : Placed App) : Type 0 where
   place : a.place ≡ app_place w name
   agreement : a.row.agreement ≡ agreement_by w.apps name
@@ -79,7 +79,7 @@ found_agreement w name o a is some = (found w name a (sym is ∙ some)).agreemen
 pub found_stands : (w : World) (name : List ℕ) (o : Option (Placed App)) (a : Placed App) → o ≡ app_by_name w name → o ≡ Some a → has_app w.apps name ≡ true
 found_stands w name o a is some = (found w name a (sym is ∙ some)).stands
 
--- a name that stands has its place, its agreement and its application among more
+-- a name that exists has the same place, agreement and application in a longer list
 pub place_stays : (w v : World) (more : List App) (name : List ℕ) → v.apps ≡ w.apps ++ more → has_app w.apps name ≡ true → app_place v name ≡ app_place w name
 place_stays w v more name are has =
     ap (λ o. unwrap_or o 0)

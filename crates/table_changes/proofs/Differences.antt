@@ -1,4 +1,4 @@
--- A sum over all of a list differs from that over another by what some places give in the one and in the other.
+-- The sums over two lists differ by the values at the places where the lists differ.
 use Rattle.std.proofs.Common.{◌≡◌, ℕ, zero, suc, ◌+◌, ◌<◌, true, false, eqb, List, [], ◌∷◌, length, option_map, sym, refl, ap, ◌∙◌, arith}
 use Rattle.std.specs.Prelude.{◌||◌, sum_by, unwrap_or}
 use Rattle.std.proofs.lemmas.Bool.{or_right}
@@ -10,7 +10,7 @@ use Rattle.sched_book.proofs.PlacesOf.{nth-suc}
 use Rattle.call_sheet.specs.Sheets.{AreRising, is_among}
 use Rattle.call_sheet.proofs.Sums.{sum_from, sum_listed, from_zero, differ}
 
--- what f gives at a place of a list
+-- what `f` gives at a place of a list
 abbrev pub at_place : {X : Type 0} → (X → ℕ) → List X → ℕ → ℕ
 at_place f xs n = unwrap_or (option_map f (nth xs n)) 0
 
@@ -39,7 +39,7 @@ module _ {X : Type 0} (f : X → ℕ) where
       (λ m far. none_past xs m (omega (arith, far))) (λ m far. none_past ys m (omega (arith, far))) in
       omega (arith, left, right, both)
 
--- sums over the same numbers, of what is the same at each
+-- sums over the same numbers of functions that agree on them
 pub same_among : (g h : ℕ → ℕ) (ns : List ℕ) → ((m : ℕ) → is_among ns m ≡ true → g m ≡ h m) → sum_by g ns ≡ sum_by h ns
 same_among g h [] same = refl
 same_among g h (n ∷ ns) same =

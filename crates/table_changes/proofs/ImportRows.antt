@@ -1,4 +1,4 @@
--- The rows of a world that an import made one row longer, beside those of the world before.
+-- The rows of a world that an import made one row longer, compared with those of the world before.
 use Rattle.std.proofs.Common.{◌≡◌, ◌⊎◌, ℕ, zero, suc, ◌+◌, ◌*◌, ◌<◌, ◌≤◌, Bool, true, false, cond, eqb, ◌&&◌, ◌||◌, List, [], ◌∷◌, ◌++◌, length, take, get_or, Option, Some, None, option_map, option_and_then, refl, sym, ap, subst, ◌∙◌, inl, inr, arith, true≢false, append_assoc, append-nil, length-append}
 use Rattle.std.specs.Prelude.{All, replicate, count_by, sum_by, slice_get, is_none}
 use Rattle.std.proofs.lemmas.Bool.{eq-eqb, eqb-true}
@@ -57,7 +57,7 @@ kept_by f xs ys n r is = cases (nth xs n) refl is
     cases None at is = absurd (none-some r is)
     cases (Some y) at is = ap (option_map f) (nth-front xs ys n y at) ∙ is
 
--- a row of a table with one more is the new one's, or as before
+-- a row of a table with one row more is the new one, or as before
 pushed : {X : Type 0} (f : X → StoredRow) (xs : List X) (x : X) (n : ℕ) (P : Type 0) → (n ≡ length xs + 1 → P)
     → P ⊎ (option_map f (nth xs n) ≡ option_map f (nth (xs ++ x ∷ []) n))
 pushed f xs x n P new = cases (eqb (length xs + 1) n) refl
@@ -72,7 +72,7 @@ long xs x count n is counted = is ∙ ap (λ k. k + 1) counted ∙ sym (length-a
 place : {X : Type 0} (xs : List X) (count n : ℕ) → n ≡ count + 1 → count ≡ length xs → n ≡ length xs + 1
 place xs count n is counted = is ∙ ap (λ k. k + 1) counted
 
--- the row that is new stands at its number
+-- the new row is at its number
 own_row : {X : Type 0} (f : ℕ → X → StoredRow) (xs : List X) (x : X) (n : ℕ) (row : StoredRow) → n ≡ length xs + 1 → row ≡ f n x → (id : ℕ) → id ≡ length xs + 1 → option_map (f id) (nth (xs ++ x ∷ []) id) ≡ Some row
 own_row f xs x n row at_end is id last = ap (option_map (f id)) (nth_new xs x id last) ∙ ap (λ m. Some (f m x)) (last ∙ sym at_end) ∙ ap Some (sym is)
 
@@ -82,7 +82,7 @@ others_stay : {X : Type 0} (u : World) (k : WorldKey) (f : X → StoredRow) (xs 
 others_stay u k f xs x id row more own not_put =
     elim (pushed f xs x id (is_put (row ∷ more) k ≡ true) (λ last. puts_own u k row more (own last))) [ inl put ↦ absurd (true≢false (sym put ∙ not_put)) | inr same ↦ inr same ]
 
--- ---- an account more
+-- ---- one account more
 
 module _ (w v : World) (count : Counts) (rows new : List StoredRow) (n : ℕ) (row : StoredRow) (so_far : AreImported w v count rows) (behind : new ≡ rows ++ row ∷ []) where
   pub account_added : (a : AccountRow) → n ≡ count.accounts + 1 → row ≡ stored.Account (account_row n a)
@@ -116,7 +116,7 @@ module _ (w v : World) (count : Counts) (rows new : List StoredRow) (n : ℕ) (r
       step : AreChanges v u (row ∷ [])
       step = record { each = ((Account n, own n at_end), tt); others = settled }
 
--- ---- a version more, with its class
+-- ---- one version more, with its class
 
 module _ (w v : World) (count : Counts) (rows mid new : List StoredRow) (n app : ℕ) (row class : StoredRow) (so_far : AreImported w v count rows)
     (behind : mid ≡ rows ++ row ∷ []) (further : new ≡ mid ++ class ∷ []) where
@@ -162,9 +162,9 @@ module _ (w v : World) (count : Counts) (rows mid new : List StoredRow) (n app :
       step : AreChanges v u (row ∷ class ∷ [])
       step = record { each = ((Version n, own n at_end), ((Class n, own_class n at_end), tt)); others = settled }
 
--- ---- an application more
+-- ---- one application more
 
--- what is told of each that stands, in a list of which all are so
+-- two functions that agree on each item that passes give the same row at each place, if all items pass
 told_alike : {X : Type 0} (P : X → Type 0) (f g : X → StoredRow) → ((x : X) → P x → f x ≡ g x) → (xs : List X) (n : ℕ) → All P xs → option_map f (nth xs n) ≡ option_map g (nth xs n)
 told_alike P f g same xs n all = cases (nth xs n) refl
   where
@@ -270,9 +270,9 @@ app_added w v count rows new n row so_far behind a next is = record {
     step : AreChanges v u (row ∷ [])
     step = record { each = ((App n, own n at_end), tt); others = settled }
 
--- ---- a workunit more, with its mark
+-- ---- one workunit more, with its mark
 
--- what no fresh instance passes counts none of them
+-- a test that a fresh instance fails counts none of them
 none_of_fresh : (p : Job → Bool) (n : ℕ) → p fresh ≡ false → count_by p (replicate n fresh) ≡ 0
 none_of_fresh p zero fails = refl
 none_of_fresh p (suc n) fails =
@@ -388,7 +388,7 @@ none_imported w v count rows same readable counted none = record {
   changes = subst (AreChanges w w) (sym none) (no_changes w);
 }
 
--- so is one that it begins with
+-- each instance of a new workunit is fresh, and there is none past the end
 of_fresh : (n i : ℕ) → i < n → slice_get (replicate n fresh) i ≡ Some fresh
 of_fresh zero i within = absurd (omega (arith, within))
 of_fresh (suc n) zero within = refl
@@ -404,7 +404,7 @@ in_book : (v : World) (b : UnitBook) (unit i : ℕ) → unit_at v unit ≡ Some 
 in_book v b unit i stands =
     ap (option_and_then (λ (c : UnitBook). option_map (λ x. stored.Instance (instance_row v c unit i x)) (slice_get c.instances i))) stands
 
--- the row of an instance that a workunit begins with
+-- the row of an instance of a new workunit
 pub fresh_change : (w v : World) (b : UnitBook) (unit count i : ℕ) (s : Status) (x : Job) (row : StoredRow) → unit_at v unit ≡ Some b → b.instances ≡ replicate count fresh
     → i < count → s ≡ status_of v b → x ≡ fresh
     → ((y : World) (c : UnitBook) → s ≡ status_of y c → row ≡ stored.Instance (instance_row y c unit i x))

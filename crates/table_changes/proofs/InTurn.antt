@@ -1,4 +1,4 @@
--- The keys of what a loop has looked at.
+-- The keys that a loop has seen.
 use Rattle.std.proofs.Common.{◌≡◌, ◌⊎◌, ℕ, ◌+◌, ◌<◌, ◌≤◌, Bool, true, false, ◌&&◌, ◌||◌, eqb, ltb, List, [], ◌∷◌, ◌++◌, length, take, get_or, None, refl, sym, ap, ◌∙◌, inl, inr, arith, true≢false}
 use Rattle.std.proofs.lemmas.Bool.{and_parts, eqb-true, ltb-true, ltb-false, or_cases}
 use Rattle.std.proofs.lemmas.Bool.Decides.{nat_tests}
@@ -42,7 +42,7 @@ instances_then ns i n within at (Instance p) is =
     ]
 instances_then ns i n within at _ is = absurd (true≢false (sym is))
 
--- none yet
+-- no key yet
 pub no_unit : (k : WorldKey) → is_unit_among [] k ≡ true → (P : Type 0) → P
 no_unit (Account id) is P = absurd (true≢false (sym is))
 no_unit _ is P = absurd (true≢false (sym is))
@@ -59,7 +59,7 @@ pub no_instance : (k : WorldKey) → is_instance_among [] k ≡ true → (P : Ty
 no_instance (Account id) is P = absurd (true≢false (sym is))
 no_instance _ is P = absurd (true≢false (sym is))
 
--- the key is that of one of the first so many instances of a workunit
+-- the key is that of one of the first `n` instances of a workunit
 abbrev pub is_instance_below : ℕ → ℕ → WorldKey → Bool
 is_instance_below unit n (Instance p) = eqb unit p.unit && ltb p.number n
 is_instance_below unit n _ = false
@@ -86,7 +86,7 @@ instances_next unit n (Instance p) is = cases (ltb p.number n) refl
         inl (ap (λ u. Instance (record { unit = u; number = p.number })) (sym of_unit) ∙ ap (λ m. Instance (record { unit = unit; number = m })) last)
 instances_next unit n _ is = absurd (true≢false (sym is))
 
--- all of them, where none stands from there on
+-- all of them, if there is no instance from number `n` on
 pub instances_all : (before after : World) (unit n : ℕ) → ((number : ℕ) → n ≤ number → row_in after (Instance (record { unit = unit; number = number })) ≡ None)
     → (k : WorldKey) → is_instance_among (unit ∷ []) k ≡ true → (is_instance_below unit n k ≡ true) ⊎ IsSettled before after k
 instances_all before after unit n none (Instance p) is = cases (ltb p.number n) refl

@@ -1,4 +1,4 @@
--- Numbers at which maps have something, and sets of them.
+-- Numbers at which maps have an entry, and sets of them.
 use Rattle.std.proofs.Common.{◌≡◌, ℕ, ◌+◌, ◌<◌, Bool, true, false, cond, eqb, ◌||◌, List, [], ◌∷◌, ◌++◌, length, take, get_or, Option, Some, None, Ok, Err, Result, Vec, Global, IfOk, refl, sym, ap, ap₂, ◌∙◌, arith}
 use Rattle.std.proofs.lemmas.Bool.{or_parts}
 use Rattle.std.proofs.lemmas.Bool.Decides.{nat_tests}
@@ -13,7 +13,7 @@ use Rattle.std.specs.Ordering.{nat_cmp, is_eq}
 use Rattle.call_sheet.proofs.Leaves.{same}
 use Rattle.call_sheet.specs.Sheets.{is_among}
 
--- something is found just at the keys
+-- an entry is found exactly at the keys
 among_keys : {X : Type 0} (n : ℕ) (es : List (ℕ × X)) → is_some (lookup (is_at (nat_cmp n)) es) ≡ is_among (keys_of es) n
 among_keys n [] = refl
 among_keys {X} n (e ∷ es) = cases (among_keys n es) (eqb e.0 n) (same n e.0)
@@ -23,13 +23,13 @@ among_keys {X} n (e ∷ es) = cases (among_keys n es) (eqb e.0 n) (same n e.0)
     cases rest true is = ap (λ (b : Bool). is_some (cond b (Some e.1) (lookup (is_at (nat_cmp n)) es))) is
     cases rest false is = ap (λ (b : Bool). is_some (cond b (Some e.1) (lookup (is_at (nat_cmp n)) es))) is ∙ rest
 
--- the keys that were collected, where memory served
+-- the collected keys, if there was enough memory
 pub collected : {X E : Type 0} (m : BTreeMap ℕ X) (r : Result (Vec ℕ Global) E) → IfOk r (λ v. v.items ≡ keys m)
     → IfOk r (λ v. (n : ℕ) → is_some (get nat_cmp m n) ≡ is_among v.items n)
 collected m (Ok v) are = λ n. among_keys n m.entries ∙ ap (λ ns. is_among ns n) (sym are)
 collected m (Err e) are = tt
 
--- a set has the numbers that are among its keys
+-- a set contains the numbers that are among its keys
 among_set : (n : ℕ) (ns : List ℕ) → list_any (λ k. is_eq (nat_cmp n k)) ns ≡ is_among ns n
 among_set n [] = refl
 among_set n (k ∷ ns) = ap₂ (λ (a b : Bool). a || b) (same n k) (among_set n ns)
@@ -55,7 +55,7 @@ put_next ns i k old new initial within at updates so_far n =
     cases a true false d is = absurd cc
     cases a false true d is = absurd cc
 
--- nothing is found at a number that is not among those of three maps
+-- no entry is found at a number that is not among those of three maps
 nothing : {X : Type 0} (o : Option X) (b : Bool) → is_some o ≡ b → b ≡ false → o ≡ None
 nothing None b is none = refl
 nothing (Some x) b is none = absurd cc

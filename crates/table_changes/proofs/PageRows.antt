@@ -1,4 +1,4 @@
--- The rows of a page's world beside those of the world that the call found.
+-- The rows of a page's world, compared with those of the world at the start of the call.
 use Rattle.std.proofs.Common.{◌≡◌, ℕ, ◌+◌, ◌*◌, ◌≤◌, Bool, true, false, eqb, ◌&&◌, List, [], ◌∷◌, length, Option, Some, None, option_map, option_and_then, refl, sym, ap, subst, ◌∙◌, inl, inr, arith, true≢false}
 use Rattle.std.specs.Prelude.{◌||◌, count_by, sum_by, slice_get, unwrap_or, is_some}
 use Rattle.std.proofs.lemmas.Bool.{eqb-true, or_cases, or_parts}
@@ -37,7 +37,7 @@ use Rattle.table_changes.specs.declared.touched.Touched.{Touched}
 use Rattle.table_changes.proofs.Adding.{IsSettled, added_then, all_added}
 use Rattle.table_changes.proofs.Differences.{at_place, sums_differ, same_among}
 
--- the row after is what is to be put
+-- if the row is that of the world after, it is the change
 pub after_is_change : (before after row : Option StoredRow) → row ≡ after → IsChange before after row
 after_is_change before None row is = inl (is, inl refl)
 after_is_change before (Some r) row is = inr (r, refl, is)
@@ -47,7 +47,7 @@ same_is_change before after same = inl (refl, inr same)
 
 -- ---- workunits
 
--- where two worlds have a workunit with the same status, and the same applications, they have the same row of it
+-- if two worlds have a workunit with the same status, and the same applications, they have the same row of it
 unit_rows_same : (w v : World) (id : ℕ) (k : Leaf) → v.apps ≡ w.apps → IsLeafOf w v id k
     → status k.agreement k.unit k.present ≡ status k.agreement k.unit k.before → row_in w (UnitKey id) ≡ row_in v (UnitKey id)
 unit_rows_same w v id k apps leaf same =
@@ -63,7 +63,7 @@ unit_rows_same w v id k apps leaf same =
     status_now : status_of w (book_now k) ≡ status k.agreement k.unit k.present
     status_now = ap (λ a. status a k.unit k.present) leaf.agreement
 
--- the row of a workunit with its status and the place of its application
+-- the row of a workunit with its new status and the place of its application
 pub unit_changed : (w v : World) (id app : ℕ) (k : Leaf) (s : Status) (row : StoredRow) → v.apps ≡ w.apps → IsLeafOf w v id k → app ≡ app_place w k.unit.app
     → s ≡ status k.agreement k.unit k.present
     → ((u : World) (b : UnitBook) (rule : ClassRule) → b.unit ≡ record k.unit { class_rule = rule } → app ≡ app_place u k.unit.app → s ≡ status_of u b → row ≡ stored.Unit (unit_row u id b))
@@ -75,13 +75,13 @@ unit_changed w v id app k s row apps leaf place told is =
     after_is_change (row_in w (UnitKey id)) (row_in v (UnitKey id)) (Some row)
     (ap Some (is v (book_now k) k.rule refl (place ∙ here) (told ∙ sym now)) ∙ sym (ap (option_map (λ b. stored.Unit (unit_row v id b))) leaf.here))
 
--- a workunit whose status stays
+-- a workunit whose status is unchanged
 pub unit_stays : (w v : World) (id : ℕ) (k : Leaf) (s t : Status) → v.apps ≡ w.apps → IsLeafOf w v id k → s ≡ status k.agreement k.unit k.present
     → t ≡ status k.agreement k.unit k.before → s ≡ t → IsChange (row_in w (UnitKey id)) (row_in v (UnitKey id)) None
 unit_stays w v id k s t apps leaf now before same =
     same_is_change (row_in w (UnitKey id)) (row_in v (UnitKey id)) (unit_rows_same w v id k apps leaf (sym now ∙ same ∙ before))
 
--- the row of what stands at a place is told by what stands there, and by the applications
+-- the row of the workunit at a place depends only on that workunit and on the applications
 unit_same : (w v : World) (id : ℕ) → v.apps ≡ w.apps → unit_at v id ≡ unit_at w id → row_in w (UnitKey id) ≡ row_in v (UnitKey id)
 unit_same w v id apps here =
     ap (λ (apps : List App). option_map (λ b. stored.Unit (unit_row (record w { apps = apps }) id b)) (unit_at w id)) (sym apps)
@@ -92,7 +92,7 @@ unit_unread w v id apps here = same_is_change (row_in w (UnitKey id)) (row_in v 
 
 -- ---- marks
 
--- the row of the mark of what stands at a place is told by that alone
+-- the row of the mark of the workunit at a place depends only on that workunit
 abbrev mark_in : ℕ → UnitBook → StoredRow
 mark_in id b = stored.UnitMark (mark_row id b)
 
@@ -102,7 +102,7 @@ mark_same w v id here = ap (option_map (mark_in id)) (sym here)
 pub mark_unread : (w v : World) (id : ℕ) → IsLeafAt w v id None → IsChange (row_in w (Mark id)) (row_in v (Mark id)) None
 mark_unread w v id here = same_is_change (row_in w (Mark id)) (row_in v (Mark id)) (mark_same w v id here)
 
--- a workunit whose rule stays
+-- a workunit whose rule is unchanged
 pub mark_stays : (w v : World) (id : ℕ) (k : Leaf) → IsLeafOf w v id k → k.unit.class_rule ≡ k.rule → IsChange (row_in w (Mark id)) (row_in v (Mark id)) None
 mark_stays w v id k leaf same =
     same_is_change (row_in w (Mark id)) (row_in v (Mark id))
@@ -110,7 +110,7 @@ mark_stays w v id k leaf same =
     ∙ ap (λ rule. Some (mark_in id (record { unit = record k.unit { class_rule = rule }; instances = k.present }))) same
     ∙ sym (ap (option_map (mark_in id)) leaf.here))
 
--- the row of the mark with its rule
+-- the row of a mark with its new rule
 pub mark_changed : (w v : World) (id : ℕ) (k : Leaf) (row : StoredRow) → IsLeafOf w v id k → ((b : UnitBook) → b.unit.class_rule ≡ k.rule → row ≡ stored.UnitMark (mark_row id b))
     → IsChange (row_in w (Mark id)) (row_in v (Mark id)) (Some row)
 mark_changed w v id k row leaf is =
@@ -204,7 +204,7 @@ pub host_stays : (w v : World) (id : ℕ) (share other : Total) → IsHostAt w v
     → IsChange (row_in w (Host id)) (row_in v (Host id)) None
 host_stays w v id share other here goes held credit = same_is_change _ _ (host_same w v id share other here goes held credit)
 
--- ---- what is held, and credit
+-- ---- held instances, and credit
 
 module _ (w v : World) (kept : ℕ → Option Leaf) (units : List ℕ) (host : ℕ) (apps : v.apps ≡ w.apps) (all : AreAllOf kept units)
     (leaves : (unit : ℕ) → IsLeafAt w v unit (kept unit)) where
@@ -218,7 +218,7 @@ module _ (w v : World) (kept : ℕ → Option Leaf) (units : List ℕ) (host : �
       cases None leaf none = sym leaf
       cases (Some k) leaf none = absurd (true≢false none)
 
-  -- what each leaf tells is told of a workunit that was read
+  -- what holds for each leaf holds for each workunit that was read
   by_leaf : (unit : ℕ) (P : Option Leaf → Type 0) → ((k : Leaf) → IsLeafAt w v unit (Some k) → P (Some k)) → is_among units unit ≡ true → P (kept unit)
   by_leaf unit P told among = cases (kept unit) (leaves unit) (all.all unit ∙ among)
     where
@@ -280,7 +280,7 @@ goes_from w p t host share other page touched before after =
     subst (λ (s : Total). GoesFrom w (applied w p.delta) host s other) (sym first)
     (subst (λ (o : Total). GoesFrom w (applied w p.delta) host (total_on book_before (get nat_cmp p.leaves) t.units host) o) (sym second) goes)
 
--- the keys of what the page touches
+-- the keys that the page touches
 abbrev pub is_touched : Touched → WorldKey → Bool
 is_touched t key = ((is_unit_among t.units key || is_mark_among t.units key) || is_host_among t.hosts key) || is_instance_among t.units key
 
@@ -302,7 +302,7 @@ settled_elsewhere w p t page touched (Instance q) none =
     (sym (untouched w (applied w p.delta) (get nat_cmp p.leaves) t.units 0 (apps_stay w p page) touched.units page.leaves q.unit none)))
 settled_elsewhere w p t page touched key none = inr (sym (ap (λ u. row_in u key) page.rest))
 
--- ---- what was told of a desk that still stands for the world
+-- ---- what a desk returned that still represents the world
 
 pub unit_told : (w u : World) (p : Page) (unit : ℕ) (o : Option Leaf) (row : Option StoredRow) → u ≡ w → o ≡ get nat_cmp p.leaves unit → IsPageOf w p
     → ((after : World) → after.apps ≡ u.apps → IsLeafAt u after unit o → IsChange (row_in u (UnitKey unit)) (row_in after (UnitKey unit)) row)
@@ -338,7 +338,7 @@ unread_settled w v unit apps stays _ is = absurd (true≢false (sym is))
 abbrev either : (WorldKey → Bool) → (WorldKey → Bool) → WorldKey → Bool
 either first second key = first key || second key
 
--- all that a page touches is told in four parts: workunits, marks, hosts and instances, one behind the other
+-- the rows that a page touches come in four parts, one after the other: workunits, marks, hosts and instances
 pub all_parts : (w u : World) (p : Page) (t : Touched) (old one two three new : List StoredRow) → u ≡ w → IsPageOf w p → AreTouched p t → old ≡ []
     → AreAdded (is_unit_among t.units) w (applied w p.delta) old one
     → AreAdded (is_mark_among t.units) w (applied w p.delta) one two
@@ -368,7 +368,7 @@ all_parts w u p t old one two three new same page touched none units marks hosts
     of_instances : WorldKey → Bool
     of_instances = is_instance_among t.units
 
--- no instance stands from their count on
+-- there is no instance from their count on
 pub instances_gone : (w v : World) (unit n : ℕ) (k : Leaf) → v.apps ≡ w.apps → IsLeafOf w v unit k → length k.present ≤ n
     → (number : ℕ) → n ≤ number → row_in v (Instance (record { unit = unit; number = number })) ≡ None
 instances_gone w v unit n k apps leaf all number beyond = instance_gone w v unit number k apps leaf (slice_get_past k.present number (omega (arith, all, beyond)))

@@ -1,4 +1,4 @@
--- Changes of hosts with words for platforms, and of instances, leave a world to be told by its rows.
+-- After changes of hosts whose platforms are words, of instances and of classes, the world is still determined by its rows.
 use Rattle.std.proofs.Common.{◌≡◌, Bool, true, ◌&&◌, List, [], ◌∷◌, Result, Ok, Err, IfOk, OnOk, refl, sym, ap₂, subst, true≢false}
 use Rattle.std.specs.List.{list_all}
 use Rattle.std.proofs.lemmas.Bool.{and_parts}
@@ -29,7 +29,7 @@ all_readable w (c ∷ cs) puts =
 pub words_readable : (w : World) (cs : List Change) → list_all puts_words cs ≡ true → IsReadable w → IsReadable (applied w cs)
 words_readable w cs puts readable = stays_readable w cs readable (all_readable w cs puts)
 
--- what holds anyhow holds where it is told
+-- a fact that holds holds for any result
 pub told_anyhow : {X E : Type 0} (P : Type 0) (r : Result X E) → P → IfOk r (λ x. P)
 told_anyhow P (Ok x) is = is
 told_anyhow P (Err e) is = tt

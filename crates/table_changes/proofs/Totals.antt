@@ -27,7 +27,7 @@ total_next book kept units i unit host t within at is =
     ap (λ (s : Total). more s (held_on book host (kept unit)) (credit_on book host (kept unit))) is
     ∙ same_total _ _ _ _ (one_next (λ u. held_on book host (kept u)) units i unit within at) (one_next (λ u. credit_on book host (kept u)) units i unit within at)
 
--- what a leaf gives, as its instances were counted
+-- what is counted for a leaf, once its instances were counted
 pub leaf_counted : (book : Leaf → UnitBook) (k : Leaf) (o : Option Leaf) (xs : List Instance) (host : ℕ) (t after : Total) → o ≡ Some k → xs ≡ (book k).instances
     → after ≡ with_instances (λ x. is_valid (verdict k.agreement k.unit xs x)) k.unit.credit xs host t
     → after ≡ more t (held_on book host o) (credit_on book host o)

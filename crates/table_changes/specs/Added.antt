@@ -1,4 +1,4 @@
--- Words. Rows put behind others, which lead from one world to another at some keys.
+-- Words. Rows appended to others, which change one world into another at some keys.
 use Rattle.std.specs.Prelude.{◌≡◌, ◌⊎◌, ℕ, Bool, true, false, List, ◌++◌, Some, None}
 use Rattle.std.specs.List.{AllByRecursion, list_any}
 use Rattle.sched_book.specs.declared.world.World.{World}
@@ -20,7 +20,7 @@ is_unit_among units (Mark id) = false
 is_unit_among units (Host id) = false
 is_unit_among units (Instance p) = false
 
--- it is that of the mark of one of these workunits
+-- the key is that of the mark of one of these workunits
 abbrev pub is_mark_among : List ℕ → WorldKey → Bool
 is_mark_among units (Account id) = false
 is_mark_among units (App id) = false
@@ -31,7 +31,7 @@ is_mark_among units (Mark id) = is_among units id
 is_mark_among units (Host id) = false
 is_mark_among units (Instance p) = false
 
--- it is that of one of these hosts
+-- the key is that of one of these hosts
 abbrev pub is_host_among : List ℕ → WorldKey → Bool
 is_host_among hosts (Account id) = false
 is_host_among hosts (App id) = false
@@ -42,7 +42,7 @@ is_host_among hosts (Mark id) = false
 is_host_among hosts (Host id) = is_among hosts id
 is_host_among hosts (Instance p) = false
 
--- it is that of an instance of one of these workunits
+-- the key is that of an instance of one of these workunits
 abbrev pub is_instance_among : List ℕ → WorldKey → Bool
 is_instance_among units (Account id) = false
 is_instance_among units (App id) = false
@@ -57,13 +57,12 @@ is_instance_among units (Instance p) = is_among units p.unit
 abbrev pub is_put : List StoredRow → WorldKey → Bool
 is_put rows key = list_any (λ r. same_key (row_key key) (key_of r)) rows
 
--- Each is a row of the world after, and at those of the keys where none is put the worlds have the same row, or the one
--- after has none.
+-- Each row is one of the world after. If no row is put at one of these keys, the two worlds have the same row there, or the world after has none.
 pub record AreChangesAt (at : WorldKey → Bool) (before after : World) (rows : List StoredRow) : Type 0 where
   pub each : AllByRecursion (λ r. (key : WorldKey) × (row_in after key ≡ Some r)) rows
   pub others : (key : WorldKey) → at key ≡ true → is_put rows key ≡ false → (row_in after key ≡ None) ⊎ (row_in before key ≡ row_in after key)
 
--- the rows are others with such changes behind them
+-- the rows are the old ones, followed by such changes
 pub record AreAdded (at : WorldKey → Bool) (before after : World) (old new : List StoredRow) : Type 0 where
   pub more : List StoredRow
   pub behind : new ≡ old ++ more

@@ -1,4 +1,4 @@
--- Words. What is known while an import's rows are told one after another.
+-- Words. What is known while the rows of an import are made, one after another.
 use Rattle.std.specs.Prelude.{◌≡◌, List, ◌++◌}
 use Rattle.sched_book.specs.Desk.{counts}
 use Rattle.sched_book.specs.declared.desk.Counts.{Counts}
@@ -8,8 +8,8 @@ use Rattle.table_meaning.specs.declared.rows.StoredRow.{StoredRow}
 use Rattle.table_worlds.specs.Changes.{AreChanges}
 use Rattle.table_worlds.specs.Readable.{IsReadable}
 
--- The rows lead from the world before the import to the present one, which has so many rows of each kind, is told by its
--- rows, and has the applications of the one before first.
+-- The rows change the world before the import into the present one. The present world has `count` rows of each kind, and its rows determine it.
+-- Its list of applications begins with that of the world before.
 pub record AreImported (before present : World) (count : Counts) (rows : List StoredRow) : Type 0 where
   pub counted : count ≡ counts present
   pub apps : (more : List App) × (present.apps ≡ before.apps ++ more)

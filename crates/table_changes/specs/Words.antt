@@ -1,10 +1,10 @@
--- Words. Changes that leave a world to be told by its rows.
+-- Words. Changes after which the world is still determined by its rows.
 use Rattle.std.specs.Prelude.{Bool, true, false}
 use Rattle.sched_book.specs.declared.delta.Change.{Change}
 use Rattle.sched_book.specs.declared.delta.Change.TheVariants as change
 use Rattle.table_worlds.specs.Readable.{are_words}
 
--- the change puts an instance, grants a class, or puts a host that has words for its platforms
+-- the change puts an instance, grants a class, or puts a host whose platforms are words
 abbrev pub puts_words : Change → Bool
 puts_words (change.Account a) = false
 puts_words (change.App a) = false

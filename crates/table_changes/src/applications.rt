@@ -9,14 +9,14 @@ ghost use Rattle.table_meaning.specs.Worlds.{app_place};
 use sched_book::{Agreement, Desk, Unavailable};
 use std::alloc::Global;
 
-/// What rows and statuses take of an application: its place, and how it compares outputs.
+/// What rows and statuses need of an application: its place, and how it compares outputs.
 #[derive(Clone, Copy)]
 pub(crate) struct KnownApp {
     pub place: u32,
     pub agreement: Agreement,
 }
 
-/// The application of this name, which has to stand.
+/// The application of this name. `Unavailable` if it does not exist.
 pub(crate) fn known_app<D: Desk>(
     alloc: Global,
     desk: &mut D,

@@ -1,4 +1,4 @@
-//! The rows that a call or a tick puts: hosts, instances, what is counted of them, and classes that were granted.
+//! The rows that a call or a tick puts: hosts, instances, the columns counted from them, and classes that were granted.
 
 ghost use Rattle.std.specs.Prelude.{◌≡◌, ◌++◌, [], IfOk, OnOk};
 ghost use Rattle.std.specs.List.{list_all};
@@ -35,14 +35,14 @@ fn are_all_words(words: &[Text]) -> bool
     words.iter().all(is_word_text)
 }
 
-/// Whether these are words, of which there is one at least.
+/// Whether these are words, at least one.
 fn are_words(words: &[Text]) -> bool
     ensures { result ≡ are_words words.now }
 {
     1 <= words.len() && are_all_words(words)
 }
 
-/// Whether the change puts an instance, grants a class, or puts a host that has words for its platforms.
+/// Whether the change puts an instance, grants a class, or puts a host whose platforms are words.
 fn puts_words(change: &Change) -> bool
     ensures { result ≡ puts_words change.now }
 {
@@ -53,14 +53,14 @@ fn puts_words(change: &Change) -> bool
     }
 }
 
-/// Whether each of the changes puts an instance, grants a class, or puts a host that has words for its platforms.
+/// Whether each of the changes puts an instance, grants a class, or puts a host whose platforms are words.
 fn put_words(changes: &[Change]) -> bool
     ensures { result ≡ list_all puts_words changes.now }
 {
     changes.iter().all(puts_words)
 }
 
-/// Puts the changes onto a page, where each is at a place that stands or is the next.
+/// Puts the changes onto a page. Each must be at an existing place or at the next one.
 fn put_onto<D: Desk>(
     alloc: Global,
     desk: &mut D,
@@ -75,7 +75,7 @@ fn put_onto<D: Desk>(
     put_all(alloc, &mut sheet, delta.as_slice())
 }
 
-/// The page of a call that found the desk's world and makes these changes.
+/// The page of a call that started from the desk's world and makes these changes.
 fn page_of<D: Desk>(alloc: Global, desk: &mut D, delta: &Delta) -> Result<Page, Unavailable>
     ensures reads { D.reads desk.old desk.new }
     ensures page { Trusted D.Units desk.old desk.new (IfOk result (IsPageOf (D.world desk.old))) }
@@ -87,7 +87,7 @@ fn page_of<D: Desk>(alloc: Global, desk: &mut D, delta: &Delta) -> Result<Page, 
     Ok(page)
 }
 
-/// Puts the rows of what the page's changes touch behind the others: workunits, their marks, hosts, then instances.
+/// Appends the rows that the page's changes touch: workunits, their marks, hosts, then instances.
 fn push_rows<D: Desk>(
     alloc: Global,
     desk: &mut D,
@@ -121,7 +121,8 @@ fn rows_of_page<D: Desk>(
     Ok(rows)
 }
 
-/// The rows that the changes of a call put: workunits, marks, hosts and instances. Any other change is refused.
+/// The rows that the changes of a call put: workunits, marks, hosts and instances. `Unavailable` if there is any other
+/// change.
 pub(crate) fn rows_of_call<D: Desk>(
     alloc: Global,
     desk: &mut D,

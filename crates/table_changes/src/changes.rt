@@ -13,15 +13,15 @@ use std::alloc::Global;
 use table_meaning::rows::RowChange;
 use texts::Listed;
 
-/// The rows that these changes of the desk's world put, in an order in which each row comes behind those that it refers to.
+/// The rows that these changes of the desk's world put. Each row comes after those that it refers to.
 ///
-/// The changes are an import's or a call's: new rows alone, or hosts, instances and classes alone.
+/// The changes are those of an import or of a call: only new rows, or only hosts, instances and classes.
 ///
 /// # Errors
 ///
-/// [`Unavailable`] where memory is wanting or the desk is unavailable; where a number is not one that a table can hold; and
-/// where the changes are of both kinds, name an application that does not stand, give a host platforms that are no words,
-/// or put a host or an instance beyond the next.
+/// [`Unavailable`] if out of memory, if the desk is unavailable, or if a table can't hold a number of a row. Also if
+/// the changes are of both kinds, or name an application that does not exist. Also if they give a host platforms that
+/// are not words, or put a host or an instance beyond the next.
 pub fn rows_of_changes<D: Desk>(
     alloc: Global,
     desk: &mut D,

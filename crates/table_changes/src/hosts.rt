@@ -25,7 +25,7 @@ use table_meaning::rows::{RowChange, StoredRow};
 use table_worlds::{Total, host_row};
 use texts::Listed;
 
-/// The total with another share in the place of one that is part of it.
+/// The total, with one part of it replaced by another.
 fn moved(total: Total, share: Total, other: Total) -> Result<Total, Unavailable>
     ensures held { IfOk result (λ after. total.held + other.held ≡ after.held + share.held) }
     ensures credit { IfOk result (λ after. total.credit + other.credit ≡ after.credit + share.credit) }
@@ -40,7 +40,8 @@ fn moved(total: Total, share: Total, other: Total) -> Result<Total, Unavailable>
     }
 }
 
-/// What a host holds, and its credit, in each world where another share of both comes in the place of one of the desk's world.
+/// What a host holds, and its credit, in any world where one share of both, in the desk's world, is replaced by
+/// another.
 fn total_after<D: Desk>(
     desk: &mut D,
     host: u32,
@@ -56,7 +57,7 @@ fn total_after<D: Desk>(
     moved(Total { held, credit }, share, other)
 }
 
-/// The host of a number, as it is now.
+/// The host of a number, as it is after the page's changes.
 fn host_now<D: Desk>(
     alloc: Global,
     desk: &mut D,
@@ -73,7 +74,7 @@ fn host_now<D: Desk>(
     }
 }
 
-/// The row of a host, where it stands. It is an update: only in its first call a host has no row yet.
+/// The row of a host, if it exists. It is an update, since a host has no row only before its first call.
 fn row_of(
     alloc: Global,
     id: u32,
@@ -91,7 +92,7 @@ fn row_of(
     }
 }
 
-/// The row of a host that is on the page, or of whose total another share comes in the place of one.
+/// The row of a host, if it is on the page or if its share of the total changed.
 fn changed_host<D: Desk>(
     alloc: Global,
     desk: &mut D,
@@ -113,7 +114,7 @@ fn changed_host<D: Desk>(
     row_of(alloc, host, &row, total)
 }
 
-/// Puts behind the others the rows of the touched hosts.
+/// Appends the rows of the touched hosts.
 pub(crate) fn push_hosts<D: Desk>(
     alloc: Global,
     desk: &mut D,

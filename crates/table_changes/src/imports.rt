@@ -28,14 +28,14 @@ use table_worlds::{
 };
 use texts::Listed;
 
-/// The number behind a count.
+/// The number after a count.
 fn next(count: u32) -> Result<u32, Unavailable>
     ensures { IfOk result (λ number. number ≡ count + 1) }
 {
     count.checked_add(1).ok_or(Unavailable)
 }
 
-/// Puts the row of a new account, and counts it.
+/// Appends the row of a new account, and counts it.
 fn push_account(
     count: Counts,
     account: &Account,
@@ -49,7 +49,7 @@ fn push_account(
     Ok(Counts { accounts, ..count })
 }
 
-/// Puts the row of a new application, and counts it.
+/// Appends the row of a new application, and counts it.
 fn push_app(count: Counts, app: &App, rows: &mut Listed<RowChange>) -> Result<Counts, Unavailable>
     ensures { (w v : World) → AreImported w v count rows.old → IfOk result (λ counted. AreImported w (applied_one v (change.App app.now)) counted rows.new) }
 {
@@ -59,7 +59,8 @@ fn push_app(count: Counts, app: &App, rows: &mut Listed<RowChange>) -> Result<Co
     Ok(Counts { apps, ..count })
 }
 
-/// Puts the row of a new version, whose application has to stand, and that of its class, and counts it.
+/// Appends the row of a new version and that of its class, and counts it. `Unavailable` if its application does not
+/// exist.
 fn push_version<D: Desk>(
     alloc: Global,
     desk: &mut D,
@@ -80,7 +81,7 @@ fn push_version<D: Desk>(
     Ok(Counts { versions, ..count })
 }
 
-/// An instance that nobody was given yet.
+/// An instance that was not sent yet.
 fn fresh_instance() -> Instance
     ensures { result ≡ fresh }
 {
@@ -91,7 +92,7 @@ fn fresh_instance() -> Instance
     }
 }
 
-/// The status of a new workunit; one that begins with more instances than it may have is not told.
+/// The status of a new workunit. `Unavailable` if it begins with more instances than it may have.
 fn first_status(
     alloc: Global,
     agreement: &Agreement,
@@ -106,7 +107,7 @@ fn first_status(
     Ok(status(agreement, unit, instances.as_slice()))
 }
 
-/// Puts the rows of the instances that a workunit of this place and status begins with.
+/// Appends the rows of the instances of a new workunit with this place and status.
 fn push_fresh(
     unit: u32,
     count: u32,
@@ -123,7 +124,8 @@ fn push_fresh(
     Ok(())
 }
 
-/// Puts the row of a new workunit, whose application has to stand, and those of its mark and its instances, and counts it.
+/// Appends the rows of a new workunit, of its mark and of its instances, and counts it. `Unavailable` if its
+/// application does not exist.
 fn push_unit<D: Desk>(
     alloc: Global,
     desk: &mut D,
@@ -146,7 +148,7 @@ fn push_unit<D: Desk>(
     Ok(Counts { workunits, ..count })
 }
 
-/// Puts the rows of one change of an import, and counts it; any other change is refused.
+/// Appends the rows of one change of an import, and counts it. `Unavailable` if it is any other change.
 fn push_change<D: Desk>(
     alloc: Global,
     desk: &mut D,
@@ -167,7 +169,8 @@ fn push_change<D: Desk>(
     }
 }
 
-/// The rows that an import's changes put, in their order, each version's class and each workunit's mark and instances behind it. Any other change is refused.
+/// The rows that an import's changes put, in their order. A version is followed by its class, a workunit by its mark
+/// and its instances. `Unavailable` if there is any other change.
 pub(crate) fn rows_of_import<D: Desk>(
     alloc: Global,
     desk: &mut D,

@@ -25,7 +25,7 @@ struct Statuses {
     present: Status,
 }
 
-/// The row of the instance at a place of a leaf, where it is another than before.
+/// The row of the instance at a place of a leaf, if it is not as before.
 fn changed_instance(
     leaf: &Leaf,
     statuses: Statuses,
@@ -51,7 +51,7 @@ fn changed_instance(
     Ok(Some(RowChange::update(StoredRow::Instance(row))))
 }
 
-/// Puts behind the others the rows of the workunit's instances that are others than before, where it was read.
+/// Appends the rows of the workunit's instances that are not as before, if the call read the workunit.
 fn push_instances_of(
     unit: u32,
     leaf: Option<&Leaf>,
@@ -74,7 +74,7 @@ fn push_instances_of(
     Ok(())
 }
 
-/// Puts behind the others the rows of the instances of these workunits that are others than before.
+/// Appends the rows of the instances of these workunits that are not as before.
 pub(crate) fn push_instances(
     page: &Page,
     units: &[u32],

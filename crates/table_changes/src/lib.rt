@@ -1,4 +1,4 @@
-//! The rows that changes of a world put into the stored tables, told from what the changes touch. It knows no SQL.
+//! The rows that changes of a world write into the stored tables, found from what the changes touch. It knows no SQL.
 #![tactic(auto)]
 
 mod applications;

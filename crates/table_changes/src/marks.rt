@@ -1,4 +1,4 @@
-//! The rows of the marks of workunits that a call gave a class.
+//! The rows of the marks of workunits that got a class in a call.
 
 ghost use Rattle.std.specs.Prelude.{◌≡◌, IsTrue, IfOk, OnOk};
 ghost use Rattle.std.specs.Option.{option_copied};
@@ -26,7 +26,7 @@ fn same_rule(left: &ClassRule, right: &ClassRule) -> bool
     }
 }
 
-/// The row of the mark of the workunit at a place, where its rule is another than before.
+/// The row of the mark of the workunit at a place, if its rule is not as before.
 fn changed_mark(unit: u32, leaf: Option<&Leaf>) -> Result<Option<RowChange>, Unavailable>
     ensures { (w v : World) → IsLeafAt w v unit (option_copied leaf.entry)
         → IfOk result (IsChange (row_in w (key.Mark unit)) (row_in v (key.Mark unit))) }
@@ -41,7 +41,7 @@ fn changed_mark(unit: u32, leaf: Option<&Leaf>) -> Result<Option<RowChange>, Una
     Ok(Some(RowChange::update(StoredRow::UnitMark(row))))
 }
 
-/// Puts behind the others the rows of the marks of those of the workunits whose rule is another than before.
+/// Appends the rows of the marks of these workunits whose rule is not as before.
 pub(crate) fn push_marks(
     page: &Page,
     units: &[u32],

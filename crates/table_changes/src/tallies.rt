@@ -18,14 +18,14 @@ use std::collections::BTreeMap;
 use table_worlds::Total;
 use texts::Memory;
 
-/// What the touched workunits give each host, by its number: before the call, and now.
+/// What each host has from the touched workunits, by its number: before the call, and now.
 #[derive(Drop)]
 pub(crate) struct Tallies {
     pub before: BTreeMap<u32, Total>,
     pub present: BTreeMap<u32, Total>,
 }
 
-/// What was counted of a host.
+/// What was counted for a host.
 pub(crate) fn tally(totals: &BTreeMap<u32, Total>, host: u32) -> Total
     ensures { result ≡ tally totals.now host }
 {
@@ -35,7 +35,7 @@ pub(crate) fn tally(totals: &BTreeMap<u32, Total>, host: u32) -> Total
     }
 }
 
-/// Counts so many more instances held and so much more credit of a host.
+/// Adds `held` held instances and `credit` millicredits to a host.
 fn count_more(
     totals: &mut BTreeMap<u32, Total>,
     host: u32,
@@ -49,7 +49,7 @@ fn count_more(
     Ok(())
 }
 
-/// Counts an instance that earned so much, where it was given to a host.
+/// Counts an instance that earned `credit` millicredits, if it was sent to a host.
 fn count_instance(
     totals: &mut BTreeMap<u32, Total>,
     instance: &Instance,
@@ -113,7 +113,7 @@ fn count_leaf(tallies: &mut Tallies, leaf: Option<&Leaf>) -> Result<(), Unavaila
     )
 }
 
-/// What the workunits at these places of the page give each host.
+/// What each host has from the workunits at these places of the page.
 pub(crate) fn tallies_of(alloc: Global, page: &Page, units: &[u32]) -> Result<Tallies, Unavailable>
     ensures { IfOk result (AreTallies (get nat_cmp page.now.leaves) units.now) }
 {

@@ -14,8 +14,8 @@ use std::alloc::Global;
 use std::collections::{BTreeMap, BTreeSet};
 use texts::{Listed, Memory};
 
-/// The places of the workunits and the numbers of the hosts whose rows may be others than before, and what the
-/// workunits give the hosts.
+/// The places of the workunits and the numbers of the hosts whose rows may have changed, and what the hosts have from
+/// these workunits.
 #[derive(Drop)]
 pub(crate) struct Touched {
     pub units: Listed<u32>,
@@ -23,7 +23,7 @@ pub(crate) struct Touched {
     pub tallies: Tallies,
 }
 
-/// The numbers at which a map has something.
+/// The numbers at which a map has an entry.
 fn numbers_of<V>(alloc: Global, map: &BTreeMap<u32, V>) -> Result<Vec<u32>, Memory>
     ensures { IfOk result (λ numbers. (n : ℕ) → is_some (get nat_cmp map.now n) ≡ is_among numbers.items n) }
 {

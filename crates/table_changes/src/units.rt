@@ -1,4 +1,4 @@
-//! The rows of workunits that a call gave another status.
+//! The rows of workunits whose status a call changed.
 
 ghost use Rattle.std.specs.Prelude.{◌≡◌, IfOk, OnOk};
 ghost use Rattle.std.specs.Option.{option_copied};
@@ -28,7 +28,7 @@ pub(crate) fn present_status(leaf: &Leaf) -> Status
     status(&leaf.agreement, &leaf.unit, leaf.present.as_slice())
 }
 
-/// The row of the workunit at a place, where its status is another than before.
+/// The row of the workunit at a place, if its status is not as before.
 fn changed_unit<D: Desk>(
     alloc: Global,
     desk: &mut D,
@@ -52,7 +52,7 @@ fn changed_unit<D: Desk>(
     Ok(Some(RowChange::update(StoredRow::Unit(row))))
 }
 
-/// Puts behind the others the rows of those of the workunits whose status is another than before.
+/// Appends the rows of these workunits whose status is not as before.
 pub(crate) fn push_units<D: Desk>(
     alloc: Global,
     desk: &mut D,

@@ -1,4 +1,4 @@
--- The application that stands at the place of a name has that name.
+-- The application at the place of a name has that name.
 use Rattle.std.proofs.Common.{◌≡◌, ℕ, true, List, Some, None, ap, ◌∙◌}
 use Rattle.std.proofs.lemmas.Option.{none-some, same_Some}
 use Rattle.sched_book.specs.Imports.{has_app}
@@ -12,7 +12,7 @@ module _ (w : World) (name : List ℕ) (has : has_app w.apps name ≡ true) (app
   there : (a : App) × (nth apps at ≡ Some a) × (a.name ≡ name)
   there = let a = named_app w name has in (a.0, ap (λ l. nth l at) are ∙ ap (nth w.apps) is ∙ a.1, a.2)
 
-  -- what stands at the place of a name has that name
+  -- the application at the place of a name has that name
   pub app_is_named : (a : App) → Some a ≡ nth apps at → a.name ≡ name
   app_is_named a stands = ap (λ (x : App). x.name) (same_Some a there.0 (stands ∙ there.1)) ∙ there.2
 

@@ -1,4 +1,4 @@
--- The classes of versions, by themselves and beside the versions.
+-- The classes of versions, alone and with their versions.
 use Rattle.std.proofs.Common.{◌≡◌, ℕ, ◌+◌, List, [], ◌∷◌, map, Some, refl, ap, ◌∙◌}
 use Rattle.std.specs.Prelude.{All, option_map}
 use Rattle.std.proofs.lemmas.List.Elements.{All-nil, All-cons, All-head, All-tail}
@@ -18,7 +18,7 @@ words_from : (n : ℕ) (vs : List Version) → map_from n of_class vs ≡ map_fr
 words_from n [] = refl
 words_from n (v ∷ vs) = ap (λ rows. of_class n v ∷ rows) (words_from (n + 1) vs)
 
--- the rows of the classes are those of the words
+-- the rows of the classes are the rows of these words
 pub as_words : (vs : List Version) → map_from 1 of_class vs ≡ map_from 1 of_word (map (λ (x : Version). x.class) vs)
 as_words vs = words_from 1 vs
 

@@ -1,4 +1,4 @@
--- What is passed on, and what can't be.
+-- Results that are passed on, and results that are not possible.
 use Rattle.std.proofs.Common.{◌≡◌, Ok, Err, ◌∙◌}
 use Rattle.std.specs.declared.result.Result.{Result}
 use Rattle.std.specs.Result.{IsErrAnd}
@@ -10,7 +10,7 @@ use Rattle.table_decoding.specs.declared.fault.RowFault.{RowFault}
 use Rattle.table_decoding.specs.declared.fault.RowFault.TheVariants.{Unavailable}
 use Rattle.table_decoding.specs.Decoding.{Gives}
 
--- where one call is unavailable, and what it answers is passed on, nothing else is given
+-- if a call returns `Unavailable` and that is passed on, there is no other result
 pub passed_on : {A : Type 0} (r : Result A RowFault) (x : A) (e : RowFault) → IsErrAnd r (λ why. why ≡ e) → e ≡ Unavailable → Gives r x
 passed_on (Ok y) x e is unavailable = absurd is
 passed_on (Err why) x e is unavailable = is ∙ unavailable

@@ -1,4 +1,4 @@
--- Rows that stand for items, each at its number.
+-- Rows that represent items, each at its number.
 use Rattle.std.proofs.Common.{◌≡◌, ℕ, zero, suc, ◌+◌, List, [], ◌∷◌, ◌++◌, length, take, Option, Some, refl, sym, ap, subst, ◌∙◌, arith}
 use Rattle.std.specs.Prelude.{slice_get, unwrap_or, map, filter_map, option_map}
 use Rattle.std.specs.List.{range_with_len, cons_option}
@@ -16,7 +16,7 @@ use Rattle.table_worlds.proofs.ByPlace.{nth_next}
 use Rattle.table_worlds.proofs.UnitRowsRead.{take_one_more}
 use Rattle.table_decoding.specs.Decoding.{of_account, of_app, of_version, of_class, of_unit, of_mark, of_host}
 
--- the item that a row stands for
+-- the item that a row represents
 item_of : {X Y : Type 0} (f : ℕ → X → Y) (n : ℕ) (xs : List X) (i : ℕ) (y : Y) → slice_get (map_from n f xs) i ≡ Some y → (x : X) × (slice_get xs i ≡ Some x) × (y ≡ f (i + n) x)
 item_of f n [] i y is = absurd (none-some y is)
 item_of f n (x ∷ xs) zero y is = (x, refl, sym (ap (λ o. unwrap_or o y) is) ∙ ap (λ m. f m x) (let same : n ≡ 0 + n = omega arith in same))
@@ -29,11 +29,11 @@ length-map_from f n [] = refl
 length-map_from f n (x ∷ xs) = ap suc (length-map_from f (n + 1) xs)
 
 module _ {X Y : Type 0} (f : ℕ → X → Y) (xs : List X) (rows : List Y) (are : rows ≡ map_from 1 f xs) (i : ℕ) where
-  -- the item that one of the rows stands for
+  -- the item that one of the rows represents
   pub item_at : (row : Y) → slice_get rows i ≡ Some row → (x : X) × (nth xs (i + 1) ≡ Some x) × (row ≡ f (i + 1) x)
   item_at row here = let x = item_of f 1 xs i row (sym (ap (λ l. slice_get l i) are) ∙ here) in (x.0, nth_next xs i ∙ x.1, x.2)
 
-  -- the items that the rows so far stand for, with one more
+  -- the items that the rows so far represent, with one more
   pub one_more : (row : Y) (items more : List X) (item : X) → slice_get rows i ≡ Some row → items ≡ take i xs → more ≡ items ++ item ∷ []
       → ((x : X) → nth xs (i + 1) ≡ Some x → row ≡ f (i + 1) x → item ≡ x) → more ≡ take (i + 1) xs
   one_more row items more item here so_far pushed tells =

@@ -1,4 +1,4 @@
--- What rows tell of a setting.
+-- The values that rows give for a setting.
 use Rattle.std.proofs.Common.{◌≡◌, ℕ, cond, List, Option, Some, None, refl, sym, ap, ◌∙◌, inl, inr}
 use Rattle.std.specs.Prelude.{option_map}
 use Rattle.std.specs.Str.{bytes_eq}
@@ -13,7 +13,7 @@ use Rattle.table_worlds.specs.RowsOf.{setting_names, setting_rows, HaveSame}
 use Rattle.table_worlds.proofs.RowsHold.{given_by}
 use Rattle.table_decoding.specs.Decoding.{Tells, TellAll, told_of, of_setting}
 
--- a row of the settings tells one of them
+-- a row of the settings gives one of them
 listed : (s : Settings) (r : StoredRow) → Has (setting_rows s) r → (name : List ℕ) × (value : SettingValue) × (setting_in s name ≡ Some value) × (r ≡ of_setting name value)
 listed s r has = let from = given_by (λ name. option_map (of_setting name) (setting_in s name)) setting_names r has in go from.0 (setting_in s from.0) refl from.2
   where
@@ -22,7 +22,7 @@ listed s r has = let from = given_by (λ name. option_map (of_setting name) (set
     go name None is none = absurd (none-some r none)
     go name (Some value) is some = (name, value, is, sym (same_Some (of_setting name value) r some))
 
--- what such a row tells of a name is the setting of that name
+-- the value that such a row gives for a name is the setting of that name
 told_is : (s : Settings) (r : StoredRow) (name : List ℕ) (value : SettingValue) → Has (setting_rows s) r → told_of name r ≡ Some value → setting_in s name ≡ Some value
 told_is s r name value has tells =
     let of_row = listed s r has in
@@ -40,7 +40,7 @@ module _ (s : Settings) (rows : List StoredRow) (same : HaveSame rows (setting_r
         same_Some other value (sym (told_is s r name other (same.0 r here) says) ∙ told_is s (of_setting name value) name value has (tells_itself name value));
   }
 
-  -- rows that are those of the settings tell these
+  -- the rows of the settings give these settings
   pub all_told : TellAll rows s
   all_told = record {
     daily_result_quota = tells _ _ (inr (inl refl));
@@ -52,7 +52,7 @@ module _ (s : Settings) (rows : List StoredRow) (same : HaveSame rows (setting_r
     resend_lost_results = tells _ _ (inr (inr (inr (inr (inr (inr (inr (inl refl))))))));
   }
 
--- ---- what the first row of a name tells
+-- ---- what the first row of a name gives
 
 module _ (rows : List StoredRow) (name : List ℕ) (value : SettingValue) (these : Tells rows name value) where
   pub found_told : (r : StoredRow) (other : SettingValue) → Has rows r → Some other ≡ told_of name r → Some other ≡ Some value

@@ -1,4 +1,4 @@
--- What is known of the rows of a sound world beside its workunits, table by table.
+-- What is known about the rows of a sound world, except those of its workunits, table by table.
 use Rattle.std.proofs.Common.{◌≡◌, List, subst, sym, ◌∙◌, arith}
 use Rattle.std.specs.Prelude.{All}
 use Rattle.std.proofs.lemmas.List.Elements.{All-weaker}
@@ -15,7 +15,7 @@ use Rattle.table_decoding.specs.Decoding.{TellAll, of_account, of_app, of_versio
 use Rattle.table_decoding.proofs.RowsInOrder.{account_rows, app_rows, version_rows, class_rows, host_rows}
 use Rattle.table_decoding.proofs.SettingsTold.{all_told}
 
--- a host within the settings' quota is within the greatest one
+-- a host whose quota is within the settings' quota is within the greatest quota
 pub hosts_limited : (w : World) → Sound w → All (IsHostInLimits most_quota) w.hosts
 hosts_limited w sound = All-weaker (IsSoundHost (length w.accounts) w.settings.daily_result_quota) (IsHostInLimits most_quota) (λ h is. record {
   cpid = is.limits.cpid;
@@ -27,7 +27,7 @@ hosts_limited w sound = All-weaker (IsSoundHost (length w.accounts) w.settings.d
   quota = (is.limits.quota.0, let least = is.limits.quota.1 in let most = sound.rows.settings.quota.1 in omega (arith, least, most));
 }) w.hosts sound.rows.hosts
 
--- the rows of each table, however they are passed
+-- the rows of each table, however they are passed on
 module _ (w : World) (rows : TableRows) (are : AreRowsBeside w rows) (these : List StoredRow) where
   pub settings_told : these ≡ rows.settings → TellAll these w.settings
   settings_told is = subst (λ l. TellAll l w.settings) (sym is) (all_told w.settings rows.settings are.settings)

@@ -1,4 +1,4 @@
--- Rule. What is said of rows that are decoded.
+-- Rule. What the contracts say about decoded rows.
 use Rattle.std.specs.Prelude.{◌≡◌, ◌≤◌, ℕ, List, length, codes, All, Option, Some, None, if◌then◌else◌, Result, MatchResult}
 use Rattle.std.specs.Str.{bytes_eq}
 use Rattle.sqlite_rules.specs.Lists.{Has}
@@ -19,15 +19,15 @@ use Rattle.table_decoding.specs.declared.fault.RowFault.{RowFault}
 use Rattle.table_decoding.specs.declared.fault.RowFault.TheVariants.{Unavailable}
 use Rattle.texts.specs.Words.{IsWord}
 
--- just this is given, or memory was wanting
+-- the result is exactly this, or out of memory
 abbrev pub Gives : {A : Type 0} → Result A RowFault → A → Type 0
 Gives result x = MatchResult result (λ d. d ≡ x) (λ e. e ≡ Unavailable)
 
--- the row that tells the schema of the stored tables
+-- the row that names the schema of the stored tables
 abbrev pub schema_row : StoredRow
 schema_row = stored.Setting (record { name = codes "schema"; value = Number newest })
 
--- what a row says of the setting of a name
+-- the value that a row gives for the setting of a name
 abbrev pub told_of : List ℕ → StoredRow → Option SettingValue
 told_of name (stored.Setting s) = if bytes_eq s.name name then Some s.value else None
 told_of name _ = None
@@ -36,12 +36,12 @@ told_of name _ = None
 abbrev pub of_setting : List ℕ → SettingValue → StoredRow
 of_setting name value = stored.Setting (record { name = name; value = value })
 
--- a row tells this of the setting of the name, and none tells anything else
+-- a row gives this value for the setting of the name, and no row gives another
 pub record Tells (rows : List StoredRow) (name : List ℕ) (value : SettingValue) : Type 0 where
   pub this : Has rows (of_setting name value)
   pub alone : (r : StoredRow) (other : SettingValue) → Has rows r → told_of name r ≡ Some other → other ≡ value
 
--- the rows tell these settings, and none of them otherwise
+-- the rows give the values of these settings, and no others for them
 pub record TellAll (rows : List StoredRow) (s : Settings) : Type 0 where
   pub daily_result_quota : Tells rows (codes "daily_result_quota") (Number s.daily_result_quota)
   pub max_hosts : Tells rows (codes "max_hosts") (Number s.max_hosts)
@@ -51,7 +51,7 @@ pub record TellAll (rows : List StoredRow) (s : Settings) : Type 0 where
   pub resend_lost_results : Tells rows (codes "resend_lost_results") (Number (if s.resend_lost_results then 1 else 0))
   pub operator_key : Tells rows (codes "operator_key") (Word s.operator_key)
 
--- the rows by which accounts, applications, versions, their classes, workunits, their marks and hosts are told
+-- the rows of accounts, applications, versions, their classes, workunits, their marks and hosts
 abbrev pub of_account : ℕ → Account → StoredRow
 of_account id a = stored.Account (account_row id a)
 
@@ -64,7 +64,7 @@ of_version w id v = stored.Version (version_row w id v)
 abbrev pub of_class : ℕ → Version → StoredRow
 of_class id v = stored.VersionClass (class_row id v)
 
--- of a class by itself
+-- the row of a class alone
 abbrev pub of_word : ℕ → List ℕ → StoredRow
 of_word id class = stored.VersionClass (record { version_id = id; class = class })
 
@@ -74,10 +74,10 @@ of_unit w id b = stored.Unit (unit_row w id b)
 abbrev pub of_mark : ℕ → UnitBook → StoredRow
 of_mark id b = stored.UnitMark (mark_row id b)
 
--- a host that holds so many instances, with so much credit
+-- the row of a host that holds so many instances, with so much credit
 abbrev pub of_host : (ℕ → ℕ) → (ℕ → ℕ) → ℕ → HostRow → StoredRow
 of_host held credit id h = stored.Host (host_row (held id) (credit id) id h)
 
--- some platforms, each a word
+-- platforms: at least one, and each is a word
 abbrev pub ArePlatforms : List (List ℕ) → Type 0
 ArePlatforms words = (1 ≤ length words) × All IsWord words

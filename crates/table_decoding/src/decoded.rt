@@ -1,4 +1,4 @@
-//! The world that rows of the tables stand for.
+//! The world that rows of the tables represent.
 
 ghost use Rattle.std.specs.Prelude.{◌≡◌, [], Some, None, Ok, IfOk, IfErr, IfSome};
 ghost use Rattle.sqlite_rules.specs.Lists.{Has};
@@ -16,7 +16,7 @@ use std::alloc::Global;
 use table_worlds::TableRows;
 use texts::Listed;
 
-/// The world of these rows, without its workunits, where one of them tells the schema.
+/// The world of these rows, without its workunits.
 fn world_of(alloc: Global, rows: &TableRows) -> Result<World, RowFault>
     ensures told { (w : World) → Sound w → AreRowsBeside w rows.now → Gives result (without_units w) }
     ensures alone { IfOk result (λ d. d.units ≡ []) }
@@ -41,10 +41,10 @@ fn world_of(alloc: Global, rows: &TableRows) -> Result<World, RowFault>
     })
 }
 
-/// The world whose rows these are, without its workunits, if they are those of a sound world; none where no row tells the
-/// schema of the stored tables.
+/// The world whose rows these are, without its workunits, if they are those of a sound world. `None` if no row names
+/// the schema of the stored tables.
 ///
-/// Nothing is promised of other rows: they may be told as some world, or refused.
+/// Nothing is promised for other rows: the result may be some world, or a refusal.
 pub fn decoded_world(alloc: Global, rows: &TableRows) -> Result<Option<World>, RowFault>
     ensures decoded { (w : World) → Sound w → AreRowsBeside w rows.now → IfOk result (λ d. d ≡ Some (without_units w)) }
     ensures refused { (w : World) → Sound w → AreRowsBeside w rows.now → IfErr result (λ e. e ≡ fault.Unavailable) }

@@ -8,9 +8,9 @@ use std::fmt;
 /// Why a row is not that of a world.
 #[derive(Clone, Copy, Debug, PartialEq, Eq)]
 pub enum RowFault {
-    /// The row has not the form of its table, or a value out of its range.
+    /// The row does not have the form of its table, or has a value out of range.
     BadRow,
-    /// Memory is wanting.
+    /// Out of memory.
     Unavailable,
 }
 

@@ -30,7 +30,7 @@ use table_meaning::rows::StoredInstance;
 use texts::Listed;
 use world_soundness::in_limits::is_instance_in_limits;
 
-/// The moment that a table writes.
+/// The moment of a number that a table writes.
 fn moment(written: i64) -> Result<Moment, RowFault>
     ensures given { (n : ℕ) → n ≤ last_moment → written ≡ pos n → result ≡ Ok n }
     ensures read { IfOk result (λ moment. written ≡ pos moment) }
@@ -38,7 +38,7 @@ fn moment(written: i64) -> Result<Moment, RowFault>
     Moment::new(amount(written)?).ok_or(RowFault::BadRow)
 }
 
-/// To which host the instance of a row was given.
+/// The host that the instance of a row was sent to, the moment of sending, and the deadline.
 fn owner(row: &StoredInstance) -> Result<Option<Owner>, RowFault>
     ensures read { IfOk result (λ o. o ≡ owner_in row.now.host_id (number_of (or_null Int row.now.sent)) (number_of (or_null Int row.now.deadline))) }
     ensures given { (o : Option Owner) → IfSome o (λ (o : Owner). o.sent ≤ last_moment) → row.now.host_id ≡ option_map (λ (o : Owner). o.host) o
@@ -75,7 +75,7 @@ fn is_success(code: u32) -> Result<bool, RowFault>
     }
 }
 
-/// What was reported of the instance of a row.
+/// The report of the instance of a row.
 fn report(row: &StoredInstance) -> Result<Option<Outcome>, RowFault>
     ensures read { IfOk result (λ o. o ≡ report_in row.now.outcome (bytes (or_null Text row.now.output)) row.now.place) }
     ensures given { (o : Option Outcome) → row.now.outcome ≡ option_map (λ (r : Outcome). if r.success then 1 else 3) o
@@ -92,7 +92,7 @@ fn report(row: &StoredInstance) -> Result<Option<Outcome>, RowFault>
     }
 }
 
-/// The instance of a row, where its values are in their ranges.
+/// The instance of a row. `BadRow` if a value is out of range.
 pub fn instance(row: &StoredInstance) -> Result<Instance, RowFault>
     ensures given { (w : World) (b : UnitBook) (unit number : ℕ) (x : Instance) → IsInstanceInLimits x → row.now ≡ instance_row w b unit number x → Gives result x }
     ensures read { IfOk result (λ x. x ≡ job_in (columns_of (stored.Instance row.now))) }

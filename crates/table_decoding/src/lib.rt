@@ -1,4 +1,4 @@
-//! The world that rows of the stored tables stand for.
+//! The world that rows of the stored tables represent.
 #![tactic(auto)]
 
 mod decoded;

@@ -1,4 +1,4 @@
-//! Lists of rows, each by what undoes its encoding.
+//! Decodes lists of rows, row by row.
 
 ghost use Rattle.std.specs.Prelude.{◌≡◌, ℕ, List, Some, Result};
 ghost use Rattle.std.specs.Fn.{FnReturnsAt};
@@ -11,7 +11,7 @@ use crate::fault::RowFault;
 use std::alloc::Global;
 use texts::Listed;
 
-/// What each of these rows tells, in their order.
+/// Decodes each of these rows, in their order.
 pub(crate) fn each<R, T: Drop, F: Fn(&R) -> Result<T, RowFault>>(
     alloc: Global,
     rows: &[R],

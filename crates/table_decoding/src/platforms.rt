@@ -9,7 +9,7 @@ ghost use Rattle.table_decoding.specs.Decoding.{ArePlatforms};
 use std::alloc::Global;
 use texts::{Listed, Memory, Text};
 
-/// The platforms of a text, in which commas stand between them.
+/// The platforms of a text, where they are separated by commas.
 pub(crate) fn platforms(alloc: Global, text: &str) -> Result<Listed<Text>, Memory>
     ensures given { (words : List (List ℕ)) → ArePlatforms words → text.now ≡ joined words → IfOk result (λ platforms. platforms ≡ words) }
     ensures read { IfOk result (λ platforms. platforms ≡ slice_split is_comma text.now) }

@@ -1,4 +1,4 @@
-//! Accounts, applications, versions and hosts, each from its row, a version with its class from another.
+//! Accounts, applications, versions and hosts, each from its row. A version takes its class from another row.
 
 ghost use Rattle.std.specs.Prelude.{◌≡◌, ℕ, pos, List, All, map, IsTrue, Ok, Some, IfOk};
 ghost use Rattle.sched_book.specs.Numbered.{map_from};
@@ -29,7 +29,7 @@ use table_meaning::rows::{StoredAccount, StoredHost, StoredRow, StoredVersionCla
 use texts::{Listed, Text, is_word};
 use world_soundness::in_limits::{is_account_in_limits, is_host_in_limits};
 
-/// The number that a table writes, which is negative in no world's row.
+/// The number that a table writes. In a row of a world it is never negative.
 pub(crate) fn amount(written: i64) -> Result<u64, RowFault>
     ensures given { (n : ℕ) → written ≡ pos n → result ≡ Ok n }
     ensures read { IfOk result (λ n. written ≡ pos n) }
@@ -37,7 +37,7 @@ pub(crate) fn amount(written: i64) -> Result<u64, RowFault>
     u64::try_from(written).map_err(|_| RowFault::BadRow)
 }
 
-/// The account of a row, where its values are in their ranges.
+/// The account of a row. `BadRow` if a value is out of range.
 pub fn account(row: &StoredAccount) -> Result<Account, RowFault>
     ensures given { (id : ℕ) (a : Account) → IsAccountInLimits a → row.now ≡ account_row id a → Gives result a }
     ensures read { IfOk result (λ a. a ≡ account_in (columns_of (stored.Account row.now))) }
@@ -70,7 +70,7 @@ pub(crate) fn accounts(alloc: Global, rows: &[StoredRow]) -> Result<Listed<Accou
     each(alloc, rows, told_account)
 }
 
-/// How outputs are compared that may be so far apart, or have to be equal where it is none.
+/// How outputs are compared: they may be so far apart, or must be equal if there is no limit.
 fn agreement(limit: Option<u32>) -> Agreement
     ensures { (a : Agreement) → limit ≡ agreement_limit a → result ≡ a }
 {
@@ -111,7 +111,7 @@ pub(crate) fn app_name(apps: &[App], place: u32) -> Result<Text, RowFault>
     }
 }
 
-/// The class of a row, where it is a word.
+/// The class of a row. `BadRow` if it is not a word.
 pub fn version_class(row: &StoredVersionClass) -> Result<Text, RowFault>
     ensures given { IsWord row.now.class → Gives result row.now.class }
     ensures read { IfOk result (λ class. class ≡ row.now.class) }
@@ -151,7 +151,7 @@ fn class_at(classes: &[Text], id: u32) -> Result<Text, RowFault>
     }
 }
 
-/// The version of a row, beside the applications and the classes of all versions.
+/// The version of a row, from the applications and the classes of all versions.
 fn version(apps: &[App], classes: &[Text], row: &StoredRow) -> Result<Version, RowFault>
     ensures { (w : World) (id : ℕ) (v : Version) → apps.now ≡ w.apps → IsTrue (has_app w.apps v.app) → specified_nth classes.now id ≡ Some v.class
         → row.now ≡ of_version w id v → Gives result v }
@@ -167,7 +167,7 @@ fn version(apps: &[App], classes: &[Text], row: &StoredRow) -> Result<Version, R
     })
 }
 
-/// The versions of these rows, beside the applications and the classes of all versions.
+/// The versions of these rows, from the applications and the classes of all versions.
 fn classed_versions(
     alloc: Global,
     apps: &[App],
@@ -180,7 +180,7 @@ fn classed_versions(
     each(alloc, rows, |row| version(apps, classes, row))
 }
 
-/// The versions of these rows with the classes of others, beside the applications.
+/// The versions of these rows, from the applications and the rows of the classes.
 pub(crate) fn versions(
     alloc: Global,
     apps: &[App],
@@ -194,7 +194,7 @@ pub(crate) fn versions(
     classed_versions(alloc, apps, classes.as_slice(), rows)
 }
 
-/// The host of a row, where its values are in their ranges. Of its quota this is the range that settings may give it.
+/// The host of a row. `BadRow` if a value is out of range. The range of its quota is the one that settings may allow.
 pub fn host(alloc: Global, row: &StoredHost) -> Result<HostRow, RowFault>
     ensures given { (held credit id : ℕ) (h : HostRow) → IsHostInLimits most_quota h → row.now ≡ host_row held credit id h → Gives result h }
     ensures read { IfOk result (λ h. h ≡ host_in (columns_of (stored.Host row.now))) }

@@ -1,4 +1,4 @@
-//! The settings that rows tell.
+//! The settings that rows give.
 
 ghost use Rattle.std.specs.Prelude.{◌≡◌, ◌↔◌, ℕ, Bool, List, if◌then◌else◌, Some, Ok, IsTrue};
 ghost use Rattle.std.specs.Option.{option_copied};
@@ -14,7 +14,7 @@ use table_meaning::rows::{SettingValue, StoredRow};
 use table_meaning::tables::NEWEST_SCHEMA;
 use texts::Text;
 
-/// Whether the row tells the schema of the stored tables.
+/// Whether the row names the schema of the stored tables.
 fn is_schema(row: &StoredRow) -> bool
     ensures { IsTrue result ↔ (row.now ≡ schema_row) }
 {
@@ -27,7 +27,7 @@ fn is_schema(row: &StoredRow) -> bool
     }
 }
 
-/// Whether a row tells the schema of the stored tables.
+/// Whether a row names the schema of the stored tables.
 pub(crate) fn tells_schema(rows: &[StoredRow]) -> bool
     ensures { IsTrue result ↔ Has rows.now schema_row }
 {
@@ -39,7 +39,7 @@ pub(crate) fn tells_schema(rows: &[StoredRow]) -> bool
     false
 }
 
-/// What the row says of the setting of this name.
+/// The value that the row gives for the setting of this name.
 fn told_of<'a>(row: &'a StoredRow, name: &str) -> Option<&'a SettingValue>
     ensures { option_copied result ≡ told_of name.now row.now }
 {
@@ -49,7 +49,7 @@ fn told_of<'a>(row: &'a StoredRow, name: &str) -> Option<&'a SettingValue>
     }
 }
 
-/// What the first row that speaks of the setting of this name says of it.
+/// The value of the first row for the setting of this name.
 fn value_of<'a>(rows: &'a [StoredRow], name: &str) -> Option<&'a SettingValue>
     ensures { (v : SettingValue) → Tells rows.now name.now v → option_copied result ≡ Some v }
 {
@@ -81,7 +81,7 @@ fn word(rows: &[StoredRow], name: &str) -> Result<Text, RowFault>
     }
 }
 
-/// The setting of this name, which is 1 where it is so and else 0.
+/// The setting of this name, which is 1 for true and 0 for false.
 fn flag(rows: &[StoredRow], name: &str) -> Result<bool, RowFault>
     ensures { (b : Bool) → Tells rows.now name.now (value.Number (if b then 1 else 0)) → result ≡ Ok b }
 {
@@ -92,7 +92,7 @@ fn flag(rows: &[StoredRow], name: &str) -> Result<bool, RowFault>
     }
 }
 
-/// The settings that these rows tell.
+/// The settings that these rows give.
 pub(crate) fn settings(rows: &[StoredRow]) -> Result<Settings, RowFault>
     ensures { (s : Settings) → TellAll rows.now s → Gives result s }
 {

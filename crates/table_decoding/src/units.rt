@@ -22,7 +22,7 @@ use table_meaning::rows::{StoredUnit, StoredUnitMark};
 use table_worlds::UnitRows;
 use world_soundness::in_limits::is_unit_in_limits;
 
-/// The rule of a mark. One that is not marked has no class.
+/// The rule of a mark. A workunit that is not marked has no class.
 fn rule(mark: &StoredUnitMark) -> Result<ClassRule, RowFault>
     ensures given { (id : ℕ) (b : UnitBook) → mark.now ≡ mark_row id b → Gives result b.unit.class_rule }
     ensures read { IfOk result (λ rule. rule ≡ rule_in (columns_of (stored.UnitMark mark.now))) }
@@ -35,7 +35,7 @@ fn rule(mark: &StoredUnitMark) -> Result<ClassRule, RowFault>
     }
 }
 
-/// The workunit of a row and of its mark, beside the applications, where its values are in their ranges.
+/// The workunit of a row and of its mark, for these applications. `BadRow` if a value is out of range.
 pub fn workunit(apps: &[App], row: &StoredUnit, mark: &StoredUnitMark) -> Result<Workunit, RowFault>
     ensures given { (w : World) (id : ℕ) (b : UnitBook) → apps.now ≡ w.apps → IsTrue (has_app w.apps b.unit.app) → IsUnitInLimits b.unit → row.now ≡ unit_row w id b
         → mark.now ≡ mark_row id b → Gives result b.unit }
@@ -63,7 +63,7 @@ pub fn workunit(apps: &[App], row: &StoredUnit, mark: &StoredUnitMark) -> Result
     Ok(unit)
 }
 
-/// The workunit of these rows with its instances, beside the applications.
+/// The workunit of these rows with its instances, for these applications.
 pub fn unit_book(alloc: Global, apps: &[App], rows: &UnitRows) -> Result<UnitBook, RowFault>
     ensures { (w : World) (id : ℕ) (b : UnitBook) → apps.now ≡ w.apps → IsSoundUnit w.hosts w.apps b → rows.now ≡ rows_of_unit w id b → Gives result b }
 {

@@ -1,4 +1,4 @@
--- What is found of each table by computing with its layout: what its texts mean, and how they deal with any row.
+-- What is computed from each table's layout: what its texts mean, and what they do with any row.
 use Rattle.std.proofs.Common.{◌≡◌, ℕ, ◌+◌, ◌/◌, ℤ, Bool, true, false, ◌||◌, List, [], ◌∷◌, ◌++◌, length, find, slice_get, Some, None, Ok, Err, refl}
 use Rattle.std.specs.Prelude.{◌==◌, ⊤}
 use Rattle.std.specs.List.{list_any}
@@ -37,7 +37,7 @@ use Rattle.table_meaning.proofs.Columns.{key_by, count_of, written_out, behind_b
 abbrev pub names_of : TableName → List (List ℕ)
 names_of t = names (layout_of t)
 
--- the text reads a table whole
+-- the text reads the whole table
 abbrev pub IsRead : TableName → Type 0
 IsRead t = (command_of (understood stored_schema (read_text t)) ≡ Select (record { lets = []; body = read_query (tree_of t) (places_of t) }) (names_of t)) × IsPlain (understood stored_schema (read_text t))
     × (reads_listing stored_schema (read_text t) ≡ false)
@@ -55,7 +55,7 @@ abbrev pub IsQuiet : Checked Parsed → Type 0
 IsQuiet (Ok p) = (schema : Schema) (base : ℕ) → returning schema base p.statement ≡ Ok None
 IsQuiet (Err e) = ⊤
 
--- the first column is a number, where it is the number of the row
+-- if the first column is the number of the row, its kind is `number`
 abbrev pub BeginsBy : Key → List Kind → Type 0
 BeginsBy numbered kinds = (more : List Kind) × (kinds ≡ number ∷ more)
 BeginsBy (by_first n) kinds = ⊤
@@ -73,7 +73,7 @@ pub record Computed (t : TableName) : Type 0 where
   pub reads_key : ReadsByKey t (places_of t) (names_of t) (key_text t)
   pub puts : command_of (understood stored_schema (put_text t)) ≡ put_command (place_of t) (put_terms (key_by t) (count_of t)) (count_of t + 1) (update_at (key_places t) (tree_of t) (count_of t) (set_terms (key_by t) (count_of t)))
   pub plain_text : IsPlain (understood stored_schema (put_text t))
-  -- what becomes of the columns of a row that is put
+  -- what happens to the columns of a row that is put
   pub values : (c : Row) → value_rows (stamped (table_by t) (written_out t c)) (count_of t + 1) (length (put_terms (key_by t) (count_of t)) / (count_of t + 1)) (put_terms (key_by t) (count_of t))
       ≡ source_by (key_by t) (written_out t c) ∷ []
   pub meets : (c : Row) (id : ℤ) (x : Row) → conflicts (Some (key_places t)) stored_schema.indexes (table_by t) (Int id ∷ behind_by (key_by t) (written_out t c)) x
@@ -87,7 +87,7 @@ pub or_false : (b : Bool) → (b || false) ≡ b
 or_false true = refl
 or_false false = refl
 
--- (one `elim`, since each clause of a function would be found equal to its text once more)
+-- (one `elim`: with a clause for each table, each clause would be compared with its text once more)
 pub computed : (t : TableName) → Computed t
 unfolding understood everything
 computed t = elim t as Computed [

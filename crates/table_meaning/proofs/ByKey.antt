@@ -1,4 +1,4 @@
--- What the text means that reads a column of the row at a key.
+-- The meaning of the text that reads one column of the row at a key.
 use Rattle.std.proofs.Common.{[], ◌∷◌, codes, refl}
 use Rattle.sqlite_tied.specs.Compute.{everything}
 use Rattle.sqlite.specs.Listing.{understood}

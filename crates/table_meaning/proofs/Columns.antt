@@ -1,4 +1,4 @@
--- How the columns of a row lie in its tree, by the key of the table, and the terms of the text that puts them.
+-- Where the columns of a row are in its tree, by the key of the table, and the terms of the text that puts them.
 use Rattle.std.proofs.Common.{◌≡◌, ℕ, ◌+◌, ◌-◌, ℤ, List, ◌∷◌, map, drop, length, sym, ap, ◌∙◌}
 use Rattle.std.proofs.lemmas.List.{take-map}
 use Rattle.std.specs.Prelude.{⊤}
@@ -17,31 +17,31 @@ key_by t = (layout_of t).key
 abbrev pub count_of : TableName → ℕ
 count_of t = length (layout_of t).columns
 
--- the columns one by one, so that what is said of them computes whatever they are
+-- the columns one by one, so that facts about them compute for any row
 abbrev pub written_out : TableName → Row → Row
 written_out t c = columns_in c (count_of t)
 
--- what the tree has of the columns behind the number of the row
+-- what the tree has of a row after the row's number
 abbrev pub behind_by : Key → Row → Row
 behind_by numbered c = Null ∷ drop 1 c
 behind_by (by_first n) c = c
 
--- The row has this number, where its number is a column.
+-- If the row's number is one of the columns, it is this number.
 abbrev pub IsNumberedBy : Key → Row → ℤ → Type 0
 IsNumberedBy numbered c id = column c 0 ≡ Int id
 IsNumberedBy (by_first n) c id = ⊤
 
--- the columns, with this number where it is one of them
+-- the columns, with this number if one of them is the row's number
 abbrev pub with_number : Key → ℤ → Row → Row
 with_number numbered id c = Int id ∷ drop 1 c
 with_number (by_first n) id c = c
 
--- what is put: the number if it is a column, and else NULL, for which SQL takes a free one
+-- what is put: the row's number if it is a column; if not, NULL, for which SQL chooses a free number
 abbrev pub source_by : Key → Row → Row
 source_by numbered c = column c 0 ∷ behind_by numbered c
 source_by (by_first n) c = Null ∷ c
 
--- the terms of the columns that UPDATE sets, of the row that is put, and of the columns that DO UPDATE sets, where so many columns are the parameters
+-- If `count` columns are the parameters: the terms for the columns that UPDATE sets, for the row that is put, and for those that DO UPDATE sets.
 abbrev pub given_terms : Key → ℕ → List Term
 given_terms numbered count = lit Null ∷ map (col 0) (range_with_len 1 (count - 1))
 given_terms (by_first n) count = map (col 0) (range_with_len 0 count)
@@ -54,6 +54,6 @@ abbrev pub set_terms : Key → ℕ → List Term
 set_terms numbered count = lit Null ∷ map (col 0) (range_with_len (count + 3) (count - 1))
 set_terms (by_first n) count = map (col 0) (range_with_len (count + 2) count)
 
--- what is shown of a row has its key first
+-- the shown columns of a row begin with those of its key
 pub key_shown : (t : TableName) (raw c : Row) → shown t raw ≡ c → map (column raw) (key_places t) ≡ of_key (layout_of t) c
 key_shown t raw c is = sym (take-map (column raw) (key_width (key_by t)) (places_of t)) ∙ ap (of_key (layout_of t)) is

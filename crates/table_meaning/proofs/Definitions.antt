@@ -1,4 +1,4 @@
--- What each CREATE text makes, and what all of them make of an empty database, or of the tables of an earlier schema.
+-- What each CREATE text makes, and what all of them make from an empty database or from the tables of an earlier schema.
 use Rattle.std.proofs.Common.{◌≡◌, ℕ, zero, suc, ◌+◌, ◌≤◌, cond, List, [], ◌∷◌, ◌++◌, length, take, refl, sym, ap, subst, arith}
 use Rattle.std.specs.List.{AllByRecursion}
 use Rattle.std.proofs.lemmas.List.{length-take}
@@ -24,7 +24,7 @@ make_then : (schema : Schema) (first more : List (List ℕ × Made)) → MakeInT
 make_then schema [] more makes then = then
 make_then schema (d ∷ first) more makes then = (makes.0, makes.1, makes.2, make_then (with_made schema d.1) first more makes.3 then)
 
--- and so do those of each, one step after another
+-- and so do the texts of each schema, one step after another
 make_in_turn : (n : ℕ) → n ≤ newest → MakeInTurn no_schema (definitions_between 0 n)
 make_in_turn zero within = tt
 make_in_turn (suc zero) within = first_make
@@ -36,7 +36,7 @@ make_in_turn (suc (suc n)) within =
     (subst (λ s. MakeInTurn s (definitions_between (suc n) (suc n + 1))) (sym made) it.makes) in
     subst (λ m. MakeInTurn no_schema (definitions_between 0 m)) next (subst (MakeInTurn no_schema) (sym it.split) both)
 
--- the texts of each schema make it
+-- the texts of each schema make that schema
 makes_schema : (n : ℕ) → n ≤ newest → made_by no_schema (definitions_between 0 n) ≡ schema_at n
 makes_schema zero within = refl
 makes_schema (suc n) within = (of_schema (suc n) (omega arith, within)).made
@@ -63,7 +63,7 @@ none_made n within db none = record {
 
 -- ---- tables of an earlier schema
 
--- its tables have the rows that they have
+-- its tables keep the rows that they have
 rows_stay : (n : ℕ) (trees : Trees) → AllByRecursion (λ t. trees t.tree ≡ rows_at n trees t.tree) (schema_at n).tables
 rows_stay n trees = each_tree n (λ tree. trees tree ≡ rows_at n trees tree) (λ tree has. sym (ap (λ b. cond b (trees tree) []) has))
 

@@ -1,4 +1,4 @@
--- What is found of each row by computing: its columns tell it, they have the types of its table, and its key is the first of them.
+-- What is computed for each row: its columns determine it, they have the types of its table, and the first of them are its key.
 use Rattle.std.proofs.Common.{◌≡◌, ℕ, ℤ, pos, Bool, true, false, cond, Option, Some, None, length, refl, sym, ap, ◌∙◌, ◌&&◌, List, [], ◌∷◌}
 use Rattle.std.specs.Prelude.{◌==◌, if◌then◌else◌}
 use Rattle.sqlite.specs.Values.{or_null}
@@ -22,7 +22,7 @@ use Rattle.table_meaning.proofs.Typed.{has_type, have_types}
 use Rattle.table_meaning.specs.declared.tables.TableName.{TableName}
 use Rattle.table_meaning.specs.declared.tables.TableName.TheVariants as table
 
--- ---- what a column tells
+-- ---- what a column says
 
 abbrev integer_of : Value → ℤ
 integer_of (Int n) = n
@@ -32,7 +32,7 @@ abbrev setting_of : Value → SettingValue
 setting_of (Text t) = Word t
 setting_of other = Number (number_of other)
 
--- NULL is none
+-- NULL means `None`
 abbrev if_any : {X : Type 0} → (Value → X) → Value → Option X
 if_any tells Null = None
 if_any tells other = Some (tells other)
@@ -105,7 +105,7 @@ instance_told row = record {
   queued = number_of (column row 9) == 1;
 }
 
--- The row of these columns: how many they are tells its table, and where several tables have as many, a text.
+-- The row with these columns. Their number determines its table. If several tables have as many columns, it depends on which of them are texts.
 row_told : Row → StoredRow
 row_told row =
     if length row == 2 then (if is_text (column row 0) then Setting (record { name = bytes_of (column row 0); value = setting_of (column row 1) })
@@ -206,11 +206,11 @@ key_from table.Batch cols = batch_key (bytes_of (column cols 0)) (bytes_of (colu
 key_from table.VersionClass cols = class_key (number_in (column cols 0))
 key_from table.UnitMark cols = mark_key (number_in (column cols 0))
 
--- what is found of each key by computing: the form of its columns, that it is told by them, and how many there are
+-- what is computed for each key: its columns have the form of a key and determine it, and there are as many as in its table's key
 pub key_is : (key : RowKey) → (is_key_row (key_columns key) ≡ true) × (key_from (table_at key) (key_columns key) ≡ key) × (length (key_places (table_at key)) ≡ length (key_columns key))
 key_is (setting_key name) = (refl, refl, refl)
 key_is _ = (refl, refl, refl)
 
--- a key of a table is told by its columns
+-- the columns of a key of a table determine the key
 pub key_of_table : (t : TableName) (key : RowKey) → table_at key ≡ t → key ≡ key_from t (key_columns key)
 key_of_table t key at = sym (key_is key).1 ∙ ap (λ u. key_from u (key_columns key)) at

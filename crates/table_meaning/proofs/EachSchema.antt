@@ -1,4 +1,4 @@
--- What is found by computing of each schema, of each step from one to the next, and of each fill of such a step.
+-- What is computed for each schema, for each step from one to the next, and for each fill of such a step.
 use Rattle.std.proofs.Common.{◌≡◌, ◌≢◌, ◌+◌, ℕ, zero, suc, pos, negsuc, Bool, true, false, ◌&&◌, cond, List, [], ◌∷◌, ◌++◌, map, drop, length, fold, find, slice_get, codes, Option, Some, None, option_map, option_and_then, unwrap_or, refl, sym, ap, subst, ◌∙◌, true≢false, arith}
 use Rattle.std.specs.Prelude.{◌==◌, ⊤}
 use Rattle.std.specs.List.{AllByRecursion, range_with_len}
@@ -42,21 +42,21 @@ use Rattle.table_meaning.proofs.Inserting.{copy_command}
 use Rattle.table_meaning.proofs.Putting.{PutsAt}
 use Rattle.table_meaning.proofs.Reading.{projecting_query}
 
--- what CREATE texts make of a schema
+-- the schema that CREATE texts make from a schema
 abbrev pub made_by : Schema → List (List ℕ × Made) → Schema
 made_by = fold (λ schema d. with_made schema d.1)
 
 -- ---- each schema
 
 pub record OfSchema (n : ℕ) : Type 0 where
-  -- its tables are the first ones of the newest schema, and those of the first schema are its first ones
+  -- its tables are the first ones of the newest schema, and those of the first schema are the first of them
   pub front : layouts_at newest ≡ layouts_at n ++ drop (length (layouts_at n)) (layouts_at newest)
   pub since_first : layouts_at n ≡ layouts_at 1 ++ drop (length (layouts_at 1)) (layouts_at n)
-  -- how many they are tells its number
+  -- the number of its tables determines its number
   pub number : find (λ m. length (schema_at m).tables == length (schema_at n).tables) (range_with_len 1 newest) ≡ Some n
   -- its CREATE texts make it
   pub made : made_by no_schema (definitions_between 0 n) ≡ schema_at n
-  -- what the texts mean there that put and read the row which names the schema
+  -- what the texts mean there that put and read the row that names the schema
   pub puts : PutsAt n Setting
   pub reads : ReadsByKeyIn (schema_at n) Setting (2 ∷ []) (codes "value" ∷ []) schema_text
 
@@ -70,17 +70,17 @@ of_schema (suc (suc (suc (suc n)))) is = absurd (omega (arith, is.1))
 
 -- ---- each step
 
--- a fill leads to the schema of a number, and the schema before lacks the table that is filled
+-- a fill leads to the next schema, and this schema lacks the table that is filled
 abbrev pub LeadsTo : ℕ → Fill → Type 0
 LeadsTo n f = (schema_with f ≡ n + 1) × (has_tree n (tree_of (target_of f)) ≡ false)
 
--- no two fills fill one table
+-- no two fills fill the same table
 abbrev pub AreDistinct : List Fill → Type 0
 AreDistinct [] = ⊤
 AreDistinct (f ∷ more) = AllByRecursion (λ g. (tree_of (target_of g) == tree_of (target_of f)) ≡ false) more × AreDistinct more
 
 pub record OfStep (n : ℕ) : Type 0 where
-  -- what makes the next schema of this one, in turn; and no tree that is made has a row
+  -- the definitions of the next schema make it from this one, in turn, and no tree that is made has a row
   pub makes : MakeInTurn (schema_at n) (definitions_between n (n + 1))
   pub whole : made_by (schema_at n) (definitions_between n (n + 1)) ≡ schema_at (n + 1)
   pub split : definitions_between 0 (n + 1) ≡ definitions_between 0 n ++ definitions_between n (n + 1)
@@ -104,7 +104,7 @@ of_step (suc (suc (suc n))) earlier = absurd (omega (arith, earlier.1))
 
 -- ---- each fill
 
--- what its texts take of a row of the source
+-- the columns that its text takes from a row of the source
 abbrev pub fill_terms : Fill → List Term
 fill_terms Calls = lit Null ∷ col 1 0 ∷ lit (Int (pos 0)) ∷ col 1 2 ∷ col 1 3 ∷ col 1 4 ∷ []
 fill_terms Classes = col 1 0 ∷ lit Null ∷ col 1 3 ∷ []
@@ -113,7 +113,7 @@ fill_terms Marks = col 1 0 ∷ lit Null ∷ lit (Int (pos 0)) ∷ lit Null ∷ [
 abbrev pub fill_query : Fill → Query
 fill_query f = projecting_query (source_of f).tree (key_tests 0 (0 ∷ [])) (fill_terms f) (map (λ _. Binary) (fill_terms f)) (lit (Int (negsuc 0)))
 
--- the name of the number
+-- the name of the column with the number
 abbrev number_name : Fill → List ℕ
 number_name Calls = codes "host_id"
 number_name Classes = codes "id"
@@ -129,30 +129,30 @@ taken_from calls contents Classes n = option_map columns_of (contents (version_k
 taken_from calls contents Marks n = option_map columns_of (contents (unit_key n))
 
 pub record OfFill (f : Fill) : Type 0 where
-  -- what the text means that gives the next number
+  -- what the text means that finds the next number
   pub next : command_of (understood (schema_at (schema_with f)) (next_text f))
       ≡ Select (record { lets = []; body = projecting_query (source_of f).tree next_terms (col 1 0 ∷ []) [] (lit (Int (pos 1))) }) (number_name f ∷ [])
   pub plain_next : IsPlain (understood (schema_at (schema_with f)) (next_text f))
   pub unlisted : reads_listing (schema_at (schema_with f)) (next_text f) ≡ false
-  -- and the one that fills
+  -- and the text that fills
   pub fills : command_of (understood (schema_at (schema_with f)) (fill_text f)) ≡ copy_command (place_of (target_of f)) (fill_query f)
   pub plain_text : IsPlain (understood (schema_at (schema_with f)) (fill_text f))
   pub listed : slice_get (schema_at (schema_with f)).tables (place_of (target_of f)) ≡ Some (table_by (target_of f))
   pub own : (trees : Trees) → overlay trees [] (source_of f).tree ≡ trees (source_of f).tree
   pub unstamped : (n : ℕ) → stamped (table_by (target_of f)) (whole n ∷ []) ≡ whole n ∷ []
   pub shows : (params r : Row) → eval_all (fill_terms f) (params ∷ r ∷ []) ≡ source_by (key_by (target_of f)) (filled_columns f (map (column r) (places_in (source_of f))))
-  -- which tables stand, and that they are three
+  -- the tables exist, and the filled one differs from the other two
   pub is_schema : IsSchema (schema_with f)
   pub source_stands : has_tree (schema_with f) (source_of f).tree ≡ true
   pub target_stands : has_table (schema_with f) (target_of f) ≡ true
   pub calls_stand : has_tree (schema_with f) former_kept.tree ≡ true
   pub apart : (source_of f).tree ≢ tree_of (target_of f)
   pub calls_apart : former_kept.tree ≢ tree_of (target_of f)
-  -- the key of what is put
+  -- the key of the row that is put
   pub from_key : (n : ℕ) → filled_from f (filled_key f n) ≡ Some n
   pub row_key : (n : ℕ) (c : Row) → key_of (filled_row f n c) ≡ filled_key f n
   pub row_table : (n : ℕ) (c : Row) → table_of (filled_row f n c) ≡ target_of f
-  -- the source has the rows that it is said to have
+  -- the source has the rows of these calls and contents
   pub rows_are : (calls : HostCalls) (contents : Contents) (trees : Trees) → ((key : RowKey) → has_table (schema_with f) (table_at key) ≡ true → look_up trees key ≡ option_map columns_of (contents key))
       → (schema_with f ≡ 2 → KeepCalls trees calls) → (n : ℕ) → numbered_row (source_of f) trees n ≡ taken_from calls contents f n
 
@@ -175,7 +175,7 @@ key_back Classes (class_key id) n is = ap class_key (same_Some _ _ is)
 key_back Marks (mark_key id) n is = ap mark_key (same_Some _ _ is)
 key_back _ _ n is = absurd (none-some n is)
 
--- four columns, of which the first is a number, are those of a version
+-- a row of four columns of which the first is a number is that of a version
 abbrev is_version : Row → Bool
 is_version c = (length c == 4) && is_int (column c 0)
 
@@ -188,7 +188,7 @@ module _ (calls : HostCalls) (contents : Contents) where
   abbrev pub HaveNumbers : Fill → Type 0
   HaveNumbers f = (n : ℕ) (c : Row) → taken_from calls contents f n ≡ Some c → (r : Row) × (map (column r) (places_in (source_of f)) ≡ c) × (rowid r ≡ whole n)
 
-  -- what stands at the key of a version is one
+  -- the row at the key of a version is a version
   version_at : HaveNumbers Classes → (n : ℕ) (row : StoredRow) → contents (version_key n) ≡ Some row → (v : StoredVersion) × (row ≡ Version v) × (whole v.id ≡ whole n)
   version_at numbers n row stands =
       let it = numbers n (columns_of row) (ap (option_map columns_of) stands) in
@@ -196,7 +196,7 @@ module _ (calls : HostCalls) (contents : Contents) where
       let v = version_of row is in
       (v.0, v.1, sym (ap (λ c. column c 0) (it.1 ∙ ap columns_of v.1)) ∙ it.2)
 
--- each has the form that the fill takes it to have
+-- each row has the form that the fill expects
 pub are_fit : (calls : HostCalls) (contents : Contents) (f : Fill) → HaveNumbers calls contents f → (n : ℕ) (c : Row) → taken_from calls contents f n ≡ Some c → filled_columns f c ≡ columns_of (filled_row f n c)
 are_fit calls contents Calls numbers n c is = go (calls n) is
   where
@@ -213,7 +213,7 @@ are_fit calls contents Classes numbers n c is = go (contents (version_key n)) re
         subst (λ d. filled_columns Classes d ≡ columns_of (filled_row Classes n d)) columns (ap (λ id. id ∷ Text v.0.platform ∷ []) v.2)
 are_fit calls contents Marks numbers n c is = let it = numbers n c is in ap (λ id. id ∷ whole 0 ∷ Null ∷ []) (sym (ap (λ d. column d 0) it.1) ∙ it.2)
 
--- what is put of them is what the fill brings
+-- the rows made from them are what the fill inserts
 pub is_brought : (calls : HostCalls) (contents : Contents) (f : Fill) → HaveNumbers calls contents f → (key : RowKey) → (tree_of (table_at key) == tree_of (target_of f)) ≡ true → contents key ≡ None
     → unwrap_or (option_map (λ n. option_map (filled_row f n) (taken_from calls contents f n)) (filled_from f key)) (contents key) ≡ brought f calls contents key
 is_brought calls contents Calls numbers (kept_key host slot) at none = slots slot none

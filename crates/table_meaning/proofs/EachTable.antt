@@ -1,4 +1,4 @@
--- What holds of each table of the schema holds of each table by its name, and a table goes by its tree.
+-- What holds for each table of the schema holds for each table by its name, and a table is determined by its tree.
 use Rattle.std.proofs.Common.{◌≡◌, find, ap, sym, ◌∙◌}
 use Rattle.std.specs.Prelude.{◌==◌, unwrap_or}
 use Rattle.std.specs.List.{AllByRecursion}

@@ -1,4 +1,4 @@
--- The rows of a table by an enumeration of its keys: one row at most is found at each key, each row is found at one of them, and a row shows what is held at its key.
+-- The rows of a table by an enumeration of its keys. At most one row is found at each key, and each row is found at one of them. The row found at a key is the one held there.
 use Rattle.std.proofs.Common.{◌≡◌, true, List, map, find, Option, Some, None, option_map, refl, sym, ap, subst, ◌∙◌, Ordering, Less, Equal, IsPermutation}
 use Rattle.std.specs.Prelude.{filter_map}
 use Rattle.std.proofs.lemmas.Cmp.{tied_itself}
@@ -17,7 +17,7 @@ use Rattle.table_meaning.specs.Holding.{Contents, Hold}
 use Rattle.table_meaning.proofs.PlacesLists.{map-filter_map, same_members, has_given, given_by}
 use Rattle.table_meaning.proofs.RowsKeyed.{found_by_key, shown_stands}
 
--- one row is not less than itself
+-- rows of which one is less than the other are different
 apart_by : (cmp : Row → Row → Ordering) → ((r : Row) → cmp r r ≡ Equal) → (a b : Row) → cmp a b ≡ Less → a ≡ b → ⊥
 apart_by cmp itself a b less same =
     let lower : cmp a a ≡ Less = ap (cmp a) same ∙ less in
@@ -33,7 +33,7 @@ module _ (db : Database) (contents : Contents) (holds : Hold db contents) (t : T
   found_shows : (k : K) → option_map (shown t) (found k) ≡ option_map columns_of (contents (key k))
   found_shows k = subst (λ u. option_map (shown u) (find (has_key (key k)) (db.trees (tree_of u))) ≡ option_map columns_of (contents (key k))) (at k) (holds.rows (key k))
 
-  -- what is known of a row that is found at a key
+  -- what is known about a row that is found at a key
   pub record IsAt (k : K) (r : Row) : Type 0 where
     pub here : Has rows r
     pub own : has_key (key k) r ≡ true
@@ -51,7 +51,7 @@ module _ (db : Database) (contents : Contents) (holds : Hold db contents) (t : T
       turn None none shows = absurd (none-some _ (sym shows))
       turn (Some row) some shows = record { here = has.0; own = has.1; row = row; stands = some; shows = same_Some _ _ shows }
 
-  -- Where something is held at a key, a row is found there.
+  -- If a row is held at a key, it is found there.
   pub is_found : (k : K) (row : StoredRow) → contents (key k) ≡ Some row → (r : Row) × (found k ≡ Some r)
   is_found k row stands = turn (found k) refl
     where
@@ -59,11 +59,11 @@ module _ (db : Database) (contents : Contents) (holds : Hold db contents) (t : T
       turn None none = absurd (none-some _ (sym (ap (option_map (shown t)) none) ∙ found_shows k ∙ ap (option_map columns_of) stands))
       turn (Some r) some = (r, some)
 
-  -- What the rows at some keys show is what is held at these keys.
+  -- The rows found at some keys are the rows held at these keys.
   pub shown_at : (keys : List K) → map (shown t) (filter_map found keys) ≡ map columns_of (filter_map (λ k. contents (key k)) keys)
   shown_at keys = map-filter_map (shown t) found keys ∙ (λ i. filter_map (λ k. found_shows k i) keys) ∙ sym (map-filter_map columns_of (λ k. contents (key k)) keys)
 
-  -- where the keys are all at which something is held
+  -- if the keys are all keys at which a row is held
   module _ (keys : List K) (all : (k : RowKey) (row : StoredRow) → table_at k ≡ t → contents k ≡ Some row → (e : K) × Has keys e × (k ≡ key e)) where
     pub found_at : (r : Row) → Has rows r → (e : K) × Has keys e × (found e ≡ Some r)
     found_at r has =
@@ -81,7 +81,7 @@ module _ (db : Database) (contents : Contents) (holds : Hold db contents) (t : T
     pub back : (r : Row) → Has (filter_map found keys) r → Has rows r
     back r has = let from = given_by found keys r has in (is_at from.0 r from.2).here
 
-    -- So they are the same rows in another order, where an order keeps them apart.
+    -- So they are the same rows in another order, if an order keeps them apart.
     pub same_rows : (cmp : Row → Row → Ordering) → ((r : Row) → cmp r r ≡ Equal) → IsAscending (λ a b. cmp a b ≡ Less) (filter_map found keys) → IsPermutation (filter_map found keys) rows
     same_rows cmp itself rises =
         same_members (filter_map found keys) rows (ascending_weaker (λ a b. cmp a b ≡ Less) (λ a b. a ≡ b → ⊥) (apart_by cmp itself) (filter_map found keys) rises)

@@ -1,4 +1,4 @@
--- What the fills of an upgrade make of the tables, one row after another.
+-- What the fills of an upgrade do to the tables, one row after another.
 use Rattle.std.proofs.Common.{◌≡◌, ◌≢◌, ℕ, ◌+◌, ◌≤◌, ◌<◌, ℤ, pos, negsuc, Bool, true, false, cond, List, [], ◌∷◌, map, filter, find, Option, Some, None, option_map, unwrap_or, Ok, refl, sym, ap, subst, ◌∙◌, inl, inr, true≢false, arith, nat_lt, is_eq}
 use Rattle.std.specs.Prelude.{◌==◌}
 use Rattle.std.specs.List.{AllByRecursion}
@@ -48,13 +48,13 @@ use Rattle.table_meaning.proofs.Statements.{no_acts}
 use Rattle.table_meaning.proofs.EachRow.{typed}
 use Rattle.table_meaning.proofs.TypedRows.{row_key_shown}
 
--- ---- the key of a row that is filled in
+-- ---- the key of a filled row
 
--- it is one of the table that is filled
+-- the key is one of the filled table
 pub key_target : (f : Fill) (key : RowKey) (n : ℕ) → filled_from f key ≡ Some n → table_at key ≡ target_of f
 key_target f key n is = ap table_at (key_back f key n is ∙ sym ((of_fill f).row_key n [])) ∙ (of_fill f).row_table n []
 
--- ---- which rows are there
+-- ---- the rows that are there
 
 module _ (f : Fill) (contents : Contents) where
   with_same : (one other : NumberedRows) → ((n : ℕ) → one n ≡ other n) → (key : RowKey) → with_filled f contents one key ≡ with_filled f contents other key
@@ -66,7 +66,7 @@ module _ (f : Fill) (contents : Contents) where
   hold_rows : (db : Database) (one other : NumberedRows) → ((n : ℕ) → one n ≡ other n) → HoldAt (schema_with f) db (with_filled f contents one) → HoldAt (schema_with f) db (with_filled f contents other)
   hold_rows db one other same = hold_at_same (schema_with f) db _ _ (λ key is. with_same one other same key)
 
--- none is between
+-- no row has a number between
 below_same : (from end : ℕ) (rows : NumberedRows) → from ≤ end → ((n : ℕ) → from ≤ n → n < end → rows n ≡ None) → (n : ℕ) → below from rows n ≡ below end rows n
 below_same from end rows le none n = go (nat_lt n from) refl (nat_lt n end) refl
   where
@@ -120,7 +120,7 @@ keeps_rows l old new rows same kept = record {
   kept = λ n. ap (λ all. option_map (λ row. map (column row) (places_in l)) (find (is_of n) all)) same ∙ kept.kept n;
 }
 
--- a fill leaves the calls of the first schema
+-- a fill keeps the calls of the first schema
 pub calls_stay : (f : Fill) (start now : Trees) → OthersStay f start now → (calls : HostCalls) → KeepCalls start calls → KeepCalls now calls
 calls_stay f start now others calls kept =
     let stays = keeps_rows former_kept start now (λ host. option_map (former_columns host) (calls host)) (others former_kept.tree (of_fill f).calls_stand (of_fill f).calls_apart) (record { ordered = kept.ordered; kept = kept.kept }) in
@@ -149,7 +149,7 @@ hold_unchanged m t old new schema sound applies contents holds = record {
     each_ordered : AllByRecursion (λ s. IsShaped TableTree (new.trees s.tree)) (schema_at m).tables
     each_ordered = each_tree m (λ tree. IsShaped TableTree (new.trees tree)) (λ tree is. subst (IsShaped TableTree) (sym (same tree is)) (at_tree m (λ tree. IsShaped TableTree (old.trees tree)) holds.known.ordered tree is))
 
--- the rows with that of one number more
+-- the rows below one number more
 module _ (f : Fill) (contents : Contents) (rows : NumberedRows) (n : ℕ) (c : Row) (is : rows n ≡ Some c) where
   filled_more : (key : RowKey) → with_row (with_filled f contents (below n rows)) (filled_row f n c) key ≡ with_filled f contents (below (n + 1) rows) key
   filled_more key = go (same_key key (key_of (filled_row f n c))) refl
@@ -184,7 +184,7 @@ module _ (f : Fill) (n : ℕ) (old new : State) (count : ℕ) (h : Executes (fil
   abbrev t : TableName
   t = target_of f
 
-  -- what is put of a row of the source
+  -- the row that is put for a row of the source
   abbrev put_of : Row → Row
   put_of r = source_by (key_by t) (filled_columns f (map (column r) (places_in l)))
 
@@ -198,13 +198,13 @@ module _ (f : Fill) (n : ℕ) (old new : State) (count : ℕ) (h : Executes (fil
       (map (λ _. Binary) (fill_terms f)) (lit (Int (negsuc 0))) went.2 went.3 in
       (went.0, went.1, went.2, all ∙ map_same _ put_of (it.shows params) (filter (is_of n) (trees l.tree)), went.4)
 
-  -- the rows of the source stay where they are
+  -- the rows of the source stay as they are
   still_kept : AllByRecursion (λ s. s.tree ≢ tree_of t → new.now.trees s.tree ≡ trees s.tree) (schema_at m).tables → Keeps l new.now.trees rows
   still_kept others =
       let it = of_fill f in
       keeps_rows l trees new.now.trees rows (at_tree m (λ tree. tree ≢ tree_of t → new.now.trees tree ≡ trees tree) others l.tree it.source_stands it.apart) filled.kept
 
-  -- and so do all but those of the table that is filled
+  -- and so do all rows, except those of the filled table
   others_stay : AllByRecursion (λ s. s.tree ≢ tree_of t → new.now.trees s.tree ≡ trees s.tree) (schema_at m).tables → OthersStay f start.trees new.now.trees
   others_stay others tree has other = at_tree m (λ tree. tree ≢ tree_of t → new.now.trees tree ≡ trees tree) others tree has other ∙ filled.others tree has other
 
@@ -220,7 +220,7 @@ module _ (f : Fill) (n : ℕ) (old new : State) (count : ℕ) (h : Executes (fil
         others = others_stay applies.tables;
       }
 
-  -- no row of the table that is filled has the key yet
+  -- no row of the filled table has the key yet
   module _ (c : Row) (is : rows n ≡ Some c) where
     abbrev row : StoredRow
     row = filled_row f n c

@@ -1,4 +1,4 @@
--- What INSERT .. SELECT does: it puts the rows that its query shows. Where it shows one that a table takes as it is, this row is put.
+-- What INSERT .. SELECT does: it puts the rows that its query shows. If the query shows one row and the table takes it as it is, that row is put.
 use Rattle.std.proofs.Common.{◌≡◌, ℕ, ℤ, false, cond, List, [], ◌∷◌, slice_get, Some, None, Ok, refl, sym, ap, subst, ◌∙◌}
 use Rattle.std.proofs.lemmas.Bool.{and_parts, not-true}
 use Rattle.sqlite_value.specs.declared.value.Value.TheVariants.{Null, Int}

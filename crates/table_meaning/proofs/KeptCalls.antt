@@ -1,4 +1,4 @@
--- What the statement shows that reads the kept calls of a host, and that the first of them with a slot is the one in it.
+-- What the statement shows that reads the kept calls of a host. The first of them with a slot is the call in that slot.
 use Rattle.std.proofs.Common.{◌≡◌, ℕ, pos, Bool, true, false, ◌&&◌, ◌==◌, List, [], ◌∷◌, map, filter, find, slice_get, Option, Some, None, option_map, refl, sym, ap, ◌∙◌, arith, int_eq}
 use Rattle.std.proofs.lemmas.Int.{ints}
 use Rattle.sqlite_value.specs.declared.keys.Collation.TheVariants.{Binary}
@@ -54,7 +54,7 @@ same_number a b = grind (arith, ints)
 abbrev columns : StoredCall → Row
 columns k = columns_of (stored.Kept k)
 
--- The first row that has a slot is the one that stands there.
+-- The first row that has a slot is the row at that slot.
 stands_first : (trees : Trees) (host slot : ℕ) (ks : List StoredCall) → map columns ks ≡ kept_rows trees host → option_map columns (find (λ k. k.slot == slot) ks) ≡ look_up trees (kept_key host slot)
 unfolding first_key
 stands_first trees host slot ks are =
@@ -65,7 +65,7 @@ stands_first trees host slot ks are =
     sym (find-map columns has_slot (λ k. k.slot == slot) of_slot ks) ∙ ap (find has_slot) (are ∙ filter-map is_of (shown Kept) tree) ∙ find-map (shown Kept) has_slot _ (λ r. refl) (filter (λ r. is_of (shown Kept r)) tree)
     ∙ ap (option_map (shown Kept)) (find-passed (λ r. is_of (shown Kept r)) (λ r. has_slot (shown Kept r)) tree)
 
--- the call of a row, where there is one
+-- the call of a row, if there is one
 call_told : (o : Option StoredCall) → option_map (λ k. call_of (columns k)) o ≡ option_map call_of (option_map columns o)
 call_told None = refl
 call_told (Some k) = refl

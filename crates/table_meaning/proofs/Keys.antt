@@ -1,4 +1,4 @@
--- Keys that SQL finds equal are one, so rows put are told by their keys.
+-- Keys that SQL finds equal are the same key, so the rows that are put are identified by their keys.
 use Rattle.std.proofs.Common.{◌≡◌, Bool, true, false, List, [], ◌∷◌, length, Some, refl, sym, ap, ap₂, ◌∙◌, true≢false}
 use Rattle.std.specs.Prelude.{◌==◌}
 use Rattle.std.specs.List.{AllByRecursion, list_any, range_with_len}
@@ -53,7 +53,7 @@ one_key a b h =
     let columns = same_columns (key_columns b) (key_columns a) (key_is b).0 (key_is a).0 parts.1 in
     sym (key_is a).1 ∙ ap₂ key_from table (sym columns) ∙ (key_is b).1
 
--- every key is itself
+-- every key equals itself
 cell_itself : (v : Value) → is_cell v ≡ true → equal Binary v v ≡ true
 cell_itself (Int n) h = at_ints false Eq n n ∙ (Decides-int_eq n n).1 refl
 cell_itself (Text t) h = at_texts false Eq t t ∙ bytes_eq_refl t
@@ -73,7 +73,7 @@ key_itself key = and_from _ _ (eq-eqb (tree_of (table_at key)) _ refl) (columns_
 abbrev pub is_put : List StoredRow → RowKey → Bool
 is_put rows key = list_any (λ row. same_key key (key_of row)) rows
 
--- Contents with rows put are other contents, which have each of the rows and are the same where no row is put.
+-- Suppose other contents have each of the rows that are put, and are the same where no row is put. Then they are the contents with these rows put.
 pub settled : (old new : Contents) (rows : List StoredRow) → AllByRecursion (λ row. new (key_of row) ≡ Some row) rows → ((key : RowKey) → is_put rows key ≡ false → old key ≡ new key)
     → (key : RowKey) → with_rows old rows key ≡ new key
 settled old new [] each others key = others key refl

@@ -1,4 +1,4 @@
--- Tables of a schema that obey it are known ones, once the numbers of their rows rise.
+-- If tables obey a schema and the numbers of their rows rise, they are known tables of that schema.
 use Rattle.std.proofs.Common.{◌≡◌, ℕ, Bool, true, false, not, ◌&&◌, List, [], ◌∷◌, map, take, length, slice_get, get_or, Some, refl, sym, ap₂, subst, ◌∙◌, Ordering, Less, Equal, Greater, is_eq, int_eq}
 use Rattle.std.specs.List.{AllByRecursion, range_with_len}
 use Rattle.std.proofs.lemmas.Bool.{both_ways, false_from_ne_true, and_from}
@@ -48,7 +48,7 @@ module _ (rows : List Row) (shaped : IsShaped TableTree rows) (a b : Row) (is_a 
   number_b : rowid b ≡ Int (id_in (rowid b))
   number_b = int_is (rowid b) (all_has _ rows b shaped.1 is_b)
 
-  -- a number has one row
+  -- a number has at most one row
   one_row : int_eq (id_in (rowid a)) (id_in (rowid b)) ≡ true → a ≡ b
   one_row same = tied_same rows a b shaped.0 is_a is_b (ap₂ value_cmp number_a number_b ∙ value_cmp-Int _ _ ∙ equal_is _ same)
 
@@ -70,7 +70,7 @@ module _ (rows : List Row) (shaped : IsShaped TableTree rows) (a b : Row) (is_a 
       back true h = refl
       back false h = absurd (cc)
 
--- The key of a table tells its rows apart: as their number, or as the first of what UNIQUE and PRIMARY KEY keep apart.
+-- No two rows of a table have the same key. The key is their number, or the first list of columns that UNIQUE and PRIMARY KEY keep apart.
 apart_by : (key : Key) (count : ℕ) (others : List (List ℕ)) (rows : List Row) → IsShaped TableTree rows
     → ((ps : List ℕ) (row : Row) → slice_get (uniques_with key (take (key_width key) (places_by key count)) others) 0 ≡ Some ps → Has rows row → clashes plain ps rows row ≡ false)
     → AreApart (take (key_width key) (places_by key count)) rows

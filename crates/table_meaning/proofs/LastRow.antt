@@ -1,4 +1,4 @@
--- A read of the last row of a table shows the last number that a row has.
+-- A read of the last row of a table shows the greatest number that a row has.
 use Rattle.std.proofs.Common.{◌≡◌, ℕ, ℤ, pos, ◌<ℤ◌, true, false, ◌&&◌, cond, List, [], ◌∷◌, map, filter, slice_get, Option, Some, None, option_map, unwrap_or, refl, sym, ap, subst, ◌∙◌, arith, Ordering, int_cmp, is_eq, is_gt}
 use Rattle.std.specs.List.{AllByRecursion, last_or}
 use Rattle.std.specs.Ordering.{ordering_reverse}

@@ -1,4 +1,4 @@
--- What the rows of a table that pass a test show together: what stands at its keys in turn, and passes.
+-- The rows of a table that pass a test are the rows at its keys, in turn, that pass.
 use Rattle.std.proofs.Common.{◌≡◌, ◌⊎◌, ℕ, zero, suc, ◌+◌, ◌≤◌, ◌<◌, pos, Bool, true, false, ◌&&◌, List, [], ◌∷◌, map, filter, find, slice_get, codes, Option, Some, None, option_map, refl, sym, ap, ap₂, ◌∙◌, inl, inr, arith, Less, Greater, int_cmp, int_lt}
 use Rattle.std.specs.Prelude.{filter_map}
 use Rattle.std.specs.List.{AllByRecursion, list_all, range_with_len}
@@ -73,7 +73,7 @@ keyed_by_number Kept is = absurd (cc)
 keyed_by_number Batch is = absurd (cc)
 keyed_by_number t is = record { at = λ n. refl; is = λ n r. refl; all = key_of_table t }
 
--- no row is before another that is before it
+-- a row is not before one that is before it
 never_both : (x y : Row) → value_cmp (rowid x) (rowid y) ≡ Less → value_cmp (rowid y) (rowid x) ≡ Less → ⊥
 never_both x y less more =
     let clash : Less ≡ Greater = sym less ∙ value_cmp_total.antisymm (rowid x) (rowid y) ∙ ap ordering_reverse more in cc
@@ -126,11 +126,11 @@ module _ (t : TableName) (key : ℕ → RowKey) (by : IsByNumber t key) (db : Da
       above : (n : ℕ) → 1 ≤ n → int_lt (pos 0) (pos n) ≡ true
       above n le = grind (arith, ints)
 
-  -- What they show is what stands at the keys 1, 2, .. in turn.
+  -- All of them are the rows at the keys 1, 2, .. in turn.
   pub all_listed : rows_in db.trees t ≡ map columns_of (standing contents key 1 count)
   all_listed = ap (map (shown t)) in_turn ∙ shown_at db contents holds t key by.at numbers
 
-  -- Those with a number above 0 that pass a test are what stands there and passes.
+  -- Those with a number above 0 that pass a test are the rows at these keys that pass.
   pub listed : (test : Row → Bool) → rows_where db.trees t test ≡ filter test (map columns_of (standing contents key 1 count))
   listed test =
       ap (map (shown t)) (filter-passed (λ r. test (shown t r)) is_numbered rows ∙ ap (filter (λ r. test (shown t r))) (filter_all is_numbered rows each_numbered))
@@ -138,11 +138,11 @@ module _ (t : TableName) (key : ℕ → RowKey) (by : IsByNumber t key) (db : Da
 
 -- ---- what a statement lists
 
--- what is picked of each row that the text shows is what is picked of all columns of each row that passes
+-- what `pick` gives for each row that the text shows is what `from` gives for each row that passes, with all its columns
 abbrev pub Lists : {X : Type 0} → List ℕ → Row → (Row → X) → TableName → (Row → Bool) → (Row → X) → Type 1
 Lists text params pick t test from = (old new : State) → AreKnown old.now → (rows : List Row) → Shown text params old new rows → map pick rows ≡ map from (rows_where old.now.trees t test)
 
--- and so of the first row
+-- and the same for the first row
 abbrev pub ListsFirst : {X : Type 0} → List ℕ → Row → (Row → X) → TableName → (Row → Bool) → (Row → X) → Type 1
 ListsFirst text params pick t test from =
     (old new : State) → AreKnown old.now → (rows : List Row) → Shown text params old new rows → option_map pick (slice_get rows 0) ≡ option_map from (slice_get (rows_where old.now.trees t test) 0)
@@ -154,7 +154,7 @@ IsListed t terms places names text = (command_of (understood stored_schema text)
 
 module _ (t : TableName) (terms : List Term) (places : List ℕ) (params : Row) (test : Row → Bool) (tests : (r : Row) → list_all (holds (params ∷ r ∷ [])) terms ≡ test (shown t r)) {X : Type 0} (pick from : Row → X)
     (same : (r : Row) → pick (map (column r) places) ≡ from (shown t r)) where
-  -- what is picked of the rows that it shows is what is picked of all columns of the rows that pass
+  -- what `pick` gives for the rows that it shows is what `from` gives for the rows that pass, with all their columns
   listed_rows : (trees : Trees) → IsShaped TableTree (trees (tree_of t)) → (rows : List Row) → IsAnswer (listing_query (tree_of t) terms places) (overlay trees []) params rows → map pick rows ≡ map from (rows_where trees t test)
   listed_rows trees shaped rows answer =
       let p = λ (r : Row). is_numbered r && test (shown t r) in

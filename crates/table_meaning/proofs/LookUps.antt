@@ -1,4 +1,4 @@
--- From one tree to all tables: what a put leaves of each look-up.
+-- From one tree to all tables: what each look-up finds after a put.
 use Rattle.std.proofs.Common.{◌≡◌, ◌≢◌, ◌⊎◌, ℕ, ℤ, Bool, true, false, cond, List, ◌∷◌, find, Option, Some, None, option_map, refl, sym, ap, subst, ◌∙◌, inl, inr}
 use Rattle.std.specs.Prelude.{◌==◌}
 use Rattle.std.proofs.lemmas.Bool.{cases_Bool, eqb-true, both_ways, eq-eqb}
@@ -26,7 +26,7 @@ use Rattle.table_meaning.proofs.SchemaTables.{at_tree, each_tree, newest_has}
 use Rattle.table_meaning.proofs.EachRow.{typed}
 use Rattle.table_meaning.proofs.TypedRows.{row_key_shown}
 
--- ---- a row put, and all that it leaves
+-- ---- a row put, and everything after it
 
 module _ (n : ℕ) (row : StoredRow) (old new : Trees) (ran : PutsColumns n (table_of row) (columns_of row) old new) where
   abbrev t : TableName
@@ -62,7 +62,7 @@ module _ (n : ℕ) (row : StoredRow) (old new : Trees) (ran : PutsColumns n (tab
     | inr other ↦ subst (AreApart (key_places name)) (sym (others (tree_of name) has other)) was
   ]
 
-  -- each row has a key, the new one its own
+  -- each row has a key, and the new row has its own
   put_keyed : (name : TableName) → has_table n name ≡ true → HaveKeys name (old (tree_of name)) → HaveKeys name (new (tree_of name))
   put_keyed name has was = elim (tells (tree_of name) (tree_of t)) [
     | inl same ↦
@@ -112,7 +112,7 @@ hold_put_at n row old new schema sound ran contents holds = record {
   keyed = λ name has. put_keyed n row old.trees new.trees ran name has (holds.keyed name has);
 }
 
--- and into those of the newest
+-- and into tables of the newest schema
 pub hold_put : (row : StoredRow) (old new : Database) → new.schema ≡ stored_schema → IsDatabase new → PutsColumns newest (table_of row) (columns_of row) old.trees new.trees → (contents : Contents) → Hold old contents
     → Hold new (with_row contents row)
 hold_put row old new schema sound ran contents holds = record {
@@ -126,7 +126,7 @@ hold_put row old new schema sound ran contents holds = record {
   keyed = λ name. put_keyed newest row old.trees new.trees ran name (newest_has name) (holds.keyed name);
 }
 
--- tables with the same rows hold the same
+-- tables with the same rows hold the same contents
 pub hold_left : (old new : Database) → new.schema ≡ stored_schema → IsDatabase new → ((t : TableName) → new.trees (tree_of t) ≡ old.trees (tree_of t)) → (contents : Contents) → Hold old contents → Hold new contents
 hold_left old new schema sound same contents holds = record {
   known = record {
@@ -149,7 +149,7 @@ new_known db new = record {
   apart = λ t. subst (AreApart (key_places t)) (sym (new.empty t)) (λ a b is_a is_b same. absurd is_a);
 }
 
--- They hold nothing.
+-- They hold no row.
 pub new_holds : (db : Database) → AreNew db → Hold db (λ key. None)
 new_holds db new = record {
   known = new_known db new;

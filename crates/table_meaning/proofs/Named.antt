@@ -1,4 +1,4 @@
--- What is shown of rows by their names.
+-- What the statements show that look for rows by name.
 use Rattle.std.proofs.Common.{◌≡◌, ℕ, ◌&&◌, List, [], ◌∷◌, codes, refl, ap}
 use Rattle.std.specs.List.{list_all}
 use Rattle.sqlite_value.specs.declared.value.Value.TheVariants.{Text}

@@ -1,4 +1,4 @@
--- The rows of a table by their numbers, one after another: which is next.
+-- The rows of a table by their numbers, one after another: the next row.
 use Rattle.std.proofs.Common.{◌≡◌, ℕ, ◌≤◌, pos, ◌<ℤ◌, Bool, true, false, cond, List, [], ◌∷◌, map, find, slice_get, Option, Some, None, option_map, unwrap_or, refl, sym, ap, subst, ◌∙◌, arith, int_eq, int_le}
 use Rattle.std.proofs.lemmas.Int.{ints}
 use Rattle.std.proofs.lemmas.Option.{none-some}
@@ -38,7 +38,7 @@ is_of_number host x = last_term (at_ints false Eq x.0 (pos host))
 abbrev is_from : ℕ → Row → Bool
 is_from from r = int_le (pos from) (id_in (rowid r))
 
--- before the first number from one on there is none
+-- no row has a number between `from` and the first number found from there on
 none_before : (xs : List Numbered) → IsKeyedBy (λ (x : Numbered). x.0) xs → (from host : ℕ) → from ≤ host → ((y : Numbered) → find (λ x. int_le (pos from) x.0) xs ≡ Some y → pos host <ℤ y.0)
     → get_by (λ (x : Numbered). x.0) xs (pos host) ≡ None
 none_before [] up from host le before = refl
@@ -71,7 +71,7 @@ module _ (l : Layout) (trees : Trees) (shaped : IsShaped TableTree (trees l.tree
   keyed : IsKeyedBy (λ (x : Numbered). x.0) in_turn
   keyed = numbers_rise in_turn (subst IsTable is shaped.0)
 
-  -- the row that a number has
+  -- the row of a number
   found_at : (host : ℕ) → find (is_of host) (trees l.tree) ≡ option_map as_row (get_by (λ (x : Numbered). x.0) in_turn (pos host))
   found_at host = ap (find (is_of host)) is ∙ find-map as_row (is_of host) _ (is_of_number host) in_turn
 
@@ -80,7 +80,7 @@ module _ (l : Layout) (trees : Trees) (shaped : IsShaped TableTree (trees l.tree
 
 -- ---- the next one
 
--- what is found of the numbers tells who is next
+-- the first number found from `from` on is that of the next row
 module _ (l : Layout) (trees : Trees) (shaped : IsShaped TableTree (trees l.tree)) (from : ℕ) where
   none_at : (host : ℕ) → from ≤ host → ((y : Numbered) → find (λ x. int_le (pos from) x.0) (in_turn l trees shaped) ≡ Some y → pos host <ℤ y.0) → numbered_row l trees host ≡ None
   none_at host le before =
@@ -104,7 +104,7 @@ first_number : (first : Option Numbered) → option_map (λ r. column r 0) (opti
 first_number None = refl
 first_number (Some x) = refl
 
--- the text of the next row changes nothing, and tells which is next
+-- the text of the next row changes nothing, and returns the next number
 pub next_told : (f : Fill) (old new : State) → old.now.schema ≡ schema_at (schema_with f) → IsShaped TableTree (old.now.trees (source_of f).tree) → (from : ℕ) (rows : List Row) → Shown (next_text f) (whole from ∷ []) old new rows
     → (next : Option ℕ) → option_map whole next ≡ option_map (λ r. column r 0) (slice_get rows 0) → (new.now ≡ old.now) × IsNextRow (source_of f) old.now.trees from next
 next_told f old new known shaped from rows h next told =

@@ -1,4 +1,4 @@
--- The rows of the instances, in the order of their places: at each place stands one at most, and each row of the table has a place.
+-- The rows of the instances, in the order of their places. Each place has at most one, and each row of the table has a place.
 use Rattle.std.proofs.Common.{◌≡◌, ℕ, pos, ◌≤◌, Bool, true, false, ◌&&◌, List, [], ◌∷◌, map, filter, find, Option, Some, None, refl, sym, ap, ap₂, subst, ◌∙◌, inl, inr, arith, true≢false, Less, Equal, IsPermutation}
 use Rattle.std.specs.Prelude.{filter_map}
 use Rattle.std.specs.List.{AllByRecursion}
@@ -33,18 +33,18 @@ use Rattle.table_meaning.proofs.Enumerated.{IsAt, is_at, is_found, shown_at, fou
 use Rattle.table_meaning.proofs.PlacesLists.{filter-passed, ascending-filter_map, filter-filter_map, shown_for_each}
 use Rattle.table_meaning.proofs.Typed.{is_real, no_reals}
 
--- what equals a number is it, unless it is a float
+-- a value that equals a number is that number, unless it is a float
 same_number : (v : Value) (n : ℕ) → is_real v ≡ false → equal Binary v (whole n) ≡ true → v ≡ whole n
 unfolding value_cmp binary
 same_number (Int m) n other same = ap Int (same_int m (pos n) (sym (at_ints false Eq m (pos n)) ∙ same))
 same_number (Real x) n other same = absurd (true≢false other)
 same_number _ n other same = absurd (true≢false (sym same))
 
--- what the statements ask of each row
+-- the test that the statements make of each row
 abbrev pub is_of_a_place : Row → Bool
 is_of_a_place r = compares Gt (column r 1) (whole 0) && (compares Ge (column r 2) (whole 0) && true)
 
--- by the columns of the place
+-- the order by the columns of the place
 abbrev pub place_cmp : Row → Row → Rattle.std.proofs.Common.Ordering
 place_cmp a b = ordering_then (value_cmp (column a 1) (column b 1)) (ordering_then (value_cmp (column a 2) (column b 2)) Equal)
 
@@ -67,7 +67,7 @@ module _ (db : Database) (contents : Contents) (holds : Hold db contents) (place
       let is : k ≡ key p = key_of_table Instance k same in
       (p, are.all p row (sym (ap contents is) ∙ stands), is)
 
-  -- the columns of a row that is found at a place
+  -- the columns of the row found at a place
   placed : (p : Place) (r : Row) → found p ≡ Some r → (column r 1 ≡ whole p.unit) × (column r 2 ≡ whole p.number)
   unfolding first_key
   placed p r is =
@@ -130,7 +130,7 @@ module _ (db : Database) (contents : Contents) (holds : Hold db contents) (place
     abbrev pub passes_at : Place → Bool
     passes_at p = shows_passing test (instance_at contents p)
 
-    -- Their places are those at which an instance stands whose columns pass the test.
+    -- Their places are those that have an instance whose columns pass the test.
     pub standing_places : map (λ r. column r 1 ∷ column r 2 ∷ []) standing ≡ map place_row (places_where contents test places)
     standing_places =
         ap (map (λ (r : Row). column r 1 ∷ column r 2 ∷ [])) (filter-filter_map found passes passes_at same_test places) ∙ shown_for_each found (λ r. column r 1 ∷ column r 2 ∷ []) place_row passes_at each places
@@ -148,7 +148,7 @@ module _ (db : Database) (contents : Contents) (holds : Hold db contents) (place
                 let columns = placed p r.0 r.1 in
                 (r.0, r.1, ap₂ (λ (u n : Value). u ∷ n ∷ []) columns.0 columns.1)
 
-    -- What they show is what stands at the places that another test leaves, where the two tests agree.
+    -- If a test of places agrees with the test of rows, the rows are the instances at the places that pass it.
     pub standing_shown : (chosen : Place → Bool) → ((p : Place) (r : Row) → column r 1 ≡ whole p.unit → passes r ≡ chosen p)
         → map (shown Instance) standing ≡ map columns_of (filter_map (instance_at contents) (filter chosen places))
     standing_shown chosen same =

@@ -1,4 +1,4 @@
--- What a statement that lists instances shows: by place just what stands at the places in turn and passes, in another order the same rows.
+-- What a statement that lists instances shows. Ordered by place, it shows exactly the instances at the places in turn that pass. In another order it shows the same rows.
 use Rattle.std.proofs.Common.{◌≡◌, ◌≤◌, ℕ, Bool, ◌&&◌, List, [], ◌∷◌, ◌++◌, map, filter, length, Option, Some, None, refl, sym, ap, subst, ◌∙◌, Less, IsPermutation}
 use Rattle.std.specs.List.{list_all}
 use Rattle.std.proofs.lemmas.List.{take-map, take_all}
@@ -33,7 +33,7 @@ module _ (db : Database) (contents : Contents) (held : Hold db contents) (places
   abbrev columns : List ℕ
   columns = 1 ∷ 2 ∷ more
 
-  -- the rows that stand there, each by these columns
+  -- these columns of the rows at the places that pass
   abbrev pub picked : List Row
   picked = map (λ r. map (column r) columns) (standing db contents held places are test)
 
@@ -55,7 +55,7 @@ module _ (db : Database) (contents : Contents) (held : Hold db contents) (places
         let matched : matches (overlay db.trees []) q.filter q.from (params ∷ []) ≡ map (λ r. params ∷ r ∷ []) (filter asked (db.trees 12)) = kept_for_each asked (λ r. params ∷ r ∷ []) (db.trees 12) in
         subst (λ l. IsPermutation l answer.ordered) (answer.distinct ∙ ap (map (output q)) (answer.grouped ∙ matched) ∙ map-map (output q) (λ r. params ∷ r ∷ []) (filter asked (db.trees 12))) answer.same
 
-    -- the outputs are those of the rows that stand there
+    -- the outputs are those of these rows
     same_outputs : IsPermutation (map out (standing db contents held places are test)) answer.ordered
     same_outputs =
         IsPermutation-trans _ _ _ (IsPermutation-map out _ _ (standing_rows db contents held places are test))
@@ -76,14 +76,14 @@ module _ (db : Database) (contents : Contents) (held : Hold db contents) (places
         let shown : rows ≡ in_turn = answer.shown ∙ ap (λ t. limited (as_count (eval t (params ∷ []))) in_turn) unlimited in
         subst (IsPermutation picked) (sym shown) same_in_turn
 
-    -- in any order and with a limit, where no more stand there
+    -- in any order and with a limit, if there are no more rows than the limit
     pub listed_most : (most : ℕ) → as_count (eval limit (params ∷ [])) ≡ Some most → length picked ≤ most → IsPermutation picked rows
     listed_most most is few =
         let shown : rows ≡ limited (Some most) in_turn = answer.shown ∙ ap (λ n. limited n in_turn) is in
         let all_of_them : limited (Some most) in_turn ≡ in_turn = take_all most in_turn (subst (λ n. n ≤ most) (sym (length_permutation _ _ same_in_turn)) few) in
         subst (IsPermutation picked) (sym (shown ∙ all_of_them)) same_in_turn
 
-    -- by place, so many at most
+    -- by place and up to a limit
     pub listed_in_order : order ≡ by_place → rows ≡ limited (as_count (eval limit (params ∷ []))) picked
     listed_in_order is_by_place =
         let same : answer.ordered ≡ map out (standing db contents held places are test) = sorted_unique (output_cmp q) (output_cmp_total q) _ _ rises same_outputs answer.sorted in

@@ -1,4 +1,4 @@
--- Lists with the same members, tests of what a function gives, and what a partial function gives along a list.
+-- Lists with the same members, tests of the results of a function, and the results of a partial function along a list.
 use Rattle.std.proofs.Common.{◌≡◌, ◌⊎◌, Bool, true, false, ◌&&◌, cond, List, [], ◌∷◌, ◌++◌, map, filter, flat_map, find, Option, Some, None, option_map, refl, sym, ap, ap₂, subst, ◌∙◌, inl, inr, IsPermutation}
 use Rattle.std.specs.Prelude.{filter_map}
 use Rattle.std.specs.List.{AllByRecursion, cons_option}
@@ -46,7 +46,7 @@ module _ {X : Type 0} where
       among before after z apart (inr (inl same)) = absurd (apart (sym same))
       among before after z apart (inr (inr right)) = has_right before after z right
 
--- lists that rise by one order and have the same members are one
+-- two lists that rise by one order and have the same members are equal
 module _ {X : Type 0} (R : X → X → Type 0) (never : (a b : X) → R a b → R b a → ⊥) where
   behind_first : (x : X) (xs ys : List X) → AllByRecursion (R x) xs → ((z : X) → Has xs z → Has (x ∷ ys) z) → (z : X) → Has xs z → Has ys z
   behind_first x xs ys above there z has = elim (there z has) [
@@ -69,7 +69,7 @@ module _ {X : Type 0} (R : X → X → Type 0) (never : (a b : X) → R a b → 
       let off = behind_first y ys xs other.0 (λ z has. subst (λ w. Has (w ∷ xs) z) same (back z (inr has))) in
       ap₂ ◌∷◌ same (one_ascending xs ys up.1 other.1 on off)
 
--- ---- tests, and what a function gives
+-- ---- tests, and the results of a function
 
 pub filter-passed : {X : Type 0} (p q : X → Bool) (xs : List X) → filter (λ x. q x && p x) xs ≡ filter p (filter q xs)
 filter-passed p q [] = refl
@@ -101,7 +101,7 @@ find-map f p q same (x ∷ xs) = ap (λ b. cond b (Some (f x)) (find p (map f xs
     turn true later = refl
     turn false later = later
 
--- ---- what a partial function gives along a list
+-- ---- the results of a partial function along a list
 
 module _ {X Y : Type 0} (h : X → Option Y) where
   pub has_given : (xs : List X) (x : X) (y : Y) → Has xs x → h x ≡ Some y → Has (filter_map h xs) y
@@ -133,7 +133,7 @@ module _ {X Y : Type 0} (h : X → Option Y) where
       turn None is more = more
       turn (Some y) is more = (each_given (R x) (S y) (λ b z r got. gives x b y z r is got) xs up.0, more)
 
-  -- a test of what is given, as a test of what it is given for
+  -- a test of the results, as a test of the arguments
   pub filter-filter_map : (p : Y → Bool) (q : X → Bool) → ((x : X) (y : Y) → h x ≡ Some y → p y ≡ q x) → (xs : List X) → filter p (filter_map h xs) ≡ filter_map h (filter q xs)
   filter-filter_map p q same [] = refl
   filter-filter_map p q same (x ∷ xs) = turn (h x) refl (q x) refl (filter-filter_map p q same xs)
@@ -145,7 +145,7 @@ module _ {X Y : Type 0} (h : X → Option Y) where
       turn (Some y) is true passes more = let here : p y ≡ true = same x y is ∙ passes in rw (is, here) (ap (λ l. y ∷ l) more)
       turn (Some y) is false passes more = let here : p y ≡ false = same x y is ∙ passes in rw here more
 
-  -- what is shown of what is given, where something is given for each
+  -- what is shown of the results, if there is one for each argument
   pub shown_for_each : {Z : Type 0} (f : Y → Z) (g : X → Z) (q : X → Bool) → ((x : X) → q x ≡ true → (y : Y) × (h x ≡ Some y) × (f y ≡ g x)) → (xs : List X) → map f (filter_map h (filter q xs)) ≡ map g (filter q xs)
   shown_for_each f g q each [] = refl
   shown_for_each f g q each (x ∷ xs) = turn (q x) refl (shown_for_each f g q each xs)

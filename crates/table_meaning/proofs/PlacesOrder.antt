@@ -1,4 +1,4 @@
--- Places that were sorted stand as those of the list of all places.
+-- Sorted places are in the order in which the list of all places has them.
 use Rattle.std.proofs.Common.{◌≡◌, Bool, List, refl, inl, inr, arith, Ordering, Less, Equal, IsPermutation, IsSorted}
 use Rattle.std.specs.Cmp.{IsTotalOrder}
 use Rattle.std.specs.Ordering.{nat_cmp, ordering_then}

@@ -1,4 +1,4 @@
--- What each of the statements that list instances by place shows.
+-- What each statement that lists instances by place shows.
 use Rattle.std.proofs.Common.{◌≡◌, ◌≤◌, ℕ, ℤ, Bool, true, false, ◌&&◌, List, [], ◌∷◌, map, length, take, Some, refl, sym, ap, subst, ◌∙◌, IsPermutation}
 use Rattle.std.specs.List.{list_all}
 use Rattle.std.proofs.lemmas.List.{length-map}
@@ -31,9 +31,9 @@ use Rattle.table_meaning.proofs.PlacesFound.{standing, standing_places}
 use Rattle.table_meaning.proofs.PlacesListed.{limited-map, picked, listed_somehow, listed_most, listed_in_order}
 use Rattle.table_meaning.proofs.PlacesTexts.{all, place_columns, held_is_listed, owned_is_listed, queued_is_listed, sent_is_listed, due_is_listed, place_names, ListsInstances}
 
--- ---- places that are read of the rows that are shown
+-- ---- the places that are read from the rows shown
 
--- The rows show these places, one for one.
+-- The rows show these places, one to one.
 abbrev pub ArePlaces : List Place → List Row → Type 0
 ArePlaces ps rows = map place_row ps ≡ map (λ r. columns_in r 2) rows
 
@@ -68,7 +68,7 @@ due from until r =
     ap (λ (b : Bool). compares Ge (column r 5) (Int from) && (compares Lt (column r 5) (Int until) && b)) (running (Int from ∷ Int until ∷ []) r)
     ∙ and_before (compares Ge (column r 5) (Int from)) (compares Lt (column r 5) (Int until)) (is_running (shown Instance r))
 
--- ---- what each of them shows
+-- ---- what each statement shows
 
 module _ (old new : State) (contents : Contents) (held : Hold old.now contents) (places : List Place) (are : AreAllPlaces contents places) where
   -- a text that lists the places of instances

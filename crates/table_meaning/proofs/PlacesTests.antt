@@ -1,4 +1,4 @@
--- What the tests of an instance's columns say of the values that stand there.
+-- What the tests of an instance's columns say about the values in them.
 use Rattle.std.proofs.Common.{◌≡◌, ℕ, ℤ, pos, false, ◌&&◌, Option, Some, None, refl, ap₂, ◌∙◌, arith, int_le, int_lt, nat_le, nat_lt}
 use Rattle.std.specs.Prelude.{◌==◌}
 use Rattle.std.proofs.lemmas.Int.{ints}

@@ -19,14 +19,14 @@ use Rattle.table_meaning.proofs.ByComputing.{names_of}
 abbrev pub all : Term
 all = lit (Int (negsuc 0))
 
--- the columns of the place, and what they are called
+-- the columns of the place, and their names
 abbrev pub place_columns : List ℕ
 place_columns = 1 ∷ 2 ∷ []
 
 abbrev pub place_names : List (List ℕ)
 place_names = codes "unit_id" ∷ codes "num" ∷ []
 
--- The text shows these columns of the instances that pass the terms, in an order and so many at most.
+-- The text shows these columns of the instances that pass the terms, in this order and up to this limit.
 abbrev pub ListsInstances : List Term → List ℕ → List (Term × Key) → Term → List (List ℕ) → List ℕ → Type 0
 ListsInstances terms columns order limit names text = (command_of (understood stored_schema text) ≡ Select (record { lets = []; body = instance_query terms columns order limit }) names)
     × IsPlain (understood stored_schema text) × (reads_listing stored_schema text ≡ false)

@@ -30,7 +30,7 @@ use Rattle.table_meaning.proofs.Typed.{have_types, long, first_number, cast_null
 
 -- ---- by the two cases of a key
 
--- what is put has the number of the row, or gets one
+-- the row that is put has the row's number, or gets one
 begins_by : (key : Key) (kinds : List Kind) (table : Table) (c : Row) → BeginsBy key kinds → have_types kinds c ≡ true → ((id : ℤ) → cast_row table (Int id ∷ behind_by key c) ≡ Int id ∷ behind_by key c)
     → (xs : List Row) → (id : ℤ) × IsNumberedBy key c id × (with_rowid Chosen xs (cast_row table (source_by key c)) ≡ Int id ∷ behind_by key c)
 begins_by numbered kinds table c starts typed fixed xs =
@@ -38,7 +38,7 @@ begins_by numbered kinds table c starts typed fixed xs =
     (first.0, first.1, ap (with_rowid Chosen xs) (ap (λ v. cast_row table (v ∷ behind_by numbered c)) first.1 ∙ fixed first.0))
 begins_by (by_first n) kinds table c starts typed fixed xs = (next_rowid xs, tt, ap (with_rowid Chosen xs) (ap₂ ◌∷◌ (cast_null number) (ap (drop 1) (fixed (pos 0)))))
 
--- the columns with the number that they have are the columns
+-- columns with the number that they already have are unchanged
 with_its_number : (key : Key) (c : Row) (id : ℤ) → IsNumberedBy key c id → with_number key id c ≡ c
 with_its_number numbered [] id is = absurd (cc)
 with_its_number numbered (v ∷ c) id is = ap (λ u. u ∷ c) (sym is)
@@ -60,7 +60,7 @@ keys_by (by_first n) count c r id other shows is named h =
 
 -- ---- the facts
 
--- columns that are written out are the columns
+-- columns written out are the columns themselves
 pub written_whole : (t : TableName) (c : Row) → have_types (kinds_of t) c ≡ true → written_out t c ≡ c
 written_whole t c typed = whole_row c (count_of t) (long (kinds_of t) c typed ∙ length-map (layout_of t).columns _)
 

@@ -1,4 +1,4 @@
--- A row put into a tree where its number is free, and its key too once the row that had it is gone.
+-- A row put into a tree: its number is free, and so is its key once the row that had the key is removed.
 use Rattle.std.proofs.Common.{◌≡◌, ◌⊎◌, ℕ, ℤ, Bool, true, false, not, cond, List, [], ◌∷◌, map, filter, find, Some, refl, sym, ap, subst, ◌∙◌, inl, inr, Ordering, Less, Equal, Greater, is_eq, IsTrue, true≢false}
 use Rattle.std.specs.List.{AllByRecursion}
 use Rattle.std.specs.Ordering.{match_ordering, ordering_reverse}
@@ -45,7 +45,7 @@ find_filtered p q (x ∷ xs) skips = go (q x) refl (find_filtered p q xs (λ y h
     go true e more = ap (λ l. cond (p x) (Some x) l) more
     go false e more = rw (skips x (inl refl) e) more
 
--- a row agrees by its columns at the places alone
+-- whether a row agrees depends only on its columns at the places
 pub agree_from : (o : Order) (places others slots : List ℕ) (a b key : Row) → map (column a) places ≡ map (column b) others → agree o places a slots key ≡ agree o others b slots key
 agree_from o [] [] slots a b key same = go slots
   where
@@ -60,9 +60,9 @@ agree_from o (p ∷ places) (q ∷ others) (s ∷ slots) a b key same =
     let tail : map (column a) places ≡ map (column b) others = cc in
     rw (head, agree_from (later o) places others slots a b key tail)
 
--- ---- what a put leaves
+-- ---- the tree after a put
 
--- The rows are what is left of those before, with the new row. What is gone had its key.
+-- The rows are the rest of those before, with the new row. The removed rows had its key.
 pub record Puts (places : List ℕ) (xs ys : List Row) (n : Row) : Type 0 where
   pub left : List Row
   pub put : ys ≡ put_row n left
@@ -92,7 +92,7 @@ module _ (places : List ℕ) (xs ys : List Row) (n : Row) (puts : Puts places xs
   pub puts_shaped : IsShaped TableTree ys
   puts_shaped = subst (IsShaped TableTree) (sym puts.put) (IsTable-put_row n puts.left puts.shaped.0, all-put_row (λ r. IsTrue (is_int (rowid r))) n puts.left puts.numbered puts.shaped.1)
 
-  -- each row is the new one, or was there
+  -- each row is the new one, or was there before
   puts_left : (x : Row) → Has ys x → (x ≡ n) ⊎ Has puts.left x
   puts_left x has = put_has n puts.left x (subst (λ l. Has l x) puts.put has)
 
@@ -108,14 +108,14 @@ module _ (places : List ℕ) (xs ys : List Row) (n : Row) (puts : Puts places xs
       go (inr p) (inl q) = absurd (both_ways _ (puts.apart a p) (subst (λ x. agree plain places a places x ≡ true) q same))
       go (inr p) (inr q) = old a b (puts.was a p) (puts.was b q) same
 
--- ---- where no row had the key
+-- ---- if no row had the key
 
 pub added : (places : List ℕ) (xs : List Row) (n : Row) → IsShaped TableTree xs → is_int (rowid n) ≡ true → is_taken xs n ≡ false → ((x : Row) → Has xs x → agree plain places x places n ≡ false)
     → Puts places xs (put_row n xs) n
 added places xs n shaped numbered free apart =
     record { left = xs; put = refl; free = none_from_any _ xs free; apart = apart; was = λ x has. has; found = λ p skips. refl; shaped = shaped; numbered = numbered }
 
--- ---- where one had it
+-- ---- if a row had it
 
 equal_is : (o : Ordering) → is_eq o ≡ true → o ≡ Equal
 equal_is Less h = absurd (cc)
@@ -152,7 +152,7 @@ module _ (places : List ℕ) (xs : List Row) (r : Row) (id : ℤ) (shaped : IsSh
       back true h = refl
       back false h = absurd (true≢false h)
 
-  -- a test that compares the number finds just that row
+  -- a test that compares the number finds exactly that row
   pub only : (test : Row → Bool) → ((x : Row) → Has xs x → test x ≡ is_eq (value_cmp (rowid x) (rowid r))) → filter test xs ≡ r ∷ []
   only test compares = only_in xs shaped.0 (λ x has. compares x has) there
     where
@@ -167,7 +167,7 @@ module _ (places : List ℕ) (xs : List Row) (r : Row) (id : ℤ) (shaped : IsSh
           let here : test y ≡ false = tests y (inl refl) ∙ ap is_eq (all_has _ ys r up.0 later) in
           rw here (only_in ys up.1 (λ x has. tests x (inr has)) later)
 
-  -- and so does one that no other row passes
+  -- and so does a test that no other row passes
   pub only_passing : (test : Row → Bool) → test r ≡ true → ((x : Row) → Has xs x → test x ≡ true → x ≡ r) → filter test xs ≡ r ∷ []
   only_passing test passes single = only test (λ x has. elim (cases_Bool (test x)) [
     | inl here ↦ here ∙ sym (ap (λ y. is_eq (value_cmp (rowid y) (rowid r))) (single x has here) ∙ ap is_eq (tied_itself value_cmp_total (rowid r)))

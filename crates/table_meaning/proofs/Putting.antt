@@ -1,4 +1,4 @@
--- What each table's text makes of the tables: the row stands at its key, and every other key has what it had.
+-- What each table's text does to the tables: the row is at its key, and every other key has the row that it had.
 use Rattle.std.proofs.Common.{◌≡◌, ◌≢◌, ℕ, ◌+◌, ◌/◌, ℤ, true, false, List, [], ◌∷◌, ◌++◌, length, slice_get, Some, Ok, refl, sym, ap, subst, ◌∙◌, inl, inr}
 use Rattle.std.specs.List.{AllByRecursion}
 use Rattle.std.proofs.lemmas.Bool.{and_parts, not-true, false_from_ne_true}
@@ -41,14 +41,14 @@ use Rattle.table_meaning.proofs.Statements.{no_acts, Settles, settles, row_found
 
 -- for the columns of a row in a table
 module _ (t : TableName) (c : Row) where
-  -- what a row of the tree has behind its number
+  -- what a row of the tree has after its number
   abbrev pub behind : Row
   behind = behind_by (key_by t) c
 
   abbrev pub IsNumbered : ℤ → Type 0
   IsNumbered = IsNumberedBy (key_by t) c
 
--- What is found by computing with the text that puts a row at the schema of a number.
+-- What is computed with the text that puts a row at the schema of a number.
 pub record PutsAt (n : ℕ) (t : TableName) : Type 0 where
   pub is : command_of (understood (schema_at n) (put_text t)) ≡ put_command (place_of t) (put_terms (key_by t) (count_of t)) (count_of t + 1) (update_at (key_places t) (tree_of t) (count_of t) (set_terms (key_by t) (count_of t)))
   pub plain_text : IsPlain (understood (schema_at n) (put_text t))
@@ -57,11 +57,11 @@ pub record PutsAt (n : ℕ) (t : TableName) : Type 0 where
       ≡ agree plain (key_places t) x (key_places t) (Int id ∷ behind_by (key_by t) (written_out t c))
 
 module _ (n : ℕ) (t : TableName) (c : Row) where
-  -- The tree has the columns under some number, and lost nothing but the row that had the key; the other trees are as before.
+  -- The tree has the columns under some number, and lost only the row that had the key. The other trees are as before.
   abbrev pub PutsColumns : Trees → Trees → Type 0
   PutsColumns db next = (id : ℤ) × IsNumbered t c id × Puts (key_places t) (db (tree_of t)) (next (tree_of t)) (Int id ∷ behind t c) × AllByRecursion (λ s. s.tree ≢ tree_of t → next s.tree ≡ db s.tree) (schema_at n).tables
 
-  -- and what is found of the columns
+  -- and what is known about the columns
   pub record Facts : Type 0 where
     pub at : PutsAt n t
     pub own : (db : Trees) → overlay db [] (tree_of t) ≡ db (tree_of t)
@@ -77,7 +77,7 @@ module _ (n : ℕ) (t : TableName) (c : Row) where
 
 -- ---- from the facts to the tree
 
--- a row has the key, and the columns are written over it
+-- a row has the key, and the columns replace its own
 module _ (n : ℕ) (t : TableName) (c : Row) (f : Facts n t c) (db : Trees) (shaped : IsShaped TableTree (db (tree_of t))) (alone : AreApart (key_places t) (db (tree_of t))) where
   pub over_one : (next : Trees) (first : ℤ) → IsNumbered t c first → (r : Row) → Has (db (tree_of t)) r → agree plain (key_places t) r (key_places t) (Int first ∷ behind t c) ≡ true
       → (asked : List Row) → asked ≡ (rowid r ∷ rowid r ∷ behind t c) ∷ [] → Applies (schema_at n) Enforced db (edit_of db (table_by t) (ids_of asked) Given 1 asked) next → PutsColumns n t c db next

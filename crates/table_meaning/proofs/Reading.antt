@@ -80,11 +80,11 @@ module _ (rows : List Row) (shaped : IsShaped TableTree rows) (n : ℕ) (x : Row
   pub number_is : is_of n x ≡ true → rowid x ≡ whole n
   number_is same = int_number ∙ ap Int (same_int _ _ (sym is_of_int ∙ same))
 
--- what terms give of the rows of a tree that pass others, in the order of the tree, so many at most
+-- the values of some terms for the rows of a tree that pass others, in the order of the tree and up to a limit
 abbrev pub projecting_query : ℕ → List Term → List Term → List Collation → Term → Query
 projecting_query tree terms project collations limit = record (read_query tree []) { filter = terms; project = project; collations = collations; limit = limit }
 
--- the rows of a tree that pass terms, at these places
+-- the rows of a tree that pass terms, shown at these places
 abbrev pub passing_query : ℕ → List Term → List ℕ → Query
 passing_query tree terms places = record (read_query tree places) { filter = terms }
 
@@ -115,7 +115,7 @@ shown_rows t old new known rows h =
     let read = reads_as (read_text t) [] old new stored_schema known.schema (Select (record { lets = []; body = read_query (tree_of t) (places_of t) }) (names_of t)) meaning.0 meaning.1 meaning.2 rows h in
     passing_rows old.now.trees (tree_of t) [] [] (λ _. true) (own_rows t old.now.trees) (known.ordered t) (λ _. refl) (places_of t) rows (read.answer Null) ∙ ap (map (shown t)) (unfiltered (old.now.trees (tree_of t)) refl)
 
--- ---- what stands at a key
+-- ---- the row at a key
 
 module _ (db : Trees) (tree : ℕ) (key places : List ℕ) (params : Row) (p : Row → Bool) (own : overlay db [] tree ≡ db tree) (shaped : IsShaped TableTree (db tree))
     (tests : (n : Numbered) → list_all (holds (params ∷ as_row n ∷ [])) (key_tests 0 key) ≡ p (as_row n)) where
@@ -129,19 +129,19 @@ kept_same : (show same : Row → Row) → ((r : Row) → same (show r) ≡ show 
 kept_same show same is None = refl
 kept_same show same is (Some r) = ap Some (is r)
 
--- all columns of what the text shows first are those of the row at the key
+-- the first row that the text shows has all columns of the row at the key
 abbrev pub ShowsAt : RowKey → Type 1
 ShowsAt key =
     (old new : State) → AreKnown old.now → (rows : List Row) → Shown (key_text (table_at key)) (key_columns key) old new rows
     → option_map (λ r. columns_in r (length (places_of (table_at key)))) (slice_get rows 0) ≡ look_up old.now.trees key
 
--- the terms that ask for a key are SQL's comparison of its columns
+-- the terms that test a key are SQL's comparison of its columns
 pub tests_key : (places : List ℕ) (slot : ℕ) (params row : Row) → list_all (holds (params ∷ row ∷ [])) (key_tests slot places) ≡ agree plain places row (range_with_len slot (length places)) params
 unfolding first_key
 tests_key [] slot params row = refl
 tests_key (place ∷ places) slot params row = ap (λ b. equal Binary (column row place) (column params slot) && b) (tests_key places (slot + 1) params row)
 
--- given the key as parameters, a text that asks for it shows first what the row that stands there has at its places
+-- given a key as parameters, a text that reads by key shows first what the row at the key has at its places
 shown_first : (schema : Schema) (key : RowKey) (places : List ℕ) (names : List (List ℕ)) (text : List ℕ) → ReadsByKeyIn schema (table_at key) places names text → (old new : State) → old.now.schema ≡ schema
     → IsShaped TableTree (old.now.trees (tree_of (table_at key))) → (rows : List Row) → Shown text (key_columns key) old new rows
     → slice_get rows 0 ≡ option_map (λ r. map (column r) places) (find (has_key key) (old.now.trees (tree_of (table_at key))))
@@ -159,14 +159,14 @@ row_shown_at key old new known rows h =
     ap (option_map (λ r. columns_in r count)) (shown_first stored_schema key (places_of t) (names_of t) (key_text t) (computed t).reads_key old new known.schema (known.ordered t) rows h)
     ∙ kept_same _ (λ r. columns_in r count) (λ r. whole_columns (shown t r) count (length-map (places_of t) (column r))) _
 
--- ---- some of its columns
+-- ---- some columns of the row
 
--- what a function picks of what is shown is what another picks of all columns
+-- what `pick` gives for the columns shown is what `from` gives for all columns
 picked : {X : Type 0} (show all : Row → Row) (pick from : Row → X) → ((r : Row) → pick (show r) ≡ from (all r)) → (found : Option Row) → option_map pick (option_map show found) ≡ option_map from (option_map all found)
 picked show all pick from is None = refl
 picked show all pick from is (Some r) = ap Some (is r)
 
--- a column alone
+-- one column alone
 pub column_shown_at : (schema : Schema) (key : RowKey) (place at : ℕ) → ((r : Row) → column r place ≡ column (shown (table_at key) r) at) → (names : List (List ℕ)) (text : List ℕ)
     → ReadsByKeyIn schema (table_at key) (place ∷ []) names text → (old new : State) → old.now.schema ≡ schema → IsShaped TableTree (old.now.trees (tree_of (table_at key))) → (rows : List Row)
     → Shown text (key_columns key) old new rows → option_map (λ r. column r 0) (slice_get rows 0) ≡ option_map (λ r. column r at) (look_up old.now.trees key)

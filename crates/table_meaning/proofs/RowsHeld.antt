@@ -1,4 +1,4 @@
--- What stands at a key, where a table was read as typed rows.
+-- The row at a key, if a table was read as typed rows.
 use Rattle.std.proofs.Common.{◌≡◌, ◌⊎◌, Bool, true, false, ◌&&◌, cond, List, [], ◌∷◌, map, find, Option, Some, None, option_map, refl, sym, ap, subst, ◌∙◌, inl, inr, true≢false, ℕ, zero, suc, ◌<◌, length, get_or, arith}
 use Rattle.std.specs.Prelude.{unwrap_or}
 use Rattle.std.proofs.lemmas.Bool.{eq-eqb}
@@ -29,7 +29,7 @@ found {X} p (x ∷ xs) = go (p x) refl (found p xs)
     go false here (inl none) = inl (none.0, λ y has. elim has [ inl same ↦ ap p same ∙ here | inr later ↦ none.1 y later ])
     go false here (inr one) = inr (one.0, one.1, inr one.2, one.3)
 
--- ---- what stands at a key
+-- ---- the row at a key
 
 pub has_key_is : (s : StoredRow) (raw : Row) (key : RowKey) → shown (table_at (key_of s)) raw ≡ columns_of s → table_at key ≡ table_at (key_of s) → has_key key raw ≡ same_key key (key_of s)
 has_key_is s raw key is same =
@@ -37,12 +37,12 @@ has_key_is s raw key is same =
     ∙ agree_from plain (key_places (table_at (key_of s))) (slots_of (key_of s)) (slots_of key) raw (key_columns (key_of s)) (key_columns key) (row_key_shown s raw is)
     ∙ sym (ap (λ b. b && agree plain (slots_of (key_of s)) (key_columns (key_of s)) (slots_of key) (key_columns key)) (eq-eqb (tree_of (table_at key)) (tree_of (table_at (key_of s))) (ap tree_of same)))
 
--- a row of the tree has the key of the row that it shows
+-- a row of the tree has the key of the typed row that it shows
 pub has_own_key : (s : StoredRow) (raw : Row) → shown (table_at (key_of s)) raw ≡ columns_of s → has_key (key_of s) raw ≡ true
 has_own_key s raw is = has_key_is s raw (key_of s) is refl ∙ key_itself (key_of s)
 
 module _ (trees : Trees) (t : TableName) (rows : List StoredRow) (read : map columns_of rows ≡ rows_in trees t) (of_table : (r : StoredRow) → Has rows r → table_at (key_of r) ≡ t) where
-  -- a row of the tree is one that was read, and the other way round
+  -- each row of the tree was read, and each row that was read is in the tree
   read_of : (raw : Row) → Has (trees (tree_of t)) raw → (s : StoredRow) × Has rows s × (shown t raw ≡ columns_of s)
   read_of raw has = has_mapped columns_of rows (shown t raw) (subst (λ l. Has l (shown t raw)) (sym read) (mapped_has (shown t) (trees (tree_of t)) raw has))
 
@@ -58,7 +58,7 @@ module _ (trees : Trees) (t : TableName) (rows : List StoredRow) (read : map col
       let s = read_of raw has in
       (key_of s.0, of_table s.0 s.1, has_own_key s.0 raw (subst (λ u. shown u raw ≡ columns_of s.0) (sym (of_table s.0 s.1)) s.2))
 
-  -- where what stands is among the rows, and each row with the key is what stands
+  -- if the row at the key is among the rows that were read, and each of them with the key is that row
   pub held_at : (key : RowKey) → table_at key ≡ t → (o : Option StoredRow) → ((r : StoredRow) → o ≡ Some r → Has rows r × (key_of r ≡ key)) → ((r : StoredRow) → Has rows r → key_of r ≡ key → o ≡ Some r)
       → look_up trees key ≡ option_map columns_of o
   held_at key at o among is =
@@ -77,7 +77,7 @@ module _ (trees : Trees) (t : TableName) (rows : List StoredRow) (read : map col
           let raw = raw_of r here.0 in
           absurd (true≢false (sym (ap (λ k. same_key key k) here.1 ∙ key_itself key) ∙ sym (key_test r raw.0 key at here.0 (sym raw.2)) ∙ all raw.0 raw.1))
 
-  -- what is found at a key is a row that was read, and has the key
+  -- a row found at a key was read, and has the key
   pub held_row : (key : RowKey) → table_at key ≡ t → (row : Row) → look_up trees key ≡ Some row → (s : StoredRow) × Has rows s × (row ≡ columns_of s) × (key_of s ≡ key)
   held_row key at row is = go (found (has_key key) (trees (tree_of t))) (sym (ap (λ u. option_map (shown u) (find (has_key key) (trees (tree_of u)))) at) ∙ is)
     where

@@ -1,4 +1,4 @@
--- The rows of tables that hold contents are those that stand at the keys, and no others.
+-- The rows of tables that hold some contents are the rows at the keys, and no others.
 use Rattle.std.proofs.Common.{◌≡◌, Bool, true, false, cond, List, [], ◌∷◌, map, find, Option, Some, None, option_map, refl, sym, ap, ap₂, subst, ◌∙◌, inl, inr, true≢false}
 use Rattle.std.proofs.lemmas.Option.{none-some, same_Some}
 use Rattle.sqlite_value.specs.Order.{Row}
@@ -34,11 +34,11 @@ found_by_key db known key raw has own =
     find_one (has_key key) (db.trees (tree_of t)) raw has own (λ y in_tree same.
     known.apart t y raw in_tree has (agree_chain plain (key_places t) (slots_of key) (key_places t) y (key_columns key) raw same (agree_back plain (key_places t) (slots_of key) raw (key_columns key) own)))
 
--- and is what stands at it
+-- and is the row at it
 pub stands_at_key : (db : Database) → AreKnown db → (key : RowKey) (raw : Row) → Has (db.trees (tree_of (table_at key))) raw → has_key key raw ≡ true → look_up db.trees key ≡ Some (shown (table_at key) raw)
 stands_at_key db known key raw has own = ap (option_map (shown (table_at key))) (found_by_key db known key raw has own)
 
--- what stands at a key is a row of its table
+-- the row at a key is a row of its table
 pub row_has : (trees : Trees) (key : RowKey) (row : Row) → look_up trees key ≡ Some row → Has (rows_in trees (table_at key)) row
 row_has trees key row is = elim (found (has_key key) (trees (tree_of (table_at key)))) [
   | inl none ↦ absurd (none-some row (sym (ap (option_map (shown (table_at key))) none.0) ∙ is))
@@ -47,7 +47,7 @@ row_has trees key row is = elim (found (has_key key) (trees (tree_of (table_at k
       (mapped_has (shown (table_at key)) (trees (tree_of (table_at key))) one.0 one.2)
 ]
 
--- rows are told by their columns, one by one
+-- rows are determined by their columns, one by one
 pub all_told : (rows others : List StoredRow) → map columns_of rows ≡ map columns_of others → rows ≡ others
 all_told [] [] same = refl
 all_told [] (s ∷ others) same = cc
@@ -58,7 +58,7 @@ all_told (r ∷ rows) (s ∷ others) same =
     ap₂ (λ x xs. x ∷ xs) (columns_told r s first) (all_told rows others rest)
 
 module _ (db : Database) (contents : Contents) (holds : Hold db contents) where
-  -- what is shown of a row is of what stands at its key
+  -- a row of the tree shows the row held at its key
   pub shown_stands : (key : RowKey) (raw : Row) → Has (db.trees (tree_of (table_at key))) raw → has_key key raw ≡ true → (r : StoredRow) × (contents key ≡ Some r) × (shown (table_at key) raw ≡ columns_of r)
   shown_stands key raw has own = go (contents key) refl (sym (stands_at_key db holds.known key raw has own) ∙ holds.rows key)
     where
@@ -66,7 +66,7 @@ module _ (db : Database) (contents : Contents) (holds : Hold db contents) where
       go None is shows = absurd (none-some _ (sym shows))
       go (Some r) is shows = (r, is, same_Some _ _ shows)
 
-  -- all rows of a table are typed ones
+  -- all rows of a table are typed rows
   pub rows_told : (t : TableName) → (rows : List StoredRow) × (map columns_of rows ≡ rows_in db.trees t)
   rows_told t = each_told (db.trees (tree_of t)) (λ raw has.
       let own = holds.keyed t raw has in
@@ -80,9 +80,9 @@ module _ (db : Database) (contents : Contents) (holds : Hold db contents) where
           let rest = each_told raws (λ r has. told r (inr has)) in
           (first.0 ∷ rest.0, ap₂ (λ x xs. x ∷ xs) (sym first.1) rest.1)
 
-  -- the rows that were read of a table
+  -- the rows that were read from a table
   module _ (t : TableName) (rows : List StoredRow) (read : map columns_of rows ≡ rows_in db.trees t) where
-    -- stand at keys of it
+    -- are at keys of that table
     pub rows_stand : (r : StoredRow) → Has rows r → (key : RowKey) × (table_at key ≡ t) × (contents key ≡ Some r)
     rows_stand r has =
         let raw = has_mapped (shown t) (db.trees (tree_of t)) (columns_of r) (subst (λ l. Has l (columns_of r)) read (mapped_has columns_of rows r has)) in
@@ -90,7 +90,7 @@ module _ (db : Database) (contents : Contents) (holds : Hold db contents) where
         let stands = shown_stands own.0 raw.0 (subst (λ u. Has (db.trees (tree_of u)) raw.0) (sym own.1) raw.1) own.2 in
         (own.0, own.1, stands.1 ∙ ap Some (columns_told stands.0 r (sym stands.2 ∙ ap (λ u. shown u raw.0) own.1 ∙ sym raw.2)))
 
-    -- and all that stand there are among them
+    -- and every row at such a key is among them
     pub all_are_read : (key : RowKey) → table_at key ≡ t → (r : StoredRow) → contents key ≡ Some r → Has rows r
     all_are_read key at r is =
         let row = row_has db.trees key (columns_of r) (holds.rows key ∙ ap (option_map columns_of) is) in

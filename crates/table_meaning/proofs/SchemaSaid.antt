@@ -1,4 +1,4 @@
--- The value of the setting `schema` is read alike at each schema.
+-- The value of the setting `schema` is read in the same way at each schema.
 use Rattle.std.proofs.Common.{◌≡◌, ℕ, List, [], ◌∷◌, slice_get, codes, option_map, refl}
 use Rattle.sqlite_value.specs.declared.value.Value.TheVariants.{Text}
 use Rattle.sqlite_value.specs.Order.{Row, column}

@@ -1,4 +1,4 @@
--- The tables of a schema by its number: each by its tree, and what they are once the newest schema is made of them.
+-- The tables of a schema by its number: each by its tree, and what they hold once the newest schema is made from them.
 use Rattle.std.proofs.Common.{◌≡◌, ◌+◌, ℕ, suc, Bool, true, false, not, cond, List, [], ◌∷◌, ◌++◌, map, drop, length, find, slice_get, Some, None, option_map, refl, sym, ap, subst, ◌∙◌, inl, inr, true≢false, arith}
 use Rattle.std.specs.Prelude.{◌==◌, ◌||◌}
 use Rattle.std.specs.List.{AllByRecursion, list_any, position_or_len, range_with_len}
@@ -18,7 +18,7 @@ use Rattle.table_meaning.specs.Making.{IsLeft, rows_at}
 use Rattle.table_meaning.proofs.ByComputing.{computed}
 use Rattle.table_meaning.proofs.EachSchema.{of_schema}
 
--- what holds of the tree of each table of the schema holds of each tree that it has
+-- what holds for the tree of each table of the schema holds for each tree that it has
 pub at_tree : (n : ℕ) (P : ℕ → Type 0) → AllByRecursion (λ t. P t.tree) (schema_at n).tables → (tree : ℕ) → has_tree n tree ≡ true → P tree
 at_tree n P all tree has = go (layouts_at n) all has
   where
@@ -29,7 +29,7 @@ at_tree n P all tree has = go (layouts_at n) all has
       | inr other ↦ go ls all.1 (rw other at has)
     ]
 
--- and the other way round
+-- and conversely
 pub each_tree : (n : ℕ) (P : ℕ → Type 0) → ((tree : ℕ) → has_tree n tree ≡ true → P tree) → AllByRecursion (λ t. P t.tree) (schema_at n).tables
 each_tree n P each = go (layouts_at n) each
   where
@@ -45,7 +45,7 @@ each_tree n P each = go (layouts_at n) each
 
 -- ---- the tables of a schema among those of the newest
 
--- what is found among the first ones is found there among all
+-- a table found in the front of a list is found there in the whole list
 found_in_front : (p : Layout → Bool) (xs ys : List Layout) → list_any p xs ≡ true → slice_get (map sql_table xs) (position_or_len p (xs ++ ys)) ≡ slice_get (map sql_table (xs ++ ys)) (position_or_len p (xs ++ ys))
 found_in_front p [] ys any = absurd (true≢false (sym any))
 found_in_front p (x ∷ xs) ys any = go (p x) refl (found_in_front p xs ys)
@@ -94,7 +94,7 @@ known_newest db known = record {
   apart = λ t. known.apart t (newest_has t);
 }
 
--- ---- one schema made of tables of another
+-- ---- a schema made from tables of another
 
 module _ (n m : ℕ) (old new : Database) (left : IsLeft (schema_at m) (rows_at n old.trees) [] new) where
   rows_are : (tree : ℕ) → has_tree m tree ≡ true → new.trees tree ≡ cond (has_tree n tree) (old.trees tree) []
@@ -104,7 +104,7 @@ module _ (n m : ℕ) (old new : Database) (left : IsLeft (schema_at m) (rows_at 
   pub stays_made : (tree : ℕ) → has_tree m tree ≡ true → has_tree n tree ≡ true → new.trees tree ≡ old.trees tree
   stays_made tree is had = rows_are tree is ∙ ap (λ b. cond b (old.trees tree) []) had
 
-  -- the tables of the earlier schema have what they had, and the others nothing
+  -- the tables of the earlier schema have the rows that they had, and the others have none
   pub hold_made : IsDatabase new → (contents : Contents) → HoldAt n old contents → HoldAt m new (only_at n contents)
   hold_made sound contents holds = record {
     known = record {
@@ -136,7 +136,7 @@ module _ (n m : ℕ) (old new : Database) (left : IsLeft (schema_at m) (rows_at 
 
 -- ---- the tables of a schema hold the same
 
--- contents that agree at each of its keys
+-- contents that agree at each key of the schema
 pub hold_at_same : (n : ℕ) (db : Database) (one other : Contents) → ((key : RowKey) → has_table n (table_at key) ≡ true → one key ≡ other key) → HoldAt n db one → HoldAt n db other
 hold_at_same n db one other same holds = record { known = holds.known; rows = λ key is. holds.rows key is ∙ ap (option_map columns_of) (same key is); keyed = holds.keyed }
 

@@ -1,4 +1,4 @@
--- What a statement of the form of `put_command` does: it puts its row where no row has the key, or updates the one that has it.
+-- What a statement of the form of `put_command` does: if no row has the key, it adds its row; if not, it updates the row that has the key.
 use Rattle.std.proofs.Common.{◌≡◌, ◌⊎◌, ℕ, arith, ◌/◌, ℤ, Bool, true, false, cond, List, [], ◌∷◌, ◌++◌, map, filter, flat_map, length, slice_get, Option, Some, None, option_map, Result, Ok, Err, IfSome, refl, sym, ap, ap₂, subst, ◌∙◌, inl, inr, is_eq, is_lt, int_cmp, MatchBool}
 use Rattle.std.specs.Prelude.{◌==◌}
 use Rattle.std.specs.Prelude.{zip, filter_map}
@@ -45,7 +45,7 @@ use Rattle.table_meaning.specs.Upserts.{change_query, update_query, update_at, p
 use Rattle.table_meaning.proofs.PlacesLists.{kept_for_each}
 use Rattle.table_meaning.proofs.PutRows.{only}
 
--- a part that gave a value did not stop on the way
+-- a part that returned a value did not stop early
 pub went : {B E R : Type 0} {b : B} {Stops : E → Type 0} → ((stop : E) × Stops stop × (Ok b ≡ Err stop)) ⊎ R → R
 went (inl stopped) = absurd (let e = stopped.2 in cc)
 went (inr on) = on
@@ -53,7 +53,7 @@ went (inr on) = on
 pub same_value : {B E : Type 0} {a b : B} → ◌≡◌ {A = Result B E} (Ok a) (Ok b) → a ≡ b
 same_value e = cc
 
--- ---- no foreign key of the schema acts
+-- ---- no foreign key of the schema does anything
 
 abbrev pub HasNoActs : Schema → Type 0
 HasNoActs stored = (tree : ℕ) (olds news : List Row) → works stored Enforced 0 tree olds news ≡ []
@@ -124,9 +124,9 @@ row_found db tree slot columns params id r own given shaped there is rows a =
     ∙ ap (λ v. is_eq (value_cmp v (Int id))) (sym number) ∙ ap (λ v. is_eq (value_cmp (rowid x) v)) (sym is) in
     one_shown db tree query.filter columns params own rows a r (only [] (db tree) r id shaped there is test tests)
 
--- ---- one row is tried
+-- ---- trying one row
 
--- The row was added, or the one that has the key is updated.
+-- The row is added, or the row that has the key is updated.
 abbrev pub Settles : Schema → Trees → Table → List ℕ → Row → Upsert → Row → Trees → Type 0
 Settles stored db table target params clause new next =
     (AreConflicts (Some target) stored.indexes table (db table.tree) new [] × Applies stored Enforced db (edit_of db table [] Given 0 (new ∷ [])) next)

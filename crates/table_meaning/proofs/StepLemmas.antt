@@ -1,4 +1,4 @@
--- The steps of a transaction, one after another, and what its end leaves.
+-- The steps of a transaction, one after another, and the state after it ends.
 use Rattle.std.proofs.Common.{◌≡◌, ◌⊎◌, cond, ℕ, zero, suc, ◌+◌, true, false, List, [], ◌∷◌, ◌++◌, map, drop, fold, length, ◌<◌, ◌≤◌, take, slice_index_or, Option, Some, None, Result, Ok, Err, IsTrue, refl, sym, ap, subst, ◌∙◌, inl, inr, arith}
 use Rattle.std.specs.List.{AllByRecursion}
 use Rattle.std.specs.Prelude.{nat_lt, if◌then◌else◌}
@@ -60,7 +60,7 @@ row_moved row old new count h = record {
       hold_put row old.now new.now ran.0 ran.1 ran.2 contents holds;
 }
 
--- the row is put where a row stood, and else nothing is
+-- if a row exists at the key, the row is put; if not, nothing is put
 pub row_updated : (row : StoredRow) (text : List ℕ) → Some text ≡ update_first (table_of row) → (old new : State) (count : ℕ) → ExecutesInside 0 text (columns_of row) old new (Ok count)
     → Moves old new (if nat_lt 0 count then row ∷ [] else [])
 row_updated row text is old new count h = record {
@@ -78,7 +78,7 @@ row_updated row text is old new count h = record {
       ];
 }
 
--- ---- nothing is committed on the way
+-- ---- nothing is committed in between
 
 pub keeps_itself : (s : State) → KeepsCommit s s
 keeps_itself s = record { was_open = λ h. h; committed = λ h. refl }
@@ -113,7 +113,7 @@ kept_shown sql params old new rows inside (c, it, shows) = go c.returning _ show
     go None full h = kept_unchanged old new h.3
     go (Some what) full h = let shown = h.1.shown in record { was_open = λ _. shown.was_open; committed = λ _. subst (λ b. new.committed ≡ cond b old.committed new.now) inside shown.committed_is }
 
--- what shows rows leaves the transaction open, and a plain text leaves all as it was
+-- a text that shows rows leaves the transaction open, and a plain text changes nothing
 pub inside_shown : (sql : List ℕ) (params : Row) (old new : State) (rows : List Row) → Shown sql params old new rows → new.in_transaction ≡ old.in_transaction
 unfolding Shown
 inside_shown sql params old new rows (c, it, shows) = go c.returning _ shows
@@ -195,7 +195,7 @@ next_made (d ∷ all) zero at within below = absurd (omega (arith, below))
 next_made (d ∷ all) (suc count) zero within below = (d.1, refl)
 next_made (d ∷ all) (suc count) (suc at) within below = next_made all count at (omega (arith, within)) (omega (arith, below))
 
--- the tables that are wanted, and the rows that they have in the end
+-- the wanted tables, and the rows that they have in the end
 module _ (wanted : Schema) (rows : Trees) where
   left_with : (old new : Database) (text : List ℕ) (made : Made) (more : List (List ℕ × Made)) → IsLeft wanted rows ((text, made) ∷ more) old → new.schema ≡ with_made old.schema made
       → AllByRecursion (λ t. new.trees t.tree ≡ rows t.tree) (with_made old.schema made).tables → IsLeft wanted rows more new
@@ -236,7 +236,7 @@ module _ (wanted : Schema) (rows : Trees) where
       let now : new.now ≡ all.0 = ap (λ (p : Tally × Database). p.1) (same_value all.2) in
       (index_more text index more old.now new.now left (subst (λ d. CreatesIndex old.now.schema (table_by Instance) text old.now.trees d.schema d.trees) (sym now) all.1), w.sound)
 
-  -- the text at a place among the first of them, of which it is the next
+  -- one text more: the definition at a place, which is the next one
   pub defined_more : (count at : ℕ) (text : List ℕ) (old new : State) (changed : ℕ) → at < length definitions → at < count → text ≡ slice_index_or definition_texts at []
       → IsLeft wanted rows (drop at (take count definitions)) old.now → ExecutesInside 0 text [] old new (Ok changed) → IsTrue new.in_transaction × IsLeft wanted rows (drop (at + 1) (take count definitions)) new.now × IsDatabase new.now
   defined_more count at text old new changed within below is left h =
@@ -247,7 +247,7 @@ module _ (wanted : Schema) (rows : Trees) where
       let more = made_more text next.0 (drop (suc at) (take count definitions)) old new changed here h.0 in
       (h.1.mode, subst (λ n. IsLeft wanted rows (drop n (take count definitions)) new.now) one more.0, more.1)
 
-  -- none is left behind the last
+  -- none is left after the last
   pub all_defined : (count at : ℕ) (db : Database) → count ≤ at → IsLeft wanted rows (drop at (take count definitions)) db → IsLeft wanted rows [] db
   all_defined count at db past = subst (λ ds. IsLeft wanted rows ds db) (drop_all at (take count definitions) (omega (arith, past, length-take count definitions)))
 

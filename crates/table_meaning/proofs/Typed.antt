@@ -1,4 +1,4 @@
--- Rows whose values have the types of their columns: SQL leaves them as they are, on their way in and into a tree.
+-- Rows whose values have the types of their columns. SQL leaves them as they are, as parameters and in a tree.
 use Rattle.std.proofs.Common.{◌≡◌, ℕ, zero, suc, ◌+◌, ℤ, Bool, true, false, ◌&&◌, ◌||◌, cond, List, [], ◌∷◌, map, length, refl, sym, ap, ap₂, ◌∙◌, true≢false}
 use Rattle.std.specs.List.{enumerate_from}
 use Rattle.std.proofs.lemmas.Bool.{and_parts}
@@ -14,7 +14,7 @@ use Rattle.table_meaning.specs.Layouts.{Column, Key, numbered, by_first, Layout,
 use Rattle.table_meaning.specs.Schema.{type_of, sql_column, sql_columns, sql_table}
 use Rattle.table_meaning.proofs.Columns.{behind_by}
 
--- the value has the type of the kind, whatever its range
+-- the value has the type of the kind, in any range
 abbrev pub has_type : Kind → Value → Bool
 has_type number (Int n) = true
 has_type integer (Int n) = true
@@ -26,7 +26,7 @@ has_type (optional kind) v = has_type kind v
 has_type (either first other) v = has_type first v || has_type other v
 has_type _ _ = false
 
--- each of as many values
+-- as many values as kinds, each of the type of its kind
 abbrev pub have_types : List Kind → Row → Bool
 have_types [] [] = true
 have_types (kind ∷ kinds) (v ∷ row) = has_type kind v && have_types kinds row
@@ -41,7 +41,7 @@ pub first_number : (kinds : List Kind) (row : Row) → have_types (number ∷ ki
 first_number kinds (Int id ∷ row) h = (id, refl)
 first_number kinds _ h = absurd (true≢false (sym h))
 
--- ---- a column makes nothing else of a value of its type
+-- ---- a column does not change a value of its type
 
 same_both : (b : Bool) (v : Value) → cond b v v ≡ v
 same_both true v = refl
@@ -86,7 +86,7 @@ cast_behind l row h id = ap₂ ◌∷◌ (cast_int id) (by l.key l.columns row h
     by numbered (c ∷ columns) (v ∷ row) h = ap₂ ◌∷◌ (cast_null c.kind) (cast_columns numbered 1 columns row (and_parts _ _ h).1)
     by (by_first n) columns row h = cast_columns (by_first n) 0 columns row h
 
--- ---- nor does the binding of a parameter, since none is a float
+-- ---- nor does binding a parameter, since none is a float
 
 abbrev pub is_real : Value → Bool
 is_real (Real x) = true

@@ -1,4 +1,4 @@
--- What is found by computing of the texts that change the row at a key, where the rows of the table mostly stand.
+-- What is computed with the texts that update the row at a key, for the tables whose rows mostly exist before they are put.
 use Rattle.std.proofs.Common.{◌≡◌, ℕ, Bool, true, false, cond, List, [], ◌∷◌, map, length, Some, None, refl, sym, true≢false}
 use Rattle.std.specs.List.{range_with_len}
 use Rattle.std.proofs.lemmas.Option.{none-some}
@@ -20,7 +20,7 @@ pub record ChangesRow (t : TableName) : Type 0 where
   -- what the text means
   pub is : command_of (understood stored_schema (update_text t)) ≡ update_command (place_of t) (keyed_query (tree_of t) (key_places t) (given_terms (key_by t) (count_of t)))
   pub plain_text : IsPlain (understood stored_schema (update_text t))
-  -- what becomes of the columns, and which of them are the key
+  -- what happens to the columns, and which of them are the key
   pub columns_are : (c r : Row) → eval_all (given_terms (key_by t) (count_of t)) (written_out t c ∷ r ∷ []) ≡ behind_by (key_by t) (written_out t c)
   pub key_is : (c : Row) → map (column (written_out t c)) (range_with_len 0 (length (key_places t))) ≡ of_key (layout_of t) (written_out t c)
 
@@ -31,7 +31,7 @@ changes_row Host h = record { is = refl; plain_text = (refl, refl); columns_are 
 changes_row Instance h = record { is = refl; plain_text = (refl, refl); columns_are = λ c r. refl; key_is = λ c. refl }
 changes_row _ h = absurd (true≢false (sym h))
 
--- what is tried first is such a text
+-- the text that is tried first is such a text
 pub tried_first : (t : TableName) (text : List ℕ) → Some text ≡ update_first t → (mostly_stand t ≡ true) × (text ≡ update_text t)
 tried_first t text = go (mostly_stand t)
   where

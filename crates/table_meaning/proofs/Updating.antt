@@ -1,4 +1,4 @@
--- What UPDATE of the row at a key makes of the tables: the columns stand in that row, or there is none and all is as it was.
+-- What UPDATE of the row at a key does to the tables: that row gets the columns. If there is none, everything is as it was.
 use Rattle.std.proofs.Common.{◌≡◌, ◌≢◌, ◌⊎◌, ◌<◌, ℕ, ℤ, Bool, true, false, List, [], ◌∷◌, map, length, slice_get, Some, None, Ok, refl, sym, ap, subst, ◌∙◌, inl, inr, arith}
 use Rattle.std.specs.Prelude.{◌==◌, unwrap_or}
 use Rattle.std.specs.List.{list_all, range_with_len}
@@ -52,7 +52,7 @@ change_of db table rows = edit_of db table (ids_of rows) Given 1 rows
 
 module _ (stored : Schema) (acts : HasNoActs stored) (sql : List ℕ) (params : Row) (old new : State) (known : old.now.schema ≡ stored) (place : ℕ) (table : Table) (q : Query) (is : command_of (understood stored sql) ≡ update_command place q)
     (plain_text : IsPlain (understood stored sql)) (listed : slice_get stored.tables place ≡ Some table) where
-  -- it changes the rows that its query shows, and tells how many
+  -- it changes the rows that its query shows, and returns how many
   pub updates : (count : ℕ) → Executes sql params old new (Ok count) → (new.now.schema ≡ stored) × IsDatabase new.now × (rows : List Row) × IsAnswer q (overlay old.now.trees []) params rows
       × (count ≡ length (change_of old.now.trees table rows).news) × Applies stored Enforced old.now.trees (change_of old.now.trees table rows) new.now.trees
   updates count h =
@@ -75,7 +75,7 @@ module _ (stored : Schema) (acts : HasNoActs stored) (sql : List ℕ) (params : 
 
 -- ---- a row at its key
 
--- no row has the key of the columns and all is as it was, or the columns stand at it
+-- no row has the key of the columns and everything is as it was, or the row at it has the columns
 abbrev pub Updated : TableName → Row → Trees → Trees → ℕ → Type 0
 Updated t c db next count = ((count ≡ 0) × ((name : TableName) → next (tree_of name) ≡ db (tree_of name))) ⊎ ((0 < count) × PutsColumns newest t c db next)
 
@@ -96,7 +96,7 @@ module _ (t : TableName) (c : Row) (f : Facts newest t c) (it : ChangesRow t) (w
   abbrev passes : Row → Bool
   passes x = list_all (holds (c ∷ x ∷ [])) (key_tests 0 places)
 
-  -- what passes has the key of the columns
+  -- a row that passes has the key of the columns
   agrees : (first : ℤ) → IsNumbered t c first → (x : Row) → passes x ≡ true → agree plain places x places (Int first ∷ behind t c) ≡ true
   agrees first is_first x h =
       let slots = range_with_len 0 (length places) in

@@ -34,7 +34,7 @@ Batches = List ℕ → List ℕ → Option BatchText
 pub hold_same : (db : Database) (one other : Contents) → ((key : RowKey) → one key ≡ other key) → Hold db one → Hold db other
 hold_same db one other same holds = record { known = holds.known; rows = λ key. holds.rows key ∙ ap (option_map columns_of) (same key); keyed = holds.keyed }
 
--- ---- what each step makes of a world
+-- ---- each step and the world
 
 module _ (w : World) (calls : SlotCalls) (batches : Batches) where
   -- what tables of a schema hold of it
@@ -47,7 +47,7 @@ module _ (w : World) (calls : SlotCalls) (batches : Batches) where
       elim (same_key (setting_key name) (setting_key (codes "schema"))) as (λ is. cond is (Some (schema_row_of (n + 1))) (cond is (Some (schema_row_of n)) (contents_of w calls batches (setting_key name)))
       ≡ cond is (Some (schema_row_of (n + 1))) (contents_of w calls batches (setting_key name))) [ true ↦ refl | false ↦ refl ]
 
-  -- to the second schema, where just the first slots are used
+  -- to the second schema, if only the first slots are used
   second_same : ((host slot : ℕ) → slot ≢ 0 → calls host slot ≡ None) → (key : RowKey) → has_table 2 (table_at key) ≡ true → next_contents 1 (λ host. calls host 0) (at 1) key ≡ at 2 key
   second_same others (setting_key name) is = setting_same 1 name
   second_same others (kept_key host slot) is = slots slot
@@ -119,7 +119,7 @@ upgrades_world old new upgrades n is w calls batches fits holds =
     let carried = goes_world n (newest - n) is (omega (arith, is.1)) old new (upgrades n is holds.held.known.schema) w calls batches fits holds in
     newest_world new w calls batches (subst (λ m. HoldWorldAt m new w calls batches) whole carried)
 
--- ---- what a stop and a refusal leave
+-- ---- what a stop or a refusal leaves
 
 pub left_world : (old new : Database) → IsLeftBehind old new → IsLeftBehindWorld old new
 left_world old new (n, is, schema, (k, within, goes)) = (n, n + suc k, is, omega arith, within, schema, goes_world n (suc k) is within old new goes)

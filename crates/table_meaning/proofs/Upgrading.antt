@@ -1,4 +1,4 @@
--- What the steps of an upgrade make of the tables, from what their statements do.
+-- What the steps of an upgrade do to the tables, from what their statements do.
 use Rattle.std.proofs.Common.{◌≡◌, ◌≢◌, ◌+◌, ◌-◌, ℕ, suc, true, false, cond, List, [], ◌∷◌, map, find, fold, Option, Some, None, Ok, option_map, unwrap_or, refl, sym, ap, subst, ◌∙◌, inl, inr, true≢false, arith}
 use Rattle.std.specs.Prelude.{◌==◌}
 use Rattle.std.specs.List.{AllByRecursion}
@@ -41,16 +41,16 @@ schema_put n is old new count h contents holds =
     let ran = puts n is table.Setting (columns_of row) (facts_at n table.Setting (of_schema n is).puts (columns_of row) (typed row)) old new holds.known.schema shaped (holds.known.apart table.Setting stands) count h.0 in
     hold_put_at n row old.now new.now ran.0 ran.1 ran.2 contents holds
 
--- ---- rows of the tables that a fill goes through
+-- ---- rows of the tables that a fill reads
 
--- the row of a number begins with it
+-- the row of a number begins with that number
 number_first : (l : Layout) (trees : Trees) → IsShaped TableTree (trees l.tree) → (n : ℕ) (c : Row) → numbered_row l trees n ≡ Some c → (r : Row) × (map (column r) (places_in l) ≡ c) × (rowid r ≡ whole n)
 number_first l trees shaped n c is = elim (found (is_of n) (trees l.tree)) [
   | inl none ↦ absurd (none-some _ (sym (ap (option_map (λ row. map (column row) (places_in l))) none.0) ∙ is))
   | inr one ↦ (one.0, same_Some _ _ (sym (ap (option_map (λ row. map (column row) (places_in l))) one.1) ∙ is), number_is (trees l.tree) shaped n one.0 one.2 one.3)
 ]
 
--- ---- what a fill brings
+-- ---- what a fill inserts
 
 module _ (calls : HostCalls) (contents : Contents) where
   -- the source has its rows, each with its number
@@ -63,7 +63,7 @@ module _ (calls : HostCalls) (contents : Contents) where
   have_numbers : (f : Fill) (trees : Trees) → Keeps (source_of f) trees (taken_from calls contents f) → HaveNumbers calls contents f
   have_numbers f trees kept n c is = number_first (source_of f) trees kept.ordered n c (kept.kept n ∙ is)
 
-  -- What is filled in is what the fill brings, and elsewhere nothing is.
+  -- The filled rows are what the fill inserts, and no other row is filled.
   all_brought : (f : Fill) → HaveNumbers calls contents f → ((key : RowKey) → (tree_of (table_at key) == tree_of (target_of f)) ≡ true → contents key ≡ None) → (key : RowKey)
       → with_filled f contents (taken_from calls contents f) key ≡ with_brought calls contents f key
   all_brought f numbers none key = elim (cases_Bool (tree_of (table_at key) == tree_of (target_of f))) [
@@ -78,12 +78,12 @@ module _ (calls : HostCalls) (contents : Contents) where
 
 -- ---- the fills of a step, one after another
 
--- nothing stands yet in the table that is filled
+-- the table that is filled is still empty
 abbrev IsEmptyFor : Contents → Fill → Type 0
 IsEmptyFor contents f = (key : RowKey) → (tree_of (table_at key) == tree_of (target_of f)) ≡ true → contents key ≡ None
 
 module _ (n : ℕ) (calls : HostCalls) where
-  -- a fill leaves the tables empty that the others fill
+  -- a fill leaves the tables empty that the other fills fill
   still_empty : (f : Fill) (contents : Contents) (more : List Fill) → AllByRecursion (λ g. (tree_of (target_of g) == tree_of (target_of f)) ≡ false) more → AllByRecursion (IsEmptyFor contents) more
       → AllByRecursion (IsEmptyFor (with_brought calls contents f)) more
   still_empty f contents [] apart empty = tt
@@ -110,7 +110,7 @@ module _ (n : ℕ) (calls : HostCalls) where
 
 -- ---- a step
 
--- what the schema before has not, its tables do not hold
+-- tables that the schema before lacks hold nothing
 new_are_empty : (n : ℕ) (contents : Contents) (fs : List Fill) → AllByRecursion (LeadsTo n) fs → AllByRecursion (IsEmptyFor (only_at n contents)) fs
 new_are_empty n contents [] lead = tt
 new_are_empty n contents (f ∷ more) lead =

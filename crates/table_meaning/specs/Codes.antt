@@ -21,6 +21,6 @@ lapse_code None = 0
 lapse_code (Some Late) = 1
 lapse_code (Some Dropped) = 2
 
--- the lapse of a number
+-- the lapse of a number, or none
 abbrev pub lapse_in : ℕ → Option Lapse
 lapse_in code = if code == 1 then Some Late else (if code == 2 then Some Dropped else None)

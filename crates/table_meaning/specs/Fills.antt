@@ -1,4 +1,4 @@
--- Rule. How an upgrade fills a table that a schema gains: for each row of another table, by its number, it inserts one row.
+-- Rule. How an upgrade fills a table that a schema adds: for each row of another table, by its number, it inserts one row.
 use Rattle.std.specs.Prelude.{option_and_then, ◌≡◌, ◌≢◌, ℕ, ◌≤◌, ◌<◌, ◌==◌, nat_lt, true, false, if◌then◌else◌, List, [], ◌∷◌, map, find, codes, slice_index_or, Option, Some, None, option_map, unwrap_or}
 use Rattle.sqlite_value.specs.declared.value.Value.TheVariants.{Null, Text}
 use Rattle.sqlite_value.specs.Order.{Row, column}
@@ -23,25 +23,25 @@ use Rattle.table_meaning.specs.Holding.{Contents}
 use Rattle.table_meaning.specs.Worlds.{call_row}
 use Rattle.table_meaning.specs.Schemas.{has_tree, HoldAt}
 
--- ---- which fills lead from one schema to the next
+-- ---- the fills of each step between schemas
 
--- by the number of the schema that they lead from; there is none of number 0
+-- by the number of the schema that the step starts from; number 0 has none
 abbrev fills_by_schema : List (List Fill)
 fills_by_schema = [] ∷ (Calls ∷ []) ∷ (Classes ∷ Marks ∷ []) ∷ []
 
--- in the order in which they are made
+-- in the order in which they run
 abbrev pub fills_of : ℕ → List Fill
 fills_of schema = slice_index_or fills_by_schema schema []
 
--- ---- from which rows, and into which
+-- ---- source and target
 
--- the table whose rows are gone through, each told by its number
+-- the table whose rows are copied; each of them is identified by its number
 abbrev pub source_of : Fill → Layout
 source_of Calls = former_kept
 source_of Classes = layout_of table.Version
 source_of Marks = layout_of table.Unit
 
--- the table that is filled, and the number of the schema that gains it
+-- the table that is filled, and the number of the schema that adds it
 abbrev pub target_of : Fill → TableName
 target_of Calls = table.Kept
 target_of Classes = table.VersionClass
@@ -52,7 +52,7 @@ schema_with Calls = 2
 schema_with Classes = 3
 schema_with Marks = 3
 
--- the key of what comes from the row of a number, and that number
+-- the key of the row made from the row of a number, and back: that number from the key
 abbrev pub filled_key : Fill → ℕ → RowKey
 filled_key Calls host = kept_key host 0
 filled_key Classes id = class_key id
@@ -64,7 +64,7 @@ filled_from Classes (class_key id) = Some id
 filled_from Marks (mark_key id) = Some id
 filled_from _ _ = None
 
--- what comes from the columns of the row of a number, and the columns of it
+-- the row made from the columns of the row of a number, and its columns
 abbrev pub filled_row : Fill → ℕ → Row → StoredRow
 filled_row Calls host c = Kept (record { host_id = host; slot = 0; seqno = number_of (column c 1); text = bytes_of (column c 2); reply = bytes_of (column c 3) })
 filled_row Classes id c = VersionClass (record { version_id = id; class = bytes_of (column c 2) })
@@ -77,13 +77,13 @@ filled_columns Marks c = column c 0 ∷ whole 0 ∷ Null ∷ []
 
 -- ---- the texts
 
--- the next number, from one on, that a row of the source has
+-- the least number of a row of the source that is not below the parameter
 abbrev pub next_text : Fill → List ℕ
 next_text Calls = codes "SELECT host_id FROM kept WHERE host_id >= ?1 ORDER BY host_id LIMIT 1"
 next_text Classes = codes "SELECT id FROM version WHERE id >= ?1 ORDER BY id LIMIT 1"
 next_text Marks = codes "SELECT id FROM unit WHERE id >= ?1 ORDER BY id LIMIT 1"
 
--- puts what comes from the row of a number
+-- inserts the row made from the row of a number
 abbrev pub fill_text : Fill → List ℕ
 fill_text Calls = codes "INSERT INTO kept4 (host_id, slot, seqno, text, reply) SELECT host_id, 0, seqno, text, reply FROM kept WHERE host_id = ?1 ORDER BY host_id"
 fill_text Classes = codes "INSERT INTO version_class (version_id, class) SELECT id, platform FROM version WHERE id = ?1 ORDER BY id"
@@ -94,24 +94,24 @@ fill_text Marks = codes "INSERT INTO unit_mark (unit_id, marked, class) SELECT i
 abbrev pub NumberedRows : Type 0
 NumberedRows = ℕ → Option Row
 
--- the columns of the row of a number, in a table whose rows are told by these
+-- the columns of the row of a number, in a table whose rows are identified by number
 abbrev pub numbered_row : Layout → Trees → NumberedRows
 numbered_row l trees n = option_map (λ row. map (column row) (places_in l)) (find (λ row. agree plain (0 ∷ []) row (0 ∷ []) (whole n ∷ [])) (trees l.tree))
 
--- The table has just these rows.
+-- The table has exactly these rows.
 pub record Keeps (l : Layout) (trees : Trees) (rows : NumberedRows) : Type 0 where
   pub ordered : IsShaped TableTree (trees l.tree)
   pub kept : (n : ℕ) → numbered_row l trees n ≡ rows n
 
--- Each of them has the form that the fill takes it to have.
+-- Each row has the form that the fill expects.
 abbrev pub AreFit : Fill → NumberedRows → Type 0
 AreFit f rows = (n : ℕ) (c : Row) → rows n ≡ Some c → filled_columns f c ≡ columns_of (filled_row f n c)
 
--- those below a number
+-- the rows with numbers below `end`
 abbrev pub below : ℕ → NumberedRows → NumberedRows
 below end rows n = if nat_lt n end then rows n else None
 
--- no row has a number from one on below another, and none from a number on
+-- no row has a number that is at least `from` and below `end`; then the next row from `from` on, or none
 abbrev pub HasNoRow : Layout → Trees → ℕ → ℕ → Type 0
 HasNoRow l trees from end = (n : ℕ) → from ≤ n → n < end → numbered_row l trees n ≡ None
 
@@ -132,59 +132,59 @@ former_columns host call = whole host ∷ whole call.seqno ∷ Text call.text �
 abbrev pub HostCalls : Type 0
 HostCalls = ℕ → Option Call
 
--- The tables keep just these calls, each under the number of its host.
+-- The tables keep exactly these calls, each under the number of its host.
 pub record KeepCalls (trees : Trees) (calls : HostCalls) : Type 0 where
   pub ordered : IsShaped TableTree (trees former_kept.tree)
   pub kept : (host : ℕ) → former_call trees host ≡ option_map (former_columns host) (calls host)
 
--- ---- what a fill brings
+-- ---- what a fill inserts
 
--- a version is of the class that its platform names
+-- the class of a version is its platform
 abbrev pub platform_class : ℕ → StoredRow → Option StoredRow
 platform_class id (Version v) = Some (VersionClass (record { version_id = id; class = v.platform }))
 platform_class id _ = None
 
--- a workunit that is not marked
+-- the mark of a workunit that is not marked
 abbrev pub no_mark : ℕ → StoredRow
 no_mark id = UnitMark (record { unit_id = id; marked = false; class = None })
 
--- what it brings to a key of the table that it fills
+-- the row that a fill inserts at a key of its table
 abbrev pub brought : Fill → HostCalls → Contents → RowKey → Option StoredRow
 brought Calls calls contents (kept_key host slot) = if slot == 0 then option_map (λ k. Kept (call_row host slot k)) (calls host) else None
 brought Classes calls contents (class_key id) = option_and_then (platform_class id) (contents (version_key id))
 brought Marks calls contents (mark_key id) = option_map (λ _. no_mark id) (contents (unit_key id))
 brought _ _ _ _ = None
 
--- these contents, but in the table that is filled what the fill brings
+-- these contents, except that the filled table has what the fill inserts
 abbrev pub with_brought : HostCalls → Contents → Fill → Contents
 with_brought calls contents f key = if tree_of (table_at key) == tree_of (target_of f) then brought f calls contents key else contents key
 
--- ---- what is held on the way
+-- ---- in the middle of a fill
 
--- these contents, with what comes from rows in the table that is filled
+-- these contents, with the rows made from `rows` in the filled table
 abbrev pub with_filled : Fill → Contents → NumberedRows → Contents
 with_filled f contents rows key = unwrap_or (option_map (λ n. option_map (filled_row f n) (rows n)) (filled_from f key)) (contents key)
 
--- Each tree of the schema is as it was at the start, but that of the table which is filled.
+-- Each tree of the schema is as it was at the start, except that of the filled table.
 abbrev pub OthersStay : Fill → Trees → Trees → Type 0
 OthersStay f start now = (tree : ℕ) → has_tree (schema_with f) tree ≡ true → tree ≢ tree_of (target_of f) → now tree ≡ start tree
 
--- what comes from the rows below a number is there
+-- The rows made from the rows below `end` are there.
 pub record Filled (f : Fill) (end : ℕ) (start db : Database) (contents : Contents) (rows : NumberedRows) : Type 0 where
   pub holds : HoldAt (schema_with f) db (with_filled f contents (below end rows))
   pub kept : Keeps (source_of f) db.trees rows
   pub others : OthersStay f start.trees db.trees
 
--- where that of those below one number was there, that of those below the other is
+-- If the rows made from those below `from` were there, the rows made from those below `end` are there now.
 abbrev pub Fills : Fill → ℕ → ℕ → Database → Database → Type 0
 Fills f from end old new = (start : Database) (contents : Contents) (rows : NumberedRows) → AreFit f rows → Filled f from start old contents rows → Filled f end start new contents rows
 
--- what comes from all rows is there
+-- The rows made from all rows are there.
 pub record AllFilled (f : Fill) (start db : Database) (contents : Contents) (rows : NumberedRows) : Type 0 where
   pub holds : HoldAt (schema_with f) db (with_filled f contents rows)
   pub others : OthersStay f start.trees db.trees
 
--- where that of those below a number was there, all is
+-- If the rows made from those below `from` were there, those made from all rows are there now.
 abbrev pub FillsAll : Fill → ℕ → Database → Database → Type 0
 FillsAll f from old new = (start : Database) (contents : Contents) (rows : NumberedRows) → AreFit f rows → Filled f from start old contents rows → AllFilled f start new contents rows
 

@@ -1,4 +1,4 @@
--- Rule. The format of the stored rows: of which kind each column of a table is.
+-- Rule. The format of the stored rows: the kind of each column of a table.
 use Rattle.std.specs.Prelude.{◌≡◌, ℕ, suc, List, [], ◌∷◌, map, length, ⊤}
 use Rattle.std.specs.List.{range_with_len}
 use Rattle.sqlite_value.specs.Order.{Row, column}
@@ -23,6 +23,6 @@ IsStored t row = (length row ≡ length (kinds_of t)) × AreOf (kinds_of t) row 
 abbrev pub columns_in : Row → ℕ → Row
 columns_in row n = map (column row) (range_with_len 0 n)
 
--- Some row has not the format.
+-- Some row does not have the format of its table.
 abbrev pub HasBadRow : TableName → List Row → Type 0
 HasBadRow t rows = (row : Row) × Has rows row × ¬ IsStored t row

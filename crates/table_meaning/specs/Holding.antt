@@ -12,32 +12,32 @@ use Rattle.table_meaning.specs.declared.rows.StoredRow.{StoredRow}
 use Rattle.table_meaning.specs.Schema.{stored_schema}
 use Rattle.table_meaning.specs.Rows.{tree_of, key_places, columns_of, RowKey, table_at, key_of, has_key, same_key, look_up}
 
--- no two rows agree at these places
+-- no two different rows agree at these places
 abbrev pub AreApart : List ℕ → List Row → Type 0
 AreApart places rows = (a b : Row) → Has rows a → Has rows b → agree plain places a places b ≡ true → a ≡ b
 
--- each of these rows of a table has a key: none is there that no key names, as one with a negative number
+-- Each of these rows has a key of the table. A row with a negative number, say, has none.
 abbrev pub HaveKeys : TableName → List Row → Type 0
 HaveKeys t rows = (row : Row) → Has rows row → (key : RowKey) × (table_at key ≡ t) × (has_key key row ≡ true)
 
--- The schema is the known one, and the database tells it; the numbers of each table's rows rise, and no key comes twice.
+-- The schema is the newest one, and the database says so. The numbers of each table's rows rise, and no key comes twice.
 pub record AreKnown (db : Database) : Type 0 where
   pub schema : db.schema ≡ stored_schema
   pub sound : IsDatabase db
   pub ordered : (t : TableName) → IsShaped TableTree (db.trees (tree_of t))
   pub apart : (t : TableName) → AreApart (key_places t) (db.trees (tree_of t))
 
--- what stands at each key, where something stands
+-- the row at each key, if it exists
 abbrev pub Contents : Type 0
 Contents = RowKey → Option StoredRow
 
--- The tables are known ones, at each key stands just this, and there is nothing else: each row has a key.
+-- The tables are known ones and hold exactly these contents: the row at each key is this one, and each row has a key.
 pub record Hold (db : Database) (contents : Contents) : Type 0 where
   pub known : AreKnown db
   pub rows : (key : RowKey) → look_up db.trees key ≡ option_map columns_of (contents key)
   pub keyed : (t : TableName) → HaveKeys t (db.trees (tree_of t))
 
--- the contents with a row put at its key, and with each of some rows
+-- the contents with one row put at its key, and with several put in turn
 abbrev pub with_row : Contents → StoredRow → Contents
 with_row contents row key = if same_key key (key_of row) then Some row else contents key
 

@@ -1,4 +1,4 @@
--- Rule. Of which kind the values of a column are.
+-- Rule. The kinds of values that a column may have.
 use Rattle.std.specs.Prelude.{◌≡◌, ◌<◌, ◌^◌, ◌⊎◌, ℕ, ℤ, pos, List, IsUtf8}
 use Rattle.sqlite_value.specs.declared.value.Value.{Value}
 use Rattle.sqlite_value.specs.declared.value.Value.TheVariants.{Null, Int, Text, Blob}
@@ -13,9 +13,9 @@ pub data Kind : Type 0 where
   -- 0 or 1
   flag : Kind
   octets : Kind
-  -- NULL, or what the other kind has
+  -- NULL, or a value of the other kind
   optional : Kind → Kind
-  -- one kind or the other
+  -- a value of one kind or of the other
   either : Kind → Kind → Kind
 
 abbrev pub IsOf : Kind → Value → Type 0

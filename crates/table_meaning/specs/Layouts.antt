@@ -1,5 +1,5 @@
--- Rule. The layouts of the stored tables, and of which tables each schema is. What differs between two tables stands here: a name, a tree, a key and columns.
--- All else that is said of a table follows. A schema is the front of one list of tables and indexes; what is new stands behind all that is there.
+-- Rule. The layouts of the stored tables, and the tables of each schema. A layout has what differs between two tables: a name, a tree, a key and columns.
+-- Everything else about a table follows from its layout. A schema is the front of one list of tables and indexes, and a new part is added at its end.
 use Rattle.std.specs.Prelude.{ℕ, List, [], ◌∷◌, map, take, drop, length, codes, slice_index, Option, Some, None}
 use Rattle.std.specs.List.{range_with_len}
 use Prim.Native.String.{String}
@@ -10,14 +10,14 @@ use Rattle.table_meaning.specs.Kinds.{Kind, number, integer, words, flag, octets
 pub record Column : Type 0 where
   pub name : List ℕ
   pub kind : Kind
-  -- the table whose key it names, where it names one
+  -- the table whose key it names, if it names one
   pub parent : Option TableName
 
--- what tells the rows of a table apart
+-- what identifies a row of a table
 pub data Key : Type 0 where
   -- the first column, which is the number of the row in its tree
   numbered : Key
-  -- so many first columns; the number of the row is none of its columns
+  -- the first columns, as many as this number; the number of the row is not one of its columns
   by_first : ℕ → Key
 
 pub record Layout : Type 0 where
@@ -25,7 +25,7 @@ pub record Layout : Type 0 where
   pub tree : ℕ
   pub key : Key
   pub columns : List Column
-  -- what tells them apart beside the key, each as places among the columns
+  -- the lists of columns, other than the key, that identify a row; each as places among the columns
   pub uniques : List (List ℕ)
 
 -- ---- the tables
@@ -128,7 +128,7 @@ layout_of table.UnitMark = record {
   uniques = [];
 }
 
--- The table in which the first schema keeps the last call of each host. The later ones leave it as it is, and look at it no more.
+-- The table in which the first schema keeps the last call of each host. The later schemas leave it as it is and do not read it.
 abbrev pub former_kept : Layout
 former_kept = record {
   name = codes "kept";
@@ -149,11 +149,11 @@ pub record Indexing : Type 0 where
 
 pub data Part : Type 0 where
   a_table : TableName → Part
-  -- a table that is looked at no more
+  -- a table that nobody reads any more
   a_former : Layout → Part
   an_index : Indexing → Part
 
--- in the order in which they came
+-- in the order in which they were added
 abbrev pub parts : List Part
 parts =
     a_table table.Setting
@@ -167,7 +167,7 @@ parts =
     ∷ a_table table.Batch
     -- the waiting instances by place
     ∷ an_index (record { name = codes "instance_queue"; tree = 17; columns = 9 ∷ 0 ∷ 1 ∷ [] })
-    -- those of a host by place, and by the moment of sending
+    -- the instances of a host by place, and by the moment of sending
     ∷ an_index (record { name = codes "instance_owner"; tree = 18; columns = 2 ∷ 0 ∷ 1 ∷ [] })
     ∷ an_index (record { name = codes "instance_sent"; tree = 19; columns = 2 ∷ 3 ∷ [] })
     ∷ an_index (record { name = codes "instance_deadline"; tree = 20; columns = 4 ∷ [] })
@@ -176,14 +176,14 @@ parts =
     ∷ a_table table.UnitMark
     ∷ []
 
--- how many of them each schema has, by its number; there is none of number 0
+-- how many parts each schema has, by its number; number 0 has none
 abbrev sizes : List ℕ
 sizes = 0 ∷ 13 ∷ 14 ∷ 16 ∷ []
 
 abbrev pub parts_at : ℕ → List Part
 parts_at schema = take (slice_index sizes schema) parts
 
--- the number of the schema that is worked on
+-- the number of the schema that the program uses
 abbrev pub newest : ℕ
 newest = 3
 
@@ -195,7 +195,7 @@ names l = map (λ c. c.name) l.columns
 abbrev pub kinds : Layout → List Kind
 kinds l = map (λ c. c.kind) l.columns
 
--- Where a row of the tree has so many columns, in order. At place 0 it has its number; where that is the first column, it has NULL at place 1.
+-- The places of the columns in a row of the tree. Place 0 is the row's number. If the first column is that number, place 1 is NULL and the column is at place 0.
 abbrev pub places_by : Key → ℕ → List ℕ
 places_by numbered count = 0 ∷ drop 1 (range_with_len 1 count)
 places_by (by_first n) count = range_with_len 1 count
@@ -208,11 +208,11 @@ abbrev pub key_width : Key → ℕ
 key_width numbered = 1
 key_width (by_first n) = n
 
--- of one thing for each column, those for the key
+-- the items for the columns of the key, of a list with one item for each column
 abbrev pub of_key : {X : Type 0} → Layout → List X → List X
 of_key l = take (key_width l.key)
 
--- of one thing for each column, those for the columns that are not the number of the row
+-- the items for the columns after the row's number, of a list with one item for each column
 abbrev pub behind_number : {X : Type 0} → Key → List X → List X
 behind_number numbered all = drop 1 all
 behind_number (by_first n) all = all

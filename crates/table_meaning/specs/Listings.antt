@@ -18,19 +18,19 @@ use Rattle.table_meaning.specs.Rows.{tree_of, shown, whole, RowKey}
 use Rattle.table_meaning.specs.Reads.{read_query}
 use Rattle.table_meaning.specs.Holding.{Contents}
 
--- The row's number is above 0, as that of each row that a key names.
+-- The row's number is above 0, as it is of each row that a key names.
 abbrev pub is_numbered : Row → Bool
 is_numbered row = int_lt (pos 0) (id_in (rowid row))
 
--- what is shown of the rows with a number above 0 that pass a test of what is shown, in the order of the tree
+-- the shown columns of the rows with a number above 0 that pass a test of these columns, in the order of the tree
 abbrev pub rows_where : Trees → TableName → (Row → Bool) → List Row
 rows_where trees t test = map (shown t) (filter (λ row. is_numbered row && test (shown t row)) (trees (tree_of t)))
 
--- what stands at the keys of these numbers, so many from one on
+-- the rows that exist at the keys of `count` numbers, from one number on
 abbrev pub standing : Contents → (ℕ → RowKey) → ℕ → ℕ → List StoredRow
 standing contents key from count = filter_map (λ n. contents (key n)) (range_with_len from count)
 
--- the rows of a tree with a number above 0 that pass the terms, at these places, by their number
+-- the rows of a tree with a number above 0 that pass the terms; shown at these places, in the order of their numbers
 abbrev pub listing_query : ℕ → List Term → List ℕ → Query
 listing_query tree terms places = record (read_query tree places) { filter = op2 (Compare Gt Binary) (col 1 0) (lit (Int (pos 0))) ∷ terms }
 
@@ -82,7 +82,7 @@ versions_text = codes "SELECT num FROM version WHERE id > 0 AND app_id = ?1 AND 
 abbrev pub is_version_for : ℕ → List ℕ → Row → Bool
 is_version_for app platform row = equal Binary (column row 1) (whole app) && has_text 2 platform row
 
--- where a version stands: that of an application, for a platform, with a number
+-- finds the row of a version by application, platform and number
 abbrev pub version_text : List ℕ
 version_text = codes "SELECT id FROM version WHERE id > 0 AND app_id = ?1 AND platform = ?2 AND num = ?3 ORDER BY id"
 
@@ -96,6 +96,6 @@ is_version_known app platform num row = equal Binary (column row 1) (whole app) 
 abbrev pub last_query : ℕ → Query
 last_query tree = record (listing_query tree [] (0 ∷ [])) { order = (col 1 0, record { collation = Binary; descending = true }) ∷ []; limit = lit (Int (pos 1)) }
 
--- the number of the last of these rows, and 0 where there is none
+-- the number of the last of these rows, or 0 if there are none
 abbrev pub last_number_in : List Row → Value
 last_number_in rows = unwrap_or (last_or None (map (λ row. column row 0) rows)) (whole 0)

@@ -20,7 +20,7 @@ abbrev pub with_made : Schema → Made → Schema
 with_made schema (made_table table) = created schema table
 with_made schema (made_index index) = indexed schema (table_by Instance) index
 
--- at this schema the text makes just that
+-- at this schema the text makes exactly that
 abbrev pub Makes : Schema → List ℕ → Made → Type 0
 Makes schema text (made_table table) =
     (command_of (understood schema text) ≡ CreateTable) × (table_defined_by text ≡ Ok (record table { tree = 0 })) × (lacks_sequence (created schema table) ≡ false)
@@ -28,18 +28,18 @@ Makes schema text (made_index index) =
     (command_of (understood schema text) ≡ CreateIndex (place_of Instance)) × (slice_get schema.tables (place_of Instance) ≡ Some (table_by Instance))
     × (index_defined_by (table_by Instance) text ≡ Ok (record index { tree = 0 }))
 
--- each in turn, at the schema that those before it made
+-- each in turn, at the schema made by those before it
 abbrev pub MakeInTurn : Schema → List (List ℕ × Made) → Type 0
 MakeInTurn schema [] = ⊤
 MakeInTurn schema (d ∷ more) =
     Makes schema d.0 d.1 × (statement_of d.0 (understood schema d.0) ≡ d.0) × IsPlain (understood schema d.0) × MakeInTurn (with_made schema d.1) more
 
--- each tree that is made in turn has no row here
+-- no tree that is made in turn has a row here
 abbrev pub AreFree : Trees → Schema → List (List ℕ × Made) → Type 0
 AreFree rows schema [] = ⊤
 AreFree rows schema (d ∷ more) = (rows (next_tree schema) ≡ []) × AreFree rows (with_made schema d.1) more
 
--- What is left to make makes the schema that is wanted. The tables so far have these rows, and those that are left have none of them.
+-- The definitions that are left make the wanted schema. The tables so far have these rows, and those still to be made have none.
 pub record IsLeft (wanted : Schema) (rows : Trees) (left : List (List ℕ × Made)) (db : Database) : Type 0 where
   pub makes : MakeInTurn db.schema left
   pub whole : fold (λ schema d. with_made schema d.1) db.schema left ≡ wanted

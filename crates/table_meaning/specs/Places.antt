@@ -1,4 +1,4 @@
--- Words. The instances by place: the list of all places at which one stands, what a test of their rows leaves of it, and the statements that list them.
+-- Words. The instances by place: all places that have an instance, those whose rows pass a test, and the statements that list them.
 use Rattle.std.specs.Prelude.{◌≡◌, ◌⊎◌, ◌≤◌, ◌<◌, ℕ, ℤ, Bool, true, false, ◌&&◌, ◌||◌, ◌==◌, List, [], ◌∷◌, ◌++◌, map, filter, filter_map, codes, Option, Some, None}
 use Rattle.std.specs.List.{AllByRecursion}
 use Rattle.sched_book.specs.declared.instance.Place.{Place}
@@ -28,7 +28,7 @@ use Rattle.table_meaning.specs.Holding.{Contents}
 
 -- ---- places
 
--- what stands at a place
+-- the instance at a place
 abbrev pub instance_at : Contents → Place → Option StoredRow
 instance_at contents place = contents (instance_key place.unit place.number)
 
@@ -40,44 +40,44 @@ place_row place = whole place.unit ∷ whole place.number ∷ []
 abbrev pub IsBefore : Place → Place → Type 0
 IsBefore a b = (a.unit < b.unit) ⊎ ((a.unit ≡ b.unit) × (a.number < b.number))
 
--- The places rise, their workunits count from 1, and each place at which an instance stands is one of them.
+-- The places rise, their workunits count from 1, and each place that has an instance is one of them.
 pub record AreAllPlaces (contents : Contents) (places : List Place) : Type 0 where
   pub rise : IsAscending IsBefore places
   pub from_one : AllByRecursion (λ place. 1 ≤ place.unit) places
   pub all : (place : Place) (row : StoredRow) → instance_at contents place ≡ Some row → Has places place
 
--- what stands there shows columns that pass the test
+-- the row exists, and its columns pass the test
 abbrev pub shows_passing : (Row → Bool) → Option StoredRow → Bool
 shows_passing test None = false
 shows_passing test (Some row) = test (columns_of row)
 
--- the places at which an instance stands whose columns pass the test
+-- the places that have an instance whose columns pass the test
 abbrev pub places_where : Contents → (Row → Bool) → List Place → List Place
 places_where contents test = filter (λ place. shows_passing test (instance_at contents place))
 
--- what stands at the places of one workunit, by number
+-- the instances of one workunit, by number
 abbrev pub instances_within : Contents → ℕ → List Place → List StoredRow
 instances_within contents unit places = filter_map (instance_at contents) (filter (λ place. place.unit == unit) places)
 
--- These are the places that a text shows in a transaction, in the first two columns of each row.
+-- These are the places that a text shows in a transaction: the first two columns of each row.
 abbrev pub ShowsPlaces : {S : Type 0} → Ghosts S → Held S → List ℕ → Row → List Place → Type 0
 ShowsPlaces store old text params places = (rows : List Row) × Shows store old text params rows × (map place_row places ≡ map (λ row. columns_in row 2) rows)
 
--- ---- tests of the columns that an instance shows
+-- ---- tests of the columns of an instance
 
--- the comparison of SQL, as WHERE takes it: no where a value is NULL
+-- a comparison of SQL, as WHERE takes it: false if a value is NULL
 abbrev pub compares : CompareOp → Value → Value → Bool
 compares op a b = is_true (binary (Compare op Binary) a b)
 
--- the instance was given to this host
+-- the instance was sent to this host
 abbrev pub is_of_host : ℕ → Row → Bool
 is_of_host host row = compares Eq (column row 2) (whole host)
 
--- it has neither lapsed nor been reported
+-- it has no lapse and no report
 abbrev pub is_running : Row → Bool
 is_running row = compares Eq (column row 5) (whole 0) && is_null (column row 6)
 
--- this host holds it, and was sent it from 1970 on
+-- this host holds it, and the moment of sending is not before 1970
 abbrev pub is_held_by : ℕ → Row → Bool
 is_held_by host row = is_of_host host row && (compares Ge (column row 3) (whole 0) && is_running row)
 
@@ -85,43 +85,43 @@ is_held_by host row = is_of_host host row && (compares Ge (column row 3) (whole 
 abbrev pub is_not_before : Place → Row → Bool
 is_not_before place row = compares Ge (column row 0) (whole place.unit) && (compares Gt (column row 0) (whole place.unit) || compares Ge (column row 1) (whole place.number))
 
--- it waits to be given out, there or later
+-- it waits to be sent, and its place is not before this one
 abbrev pub waits_from : Place → Row → Bool
 waits_from from row = compares Eq (column row 9) (whole 1) && is_not_before from row
 
--- a moment from one on and before another
+-- a moment at or after one moment and before another
 abbrev pub lies_between : ℤ → ℤ → Value → Bool
 lies_between from until moment = compares Ge moment (Int from) && compares Lt moment (Int until)
 
--- it was sent then to this host
+-- it was sent to this host between these moments
 abbrev pub is_sent_between : ℕ → ℤ → ℤ → Row → Bool
 is_sent_between host from until row = is_of_host host row && lies_between from until (column row 3)
 
--- its deadline lies there, and it is held
+-- its deadline is between these moments, and it is held
 abbrev pub is_due : ℤ → ℤ → Row → Bool
 is_due from until row = lies_between from until (column row 4) && is_running row
 
 -- ---- statements
 
--- a comparison of the column at a place, with a parameter or with a number
+-- compares the column at a place with a parameter, or with a number
 abbrev pub with_param : CompareOp → ℕ → ℕ → Term
 with_param op place slot = op2 (Compare op Binary) (col 1 place) (col 0 slot)
 
 abbrev pub with_number : CompareOp → ℕ → ℕ → Term
 with_number op place number = op2 (Compare op Binary) (col 1 place) (lit (whole number))
 
--- The workunit counts from 1 and the number from 0, as those of each place do. It is asked first, since of two bounds of one column a scan takes the later.
+-- The workunit counts from 1 and the number from 0, as at each place. This test comes first, since a scan takes the later of two bounds of one column.
 abbrev pub of_a_place : List Term
 of_a_place = with_number Gt 1 0 ∷ with_number Ge 2 0 ∷ []
 
--- the order of places, and that of the moment of sending, the newest first
+-- the order of places, and the order of the moment of sending, the newest first
 abbrev pub by_place : List (Term × Key)
 by_place = (col 1 1, ascending Binary) ∷ (col 1 2, ascending Binary) ∷ []
 
 abbrev pub newest_first : List (Term × Key)
 newest_first = (col 1 4, record { collation = Binary; descending = true }) ∷ []
 
--- the instances that pass the terms, at these columns, in an order and so many at most
+-- the instances that pass the terms, shown at these columns, in this order and up to this limit
 abbrev pub instance_query : List Term → List ℕ → List (Term × Key) → Term → Query
 instance_query terms columns order limit = record (read_query 12 columns) { filter = of_a_place ++ terms; order = order; limit = limit }
 
@@ -134,7 +134,7 @@ held_text = codes "SELECT unit_id, num FROM instance WHERE unit_id > 0 AND num >
 abbrev pub owned_text : List ℕ
 owned_text = codes "SELECT unit_id, num FROM instance WHERE unit_id > 0 AND num >= 0 AND host_id = ?1 ORDER BY unit_id, num"
 
--- how many places a page of what waits has at most
+-- how many places a queue page has at most
 abbrev pub page_size : QueuePage → ℕ
 page_size First = 8
 page_size Further = 64
@@ -148,7 +148,7 @@ sent_text = codes "SELECT unit_id, num FROM instance WHERE unit_id > 0 AND num >
 abbrev pub due_text : List ℕ
 due_text = codes "SELECT unit_id, num FROM instance WHERE unit_id > 0 AND num >= 0 AND deadline >= ?1 AND deadline < ?2 AND lapse = 0 AND outcome IS NULL ORDER BY deadline"
 
--- what WHERE asks in each of them, beside that it is of a place
+-- the tests of WHERE in each of them, as well as the one for a place
 abbrev pub within_terms : List Term
 within_terms = with_param Eq 1 0 ∷ []
 

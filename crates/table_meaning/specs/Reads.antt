@@ -1,4 +1,4 @@
--- Rule. The form of the statements that read a table whole, and what a read leaves of a connection.
+-- Rule. The form of the statements that read a whole table, and what a read leaves of a connection.
 use Rattle.std.specs.Prelude.{◌≡◌, ℕ, pos, negsuc, true, false, List, [], ◌∷◌, map, None, IsTrue}
 use Rattle.sqlite_value.specs.declared.value.Value.TheVariants.{Int}
 use Rattle.sqlite_value.specs.declared.keys.Collation.TheVariants.{Binary}
@@ -10,7 +10,7 @@ use Rattle.sqlite_trees.specs.declared.store.Store.{Ghosts}
 use Rattle.sqlite.specs.Held.{Held, state}
 use Rattle.sqlite.specs.State.{State, HasCleanDisk, Survives, Shown}
 
--- the rows of a tree at these places, by their number
+-- the rows of a tree, shown at these places, in the order of their numbers
 abbrev pub read_query : ℕ → List ℕ → Query
 read_query tree places = record {
   from = inner tree end;
@@ -24,7 +24,7 @@ read_query tree places = record {
   offset = lit (Int (pos 0));
 }
 
--- Nothing was committed, a stop leaves nothing new, and at rest the connection shows what it showed. No transaction is left open.
+-- Nothing was committed, and a stop leaves nothing new. With no open transaction, what the connection shows is unchanged. No transaction is left open.
 pub record Reads (old new : State) : Type 0 where
   pub survives : Survives old new (λ _. ⊥)
   pub was_open : HasCleanDisk new → IsTrue new.is_open → IsTrue old.is_open

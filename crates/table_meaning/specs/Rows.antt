@@ -1,4 +1,4 @@
--- Rule. The rows of the tables as SQL has them: which columns each shows, and what its key is.
+-- Rule. The rows of the tables as SQL has them: the columns of each, and its key.
 use Rattle.std.specs.Prelude.{ℕ, pos, Bool, ◌&&◌, ◌==◌, if◌then◌else◌, List, [], ◌∷◌, map, length, find, Option, option_map}
 use Rattle.std.specs.List.{range_with_len}
 use Rattle.sqlite_value.specs.declared.value.Value.{Value}
@@ -20,11 +20,11 @@ use Rattle.table_meaning.specs.Layouts.{layout_of, places_in, of_key}
 abbrev pub tree_of : TableName → ℕ
 tree_of t = (layout_of t).tree
 
--- Where a row of the tree has the columns, in order. At place 0 it has its number, which is the first column of most tables.
+-- The places of the columns in a row of the tree. Place 0 is the row's number, which is the first column of most tables.
 abbrev pub places_of : TableName → List ℕ
 places_of t = places_in (layout_of t)
 
--- where it has its key
+-- the places of the key's columns
 abbrev pub key_places : TableName → List ℕ
 key_places t = of_key (layout_of t) (places_of t)
 
@@ -86,7 +86,7 @@ columns_of (UnitMark m) = whole m.unit_id ∷ whole (if m.marked then 1 else 0) 
 
 -- ---- keys
 
--- what names one row at most
+-- what names at most one row
 pub data RowKey : Type 0 where
   setting_key : List ℕ → RowKey
   account_key : ℕ → RowKey
@@ -96,7 +96,7 @@ pub data RowKey : Type 0 where
   host_key : ℕ → RowKey
   -- the unit, and the number in it
   instance_key : ℕ → ℕ → RowKey
-  -- the host, and the slot of it
+  -- the host, and its slot
   kept_key : ℕ → ℕ → RowKey
   -- the kind and the name
   batch_key : List ℕ → List ℕ → RowKey
@@ -153,10 +153,10 @@ slots_of key = range_with_len 0 (length (key_columns key))
 abbrev pub has_key : RowKey → Row → Bool
 has_key key row = agree plain (key_places (table_at key)) row (slots_of key) (key_columns key)
 
--- Two keys are one where they are of one table and SQL finds their columns equal.
+-- Two keys are the same if they are of one table and SQL finds their columns equal.
 abbrev pub same_key : RowKey → RowKey → Bool
 same_key a b = (tree_of (table_at a) == tree_of (table_at b)) && agree plain (slots_of b) (key_columns b) (slots_of a) (key_columns a)
 
--- the columns of the row that stands at a key, where one stands
+-- the columns of the row at a key, if it exists
 abbrev pub look_up : Trees → RowKey → Option Row
 look_up trees key = option_map (shown (table_at key)) (find (has_key key) (trees (tree_of (table_at key))))

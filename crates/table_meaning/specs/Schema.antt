@@ -1,4 +1,4 @@
--- Rule. The schema of the stored tables as SQL has it, by their layouts.
+-- Rule. The schema of the stored tables as SQL has it, from their layouts.
 use Rattle.std.specs.Prelude.{ℕ, ◌+◌, Bool, true, false, not, ◌&&◌, ◌||◌, ◌==◌, if◌then◌else◌, List, [], ◌∷◌, map, zip, filter_map, flat_map, slice_index, Some, None, option_map}
 use Rattle.std.specs.List.{enumerate_from, position_or_len}
 use Rattle.sqlite_value.specs.declared.value.Value.TheVariants.{Null}
@@ -38,7 +38,7 @@ abbrev pub is_by_number : Key → Bool
 is_by_number numbered = true
 is_by_number (by_first n) = false
 
--- The column at a place among the columns is NOT NULL. The number of a row is not called so, since it is never NULL.
+-- The column at a place among the columns is NOT NULL. The number of a row does not say so, since it is never NULL.
 abbrev pub is_needed : Key → ℕ → Kind → Bool
 is_needed key at kind = not (has_null kind || (is_by_number key && (at == 0)))
 
@@ -51,11 +51,11 @@ sql_columns key columns = map (λ p. sql_column key p.0 p.1) (enumerate_from 0 c
 abbrev pub reference_at : ℕ → TableName → Reference
 reference_at place parent = record { columns = place ∷ []; parent = (layout_of parent).name; parent_columns = []; on_delete = NoAction; on_update = NoAction; is_deferred = false }
 
--- places among the columns as places in a row of the tree
+-- places among the columns, as places in a row of the tree
 abbrev pub in_row : Layout → List ℕ → List ℕ
 in_row l = map (slice_index (places_in l))
 
--- a key that is not the number of the row comes first among what tells rows apart
+-- the lists of columns that identify a row; if the key is not the number of the row, it comes first
 abbrev pub uniques_with : Key → List ℕ → List (List ℕ) → List (List ℕ)
 uniques_with numbered key others = others
 uniques_with (by_first n) key others = key ∷ others
@@ -99,7 +99,7 @@ layouts_in (a_table t) = layout_of t ∷ []
 layouts_in (a_former l) = l ∷ []
 layouts_in (an_index i) = []
 
--- with those that PRIMARY KEY and UNIQUE make, each in the tree behind its table's
+-- the indexes that PRIMARY KEY and UNIQUE make, in the trees after the table's own
 abbrev indexes_of : Layout → List Index
 indexes_of l = automatics (sql_table l) 0 (l.tree + 1) (sql_table l).uniques
 
@@ -108,11 +108,11 @@ indexes_in (a_table t) = indexes_of (layout_of t)
 indexes_in (a_former l) = indexes_of l
 indexes_in (an_index i) = index_by i ∷ []
 
--- the tables that are looked at
+-- the tables that are read
 abbrev pub tables_at : ℕ → List TableName
 tables_at schema = flat_map tables_in (parts_at schema)
 
--- all of its tables
+-- all of its tables, also those that nobody reads any more
 abbrev pub layouts_at : ℕ → List Layout
 layouts_at schema = flat_map layouts_in (parts_at schema)
 
@@ -125,6 +125,6 @@ stored_schema = schema_at newest
 abbrev pub no_schema : Schema
 no_schema = record { tables = []; indexes = []; views = [] }
 
--- where a table stands among those of the schema
+-- the place of a table among those of the newest schema
 abbrev pub place_of : TableName → ℕ
 place_of t = position_or_len (λ l. l.tree == (layout_of t).tree) (layouts_at newest)

@@ -1,4 +1,4 @@
--- Rule. Tables of whichever schema, by its number: the newest one, or an earlier one.
+-- Rule. Tables of any schema, by its number: the newest one, or an earlier one.
 use Rattle.std.specs.Prelude.{◌≡◌, ℕ, ◌≤◌, ◌<◌, Bool, true, ◌==◌, if◌then◌else◌, List, drop, take, length, codes, Option, Some, None, option_map}
 use Rattle.std.specs.List.{AllByRecursion, list_any}
 use Rattle.sqlite_value.specs.declared.value.Value.{Value}
@@ -17,25 +17,25 @@ use Rattle.table_meaning.specs.Holding.{AreApart, Contents, HaveKeys}
 abbrev pub IsSchema : ℕ → Type 0
 IsSchema n = (1 ≤ n) × (n ≤ newest)
 
--- and it is not the newest
+-- a schema has this number, and it is not the newest
 abbrev pub IsEarlier : ℕ → Type 0
 IsEarlier n = (1 ≤ n) × (n < newest)
 
--- Whether the schema of this number has a table in the tree. Of number 0, which no schema has, there is none.
+-- Whether the schema of this number has a table in the tree. Number 0, which no schema has, has no table.
 abbrev pub has_tree : ℕ → ℕ → Bool
 has_tree n tree = list_any (λ l. l.tree == tree) (layouts_at n)
 
 abbrev pub has_table : ℕ → TableName → Bool
 has_table n t = has_tree n (tree_of t)
 
--- The schema is the one of this number, and the database tells it; the numbers of the rows of each of its tables rise, and no key comes twice.
+-- The schema is that of this number, and the database says so. The numbers of the rows of each of its tables rise, and no key comes twice.
 pub record AreKnownAt (n : ℕ) (db : Database) : Type 0 where
   pub schema : db.schema ≡ schema_at n
   pub sound : IsDatabase db
   pub ordered : AllByRecursion (λ t. IsShaped TableTree (db.trees t.tree)) (schema_at n).tables
   pub apart : (t : TableName) → has_table n t ≡ true → AreApart (key_places t) (db.trees (tree_of t))
 
--- the tables are such ones, at each key of them stands just this, and each of their rows has a key
+-- The tables are such tables, the row at each of their keys is this one, and each of their rows has a key.
 pub record HoldAt (n : ℕ) (db : Database) (contents : Contents) : Type 0 where
   pub known : AreKnownAt n db
   pub rows : (key : RowKey) → has_table n (table_at key) ≡ true → look_up db.trees key ≡ option_map columns_of (contents key)
@@ -47,7 +47,7 @@ only_at n contents key = if has_table n (table_at key) then contents key else No
 
 -- ---- the row that names the schema
 
--- reads its value; it means the same at each schema
+-- reads its value; it means the same in each schema
 abbrev pub schema_text : List ℕ
 schema_text = codes "SELECT value FROM setting WHERE name = ?1 ORDER BY rowid"
 
@@ -61,7 +61,7 @@ pub record AreEarlier (n : ℕ) (db : Database) : Type 0 where
   pub known : AreKnownAt n db
   pub said : schema_said db.trees ≡ Some (whole n)
 
--- ---- what leads from one schema to another
+-- ---- from one schema to another
 
 -- the CREATE texts of a schema that another one lacks
 abbrev pub definitions_between : ℕ → ℕ → List (List ℕ × Made)

@@ -1,4 +1,4 @@
--- Words. What the steps of a transaction make of the tables.
+-- Words. What the steps of a transaction do to the tables.
 use Rattle.std.specs.Prelude.{◌≡◌, List, [], None, IsTrue}
 use Rattle.sqlite.specs.Effect.{Database, IsDatabase}
 use Rattle.sqlite.specs.State.{State}
@@ -8,7 +8,7 @@ use Rattle.table_meaning.specs.Schema.{stored_schema}
 use Rattle.table_meaning.specs.Rows.{tree_of}
 use Rattle.table_meaning.specs.Holding.{Contents, Hold, with_rows}
 
--- whatever the tables held, they hold it with these rows put, one after another
+-- If the old tables hold some contents, the new ones hold them with these rows put, one after another.
 abbrev pub PutsRows : Database → Database → List StoredRow → Type 0
 PutsRows old new rows = (contents : Contents) → Hold old contents → Hold new (with_rows contents rows)
 
@@ -23,6 +23,6 @@ pub record AreNew (db : Database) : Type 0 where
   pub sound : IsDatabase db
   pub empty : (t : TableName) → db.trees (tree_of t) ≡ []
 
--- the tables hold these rows, put in order, and nothing else
+-- The tables hold these rows, put in order, and nothing else.
 abbrev pub HoldJust : Database → List StoredRow → Type 0
 HoldJust db rows = Hold db (with_rows (λ key. None) rows)

@@ -1,4 +1,4 @@
--- Rule. The SQL texts: what makes the tables, what reads each whole or at a key, and what puts a row of each.
+-- Rule. The SQL texts: those that make the tables, those that read each table whole or at a key, and those that put a row.
 use Rattle.std.specs.Prelude.{ℕ, ◌+◌, ◌/◌, ◌%◌, Bool, true, false, ◌&&◌, ◌==◌, nat_lt, if◌then◌else◌, List, [], ◌∷◌, ◌++◌, map, filter, flat_map, length, codes, slice_index, slice_index_or, Option, Some, None}
 use Rattle.std.specs.List.{range_with_len, enumerate_from, list_any}
 use Rattle.sqlite_schema.specs.declared.schema.Kind.{Kind as SqlKind}
@@ -12,7 +12,7 @@ use Rattle.table_meaning.specs.Schema.{type_of, is_by_number, is_needed, sql_tab
 
 -- ---- lists of words
 
--- one behind the other, with a text between
+-- one after the other, with a text between them
 abbrev joined_by : List ℕ → List (List ℕ) → List ℕ
 joined_by between [] = []
 joined_by between (word ∷ more) = word ++ flat_map (λ w. between ++ w) more
@@ -23,14 +23,14 @@ listed = joined_by (codes ", ")
 abbrev in_parentheses : List (List ℕ) → List ℕ
 in_parentheses all = codes "(" ++ listed all ++ codes ")"
 
--- the columns of a table, and its key
+-- the names of a table's key columns, and of the columns at some places
 abbrev key_names : Layout → List (List ℕ)
 key_names l = of_key l (names l)
 
 abbrev names_at : Layout → List ℕ → List (List ℕ)
 names_at l = map (λ at. slice_index_or (names l) at [])
 
--- ---- what makes a table
+-- ---- texts that make a table
 
 abbrev type_text : SqlKind → List ℕ
 type_text sql.Integer = codes " INTEGER"
@@ -39,7 +39,7 @@ type_text sql.Text = codes " TEXT"
 type_text sql.Blob = codes " BLOB"
 type_text sql.Any = codes " ANY"
 
--- The columns at these places are just this one. A rule of one column is said at it, and one of several behind all columns.
+-- The columns at these places are just this one. A constraint of one column follows that column, and one of several follows all columns.
 abbrev is_alone : ℕ → List ℕ → Bool
 is_alone at places = (length places == 1) && (slice_index places 0 == at)
 
@@ -93,9 +93,9 @@ definitions = map definition (parts_at newest)
 abbrev pub definition_texts : List (List ℕ)
 definition_texts = map (λ d. d.0) definitions
 
--- ---- what reads a table
+-- ---- texts that read a table
 
--- the name of the number of its rows
+-- the name of the row's number
 abbrev number_name : Layout → List ℕ
 number_name l = if is_by_number l.key then slice_index_or (names l) 0 [] else codes "rowid"
 
@@ -109,7 +109,7 @@ order_text l = codes " ORDER BY " ++ number_name l
 abbrev parameter : ℕ → List ℕ
 parameter n = codes "?" ++ (if nat_lt n 10 then (48 + n) ∷ [] else (48 + n / 10) ∷ (48 + n % 10) ∷ [])
 
--- reads a table whole, each row with its columns in order
+-- reads a whole table, each row with its columns in order
 abbrev pub read_text : TableName → List ℕ
 read_text t = let l = layout_of t in select_text l ++ order_text l
 
@@ -124,29 +124,29 @@ key_test l = codes " WHERE " ++ joined_by (codes " AND ") (map is_parameter (enu
 abbrev pub key_text : TableName → List ℕ
 key_text t = let l = layout_of t in select_text l ++ key_test l ++ order_text l
 
--- ---- what puts a row
+-- ---- texts that put a row
 
 abbrev set_text : List ℕ → List ℕ
 set_text name = name ++ codes " = excluded." ++ name
 
--- puts a row at its key, over the one that stands there, of which no column stays
+-- puts a row at its key; if one exists there, all its columns are replaced
 abbrev pub put_text : TableName → List ℕ
 put_text t =
     let l = layout_of t in
     codes "INSERT INTO " ++ l.name ++ codes " " ++ in_parentheses (names l) ++ codes " VALUES " ++ in_parentheses (map parameter (range_with_len 1 (length l.columns)))
     ++ codes " ON CONFLICT " ++ in_parentheses (key_names l) ++ codes " DO UPDATE SET " ++ listed (map set_text (behind_number l.key (names l)))
 
--- changes the row that has the key, of which no column stays
+-- changes the row that has the key: all its columns are replaced
 abbrev pub update_text : TableName → List ℕ
 update_text t = let l = layout_of t in codes "UPDATE " ++ l.name ++ codes " SET " ++ listed (map is_parameter (behind_number l.key (enumerate_from 1 (names l)))) ++ key_test l
 
--- the tables whose rows mostly stand before they are put
+-- the tables whose rows mostly exist before they are put
 abbrev pub mostly_stand : TableName → Bool
 mostly_stand Unit = true
 mostly_stand Host = true
 mostly_stand Instance = true
 mostly_stand _ = false
 
--- what is tried before a row of such a table is put
+-- the text that is tried before a row of such a table is put
 abbrev pub update_first : TableName → Option (List ℕ)
 update_first t = if mostly_stand t then Some (update_text t) else None

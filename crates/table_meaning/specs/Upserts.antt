@@ -1,4 +1,4 @@
--- Words. The form of the statements that put a row: INSERT, with DO UPDATE over the row that has the key, or UPDATE of that row alone.
+-- Words. The form of the statements that put a row: INSERT with DO UPDATE of the row at its key, or UPDATE of that row alone.
 use Rattle.std.specs.Prelude.{ℕ, pos, negsuc, false, List, [], ◌∷◌, Some, None}
 use Rattle.sqlite_value.specs.declared.value.Value.TheVariants.{Int}
 use Rattle.sqlite_value.specs.declared.keys.Collation.TheVariants.{Binary}
@@ -27,7 +27,7 @@ change_query tree tests columns = record {
   offset = lit (Int (pos 0));
 }
 
--- the row whose number stands in a slot of the parameters
+-- the row whose number is in a slot of the parameters
 abbrev pub update_query : ℕ → ℕ → List Term → Query
 update_query tree slot = change_query tree (op2 (Compare Eq Binary) (col 1 0) (col 0 slot) ∷ [])
 

@@ -52,7 +52,7 @@ abbrev pub agreement_limit : Agreement → Option ℕ
 agreement_limit Exact = None
 agreement_limit (Within n) = Some n
 
--- a workunit is marked where it keeps to the versions of one class, or will
+-- a workunit is marked if it keeps to the versions of one class, now or later
 abbrev pub is_marked : ClassRule → Bool
 is_marked Any = false
 is_marked OfFirst = true
@@ -111,7 +111,7 @@ unit_row w id b = record {
   status = status_code (status_of w b);
 }
 
--- an instance waits to be given out where it has no owner and its unit is open
+-- an instance waits to be sent if it has no owner and its unit is open
 abbrev pub is_queued : World → UnitBook → Job → Bool
 is_queued w b x = is_none x.owner && (status_code (status_of w b) == 0)
 

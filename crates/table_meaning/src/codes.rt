@@ -44,7 +44,7 @@ pub fn lapse_code(lapse: Option<Lapse>) -> u32
     }
 }
 
-/// What a number says of a lapse, if it says anything.
+/// What a number says about a lapse. `None` if it is not the number of a lapse or of none.
 pub fn lapse_of_code(code: u32) -> Option<Option<Lapse>>
     ensures given { (l : Option Lapse) → code ≡ lapse_code l → result ≡ Some l }
     ensures read { IfSome result (λ l. l ≡ lapse_in code) }

@@ -30,7 +30,7 @@ pub struct StoredAccount {
 pub struct StoredApp {
     pub id: u32,
     pub name: Text,
-    /// How far two outputs may be apart, or none where they have to be equal.
+    /// How far two outputs may be apart. `None` if they must be equal.
     pub agreement: Option<u32>,
 }
 
@@ -92,7 +92,7 @@ pub struct StoredInstance {
     pub output: Option<Text>,
     /// Its place among the judged reports of its unit.
     pub place: Option<u32>,
-    /// Whether it waits to be given out: it has no owner, and its unit is open.
+    /// Whether it is waiting to be sent: it has no owner, and its unit is open.
     pub queued: bool,
 }
 
@@ -140,7 +140,7 @@ pub struct StoredVersionClass {
     pub class: Text,
 }
 
-/// Whether a workunit is marked, and the class that it keeps to, if it has one by now.
+/// Whether a workunit is marked, and the class that it keeps to, if it already has one.
 #[derive(PartialEq, Drop)]
 pub struct StoredUnitMark {
     pub unit_id: u32,
@@ -164,8 +164,8 @@ pub enum StoredRow {
     UnitMark(StoredUnitMark),
 }
 
-/// A row to put at its key, and whether it is to take the place of one that is stored there. That only says which statement is
-/// tried first, and what is stored then does not depend on it: so contracts see the row alone.
+/// A row to put at its key, and whether it replaces a stored row. The second fact only decides which statement is tried
+/// first. What is stored afterwards does not depend on it, so contracts see only the row.
 #[derive(Drop)]
 pub struct RowChange {
     row: StoredRow,
@@ -181,7 +181,7 @@ impl Model for RowChange {
 }
 
 impl RowChange {
-    /// A row whose key has none yet.
+    /// A row whose key has no stored row yet.
     pub fn insert(row: StoredRow) -> RowChange
         ensures { result ≡ row }
     {
@@ -191,7 +191,7 @@ impl RowChange {
         }
     }
 
-    /// A row in the place of one that is stored.
+    /// A row that replaces a stored one.
     pub fn update(row: StoredRow) -> RowChange
         ensures { result ≡ row }
     {
@@ -201,7 +201,7 @@ impl RowChange {
         }
     }
 
-    /// These rows, of whose keys none has one yet.
+    /// Makes an insert of each of these rows. None of their keys has a stored row yet.
     pub fn inserts(alloc: Global, rows: Listed<StoredRow>) -> Result<Listed<RowChange>, Memory>
         ensures { IfOk result (λ changes. changes ≡ rows) }
     {

@@ -1,9 +1,9 @@
-//! The names of the stored tables, the number of their schema, and what an upgrade fills them with.
+//! The names of the stored tables, the number of their schema, and the fills of an upgrade.
 
 ghost use Rattle.std.specs.Prelude.{◌≡◌};
 ghost use Rattle.table_meaning.specs.Places.{page_size};
 
-/// The number of the newest schema, which is the one that is worked on.
+/// The number of the newest schema, the one that the program uses.
 pub const NEWEST_SCHEMA: u32 = 3;
 
 /// The tables of the stored format.
@@ -22,11 +22,11 @@ pub enum TableName {
     UnitMark,
 }
 
-/// What an upgrade puts into a table that a schema gains: for each row of another table, in the order of their numbers, one
-/// row.
+/// A fill of a table that a schema adds. For each row of another table, in the order of their numbers, an upgrade
+/// inserts one row.
 #[derive(Clone, Copy)]
 pub enum Fill {
-    /// The call that the first schema keeps of a host, into the first slot of that host.
+    /// The call that the first schema keeps of a host, into the host's first slot.
     Calls,
     /// The class of a version, which is its platform.
     Classes,
@@ -34,10 +34,10 @@ pub enum Fill {
     Marks,
 }
 
-/// A page of the instances that wait to be given out.
+/// A page of the instances that are waiting to be sent.
 #[derive(Clone, Copy)]
 pub enum QueuePage {
-    /// The first one, which is short: most calls take one job or few.
+    /// The first page. It is short, since most calls take only a few jobs.
     First,
     Further,
 }

@@ -1,4 +1,4 @@
--- What was held has no classes, is held after the upgrade, and stands in each of the next eras, and so does the store.
+-- What tables held has no classes. It is held after the upgrade, and agrees in each of the next eras, and so does the store.
 use Rattle.std.proofs.Common.{◌≡◌, ◌+◌, ◌-◌, ◌<◌, ℕ, zero, suc, List, [], ◌∷◌, ◌++◌, length, replicate, refl, sym, subst, ◌∙◌, arith}
 use Rattle.std.proofs.lemmas.List.{append-nil, append_assoc}
 use Rattle.sqlite_trees.specs.declared.store.Store.{Ghosts}
@@ -17,7 +17,7 @@ use Rattle.table_pasts.specs.Laws.{UpgradedTablesStand, with_upgrade_points}
 left_as_it_is : (held : Held) → IsLeft held held
 left_as_it_is held = record { world_is = refl; calls_are = λ host. refl; batches_are = λ kind batch. refl }
 
--- what is left of one is left of another of which it is left
+-- if nothing changed from either of two to a third, nothing changed between the two
 left_back : (one other last : Held) → IsLeft one last → IsLeft other last → IsLeft one other
 left_back one other last from to = record {
   world_is = sym to.world_is ∙ from.world_is;
@@ -25,7 +25,7 @@ left_back one other last from to = record {
   batches_are = λ kind batch. sym (to.batches_are kind batch) ∙ from.batches_are kind batch;
 }
 
--- so many upgrades, one after another
+-- several upgrades, one after another
 stand_in_later_eras : UpgradedStands → (upgrades era : ℕ) (key : List ℕ) (held : Held) (points : List ℕ) (before : List Came) → StandsIn era key held points before
     → StandsIn (era + upgrades) key held (with_upgrade_points upgrades points before) before
 stand_in_later_eras stands zero era key held points before st =

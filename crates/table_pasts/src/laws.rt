@@ -8,8 +8,9 @@ use sched_tables::laws::upgraded_holds;
 use sqlite::Alter;
 use stores::Store;
 
-/// Tables of the first or the second schema stood for a list of messages with their answers. Upgraded and opened, they stand
-/// for that list, with the number of answered messages as the upgrade point of each schema that they went up.
+/// Suppose tables of the first or the second schema agreed with a list of messages and their answers. Upgraded and
+/// opened, they agree with that list. It then has one more upgrade point for each schema step: the number of answered
+/// messages.
 pub fn upgraded_tables_stand<S: Alter + Drop>()
     ensures { UpgradedTablesStand S.Store ⟦<Tables<S> as Store>⟧ }
 {

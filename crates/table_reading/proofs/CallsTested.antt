@@ -1,4 +1,4 @@
--- Calls may stand beside a world where each may be one of some host, and their greatest host stands.
+-- Calls may be kept with a world if each may be a call of some host, and the greatest of their hosts exists.
 use Rattle.std.proofs.Common.{◌≡◌, ℕ, Bool, true, false, ◌&&◌, ◌==◌, not, nat_le, ◌-◌, List, [], ◌∷◌, fold, length, refl, sym, ap, ◌∙◌, inl, inr, arith}
 use Rattle.std.specs.List.{list_all}
 use Rattle.std.specs.Prelude.{is_some}

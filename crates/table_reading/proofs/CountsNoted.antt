@@ -1,4 +1,4 @@
--- What is noted of rows of workunits, marks and instances tells how many there are of each.
+-- What is noted of the rows of workunits, marks and instances says how many there are of each.
 use Rattle.std.proofs.Common.{◌≡◌, ◌≢◌, ◌≤◌, ◌<◌, ◌⊎◌, ℕ, zero, suc, ◌+◌, ◌-◌, max, Bool, true, false, cond, not, ◌&&◌, ◌==◌, nat_le, List, [], ◌∷◌, ◌++◌, fold, length, get_or, Some, refl, sym, ap, subst, ◌∙◌, arith, inl, inr, true≢false}
 use Rattle.std.specs.List.{AllByRecursion}
 use Rattle.std.specs.Prelude.{slice_get}
@@ -18,7 +18,7 @@ use Rattle.table_worlds.proofs.ColumnsBack.{is_unit_row, is_mark_row, is_instanc
 use Rattle.table_reading.specs.Counting.{is_numbered, next_number, counted, noted}
 use Rattle.table_reading.specs.declared.counts.UnitCounts.{UnitCounts}
 
--- ---- one instance more
+-- ---- one more instance
 
 one_place : (i j : ℕ) → (i ≡ j) ⊎ (i ≢ j)
 one_place i j = elim (cases_Bool (i == j)) [
@@ -31,7 +31,7 @@ past_end [] j past = refl
 past_end (x ∷ xs) zero past = absurd (omega (arith, past))
 past_end (x ∷ xs) (suc j) past = past_end xs j (omega (arith, past))
 
--- what an instance counts for at an index
+-- what an instance adds to the count at an index
 module _ (counts : List ℕ) (unit number : ℕ) where
   pub count_grows : (j : ℕ) → get_or counts j 0 ≤ get_or (counted counts unit number) j 0
   count_grows j = elim (one_place (unit - 1) j) [
@@ -74,7 +74,7 @@ module _ (counts : List ℕ) (unit number : ℕ) where
 abbrev AreInstances : List StoredRow → Type 0
 AreInstances rows = AllByRecursion (λ r. table_of r ≡ name.Instance) rows
 
--- each instance is of one of so many workunits
+-- each instance is of one of the counted workunits
 abbrev pub AreOfUnits : List ℕ → List StoredRow → Type 0
 AreOfUnits counts rows = (i : StoredInstance) → Has rows (stored.Instance i) → is_numbered counts i.unit_id ≡ true
 
@@ -87,7 +87,7 @@ one_noted c i is = ap (λ b. cond b (record c { counts = counted c.counts i.unit
 none_of : (c : UnitCounts) (i : StoredInstance) → is_numbered c.counts i.unit_id ≡ false → noted c (stored.Instance i) ≡ record c { are_in_turn = false }
 none_of c i is = ap (λ b. cond b (record c { counts = counted c.counts i.unit_id i.num }) (record c { are_in_turn = false })) is
 
--- once out of turn, always so
+-- once out of turn, always out of turn
 stays_out : (rows : List StoredRow) (c : UnitCounts) → AreInstances rows → c.are_in_turn ≡ false → (fold noted c rows).are_in_turn ≡ false
 stays_out [] c typed out = out
 stays_out (r ∷ rows) c typed out =
@@ -98,7 +98,7 @@ stays_out (r ∷ rows) c typed out =
     go true i is = ap (λ (d : UnitCounts). d.are_in_turn) (one_noted c i is) ∙ out
     go false i is = ap (λ (d : UnitCounts). d.are_in_turn) (none_of c i is)
 
--- how many workunits there are stays
+-- the number of workunits is unchanged
 pub same_count : (rows : List StoredRow) (c : UnitCounts) → AreInstances rows → length (fold noted c rows).counts ≡ length c.counts
 same_count [] c typed = refl
 same_count (r ∷ rows) c typed =
@@ -121,7 +121,7 @@ grows (r ∷ rows) c typed j =
     go true i is = subst (λ (d : UnitCounts). get_or c.counts j 0 ≤ get_or d.counts j 0) (sym (one_noted c i is)) (count_grows c.counts i.unit_id i.num j)
     go false i is = subst (λ (d : UnitCounts). get_or c.counts j 0 ≤ get_or d.counts j 0) (sym (none_of c i is)) (let same : get_or c.counts j 0 ≤ get_or c.counts j 0 = omega arith in same)
 
--- where all is in turn, each instance is of a workunit and counted
+-- if all is in turn, each instance is of a workunit and is counted
 pub in_turn_told : (rows : List StoredRow) (c : UnitCounts) → AreInstances rows → (fold noted c rows).are_in_turn ≡ true → (i : StoredInstance) → Has rows (stored.Instance i)
     → (is_numbered c.counts i.unit_id ≡ true) × (next_number i.num ≤ get_or (fold noted c rows).counts (i.unit_id - 1) 0)
 in_turn_told [] c typed turn i has = absurd has
@@ -141,7 +141,7 @@ in_turn_told (r ∷ rows) c typed turn i (inr later) =
     let rest = in_turn_told rows (noted c r) typed.1 turn i later in
     (sym (same_numbers (noted c r).counts c.counts (same_count (r ∷ []) c (typed.0, tt)) i.unit_id) ∙ rest.0, rest.1)
 
--- it was in turn before them
+-- all was in turn before them
 pub was_in_turn : (rows : List StoredRow) (c : UnitCounts) → AreInstances rows → (fold noted c rows).are_in_turn ≡ true → c.are_in_turn ≡ true
 was_in_turn rows c typed turn = go c.are_in_turn refl
   where
@@ -149,7 +149,7 @@ was_in_turn rows c typed turn = go c.are_in_turn refl
     go true is = is
     go false is = absurd (true≢false (sym turn ∙ stays_out rows c typed is))
 
--- and where each is of a workunit, all is in turn, and no count is above each bound of the numbers
+-- if each instance is of a workunit, all is in turn, and no count exceeds a bound of the numbers
 pub of_units_counted : (rows : List StoredRow) (c : UnitCounts) (most : ℕ → ℕ) → AreInstances rows → AreOfUnits c.counts rows → c.are_in_turn ≡ true → ((j : ℕ) → get_or c.counts j 0 ≤ most j)
     → ((i : StoredInstance) → Has rows (stored.Instance i) → next_number i.num ≤ most (i.unit_id - 1)) → ((fold noted c rows).are_in_turn ≡ true) × ((j : ℕ) → get_or (fold noted c rows).counts j 0 ≤ most j)
 of_units_counted [] c most typed of_units turn before bound = (turn, before)
@@ -164,7 +164,7 @@ of_units_counted (r ∷ rows) c most typed of_units turn before bound =
     (λ j. subst (λ (d : UnitCounts). get_or d.counts j 0 ≤ most j) (sym now) (count_bounded c.counts i.0.unit_id i.0.num most before (bound i.0 has) is j))
     (λ k later. bound k (inr later))
 
--- the last mark stays
+-- the last mark is unchanged
 pub same_mark : (rows : List StoredRow) (c : UnitCounts) → AreInstances rows → (fold noted c rows).last_mark ≡ c.last_mark
 same_mark [] c typed = refl
 same_mark (r ∷ rows) c typed =
@@ -186,11 +186,11 @@ zero_more [] (suc j) is = refl
 zero_more (x ∷ xs) zero is = is
 zero_more (x ∷ xs) (suc j) is = zero_more xs j is
 
--- they have the keys of the numbers behind so many, in turn
+-- the rows have the keys of the numbers after `before`, in turn
 abbrev pub AreInTurn : (ℕ → RowKey) → ℕ → List StoredRow → Type 0
 AreInTurn key before rows = (i : ℕ) (r : StoredRow) → slice_get rows i ≡ Some r → key_of r ≡ key (i + before + 1)
 
--- so many more workunits, of which none has an instance
+-- more workunits are counted, with no instance yet
 pub units_counted : (rows : List StoredRow) (c : UnitCounts) → AreUnits rows → length (fold noted c rows).counts ≡ length c.counts + length rows
 units_counted [] c typed = omega arith
 units_counted (r ∷ rows) c typed =
@@ -205,14 +205,14 @@ units_without (r ∷ rows) c typed none j =
     let u = is_unit_row r typed.0 in
     units_without rows (noted c r) typed.1 (λ k. ap (λ s. get_or (noted c s).counts k 0) u.1 ∙ zero_more c.counts k (none k)) j
 
--- of which no mark was noted
+-- workunits do not change the last mark
 pub units_marked : (rows : List StoredRow) (c : UnitCounts) → AreUnits rows → (fold noted c rows).last_mark ≡ c.last_mark
 units_marked [] c typed = refl
 units_marked (r ∷ rows) c typed =
     let u = is_unit_row r typed.0 in
     units_marked rows (noted c r) typed.1 ∙ ap (λ s. (noted c s).last_mark) u.1
 
--- they are in turn just where that is noted
+-- they are in turn exactly if that is noted
 pub units_told : (rows : List StoredRow) (c : UnitCounts) → AreUnits rows → (fold noted c rows).are_in_turn ≡ true → (c.are_in_turn ≡ true) × AreInTurn unit_key (length c.counts) rows
 units_told [] c typed turn = (turn, λ i r is. absurd (none-some r is))
 units_told (r ∷ rows) c typed turn =
@@ -252,14 +252,14 @@ units_turned (r ∷ rows) c typed turn are =
 abbrev AreMarks : List StoredRow → Type 0
 AreMarks rows = AllByRecursion (λ r. table_of r ≡ name.UnitMark) rows
 
--- they count no instance
+-- marks count no instance
 pub marks_count : (rows : List StoredRow) (c : UnitCounts) → AreMarks rows → (fold noted c rows).counts ≡ c.counts
 marks_count [] c typed = refl
 marks_count (r ∷ rows) c typed =
     let m = is_mark_row r typed.0 in
     marks_count rows (noted c r) typed.1 ∙ ap (λ s. (noted c s).counts) m.1
 
--- where all is in turn they are so, and the last one has the number of them all
+-- if all is in turn, the marks are, and the last one has the number of them all
 pub marks_told : (rows : List StoredRow) (c : UnitCounts) → AreMarks rows → (fold noted c rows).are_in_turn ≡ true
     → (c.are_in_turn ≡ true) × AreInTurn mark_key c.last_mark rows × ((fold noted c rows).last_mark ≡ c.last_mark + length rows)
 marks_told [] c typed turn = (turn, (λ i r is. absurd (none-some r is)), omega arith)
@@ -282,7 +282,7 @@ marks_told (r ∷ rows) c typed turn =
         some_same e = cc
     at (suc i) s is m mark id one rest = rest i s is ∙ ap mark_key (let number : i + (noted c r).last_mark + 1 ≡ suc i + c.last_mark + 1 = omega (arith, one) in number)
 
--- and where they are so, all is in turn
+-- and if the marks are in turn, all is
 pub marks_turned : (rows : List StoredRow) (c : UnitCounts) → AreMarks rows → c.are_in_turn ≡ true → AreInTurn mark_key c.last_mark rows
     → ((fold noted c rows).are_in_turn ≡ true) × ((fold noted c rows).last_mark ≡ c.last_mark + length rows)
 marks_turned [] c typed turn are = (turn, omega arith)

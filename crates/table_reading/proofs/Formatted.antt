@@ -1,4 +1,4 @@
--- The rows of a sound world, and of what may be kept beside it, have the formats of their tables, where their texts are UTF-8.
+-- If their texts are in UTF-8, the rows of a sound world and of what may be kept with it have the formats of their tables.
 use Rattle.std.proofs.Common.{◌≡◌, ℕ, zero, suc, ◌≤◌, ◌<◌, ℤ, pos, Bool, true, false, ◌&&◌, List, length, Option, Some, None, option_map, refl, sym, ◌∙◌, inl, inr, arith, IsTrue}
 use Rattle.std.specs.Prelude.{IfSome, codes, is_some, nat_le, nat_lt, option_and_then, slice_get, if◌then◌else◌}
 use Rattle.std.specs.List.{AllByRecursion}
@@ -78,7 +78,7 @@ weaker : {X : Type 0} {P Q : X → Type 0} (o : Option X) → ((x : X) → P x �
 weaker None f h = tt
 weaker (Some x) f h = f x h
 
--- the row that is made of what may stand, with its texts in UTF-8, has its format where each such row has
+-- a row made of an item, if there is one, has its format if each such row with its texts in UTF-8 has it
 made : {X : Type 0} (f : X → StoredRow) (t : TableName) (o : Option X) → IfSome (option_map f o) (λ r. HasUtf8 (columns_of r)) → ((x : X) → o ≡ Some x → HasUtf8 (columns_of (f x)) → IsStored t (columns_of (f x)))
     → IfSome (option_map f o) (λ r. IsStored t (columns_of r))
 made f t None texts each = tt
@@ -181,7 +181,7 @@ module _ (w : World) (sound : Sound w) where
       let limits = all_nth IsAppInLimits w.apps id a is sound.rows.apps in
       (refl, (of_number id (omega (arith, at_most w.apps id a is, few_apps)), (of_word a.name limits.name, (of_number_or_none (agreement_limit a.agreement) (limit_small a.agreement limits.distance), tt))))
 
-  -- the place of an application that stands
+  -- the place of an application that exists
   app_small : (text : List ℕ) → has_app w.apps text ≡ true → app_place w text < 4294967296
   app_small text has = let named = named_app w text has in omega (arith, at_most w.apps (app_place w text) named.0 named.1, few_apps)
 

@@ -1,4 +1,4 @@
--- Tables that hold a sound world, with what may be kept beside it, are read as that world, however they are read.
+-- Tables that hold a sound world, with calls and imports that may be kept with it, are always read as that world.
 use Rattle.std.proofs.Common.{◌≡◌, ℕ, true, List, map, Option, Some, None, option_map, refl, sym, ap, subst, ◌∙◌, inl, IsTrue}
 use Rattle.std.specs.Prelude.{IfSome}
 use Rattle.std.specs.List.{list_all}
@@ -27,12 +27,12 @@ use Rattle.table_worlds.proofs.RowsAre.{rows_of_world}
 use Rattle.table_reading.proofs.KeptRows.{import_row, call_table, import_table, call_shown, import_shown}
 use Rattle.table_reading.specs.Reading.{AllRows, AreAllRead, StandFor, ReadFrom, StandForNone, HasBadTable, HasOtherSchema, MayStandBeside, is_call_of, is_import}
 
--- what is made of an option passes where that passes
+-- a row made of an item, if there is one, passes if that of each item does
 made_passes : {X : Type 0} (P : StoredRow → Type 0) (f : X → StoredRow) (o : Option X) (r : StoredRow) → option_map f o ≡ Some r → IfSome o (λ x. P (f x)) → P r
 made_passes P f None r is fits = absurd (none-some r is)
 made_passes P f (Some x) r is fits = subst P (same_Some (f x) r is) fits
 
--- ---- what is kept, in rows that stand for a world, may stand beside it
+-- ---- calls and imports in rows that represent a world may be kept with it
 
 module _ (db : Database) (w : World) (all : AllRows) (read : AreAllRead db.trees all) (stand : StandFor w all) where
   call_fits : (host slot : ℕ) (o : Option Row) → look_up db.trees (kept_key host slot) ≡ o → IfSome (option_map call_of o) (λ k. IsTrue (is_call_of w (stored.Kept (call_row host slot k))))
@@ -68,7 +68,7 @@ HaveFormats contents = (key : RowKey) → IfSome (contents key) (λ r. IsStored 
 abbrev pub HaveTexts : Contents → Type 0
 HaveTexts contents = (key : RowKey) → IfSome (contents key) (λ r. HasUtf8 (columns_of r))
 
--- some row of a table without its format is none of rows that have it
+-- no row of tables whose rows have their formats lacks its format
 pub formed : (db : Database) (contents : Contents) → Hold db contents → HaveFormats contents → ¬ HasBadTable db.trees
 formed db contents holds formats bad =
     let t = bad.0 in
@@ -104,7 +104,7 @@ module _ (db : Database) (w : World) (calls : SlotCalls) (batches : List ℕ →
       go (batch_key kind text) at r is = made_passes (λ s. is_import s ≡ true) (λ (b : BatchText). stored.Batch (record { kind = kind; name = text; text = b.0; answer = b.1 })) (batches kind text) r is (beside.imports_fit kind text)
       go _ at r is = cc
 
-  -- whatever rows are read of them stand for the world
+  -- any rows that are read from them represent the world
   pub each_stands : (all : AllRows) → AreAllRead db.trees all → StandFor w all
   each_stands all read = record {
     sound = sound;
@@ -113,7 +113,7 @@ module _ (db : Database) (w : World) (calls : SlotCalls) (batches : List ℕ →
     batches = imports_pass all.batches read.batches;
   }
 
-  -- and some are
+  -- and some rows are read
   pub held_is_read : ReadFrom db.trees w
   held_is_read =
       let rows = rows_told db contents holds in

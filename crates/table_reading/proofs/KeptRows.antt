@@ -1,4 +1,4 @@
--- Rows that stand for a world hold it, with what is kept beside it.
+-- If rows represent a world, the tables hold it with the calls and imports that they keep.
 use Rattle.std.proofs.Common.{◌≡◌, ℕ, true, List, map, Option, Some, None, option_map, refl, sym, ap, subst, true≢false}
 use Rattle.std.specs.List.{list_all}
 use Rattle.sqlite.specs.Effect.{Database}
@@ -17,7 +17,7 @@ use Rattle.table_meaning.proofs.RowsHeld.{held_row, keyed_by}
 use Rattle.table_worlds.proofs.RowsHold.{world_held, world_keyed}
 use Rattle.table_reading.specs.Reading.{AllRows, AreAllRead, StandFor, is_call_of, is_import}
 
--- ---- what passes is of its table
+-- ---- a row that passes is of its table
 
 pub call_table : (w : World) (r : StoredRow) → is_call_of w r ≡ true → table_at (key_of r) ≡ name.Kept
 call_table w (stored.Kept k) is = refl
@@ -27,9 +27,9 @@ pub import_table : (r : StoredRow) → is_import r ≡ true → table_at (key_of
 import_table (stored.Batch b) is = refl
 import_table _ is = absurd (true≢false (sym is))
 
--- ---- a row at a key is what is kept there
+-- ---- the row at a key is what is kept there
 
--- the row of a call, by what it shows
+-- the row of a call, from the columns that it shows
 abbrev shown_call : ℕ → ℕ → Row → StoredRow
 shown_call host slot row = stored.Kept (call_row host slot (call_of row))
 

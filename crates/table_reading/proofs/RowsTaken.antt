@@ -1,4 +1,4 @@
--- What a reading of all tables holds of their rows.
+-- What a reading of all tables keeps of their rows.
 use Rattle.std.proofs.Common.{◌≡◌, ◌&&◌, List, [], ◌∷◌, ◌++◌, map, fold, Option, Some, None, refl, sym, ap, subst, ◌∙◌, inl, inr}
 use Rattle.std.specs.Prelude.{IfSome}
 use Rattle.std.specs.List.{AllByRecursion, list_all}
@@ -69,7 +69,7 @@ rows_taken t old new [] all same = same ∙ sym (none_more t old)
 rows_taken t old new (row ∷ rows) all (mid, took, rest) =
     rows_taken t mid new rows all.1 rest ∙ ap (λ r. with_more t r rows) took ∙ subst (λ (t' : TableName). with_more t' (with_row old row) rows ≡ with_more t' old (row ∷ rows)) all.0 (one_more old row rows)
 
--- the tables are read, one behind the other
+-- the tables are read one after the other
 abbrev Fills : Trees → Reading → List TableName → Reading → Type 0
 Fills trees old [] new = new ≡ old
 Fills trees old (t ∷ ts) new = (rows : List StoredRow) × (map columns_of rows ≡ rows_in trees t) × AllByRecursion (λ r. table_of r ≡ t) rows × Fills trees (with_more t old rows) ts new

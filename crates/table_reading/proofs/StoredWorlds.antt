@@ -1,4 +1,4 @@
--- The world that rows stand for is the one that they tell, and there is one at most.
+-- The world that rows represent is the one that is read back from them, and there is at most one.
 use Rattle.std.proofs.Common.{◌≡◌, ℕ, Bool, true, false, true≢false, List, [], sym, ap, subst, ◌∙◌}
 use Rattle.sqlite.specs.Effect.{Database}
 use Rattle.sched_book.specs.Places.{overdue}
@@ -20,7 +20,7 @@ use Rattle.table_reading.proofs.WorldStands.{beside_read}
 
 module _ (db : Database) (known : AreKnown db) (all : AllRows) (read : AreAllRead db.trees all) where
   module _ (w : World) (stand : StandFor w all) where
-    -- the tables hold it, so their rows tell it
+    -- the tables hold it, so it is read back from their rows
     pub is_told : world_in db.trees ≡ w
     is_told = held_is_read_back db w _ _ (held_by_rows db w all known read stand) (sound_is_readable w stand.sound)
 
@@ -39,11 +39,11 @@ module _ (db : Database) (known : AreKnown db) (all : AllRows) (read : AreAllRea
     pub none_due_told : (due_from : ℕ) → overdue w due_from ≡ [] → overdue (world_in db.trees) due_from ≡ []
     none_due_told due_from none = subst (λ (v : World). overdue v due_from ≡ []) (sym is_told) none
 
-  -- where the world without its workunits is told, and no workunits make it one that stands, none does
+  -- Suppose the rows determine the world without its workunits. If no list of workunits makes it a world that they represent, they represent none.
   pub none_stands : (d : World) → ((w : World) → StandFor w all → d ≡ without_units w) → ((books : List UnitBook) → StandFor (having d books) all → ⊥) → StandForNone db.trees
   none_stands d told none = (all, read, λ w stand. none w.units (subst (λ (v : World). StandFor (having v w.units) all) (sym (told w stand)) stand))
 
--- a refusal is for one reason alone
+-- a refusal has one reason only
 abbrev is_unavailable : OpenFault → Bool
 is_unavailable fault.Unavailable = true
 is_unavailable other = false
@@ -51,6 +51,6 @@ is_unavailable other = false
 pub one_reason : (e : OpenFault) → e ≡ fault.Unavailable → e ≡ fault.BadRow → ⊥
 one_reason e unavailable bad = true≢false (sym (ap is_unavailable unavailable) ∙ ap is_unavailable bad)
 
--- what was read beside the workunits is of a world that stands
+-- the rows other than those of workunits are those of a world that the rows represent
 pub beside_of : (db : Database) → AreKnown db → (all : AllRows) → AreAllRead db.trees all → AreTyped all → (r : Reading) → r ≡ reading_of all → (w : World) → StandFor w all → AreRowsBeside w r.rows
 beside_of db known all read typed r is w stand = beside_read db known all read typed r is w w.units stand

@@ -1,4 +1,4 @@
--- Workunits that stand at their keys: there is one list of them at most, and each is tested behind those before it.
+-- Workunits at their keys: there is at most one list of them, and each is tested after those before it.
 use Rattle.std.proofs.Common.{◌≡◌, ◌≢◌, ◌<◌, ◌⊎◌, ℕ, zero, suc, ◌+◌, ◌-◌, Bool, true, false, ◌||◌, List, [], ◌∷◌, ◌++◌, map, length, get_or, Option, Some, Ok, Err, OnOk, refl, sym, ap, subst, ◌∙◌, arith, inl, inr, true≢false}
 use Rattle.std.specs.List.{list_any}
 use Rattle.std.specs.declared.result.Result.{Result}
@@ -67,10 +67,10 @@ found_more trees id n rows row found here = record {
   ];
 }
 
--- ---- one workunit at a key
+-- ---- one workunit at its key
 
 module _ (trees : Trees) (id n : ℕ) where
-  -- the same rows stand at the same keys
+  -- rows at the same keys are the same
   pub one_found : (rows others : UnitRows) → AreFound trees id n rows → AreFound trees id n others → rows ≡ others
   one_found rows others found also =
       let unit = one_unit rows.unit others.unit (one_row _ _ _ found.unit_at also.unit_at) in
@@ -80,7 +80,7 @@ module _ (trees : Trees) (id n : ℕ) where
       λ i. record { unit = unit i; mark = mark i; instances = instances i }
 
   module _ (w : World) (b : UnitBook) (stands : StandsAt trees w id n b) where
-    -- so no key is without its row
+    -- so each of its keys has a row
     pub has_no_gap : HasGap trees id n → ⊥
     has_no_gap (inl (inl none)) = none-some _ (sym none ∙ stands.found.unit_at)
     has_no_gap (inl (inr none)) = none-some _ (sym none ∙ stands.found.mark_at)
@@ -90,7 +90,7 @@ module _ (trees : Trees) (id n : ℕ) where
         let row = stands_within (rows_of_unit w id b).instances gap.0 (omega (arith, gap.1, count)) in
         none-some _ (sym gap.2 ∙ found.at gap.0 row.0 row.1)
 
--- a workunit that stands is told by its rows
+-- a workunit is read back from its rows
 jobs_back : (w : World) (b : UnitBook) (id m : ℕ) (xs : List Job) → map (λ (i : StoredInstance). job_in (columns_of (stored.Instance i))) (map_from m (λ n x. instance_row w b id (n - 1) x) xs) ≡ xs
 jobs_back w b id m [] = refl
 jobs_back w b id m (x ∷ xs) =
@@ -112,11 +112,11 @@ one_standing trees w id n b c stands also =
 
 -- ---- workunits in turn
 
--- the names that came by are those of the workunits
+-- the names that were seen are those of the workunits
 abbrev pub AreNames : SeenSet (List ℕ) → List UnitBook → Type 0
 AreNames names books = (name : List ℕ) → has_name names name ≡ list_any (λ (b : UnitBook). bytes_eq name b.unit.name) books
 
--- what is counted of hosts, and then other workunits, is all
+-- what was counted of hosts, and then the other workunits, is all
 abbrev pub AreCounted : List App → List Total → List UnitBook → List Total → Type 0
 AreCounted apps before books now = (more : List UnitBook) → map_from 1 (with_units apps more) now ≡ map_from 1 (with_units apps (books ++ more)) before
 
@@ -141,14 +141,14 @@ counted_more apps before now next books b are made more =
 pub counted_all : (apps : List App) (before now : List Total) (books : List UnitBook) → AreCounted apps before books now → now ≡ map_from 1 (with_units apps books) before
 counted_all apps before now books are = sym (no_unit_left apps now) ∙ are [] ∙ ap (λ (bs : List UnitBook). map_from 1 (with_units apps bs) before) (append-nil books)
 
--- from nothing, what is counted of all is what the world with them tells
+-- counted from zero over all workunits, the totals are those of the world with them
 pub counted_from : (w : World) (books : List UnitBook) (n : ℕ) (before after : List Total) → n ≡ length w.hosts → before ≡ replicate n (record { held = 0; credit = 0 })
     → after ≡ map_from 1 (with_units w.apps books) before → after ≡ totals_of (having w books)
 counted_from w books n before after count none made =
     made ∙ ap (map_from 1 (with_units w.apps books)) (none ∙ ap (λ m. replicate m (record { held = 0; credit = 0 })) count) ∙ all_counted (having w books)
 
 module _ (trees : Trees) (w : World) (counts : List ℕ) where
-  -- one more, whose name none before it has
+  -- one more, whose name no workunit before it has
   pub tested_more : (i n : ℕ) (books : List UnitBook) (b : UnitBook) (names : SeenSet (List ℕ)) → AreTested trees w counts i books → slice_get counts i ≡ Some n → StandsAt trees w (i + 1) n b
       → AreNames names books → has_name names b.unit.name ≡ false → AreTested trees w counts (i + 1) (books ++ b ∷ [])
   tested_more i n books b names tested count stands are new = record {
@@ -165,14 +165,14 @@ module _ (trees : Trees) (w : World) (counts : List ℕ) where
   }
 
   module _ (others : List UnitBook) (stand : AreTested trees w counts (length counts) others) where
-    -- the workunit of an index stands
+    -- the workunit at an index passes
     pub stands_next : (i n : ℕ) → slice_get counts i ≡ Some n → (b : UnitBook) × (slice_get others i ≡ Some b) × StandsAt trees w (i + 1) n b
     stands_next i n count =
         let within = slice_get_within counts i n count in
         let b = stands_within others i (omega (arith, within, stand.all)) in
         (b.0, b.1, stand.each i n b.0 count b.1)
 
-    -- so no name of one came by among those before it
+    -- so its name was not seen among those before it
     pub name_is_new : (i n : ℕ) (books : List UnitBook) (b : UnitBook) (names : SeenSet (List ℕ)) → AreTested trees w counts i books → slice_get counts i ≡ Some n → slice_get others i ≡ Some b → AreNames names books
         → has_name names b.unit.name ≡ true → ⊥
     name_is_new i n books b names tested count is are came =
@@ -200,7 +200,7 @@ module _ (trees : Trees) (w : World) (counts : List ℕ) where
       let n = stands_within counts k (omega (arith, within, stand.all)) in
       one_standing trees w (k + 1) n.0 b c (stand.each k n.0 b n.1 is) (also.each k n.0 c n.1 there))
 
--- ---- what several clauses of one call say
+-- ---- several clauses of one call together
 
 pub on_ok_each : {A E : Type 0} (r : Result A E) (P Q R S : Type 0) → (P → Q → R → S) → OnOk r P → OnOk r Q → OnOk r R → OnOk r S
 on_ok_each (Ok x) P Q R S f p q s = f p q s

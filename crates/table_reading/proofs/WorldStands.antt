@@ -1,5 +1,5 @@
--- Rows are those of a sound world just where its workunits stand at their keys with their marks, and the other rows are those
--- of it beside them.
+-- Rows are those of a sound world exactly if two things hold: its workunits are at their keys with their marks, and the other rows
+-- are those of this world.
 use Rattle.std.proofs.Common.{◌≡◌, ◌≤◌, ◌<◌, ℕ, zero, suc, ◌+◌, ◌-◌, true, List, [], ◌∷◌, map, filter_map, fold, length, get_or, Option, Some, option_map, All, refl, sym, ap, subst, ◌∙◌, arith}
 use Rattle.std.specs.List.{cons_option, range_with_len}
 use Rattle.std.specs.Prelude.{slice_get, unwrap_or, option_and_then}
@@ -68,7 +68,7 @@ module _ (db : Database) (known : AreKnown db) (all : AllRows) (read : AreAllRea
   abbrev w : World
   w = having d books
 
-  -- what was noted of workunits, then of marks, and then of instances
+  -- what was noted after the workunits, then after the marks, and then after the instances
   abbrev of_all_units : UnitCounts
   of_all_units = fold noted none_noted all.world.units
 
@@ -97,16 +97,16 @@ module _ (db : Database) (known : AreKnown db) (all : AllRows) (read : AreAllRea
   instances_of_table : (r : StoredRow) → Has all.world.instances r → table_at (key_of r) ≡ name.Instance
   instances_of_table r has = let x = is_instance_row r (all_has (λ s. table_of s ≡ name.Instance) all.world.instances r typed.instances has) in ap (λ s. table_at (key_of s)) x.1
 
-  -- a row stands at its key
+  -- a row that was read is at its key
   found_at : (r : StoredRow) {q : StoredRow} → r ≡ q → (key : RowKey) → key_of r ≡ key → look_up db.trees (key_of q) ≡ Some (columns_of q)
       → look_up db.trees key ≡ Some (columns_of r)
   found_at r same key at found =
       subst (λ k. look_up db.trees k ≡ Some (columns_of r)) at (subst (λ s. look_up db.trees (key_of s) ≡ Some (columns_of s)) (sym same) found)
 
-  -- ---- where all was tested
+  -- ---- if everything was tested
 
   module _ (fit : IsFit d (reading_of all)) (tested : AreTested db.trees d counts (length counts) books) (beside : AreRowsBeside w (rows_beside all.world)) where
-    -- the workunit of an index stands, with so many instances
+    -- the workunit at an index passes, with `n` instances
     stands : (i : ℕ) (b : UnitBook) → slice_get books i ≡ Some b → (n : ℕ) × (slice_get counts i ≡ Some n) × StandsAt db.trees d (i + 1) n b
     stands i b is =
         let within = slice_get_within books i b is in
@@ -116,7 +116,7 @@ module _ (db : Database) (known : AreKnown db) (all : AllRows) (read : AreAllRea
     instances_counted : (i : ℕ) (b : UnitBook) (n : ℕ) → StandsAt db.trees d (i + 1) n b → length b.instances ≡ n
     instances_counted i b n at = sym (length-map_from (λ k x. instance_row d b (i + 1) (k - 1) x) 1 b.instances) ∙ at.found.instances_at.count
 
-    -- the row of an instance stands at its key
+    -- the row of an instance is at its key
     instance_at : (i k n : ℕ) (b : UnitBook) (x : Job) → StandsAt db.trees d (i + 1) n b → slice_get b.instances k ≡ Some x
         → look_up db.trees (instance_key (i + 1) k) ≡ Some (columns_of (stored.Instance (instance_row d b (i + 1) k x)))
     instance_at i k n b x at is =
@@ -137,7 +137,7 @@ module _ (db : Database) (known : AreKnown db) (all : AllRows) (read : AreAllRea
         let all_marks = marks_in_turn.2 in
         omega (arith, marked, all_marks, no_mark, last_mark, tested.all)
 
-    -- rows of which there are as many as workunits, and each stands at the key of a row of the workunit, are these
+    -- if there are as many rows as workunits, and each is at the key of a row of its workunit, they are these rows
     rows_listed : (f : ℕ → UnitBook → StoredRow) (key : ℕ → RowKey) (rows : List StoredRow) → length rows ≡ length books
         → ((i : ℕ) (r : StoredRow) → slice_get rows i ≡ Some r → look_up db.trees (key (i + 1)) ≡ Some (columns_of r))
         → ((i n : ℕ) (b : UnitBook) → StandsAt db.trees d (i + 1) n b → look_up db.trees (key (i + 1)) ≡ Some (columns_of (f (i + 1) b)))
@@ -200,7 +200,7 @@ module _ (db : Database) (known : AreKnown db) (all : AllRows) (read : AreAllRea
         let x = is_instance_row r (all_has (λ q. table_of q ≡ name.Instance) all.world.instances r typed.instances has) in
         subst (Has (own_rows w)) (sym x.1) (of_row x.0 (subst (Has all.world.instances) x.1 has))
 
-    -- and each of these was read
+    -- and each of the world's instances was read
     among : (r : StoredRow) → Has (own_rows w) r → Has all.world.instances r
     among r own =
         let p = listed_own w r own in
@@ -261,7 +261,7 @@ module _ (db : Database) (known : AreKnown db) (all : AllRows) (read : AreAllRea
       batches = fit.imports;
     }
 
-  -- ---- where they are those of a sound world
+  -- ---- if the rows are those of a sound world
 
   module _ (stand : StandFor w all) where
     holds : HoldWorld db w (calls_in db.trees) (batches_in db.trees)
@@ -298,7 +298,7 @@ module _ (db : Database) (known : AreKnown db) (all : AllRows) (read : AreAllRea
         let few : length all.world.marks ≡ length books = ap length marks_are ∙ length-map_from of_mark 1 books in
         omega (arith, marks, few, no_mark, last_mark, count_books)
 
-    -- the instance of a row
+    -- the instance that a row is of
     abbrev IsOf : StoredInstance → Type 0
     IsOf i = (index : ℕ) × (b : UnitBook) × (slice_get books index ≡ Some b) × (i.unit_id ≡ index + 1) × (i.num < length b.instances)
 
@@ -334,7 +334,7 @@ module _ (db : Database) (known : AreKnown db) (all : AllRows) (read : AreAllRea
         let within = x.4 in
         omega (arith, count, within))
 
-    -- each workunit has as many instances as are counted
+    -- each workunit has as many instances as were counted
     at_least : (i : ℕ) (b : UnitBook) → slice_get books i ≡ Some b → (m : ℕ) → length b.instances ≡ m → length b.instances ≤ get_or counts i 0
     at_least i b is zero none = omega (arith, none)
     at_least i b is (suc k) some =
@@ -430,7 +430,7 @@ module _ (db : Database) (known : AreKnown db) (all : AllRows) (read : AreAllRea
       imports = stand.batches;
     }
 
--- ---- the same of what was read, which holds less than the rows
+-- ---- the same for a reading, which keeps less than the rows
 
 module _ (db : Database) (known : AreKnown db) (all : AllRows) (read : AreAllRead db.trees all) (typed : AreTyped all) (r : Reading) (is : r ≡ reading_of all) (d : World) (books : List UnitBook) where
   pub stand_read : IsFit d r → AreTested db.trees d r.units.counts (length r.units.counts) books → AreRowsBeside (having d books) r.rows → StandFor (having d books) all

@@ -1,15 +1,15 @@
--- Rule. What is noted of the rows of workunits, marks and instances, in the order of their tables.
+-- Rule. What a reading notes of the rows of workunits, marks and instances, in the order of their tables.
 use Rattle.std.specs.Prelude.{ℕ, ◌+◌, ◌-◌, max, min, Bool, true, false, not, ◌&&◌, ◌==◌, nat_le, if◌then◌else◌, List, [], ◌∷◌, ◌++◌, length, slice_index_or, slice_set}
 use Rattle.sched_book.specs.Limits.{most_instances}
 use Rattle.table_meaning.specs.declared.rows.StoredRow.{StoredRow}
 use Rattle.table_meaning.specs.declared.rows.StoredRow.TheVariants as stored
 use Rattle.table_reading.specs.declared.counts.UnitCounts.{UnitCounts}
 
--- it is the number of one of so many workunits
+-- the number is that of one of the counted workunits
 abbrev pub is_numbered : List ℕ → ℕ → Bool
 is_numbered counts unit = not (unit == 0) && nat_le unit (length counts)
 
--- one more than the number of an instance, or than the most that a workunit may have
+-- the number of an instance plus one; a number above the most instances that a workunit may have counts as that most
 abbrev pub next_number : ℕ → ℕ
 next_number number = min number most_instances + 1
 

@@ -1,4 +1,4 @@
--- Rule. What the rows of tables have to be for a world to be read from them.
+-- Rule. The conditions on the rows of tables so that a world can be read from them.
 use Rattle.std.specs.Prelude.{◌≡◌, ℕ, Bool, false, not, ◌&&◌, ◌==◌, nat_le, nat_lt, max, IsTrue, List, [], ◌∷◌, ◌++◌, map, fold, length, is_some, Option, IfSome}
 use Rattle.std.specs.List.{AllByRecursion, list_all}
 use Rattle.sqlite.specs.State.{State, HasCleanDisk}
@@ -35,36 +35,36 @@ pub record AllRows : Type 0 where
   pub calls : List StoredRow
   pub batches : List StoredRow
 
--- these are the rows of all tables
+-- these are all rows of all tables
 pub record AreAllRead (trees : Trees) (all : AllRows) : Type 0 where
   pub world : AreRead trees all.world
   pub calls : map columns_of all.calls ≡ rows_in trees name.Kept
   pub batches : map columns_of all.batches ≡ rows_in trees name.Batch
 
--- those of workunits, of marks and of instances have the types of their tables
+-- the rows of workunits, of marks and of instances have the types of their tables
 pub record AreTyped (all : AllRows) : Type 0 where
   pub units : AllByRecursion (λ r. table_of r ≡ name.Unit) all.world.units
   pub marks : AllByRecursion (λ r. table_of r ≡ name.UnitMark) all.world.marks
   pub instances : AllByRecursion (λ r. table_of r ≡ name.Instance) all.world.instances
 
--- what is kept of a call: its host stands, and its slot and its number are in their ranges
+-- a kept call of this world: its host exists, and its slot and its number are in range
 abbrev pub is_call_of : World → StoredRow → Bool
 is_call_of w (stored.Kept k) = is_some (host_at w k.host_id) && (nat_lt k.slot most_kept && nat_le k.seqno last_seqno)
 is_call_of w other = false
 
--- what is kept of an import: of one of the four kinds, with a word for its name, and not too long
+-- a kept import: it is of one of the four kinds, its name is a word, and it is not too long
 abbrev pub is_import : StoredRow → Bool
 is_import (stored.Batch b) = is_some (kind_of b.kind) && (is_word b.name && nat_le (length b.text) most_import_bytes)
 is_import other = false
 
--- ---- what a reading holds of the rows
+-- ---- what a reading keeps of the rows
 
--- what is kept of a call of some host: its slot and its number are in their ranges
+-- a kept call of some host: its slot and its number are in range
 abbrev pub is_call : StoredRow → Bool
 is_call (stored.Kept k) = not (k.host_id == 0) && (nat_lt k.slot most_kept && nat_le k.seqno last_seqno)
 is_call other = false
 
--- the greater one of a number and that of the call's host
+-- the greater of a number and that of the call's host
 abbrev pub later_host : ℕ → StoredRow → ℕ
 later_host n (stored.Kept k) = max n k.host_id
 later_host n other = n
@@ -75,7 +75,7 @@ reading_of all = record { rows = rows_beside all.world; units = fold noted (fold
 abbrev pub no_rows : AllRows
 no_rows = record { world = record { settings = []; accounts = []; apps = []; versions = []; classes = []; units = []; marks = []; hosts = []; instances = [] }; calls = []; batches = [] }
 
--- a reading with one row more
+-- a reading with one more row
 abbrev pub with_row : Reading → StoredRow → Reading
 with_row r (stored.Setting s) = record r { rows = record r.rows { settings = r.rows.settings ++ stored.Setting s ∷ [] } }
 with_row r (stored.Account a) = record r { rows = record r.rows { accounts = r.rows.accounts ++ stored.Account a ∷ [] } }
@@ -89,41 +89,41 @@ with_row r (stored.Instance i) = record r { units = noted r.units (stored.Instan
 with_row r (stored.Kept k) = record r { are_calls = r.are_calls && is_call (stored.Kept k); last_host = later_host r.last_host (stored.Kept k) }
 with_row r (stored.Batch b) = record r { are_imports = r.are_imports && is_import (stored.Batch b) }
 
--- ---- worlds that rows stand for
+-- ---- worlds that rows represent
 
--- These rows are those of a sound world, and of what may be kept beside it.
+-- These rows are those of a sound world, and of calls and imports that may be kept with it.
 pub record StandFor (w : World) (all : AllRows) : Type 0 where
   pub sound : Sound w
   pub rows : AreRowsOf w all.world
   pub calls : IsTrue (list_all (is_call_of w) all.calls)
   pub batches : IsTrue (list_all is_import all.batches)
 
--- What is kept of calls and of imports may stand beside a world.
+-- These calls and imports may be kept with a world.
 pub record MayStandBeside (w : World) (calls : SlotCalls) (batches : List ℕ → List ℕ → Option BatchText) : Type 0 where
   pub calls_fit : (host slot : ℕ) → IfSome (calls host slot) (λ k. IsTrue (is_call_of w (stored.Kept (call_row host slot k))))
   pub imports_fit : (kind text : List ℕ) → IfSome (batches kind text) (λ b. IsTrue (is_import (stored.Batch (record { kind = kind; name = text; text = b.0; answer = b.1 }))))
 
--- Each text of each row that stands at a key is in UTF-8 (RFC 3629).
+-- Each text of each row at a key is in UTF-8 (RFC 3629).
 abbrev pub AreUtf8 : Trees → Type 0
 AreUtf8 trees = (key : RowKey) → IfSome (look_up trees key) HasUtf8
 
--- They are read from the tables, and stand for the world.
+-- Rows that were read from the tables represent the world.
 abbrev pub ReadFrom : Trees → World → Type 0
 ReadFrom trees w = (all : AllRows) × AreAllRead trees all × StandFor w all
 
--- They are read from the tables, and stand for no world.
+-- Rows that were read from the tables represent no world.
 abbrev pub StandForNone : Trees → Type 0
 StandForNone trees = (all : AllRows) × AreAllRead trees all × ((w : World) → ¬ StandFor w all)
 
--- some row of some table has not the format of that table
+-- some row of some table does not have the format of that table
 abbrev pub HasBadTable : Trees → Type 0
 HasBadTable trees = (t : TableName) × HasBadRow t (rows_in trees t)
 
--- the settings were read, and no row of them tells this schema
+-- the settings were read, and none of their rows names this schema
 abbrev pub HasOtherSchema : Trees → Type 0
 HasOtherSchema trees = (all : AllRows) × AreAllRead trees all × ¬ Has all.world.settings schema_row
 
--- the disk returned what was written, nothing waited for a commit, and the tables were the known ones
+-- The disk returned what was written, and the connection is open. There were no uncommitted changes, and the tables were known ones.
 pub record WereKnown (old new : State) : Type 0 where
   pub clean : HasCleanDisk new
   pub is_open : IsTrue new.is_open

@@ -1,4 +1,4 @@
-//! How many instances each workunit has, and whether each has a mark, as the rows of all three are read.
+//! How many instances each workunit has, and whether each has a mark, counted while the rows of all three are read.
 
 ghost use Rattle.std.specs.Prelude.{◌≡◌, [], OnOk};
 ghost use Rattle.table_meaning.specs.declared.rows.StoredRow.TheVariants as stored;
@@ -9,21 +9,21 @@ use std::alloc::Global;
 use table_meaning::rows::{StoredInstance, StoredUnit, StoredUnitMark};
 use texts::{Listed, Memory};
 
-/// How many instances each workunit has, if its instances are all that have lower numbers than the last one.
+/// How many instances each workunit has, if no number below that of its last instance is left out.
 #[derive(Drop)]
 pub struct UnitCounts {
-    /// Of each workunit, by its number, one more than the greatest number of its instances, and one past the most that a
-    /// workunit may have where that is greater.
+    /// For each workunit, by its number: the greatest number of its instances plus one. A number above the most
+    /// instances that a workunit may have counts as that most.
     pub counts: Listed<u32>,
-    /// The number of the workunit of the last mark that came by.
+    /// The number of the workunit of the mark that was read last.
     pub last_mark: u32,
-    /// Whether the workunits have the numbers from 1 on, in turn, the marks are of the workunits from 1 on, in turn, and each
-    /// instance is of one of the workunits.
+    /// Whether three things hold. The workunits are numbered from 1 in turn. The marks are those of the workunits from
+    /// 1 in turn. Each instance is of one of the workunits.
     pub are_in_turn: bool,
 }
 
 impl UnitCounts {
-    /// No row came by.
+    /// Counts with no row read.
     pub(crate) fn new(alloc: Global) -> UnitCounts
         ensures { result ≡ none_noted }
     {
@@ -34,7 +34,7 @@ impl UnitCounts {
         }
     }
 
-    /// Takes note of the row of a workunit, which stands behind those before it.
+    /// Notes the next row of the table of workunits.
     pub(crate) fn note_unit(&mut self, row: &StoredUnit) -> Result<(), Memory>
         ensures { OnOk result (self.new ≡ noted self.old (stored.Unit row.now)) }
     {
@@ -44,7 +44,7 @@ impl UnitCounts {
         Ok(())
     }
 
-    /// Takes note of the row of a mark, which stands behind those before it.
+    /// Notes the next row of the table of marks.
     pub(crate) fn note_mark(&mut self, row: &StoredUnitMark)
         ensures { self.new ≡ noted self.old (stored.UnitMark row.now) }
     {
@@ -53,7 +53,7 @@ impl UnitCounts {
         self.last_mark = row.unit_id;
     }
 
-    /// Takes note of the row of an instance, once those of all workunits came by.
+    /// Notes the row of an instance, after the rows of all workunits.
     pub(crate) fn note_instance(&mut self, row: &StoredInstance)
         ensures { self.new ≡ noted self.old (stored.Instance row.now) }
     {

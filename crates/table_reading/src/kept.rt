@@ -1,4 +1,4 @@
-//! The ranges of what is kept of calls and of imports.
+//! The ranges of kept calls and imports.
 
 ghost use Rattle.std.specs.Prelude.{◌≡◌, ◌&&◌, nat_le, length};
 ghost use Rattle.table_meaning.specs.declared.rows.StoredRow.TheVariants as stored;
@@ -12,21 +12,21 @@ use stores::Kind;
 use table_meaning::rows::{StoredBatch, StoredCall};
 use texts::is_word;
 
-/// Whether this may be what is kept of a call, of whatever host.
+/// Whether this may be a kept call, of any host.
 pub(crate) fn is_call(call: &StoredCall) -> bool
     ensures { result ≡ is_call (stored.Kept call.now) }
 {
     call.host_id != 0 && (call.slot as usize) < MOST_KEPT && call.seqno <= MOST_NUMBER
 }
 
-/// Whether all that is kept of calls may stand beside this world.
+/// Whether all kept calls may be kept with this world.
 pub(crate) fn are_calls_of(world: &World, reading: &Reading) -> bool
     ensures { result ≡ (reading.now.are_calls && nat_le reading.now.last_host (length world.now.hosts)) }
 {
     reading.are_calls && reading.last_host as usize <= world.hosts.len()
 }
 
-/// Whether this may be what is kept of an import.
+/// Whether this may be a kept import.
 pub(crate) fn is_import(batch: &StoredBatch) -> bool
     ensures { result ≡ is_import (stored.Batch batch.now) }
 {

@@ -1,4 +1,4 @@
-//! The sound world that stored tables hold: read, and tested against all that it has to be.
+//! Reads the sound world that stored tables hold, and tests everything that it must be.
 #![tactic(auto)]
 
 mod counts;

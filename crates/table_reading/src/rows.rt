@@ -1,4 +1,4 @@
-//! The tables, read row by row.
+//! Reads the tables row by row.
 
 ghost use Rattle.std.specs.Prelude.{◌≡◌, IfOk, IfErr, OnOk};
 ghost use Rattle.sqlite.specs.Held.{state};
@@ -31,24 +31,24 @@ const ALL_TABLES: [TableName; 11] = [
     TableName::Batch,
 ];
 
-/// What was read of the tables. The rows of workunits, their marks and instances are counted and not held; what is kept of calls and of
-/// imports is tested row by row.
+/// What was read from the tables. The rows of workunits, their marks and instances are counted and not held in memory.
+/// Kept calls and imports are tested row by row.
 #[derive(Drop)]
 pub struct Reading {
     /// The rows of the other tables that hold a world.
     pub rows: TableRows,
     /// How many instances each workunit has, and whether each has a mark.
     pub units: UnitCounts,
-    /// Whether each row that is kept of a call may be one, of whatever host.
+    /// Whether each row of a kept call may be one, of any host.
     pub are_calls: bool,
-    /// The greatest number of a host of these.
+    /// The greatest number of a host among the kept calls.
     pub last_host: u32,
-    /// Whether each row that is kept of an import may be one.
+    /// Whether each row of a kept import may be one.
     pub are_imports: bool,
 }
 
 impl Reading {
-    /// Nothing was read yet.
+    /// A reading with no row read yet.
     fn new(alloc: Global) -> Reading
         ensures { result ≡ reading_of no_rows }
     {
@@ -98,7 +98,7 @@ impl RowVisitor for Reading {
     }
 }
 
-/// Reads the tables in turn. The connection shows what it showed.
+/// Reads the tables in turn. What the connection shows is unchanged.
 fn read_tables<S: Alter>(
     alloc: Global,
     conn: &mut Connection<S>,
@@ -116,7 +116,7 @@ fn read_tables<S: Alter>(
     Ok(())
 }
 
-/// What is read of all tables. The connection shows what it showed.
+/// Reads all tables. What the connection shows is unchanged.
 pub(crate) fn read_all<S: Alter>(
     alloc: Global,
     conn: &mut Connection<S>,

@@ -1,4 +1,4 @@
-//! Workunits with their marks and their instances, read by their keys and tested one workunit at a time.
+//! Reads workunits with their marks and their instances by their keys, and tests one workunit at a time.
 
 ghost use Rattle.std.specs.Prelude.{◌≡◌, ◌<◌, ℕ, false, ◌||◌, ◌⊎◌, List, length, Some, None, IsTrue, IfOk, IfErr, OnOk};
 ghost use Rattle.std.specs.Str.{bytes_eq};
@@ -28,7 +28,7 @@ use table_worlds::{Total, UnitRows, are_unit_rows, count_unit};
 use texts::{Listed, SeenSet, Text};
 use world_soundness::is_sound_unit;
 
-/// The row of the workunit of a number. `BadRow` where none stands.
+/// Reads the row of the workunit of a number. `BadRow` if it does not exist.
 fn standing_unit<S: Alter>(
     alloc: Global,
     conn: &mut Connection<S>,
@@ -47,7 +47,7 @@ fn standing_unit<S: Alter>(
     }
 }
 
-/// The row of the mark of the workunit of a number. `BadRow` where none stands.
+/// Reads the row of the mark of the workunit of a number. `BadRow` if it does not exist.
 fn standing_mark<S: Alter>(
     alloc: Global,
     conn: &mut Connection<S>,
@@ -66,7 +66,7 @@ fn standing_mark<S: Alter>(
     }
 }
 
-/// The rows of the workunit of a number and of its mark. `BadRow` where one of them does not stand.
+/// Reads the rows of the workunit of a number and of its mark. `BadRow` if one of them does not exist.
 fn unit_and_mark<S: Alter>(
     alloc: Global,
     conn: &mut Connection<S>,
@@ -83,7 +83,7 @@ fn unit_and_mark<S: Alter>(
     Ok((unit, mark))
 }
 
-/// The row of the instance of a workunit that has this number. `BadRow` where none stands.
+/// Reads the row of the instance of a workunit with this number. `BadRow` if it does not exist.
 fn standing_instance<S: Alter>(
     alloc: Global,
     conn: &mut Connection<S>,
@@ -103,7 +103,7 @@ fn standing_instance<S: Alter>(
     }
 }
 
-/// The rows of the first so many instances of a workunit. `BadRow` where one of them does not stand.
+/// Reads the rows of the first `count` instances of a workunit. `BadRow` if one of them does not exist.
 fn instance_rows<S: Alter>(
     alloc: Global,
     conn: &mut Connection<S>,
@@ -123,7 +123,8 @@ fn instance_rows<S: Alter>(
     Ok(rows)
 }
 
-/// The rows of a workunit, of its mark and of its first so many instances. `BadRow` where one of them does not stand.
+/// Reads the rows of a workunit, of its mark and of its first `count` instances. `BadRow` if one of them does not
+/// exist.
 fn unit_rows<S: Alter>(
     alloc: Global,
     conn: &mut Connection<S>,
@@ -143,8 +144,9 @@ fn unit_rows<S: Alter>(
     })
 }
 
-/// Tests a workunit against its rows. Takes note of its name, of what its hosts hold and earned, and of the least deadline of
-/// what they hold. `BadRow` where the rows are others, it is not sound, or its name came by.
+/// Tests a workunit against its rows. Notes its name, counts what its hosts hold and earned, and lowers `due_from` to the
+/// least deadline of what they hold. `BadRow` if the rows are not its own, if it is not sound, or if its name was seen
+/// before.
 fn test_book(
     world: &World,
     id: u32,
@@ -175,8 +177,8 @@ fn test_book(
     Ok(())
 }
 
-/// Tests the workunit of these rows as [`test_book`] does. `BadRow` where they are those of no sound workunit, or its name
-/// came by.
+/// Tests the workunit of these rows as [`test_book`] does. `BadRow` if they are not those of a sound workunit, or if
+/// its name was seen before.
 fn test_rows(
     alloc: Global,
     world: &World,
@@ -200,8 +202,8 @@ fn test_rows(
     test_book(world, id, &book, rows, names, totals, due_from)
 }
 
-/// Reads the rows of a workunit with so many instances by their keys, and tests it as [`test_book`] does. `BadRow` where it
-/// does not stand, or its name came by.
+/// Reads the rows of a workunit with `count` instances by their keys, and tests it as [`test_book`] does. `BadRow` if
+/// there is no such sound workunit at these keys, or if its name was seen before.
 fn test_unit<S: Alter>(
     alloc: Global,
     conn: &mut Connection<S>,
@@ -223,9 +225,9 @@ fn test_unit<S: Alter>(
     test_rows(alloc, world, id, &rows, names, totals, due_from)
 }
 
-/// Tests the workunits of the tables in the order of their numbers, of which each has so many instances. Counts for each host
-/// what it holds of them and what it earned, and lowers `due_from` to the least deadline of an instance that is held. `BadRow`
-/// where one does not stand, or two have the same name.
+/// Tests the workunits of the tables in the order of their numbers. Each has as many instances as `counts` says. Counts
+/// for each host what it holds of them and what it earned, and lowers `due_from` to the least deadline of what is held.
+/// `BadRow` if one of them is not there or not sound, or if two have the same name.
 pub(crate) fn test_units<S: Alter>(
     alloc: Global,
     conn: &mut Connection<S>,

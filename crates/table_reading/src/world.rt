@@ -1,4 +1,4 @@
-//! The sound world that rows stand for.
+//! The sound world that rows represent.
 
 ghost use Rattle.std.specs.Prelude.{◌≡◌, ◌≢◌, ◌↔◌, ◌⊎◌, ℕ, [], List, length, IsTrue, IfOk, IfErr, OnOk};
 ghost use Rattle.sqlite.specs.Held.{state};
@@ -30,7 +30,7 @@ use table_worlds::{are_rows_beside, no_totals};
 use texts::Listed;
 use world_soundness::is_sound;
 
-/// What is kept of the world beside its tables.
+/// The parts of the world that stay in memory, next to the tables.
 #[derive(Drop)]
 pub struct KeptBeside {
     pub settings: Settings,
@@ -39,8 +39,8 @@ pub struct KeptBeside {
     pub due_from: u64,
 }
 
-/// Whether a world without its workunits is sound, these are numbered in turn and not too many, each has a mark, and what is
-/// kept may stand beside it.
+/// Whether a world fits its reading. The world without its workunits is sound. The workunits are numbered in turn and
+/// not too many, and each has a mark. The calls and imports may be kept with the world.
 fn is_fit(alloc: Global, world: &World, reading: &Reading) -> Result<bool, Unavailable>
     ensures { IfOk result (λ fit. IsTrue fit ↔ IsFit world.now reading.now) }
 {
@@ -55,9 +55,9 @@ fn is_fit(alloc: Global, world: &World, reading: &Reading) -> Result<bool, Unava
     )
 }
 
-/// Tests the workunits of the tables one by one, and with what is counted of them the rows that were read. Returns a moment
-/// before which no held instance has its deadline. `BadRow` where no workunits stand at their keys, or the rows are not those
-/// of the world with these.
+/// Tests the workunits of the tables one by one. Then tests the rows that were read, with what was counted. Returns a
+/// moment before which no held instance has its deadline. `BadRow` if there are no sound workunits at their keys, or if
+/// the rows are not those of the world with these workunits.
 fn test_rows<S: Alter>(
     alloc: Global,
     conn: &mut Connection<S>,
@@ -88,8 +88,8 @@ fn test_rows<S: Alter>(
     }
 }
 
-/// Tests whether all rows are those of a sound world, which is this one with some workunits: `BadRow` where not. Returns a
-/// moment before which no held instance has its deadline.
+/// Tests whether all rows are those of a sound world that is this one with some workunits. Returns a moment before which
+/// no held instance has its deadline. `BadRow` if they are not.
 fn test_world<S: Alter>(
     alloc: Global,
     conn: &mut Connection<S>,
@@ -108,7 +108,7 @@ fn test_world<S: Alter>(
     test_rows(alloc, conn, world, reading)
 }
 
-/// The world that the rows of the other tables tell, without its workunits.
+/// The world of the other tables' rows, without its workunits.
 fn world_beside(alloc: Global, reading: &Reading) -> Result<World, OpenFault>
     ensures told { (w : Known) → Sound w → AreRowsBeside w reading.now.rows → IfOk result (λ d. d ≡ without_units w) }
     ensures alone { IfOk result (λ d. d.units ≡ []) }
@@ -124,13 +124,13 @@ fn world_beside(alloc: Global, reading: &Reading) -> Result<World, OpenFault>
     }
 }
 
-/// The settings and the applications of the sound world that the tables of a connection hold, if their schema is the known
-/// one, and a moment before which no held instance has its deadline. `NotTables` where no setting tells this schema; `BadRow`
-/// where a row has not the format of its table, or the rows stand for no sound world: a value is out of its range, a reference
-/// leads to nothing, a number is left out, or what is counted of other rows is off. The connection shows what it showed.
+/// Reads the sound world that the tables of a connection hold, if their schema is the newest one. Returns its settings and
+/// applications, and a moment before which no held instance has its deadline. `NotTables` if no setting names this schema. `BadRow` if a row does not have the format
+/// of its table, or if the rows represent no sound world. In the second case a value is out of range, a reference leads
+/// to nothing, a number is left out, or a counted column is wrong. What the connection shows is unchanged.
 ///
-/// Workunits, marks and instances are read by their keys, one workunit at a time; of the others the rows are held while they are
-/// tested, and of each workunit its name and how many instances it has.
+/// Workunits, marks and instances are read by their keys, one workunit at a time. The other rows are held in memory
+/// while they are tested. So are the name and the number of instances of each workunit.
 pub fn stored_world<S: Alter>(
     alloc: Global,
     conn: &mut Connection<S>,

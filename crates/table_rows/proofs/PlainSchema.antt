@@ -1,4 +1,4 @@
--- The tables by their layouts have no default, no CHECK and no view, so no schema of them has.
+-- The tables made from layouts have no default, no CHECK and no view. So a schema of them has none either.
 use Rattle.std.proofs.Common.{ℕ, ◌+◌, List, [], ◌∷◌, map, refl, sym, subst, inl, inr}
 use Rattle.std.specs.List.{enumerate_from}
 use Rattle.table_meaning.specs.Layouts.{Column, Key, Layout}

@@ -1,4 +1,4 @@
--- The texts that read a table whole write nothing, whatever the schema is.
+-- The texts that read a whole table write nothing, for any schema.
 use Rattle.std.proofs.Common.{ℕ, ◌+◌, Bool, if◌then◌else◌, true, false, List, None, Ok, Err, sym, true≢false}
 use Rattle.sqlite_schema.specs.declared.command.Command.{Command}
 use Rattle.sqlite_schema.specs.declared.schema.Schema.{Schema}

@@ -1,4 +1,4 @@
--- What the trees list is one schema, so databases with the same trees are one.
+-- The trees list one schema only, so databases with the same trees are equal.
 use Rattle.std.proofs.Common.{◌≡◌, ap, ap₂, subst}
 use Rattle.std.specs.Prelude.{unwrap_or}
 use Rattle.sqlite_trees.specs.Tree.{Trees}
@@ -19,6 +19,6 @@ unfolding database
 one_database a b trees first second =
     ap₂ database (lists_once (b.trees catalog_tree) a.schema b.schema (subst (λ (t : Trees). Lists (t catalog_tree) a.schema) trees first.lists) second.lists) trees
 
--- a refused connection is told by its refusal
+-- a refusal determines the connection that it gives back
 pub one_refused : {S : Type 0} (a b : Held S) → NotTables a ≡ NotTables b → a ≡ b
 one_refused a b same = ap (λ r. unwrap_or (given_back r) a) same

@@ -30,7 +30,7 @@ module _ (old new : State) (survives : Survives old new (λ _. ⊥)) (idle : old
     idle = idle;
   }
 
--- only a connection that was shut says so
+-- only a connection that was shut reports `Closed`
 was_shut : (old new : State) (cause : StoreError) → store_error cause ≡ SqliteFailure code.Closed → HasCause old new ⊥ cause → old.is_open ≡ false
 was_shut old new Broken says why = why
 was_shut old new _ says why = cc
@@ -41,7 +41,7 @@ never_closed s sql params e (inr (c, is, inl (long, says))) closed = let never =
 never_closed s sql params e (inr (c, is, inr (inl (given, says)))) closed = let never = sym says ∙ closed in cc
 never_closed s sql params e (inr (c, is, inr (inr (clock, says)))) closed = let never = sym says ∙ closed in cc
 
--- and it is shut then
+-- and the connection is then shut
 pub is_shut : (old new : State) (sql : List ℕ) (params : Row) (e : Error) → IsNotRun old new sql params e → e ≡ SqliteFailure code.Closed → ¬ IsTrue new.is_open
 unfolding IsNotRun
 is_shut old new sql params e (inl none) closed opened = never_closed old sql params e none.0 closed

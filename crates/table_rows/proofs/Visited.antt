@@ -1,4 +1,4 @@
--- What the rows leave of a connection that a cursor gives one at a time.
+-- What a connection shows after a cursor has returned its rows one at a time.
 use Rattle.std.proofs.Common.{◌≡◌, ℕ, false, List, [], ◌∷◌, ◌++◌, map, Option, Some, None, IsTrue, refl, sym, ap, subst, ◌∙◌, inl, inr, true}
 use Rattle.sqlite_value.specs.declared.value.Value.TheVariants.{Null}
 use Rattle.sqlite_value.specs.Order.{Row}
@@ -44,7 +44,7 @@ visits_more takes old mid new (r ∷ rows) row (next, first, rest) took = (next,
 
 -- ---- the connection
 
--- what is shown stays, where the connection stays open
+-- if the connection stays open, what it shows is unchanged
 abbrev pub Stays : State → State → Type 0
 Stays old new = (IsTrue new.is_open → IsTrue old.is_open) × (IsTrue new.is_open → old.now ≡ old.committed → (new.now ≡ old.now) × (new.committed ≡ old.committed))
 
@@ -90,19 +90,19 @@ begun_given g t params old new (inl h) = h
 begun_given g t params old new (inr h) = absurd (never_returns old.schema t h.0)
 
 module _ {S : Type 0} (g : Ghosts S) (t : TableName) (first now : Held S) (same : IsUnchanged (state g first) (state g now)) (known : AreKnown (state g first).now) where
-  -- the rows that were given are the first of the table
+  -- the rows that were given are the first ones of the table
   pub given_are : (given : List Row) → HasGiven g (read_text t) [] now given → (later : List Row) × (given ++ later ≡ rows_in (state g first).now.trees t)
   given_are given h =
       let is = given_first t (state g now) (subst AreKnown (sym same.0.now_is) known) given (given_begin g (read_text t) [] now given h) in
       (is.0, is.1 ∙ ap (λ (d : Database). rows_in d.trees t) same.0.now_is)
 
-  -- a row that was given last is one of the table's
+  -- the row that was given last is one of the table's
   pub given_has : (given : List Row) (row : Row) → HasGiven g (read_text t) [] now (given ++ row ∷ []) → Has (rows_in (state g first).now.trees t) row
   given_has given row h =
       let is = given_are (given ++ row ∷ []) h in
       subst (λ (rows : List Row). Has rows row) is.1 (has_left (given ++ row ∷ []) is.0 row (has_right given (row ∷ []) row (inl refl)))
 
-  -- where no row follows those that were given, they are all
+  -- if no row follows those that were given, they are all of the table's
   pub given_all : (last : State) (given : List Row) → Shown (read_text t) [] (state g now) last given → given ≡ rows_in (state g first).now.trees t
   given_all last given h = shown_rows t (state g now) last (subst AreKnown (sym same.0.now_is) known) given h ∙ ap (λ (d : Database). rows_in d.trees t) same.0.now_is
 

@@ -1,4 +1,4 @@
--- Words. The tables whose rows count from 1 on, among all tables, and the statements that read their greatest numbers.
+-- Words. The tables whose rows count from 1, among all tables, and the statements that read their greatest numbers.
 use Rattle.std.specs.Prelude.{ℕ, List, codes}
 use Rattle.table_meaning.specs.declared.tables.TableName.{TableName}
 use Rattle.table_meaning.specs.declared.tables.TableName.TheVariants as table
@@ -13,7 +13,7 @@ counted_table Version = table.Version
 counted_table Unit = table.Unit
 counted_table Host = table.Host
 
--- reads the number of its last row
+-- reads the number of the table's last row
 abbrev pub last_text : CountedTable → List ℕ
 last_text Account = codes "SELECT id FROM account WHERE id > 0 ORDER BY id DESC LIMIT 1"
 last_text App = codes "SELECT id FROM app WHERE id > 0 ORDER BY id DESC LIMIT 1"

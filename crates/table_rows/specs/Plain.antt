@@ -1,4 +1,4 @@
--- Words. Schemas that have none of what is not compared: no default, no CHECK and no view.
+-- Words. Schemas without the things that are not compared: no default, no CHECK and no view.
 use Rattle.std.specs.Prelude.{◌≡◌, List, []}
 use Rattle.sqlite_value.specs.declared.value.Value.TheVariants.{Null}
 use Rattle.sqlite_rules.specs.Lists.{Has}
@@ -13,7 +13,7 @@ Each {X} P xs = (x : X) → Has xs x → P x
 abbrev pub HasNoDefault : Column → Type 0
 HasNoDefault c = c.default ≡ Null
 
--- no CHECK, and no default that is computed
+-- no CHECK and no computed default
 pub record IsBare (t : Table) : Type 0 where
   pub checks : t.checks ≡ []
   pub computed : t.computed ≡ []

@@ -1,4 +1,4 @@
--- Rule. Why a connection is not taken, as a fault, and what is given back with it.
+-- Rule. Why a connection is refused, as a fault, and the connection that the refusal gives back.
 use Rattle.std.specs.Prelude.{◌≡◌, ◌≢◌, ℕ, false, Option, Some, None, IsTrue}
 use Rattle.sqlite.specs.Effect.{Database}
 use Rattle.sqlite.specs.Held.{Held}
@@ -30,7 +30,7 @@ given_back (OldSchema schema conn) = Some conn
 given_back (BadRow conn) = Some conn
 given_back Unavailable = None
 
--- The connection is open, no transaction is, and what it shows and what was committed is this.
+-- The connection is open with no open transaction, and this is what it shows and what was committed.
 pub record IsAtRest (db : Database) (s : State) : Type 0 where
   pub is_open : IsTrue s.is_open
   pub idle : s.in_transaction ≡ false
@@ -39,7 +39,7 @@ pub record IsAtRest (db : Database) (s : State) : Type 0 where
 
 -- ---- faults
 
--- It blames a row, memory or the disk, and no schema.
+-- The fault is that of a row, of memory or of the disk, not of the schema.
 pub record SparesSchema (e : OpenFault) : Type 0 where
   pub stored : e ≢ fault.NotTables
   pub newest : (schema : ℕ) → e ≢ fault.OldSchema schema

@@ -16,6 +16,6 @@ IsUtf8Value other = ⊤
 abbrev pub HasUtf8 : Row → Type 0
 HasUtf8 row = AllByRecursion IsUtf8Value row
 
--- Each text of each of the rows is.
+-- Each text of each of the rows is in UTF-8.
 abbrev pub HaveUtf8 : List StoredRow → Type 0
 HaveUtf8 rows = AllByRecursion (λ r. HasUtf8 (columns_of r)) rows

@@ -8,14 +8,14 @@ use Rattle.table_meaning.specs.declared.tables.TableName.{TableName}
 use Rattle.table_meaning.specs.Rows.{table_of, columns_of, rows_in}
 use Rattle.table_rows.specs.Utf8.{HaveUtf8}
 
--- `takes` says what a row does that is taken: the visitor before, the row, and the visitor after.
+-- `takes` says what taking a row does: the visitor before, the row, and the visitor after.
 module _ {V : Type 0} (takes : V → StoredRow → V → Type 0) where
   -- each of the rows is taken, in order
   abbrev pub VisitsAll : V → List StoredRow → V → Type 0
   VisitsAll old [] new = new ≡ old
   VisitsAll old (r ∷ rs) new = (mid : V) × takes old r mid × VisitsAll mid rs new
 
-  -- these rows of the table have types, with texts in UTF-8, and are taken so
+  -- these rows of the table have types, their texts are in UTF-8, and they are taken in order
   abbrev pub VisitsRows : TableName → V → List Row → V → Type 0
   VisitsRows table old rows new = (all : List StoredRow) × (map columns_of all ≡ rows) × AllByRecursion (λ r. table_of r ≡ table) all × HaveUtf8 all × VisitsAll old all new
 
@@ -26,7 +26,7 @@ module _ {V : Type 0} (takes : V → StoredRow → V → Type 0) where
 
 -- `refuses` says which rows a visitor refuses.
 module _ {V : Type 0} (takes : V → StoredRow → V → Type 0) (refuses : V → StoredRow → Type 0) where
-  -- One of these rows of the table is refused, once those before it are taken.
+  -- One of these rows of the table is refused, once those before it have been taken.
   pub record RefusesRow (table : TableName) (rows : List Row) (old : V) : Type 0 where
     pub before : List StoredRow
     pub row : StoredRow

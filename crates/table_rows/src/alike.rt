@@ -1,6 +1,7 @@
-//! Whether two schemas are one, by what they say.
+//! Whether two schemas are equal, by what they define.
 //!
-//! The stored tables have no default, no CHECK and no view. So these are not compared: a schema that has one is like no other.
+//! The stored tables have no default, no CHECK and no view. So these are not compared: a schema that has one never
+//! counts as equal.
 
 ghost use Rattle.std.specs.Prelude.{◌≡◌, ⊤};
 ghost use Rattle.std.specs.Bool.{Decides};
@@ -12,15 +13,15 @@ use sqlite_value::keys::Order;
 use sqlite_value::value::{Bytes, Value};
 
 pub trait Alike {
-    /// It has none of what is not compared.
+    /// It has none of the things that are not compared.
     ghost is_plain: { Self → Type 0 };
 
-    /// Whether the two are equal, and plain.
+    /// Whether the two are equal, and the other one is plain.
     fn is_alike(&self, other: &Self) -> bool
         ensures { Decides result ((self.now ≡ other.now) × Self.is_plain other.now) };
 }
 
-/// Whether the two lists are equal, and each item is plain.
+/// Whether the two lists are equal, and each item of the second one is plain.
 fn are_alike<T: Alike>(first: &[T], second: &[T]) -> bool
     ensures { Decides result ((first.now ≡ second.now) × Each T.is_plain second.now) }
 {
@@ -107,7 +108,7 @@ impl Alike for Index {
     }
 }
 
-/// Whether the table has no CHECK, and no default that is computed.
+/// Whether the table has no CHECK and no computed default.
 fn is_bare(table: &Table) -> bool
     ensures { Decides result (IsBare table.now) }
 {

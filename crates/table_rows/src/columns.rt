@@ -192,7 +192,7 @@ pub(crate) fn unit_mark(alloc: Global, row: &Row) -> Result<StoredUnitMark, Open
     })
 }
 
-/// The row of a table with its types. BadRow where it has not the format of the table.
+/// Reads the row of a table into its struct. `BadRow` if it does not have the format of the table.
 pub(crate) fn stored_row(alloc: Global, table: TableName, row: &Row) -> Result<StoredRow, OpenFault>
     ensures exact { IfOk result (λ stored. columns_of stored ≡ row.now) }
     ensures of_table { IfOk result (λ stored. table_of stored ≡ table) }

@@ -1,4 +1,4 @@
-//! The tables, made in an empty database.
+//! Makes the tables in an empty database.
 
 ghost use Rattle.std.specs.Prelude.{◌≡◌, ◌≢◌, ℕ, ◌≤◌, ◌<◌, false, [], length, IsTrue, IfErr, OnOk, OnErr};
 ghost use Rattle.sqlite_schema.specs.declared.schema.Schema.{Schema};
@@ -20,7 +20,7 @@ use std::alloc::Global;
 use table_meaning::rows::RowChange;
 use table_meaning::tables::NEWEST_SCHEMA;
 
-/// Whether the database has nothing in it.
+/// Whether the database is empty.
 fn is_empty<S: Alter>(conn: &Connection<S>) -> bool
     ensures empty { IsTrue result → (state S.Store conn.now).now.schema ≡ no_schema }
     ensures other { result ≡ false → (state S.Store conn.now).now.schema ≢ no_schema }
@@ -32,7 +32,8 @@ fn is_empty<S: Alter>(conn: &Connection<S>) -> bool
         && schema.views.as_slice().is_empty()
 }
 
-/// Makes the tables and the indexes that one schema lacks and another has, one after another, within the transaction.
+/// Makes the tables and the indexes that schema `to` has and schema `from` lacks, one after another, within the
+/// transaction.
 pub fn define<S: Alter>(tx: &mut Transaction<'_, S>, from: u32, to: u32) -> Result<(), Error>
     requires from { from ≤ newest }
     requires to { to ≤ newest }
@@ -84,8 +85,8 @@ pub(crate) fn make_schema<S: Alter>(conn: &mut Connection<S>, schema: u32) -> Re
     Ok(())
 }
 
-/// Makes the tables with these rows, put in order, in a database that has none: all of them or nothing. Each text of them is in
-/// UTF-8.
+/// Makes the tables with these rows, put in order, in a database that has none: all of them or nothing. Each text of
+/// the rows is in UTF-8.
 pub fn create<S: Alter>(
     alloc: Global,
     conn: &mut Connection<S>,

@@ -17,7 +17,7 @@ use std::alloc::Global;
 use table_meaning::rows::SettingValue;
 use texts::{Listed, Text, utf8_text};
 
-/// The value in a column, and NULL past the end.
+/// The value in a column, or NULL past the end.
 fn value(row: &Row, at: usize) -> ValueRef<'_>
     ensures { owned result ≡ column row.now at }
 {

@@ -1,5 +1,5 @@
-//! Rows by their keys, or by what these begin with, or some columns of them, of the tables that are not read whole at each
-//! call.
+//! Rows by their keys, rows by the front of their keys, or single columns of them. The tables are those that are not
+//! read whole at each call.
 
 ghost use Rattle.std.specs.Prelude.{◌≡◌, map, option_map, IfOk};
 ghost use Rattle.sqlite.specs.Held.{state};
@@ -35,7 +35,7 @@ fn calls(alloc: Global, rows: &[Row]) -> Result<Listed<StoredCall>, OpenFault>
     Ok(all)
 }
 
-/// The calls that are kept of the host of this number. The connection shows what it showed.
+/// Reads the kept calls of the host of this number. What the connection shows is unchanged.
 pub fn kept_calls<S: Alter>(
     alloc: Global,
     conn: &mut Connection<S>,
@@ -53,7 +53,7 @@ pub fn kept_calls<S: Alter>(
     calls(alloc, rows.as_slice())
 }
 
-/// What is kept of the import of this kind and name. The connection shows what it showed.
+/// Reads what is kept of the import of this kind and name. What the connection shows is unchanged.
 pub fn batch_of<S: Alter>(
     alloc: Global,
     conn: &mut Connection<S>,
@@ -76,7 +76,7 @@ pub fn batch_of<S: Alter>(
     )
 }
 
-/// The row of the workunit of this number. The connection shows what it showed.
+/// Reads the row of the workunit of this number. What the connection shows is unchanged.
 pub fn unit_of<S: Alter>(
     alloc: Global,
     conn: &mut Connection<S>,
@@ -95,7 +95,7 @@ pub fn unit_of<S: Alter>(
     )
 }
 
-/// The row of the host of this number. The connection shows what it showed.
+/// Reads the row of the host of this number. What the connection shows is unchanged.
 pub fn host_of<S: Alter>(
     alloc: Global,
     conn: &mut Connection<S>,
@@ -114,7 +114,7 @@ pub fn host_of<S: Alter>(
     )
 }
 
-/// The row of the instance of this workunit and number. The connection shows what it showed.
+/// Reads the row of the instance of this workunit and number. What the connection shows is unchanged.
 pub fn instance_of<S: Alter>(
     alloc: Global,
     conn: &mut Connection<S>,
@@ -134,7 +134,7 @@ pub fn instance_of<S: Alter>(
     )
 }
 
-/// The class of the version of this number, as its row has it. The connection shows what it showed.
+/// Reads the row with the class of the version of this number. What the connection shows is unchanged.
 pub fn class_of<S: Alter>(
     alloc: Global,
     conn: &mut Connection<S>,
@@ -153,7 +153,7 @@ pub fn class_of<S: Alter>(
     )
 }
 
-/// The mark of the workunit of this number, as its row has it. The connection shows what it showed.
+/// Reads the row with the mark of the workunit of this number. What the connection shows is unchanged.
 pub fn mark_of<S: Alter>(
     alloc: Global,
     conn: &mut Connection<S>,
@@ -172,7 +172,7 @@ pub fn mark_of<S: Alter>(
     )
 }
 
-/// The status of the workunit at this place, as its row writes it. The connection shows what it showed.
+/// Reads the number of the status from the row of the workunit at this place. What the connection shows is unchanged.
 pub fn status_of<S: Alter>(
     alloc: Global,
     conn: &mut Connection<S>,

@@ -1,4 +1,5 @@
-//! The stored tables as rows: made, adopted, read whole, and put at their keys. It knows no world.
+//! The stored tables as rows: tables are made, opened and read whole, and rows are put at their keys. It knows no
+//! world.
 #![tactic(auto)]
 
 pub mod alike;

@@ -1,4 +1,4 @@
-//! What the rows of a table that pass a test have in a column.
+//! One column of the rows of a table that pass a test.
 
 ghost use Rattle.std.specs.Prelude.{◌≡◌, map, IfOk};
 ghost use Rattle.sqlite.specs.Held.{state};
@@ -42,7 +42,7 @@ fn numbers(alloc: Global, rows: &[Row]) -> Result<Listed<u32>, OpenFault>
     Ok(all)
 }
 
-/// The credits of the hosts of this account, in millicredits. The connection shows what it showed.
+/// Reads the credits of the hosts of this account, in millicredits. What the connection shows is unchanged.
 pub fn credits_of_user<S: Alter>(
     alloc: Global,
     conn: &mut Connection<S>,
@@ -60,7 +60,7 @@ pub fn credits_of_user<S: Alter>(
     integers(alloc, rows.as_slice())
 }
 
-/// The numbers of the hosts of this account, in order. The connection shows what it showed.
+/// Reads the numbers of the hosts of this account, in order. What the connection shows is unchanged.
 pub fn hosts_of_user<S: Alter>(
     alloc: Global,
     conn: &mut Connection<S>,
@@ -78,8 +78,8 @@ pub fn hosts_of_user<S: Alter>(
     numbers(alloc, rows.as_slice())
 }
 
-/// The numbers of the versions of this application for this platform, in the order of their rows. The connection shows
-/// what it showed.
+/// Reads the numbers of the versions of this application for this platform, in the order of their rows. What the
+/// connection shows is unchanged.
 pub fn version_numbers<S: Alter>(
     alloc: Global,
     conn: &mut Connection<S>,

@@ -21,7 +21,7 @@ use sqlite::{Alter, Connection};
 use std::alloc::Global;
 use table_meaning::rows::StoredAccount;
 
-/// The first account with this authenticator. The connection shows what it showed.
+/// Reads the first account with this authenticator. What the connection shows is unchanged.
 pub fn account_with<S: Alter>(
     alloc: Global,
     conn: &mut Connection<S>,
@@ -40,7 +40,7 @@ pub fn account_with<S: Alter>(
     )
 }
 
-/// The number of the first workunit of this name. The connection shows what it showed.
+/// Reads the number of the first workunit of this name. What the connection shows is unchanged.
 pub fn unit_named<S: Alter>(
     alloc: Global,
     conn: &mut Connection<S>,
@@ -58,8 +58,8 @@ pub fn unit_named<S: Alter>(
     )
 }
 
-/// The number of the first host of this account with this cross-project identifier. The connection shows what it
-/// showed.
+/// Reads the number of the first host of this account with this cross-project identifier. What the connection shows is
+/// unchanged.
 pub fn host_known<S: Alter>(
     alloc: Global,
     conn: &mut Connection<S>,
@@ -78,8 +78,8 @@ pub fn host_known<S: Alter>(
     )
 }
 
-/// The number of the first version of this application for this platform with this number of its own. The connection
-/// shows what it showed.
+/// Reads the row number of the first version of this application for this platform with this version number. What the
+/// connection shows is unchanged.
 pub fn version_known<S: Alter>(
     alloc: Global,
     conn: &mut Connection<S>,
@@ -99,7 +99,7 @@ pub fn version_known<S: Alter>(
     )
 }
 
-/// The tables whose rows count from 1 on, so that the last number tells how many there are.
+/// The tables whose rows count from 1, so the last number is the number of rows.
 #[derive(Clone, Copy)]
 pub enum CountedTable {
     Account,
@@ -122,8 +122,8 @@ fn last_text(table: CountedTable) -> &'static str
     }
 }
 
-/// The greatest number that a row of the table has, and 0 where none has one above 0. The connection shows what it
-/// showed.
+/// Reads the greatest number that a row of the table has, or 0 if no row has one above 0. What the connection shows is
+/// unchanged.
 pub fn last_number<S: Alter>(
     alloc: Global,
     conn: &mut Connection<S>,

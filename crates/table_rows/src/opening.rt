@@ -1,4 +1,4 @@
-//! Connections whose tables are the known ones.
+//! Connections whose tables are the stored ones.
 
 ghost use Rattle.std.specs.Prelude.{◌≡◌, ◌≢◌, ℕ, IfOk, IfErr, IfSome};
 ghost use Rattle.std.specs.List.{AllByRecursion};
@@ -20,14 +20,14 @@ use std::alloc::{AllocError, Global};
 use std::fmt;
 use table_meaning::tables::NEWEST_SCHEMA;
 
-/// Why tables are not taken.
+/// Why tables are refused.
 #[derive(Clone, Copy, Debug, PartialEq, Eq)]
 pub enum OpenFault {
     /// Its tables are not the stored ones.
     NotTables,
-    /// Its tables are those of an older schema, whose number this is: they have to be upgraded.
+    /// Its tables are those of an older schema with this number. They must be upgraded.
     OldSchema(u32),
-    /// A row has not the form of its table, or a value out of its range.
+    /// A row does not have the form of its table, or has a value out of range.
     BadRow,
     /// Memory or the disk failed.
     Unavailable,
@@ -85,21 +85,21 @@ impl From<OpenFault> for Unavailable {
     }
 }
 
-/// Why a connection is not taken.
+/// Why a connection is refused.
 #[derive(Drop)]
 pub enum Refused<S: Alter> {
-    /// Its tables are not the stored ones. The connection is opened anew.
+    /// Its tables are not the stored ones. The connection was opened anew.
     NotTables(Connection<S>),
-    /// Its tables are those of an older schema, whose number this is. The connection is opened anew.
+    /// Its tables are those of an older schema with this number. The connection was opened anew.
     OldSchema(u32, Connection<S>),
-    /// A row has not the form of its table, or a value out of its range. The connection is opened anew.
+    /// A row does not have the form of its table, or has a value out of range. The connection was opened anew.
     BadRow(Connection<S>),
     /// Memory or the disk failed.
     Unavailable,
 }
 
 impl<S: Alter + Drop> Refused<S> {
-    /// The refusal of this connection for this fault. Where memory or the disk failed, the connection is dropped.
+    /// The refusal of this connection for this fault. If memory or the disk failed, the connection is dropped.
     pub fn of(fault: OpenFault, conn: Connection<S>) -> Refused<S>
         ensures { result ≡ refusal_for fault conn }
     {
@@ -128,7 +128,8 @@ impl<S: Alter + Drop> From<Refused<S>> for OpenFault {
     }
 }
 
-/// The connection opened anew over its store, if that is open: what was not committed is gone, and the numbers of each table's rows rise.
+/// Opens the connection anew over its store, if the store is open. What was not committed is gone, and the numbers of
+/// each table's rows rise.
 fn reopened<S: Alter + Drop>(alloc: Global, conn: Connection<S>) -> Option<Connection<S>>
     ensures opens { IfSome result (λ c. HasCleanDisk (state S.Store c) → Opens (state S.Store c) × IsLive (state S.Store c)) }
     ensures ordered { IfSome result (λ c. HasCleanDisk (state S.Store c)
@@ -146,7 +147,8 @@ fn reopened<S: Alter + Drop>(alloc: Global, conn: Connection<S>) -> Option<Conne
     Some(conn)
 }
 
-/// Why a connection is refused whose tables are those of an earlier schema: they say so, or say something else.
+/// Why a connection with the tables of an earlier schema is refused: the row `schema` has that schema's number, or it
+/// does not.
 fn refusal<S: Alter + Drop>(conn: Connection<S>, schema: u32) -> Refused<S>
     requires { IsEarlier schema }
     ensures old { (n : ℕ) (c : Held S) → result ≡ refused.OldSchema n c → HasCleanDisk (state S.Store c)
@@ -169,9 +171,9 @@ fn refusal<S: Alter + Drop>(conn: Connection<S>, schema: u32) -> Refused<S>
     }
 }
 
-/// The connection, if its tables are the stored ones: then it is at rest, with what was last committed. Where they are
-/// others, or those of an older schema, it is given back in the refusal, at rest as well. No row is looked at but the one
-/// that tells the schema.
+/// Returns the connection if its tables are the stored ones. It then has no open transaction and shows what was last
+/// committed. If the tables are others, or those of an older schema, the refusal gives the connection back, also with
+/// no open transaction. The only row that is read is the one that names the schema.
 pub fn known<S: Alter + Drop>(
     alloc: Global,
     conn: Connection<S>,

@@ -1,5 +1,5 @@
-//! Instances by their places, of which a test takes some. Each look-up answers Unavailable where memory or the disk
-//! fails, and BadRow where a row that it shows has not the form of its table.
+//! The places of the instances that pass a test. Each look-up returns `Unavailable` if memory or the disk fails. It
+//! returns `BadRow` if a row that it reads does not have the form of its table.
 
 ghost use Rattle.std.specs.Prelude.{◌≡◌, ◌≤◌, Bool, List, length, map, take, IfOk, IsPermutation};
 ghost use Rattle.sched_book.specs.declared.instance.Place.{Place as BookPlace};
@@ -57,7 +57,7 @@ fn places(alloc: Global, rows: &[Row]) -> Result<Listed<Place>, OpenFault>
     Ok(all)
 }
 
-/// The places that a statement shows. The connection shows what it showed.
+/// The places that a statement shows. What the connection shows is unchanged.
 fn places_shown<S: Alter>(
     alloc: Global,
     conn: &mut Connection<S>,
@@ -71,7 +71,7 @@ fn places_shown<S: Alter>(
     places(alloc, rows.as_slice())
 }
 
-/// The places by the workunit and then by the number, where they are those of a test in any order.
+/// Sorts places by the workunit and then by the number. They are the places that pass some test, in any order.
 fn in_order(places: Listed<Place>) -> Listed<Place>
     ensures { (contents : Contents) (all : List BookPlace) (test : SqlRow → Bool) → AreAllPlaces contents all → IsPermutation (places_where contents test all) places
         → result ≡ places_where contents test all }
@@ -81,7 +81,7 @@ fn in_order(places: Listed<Place>) -> Listed<Place>
     Listed::of(places)
 }
 
-/// The row as an instance. BadRow where it has not the form of one.
+/// The row as an instance. `BadRow` if it does not have the form of one.
 fn instance(alloc: Global, row: &Row) -> Result<StoredInstance, OpenFault>
     ensures { IfOk result (λ instance. columns_of (stored.Instance instance) ≡ row.now) }
 {
@@ -102,7 +102,7 @@ fn instances(alloc: Global, rows: &[Row]) -> Result<Listed<StoredInstance>, Open
     Ok(all)
 }
 
-/// The instances of the workunit at this place, by their numbers. The connection shows what it showed.
+/// Reads the instances of the workunit at this place, by their numbers. What the connection shows is unchanged.
 pub fn instances_in<S: Alter>(
     alloc: Global,
     conn: &mut Connection<S>,
@@ -120,8 +120,8 @@ pub fn instances_in<S: Alter>(
     instances(alloc, rows.as_slice())
 }
 
-/// The places of the instances that the host of this number holds, if it holds so many at most. They are looked for from
-/// the newest on, as far as so many are found. The connection shows what it showed.
+/// Reads the places of the instances that the host of this number holds, if it holds at most `most`. It looks from the
+/// newest one on and stops once it has found `most` of them. What the connection shows is unchanged.
 pub fn places_held<S: Alter>(
     alloc: Global,
     conn: &mut Connection<S>,
@@ -141,7 +141,7 @@ pub fn places_held<S: Alter>(
     Ok(in_order(held))
 }
 
-/// The places of the instances that were given to the host of this number. The connection shows what it showed.
+/// Reads the places of the instances that were sent to the host of this number. What the connection shows is unchanged.
 pub fn places_owned<S: Alter>(
     alloc: Global,
     conn: &mut Connection<S>,
@@ -159,8 +159,8 @@ pub fn places_owned<S: Alter>(
     )
 }
 
-/// A page of the places of the instances that wait to be given out, from this place on: the first of them, so many as the
-/// page has at most. The connection shows what it showed.
+/// Reads the places of instances that are waiting to be sent: the first ones from this place on, at most one page. What
+/// the connection shows is unchanged.
 pub fn queued_from<S: Alter>(
     alloc: Global,
     conn: &mut Connection<S>,
@@ -179,8 +179,8 @@ pub fn queued_from<S: Alter>(
     )
 }
 
-/// How many instances were sent to the host of this number from one moment on and before another, in seconds since
-/// 1970-01-01T00:00:00Z. The connection shows what it showed.
+/// Counts the instances that were sent to the host of this number at or after one moment and before another, in seconds
+/// since 1970-01-01T00:00:00Z. What the connection shows is unchanged.
 pub fn sent_between<S: Alter>(
     alloc: Global,
     conn: &mut Connection<S>,
@@ -204,8 +204,8 @@ pub fn sent_between<S: Alter>(
     }
 }
 
-/// The places of the instances that are held and whose deadline lies from one moment on and before another, in seconds
-/// since 1970-01-01T00:00:00Z. The connection shows what it showed.
+/// Reads the places of the held instances whose deadline is at or after one moment and before another, in seconds since
+/// 1970-01-01T00:00:00Z. What the connection shows is unchanged.
 pub fn places_due<S: Alter>(
     alloc: Global,
     conn: &mut Connection<S>,

@@ -1,4 +1,4 @@
-//! Rows put at their keys, in one transaction.
+//! Puts rows at their keys, in one transaction.
 
 ghost use Rattle.std.specs.Prelude.{◌≡◌, ◌≢◌, false, [], ◌∷◌, map, option_map, if◌then◌else◌, IsTrue, IfOk, OnOk, OnErr};
 ghost use Rattle.sqlite.specs.Held.{state};
@@ -16,8 +16,8 @@ use sqlite::{Alter, Connection, Error, ErrorCode, Transaction};
 use std::alloc::Global;
 use table_meaning::rows::{RowChange, StoredRow};
 
-/// Puts one row at its key, over the one that stands there. Where it is an update, and its table has a statement that changes
-/// a row, that is tried first.
+/// Puts one row at its key, and replaces a row that exists there. If it is an update, and its table has a statement
+/// that updates a row, that statement is tried first.
 fn put_row<S: Alter>(
     alloc: Global,
     tx: &mut Transaction<'_, S>,
@@ -71,9 +71,9 @@ pub(crate) fn put_each<S: Alter>(
     Ok(())
 }
 
-/// Puts each of the rows at its key, in order: all of them or none. Where there is no row, nothing is written. It is good
-/// only where no fault has shut the connection. A stop at any moment leaves what a stop could leave before, or all the
-/// rows, and these only where the connection was open. Each text that is put is in UTF-8.
+/// Puts each of the rows at its key, in order: all of them or none. If there is no row, nothing is written. It succeeds
+/// only if no fault has shut the connection. A stop at any moment leaves what a stop could leave before, or all the
+/// rows. It leaves these only if the connection was open. Each text that is put is in UTF-8.
 pub fn put_rows<S: Alter>(
     alloc: Global,
     conn: &mut Connection<S>,

@@ -1,4 +1,4 @@
-//! Rows that statements show: all of them, or the first one.
+//! The rows that a statement shows: all of them, or the first one.
 
 ghost use Rattle.std.specs.Prelude.{◌≡◌, ℕ, IfOk, List, Ok, slice_get, option_map};
 ghost use Rattle.sqlite.specs.Held.{state};
@@ -15,7 +15,7 @@ use sqlite::types::ValueRef;
 use sqlite::{Alter, Connection, Error, ErrorCode, Row};
 use std::alloc::Global;
 
-/// The rows that a statement shows. The connection shows what it showed.
+/// The rows that a statement shows. What the connection shows is unchanged.
 pub(crate) fn shown_by<S: Alter>(
     conn: &mut Connection<S>,
     text: &str,
@@ -33,7 +33,7 @@ pub(crate) fn shown_by<S: Alter>(
     Ok(rows)
 }
 
-/// The first row that a statement shows, as it is read. The connection shows what it showed.
+/// The first row that a statement shows, read by `read`. What the connection shows is unchanged.
 pub(crate) fn first_shown<S: Alter, T: Drop, F: FnOnce(Global, &Row) -> Result<T, OpenFault>>(
     alloc: Global,
     conn: &mut Connection<S>,
@@ -54,7 +54,7 @@ pub(crate) fn first_shown<S: Alter, T: Drop, F: FnOnce(Global, &Row) -> Result<T
     }
 }
 
-/// The number in the first column of the first row that a statement shows.
+/// The number in the first column of the first row that a statement shows. What the connection shows is unchanged.
 pub(crate) fn first_number<S: Alter>(
     alloc: Global,
     conn: &mut Connection<S>,

@@ -1,4 +1,4 @@
-//! Of which schema the tables of a connection are: by its value, and by what the tables say themselves.
+//! The schema of a connection's tables, from their definitions and from the row that names it.
 
 ghost use Rattle.std.specs.Prelude.{◌≡◌, ◌≢◌, ℕ, Some, None, slice_get, option_map, IfOk, IfErr, IfSome};
 ghost use Rattle.std.specs.Bool.{Decides};
@@ -44,7 +44,7 @@ fn has_schema<S: Alter>(alloc: Global, conn: &Connection<S>, schema: u32) -> Res
     Ok(conn.schema().is_alike(&wanted))
 }
 
-/// The number of the schema of which the tables are, if there is one. The newest is tried first.
+/// The number of the schema of the tables, if they have one. The newest schema is tried first.
 pub fn schema_number<S: Alter>(
     alloc: Global,
     conn: &Connection<S>,
@@ -72,7 +72,7 @@ fn begins_with(rows: &[Row], number: u32) -> bool
     }
 }
 
-/// Whether the tables say that they are of the schema of this number. The connection shows what it showed.
+/// Whether the tables' row `schema` has the number of this schema. What the connection shows is unchanged.
 pub fn says_schema<S: Alter>(conn: &mut Connection<S>, schema: u32) -> Result<bool, Error>
     ensures reads { Reads (state S.Store conn.old) (state S.Store conn.new) }
     ensures said { HasCleanDisk (state S.Store conn.new) → IsSchema schema → AreKnownAt schema (state S.Store conn.old).now

@@ -1,5 +1,5 @@
-//! The SQL statements: what makes the tables, what reads one whole, what inserts and updates a row, and what fills a table that
-//! a schema gains.
+//! The SQL statements. They make the tables, read a whole table, insert and update a row, and fill a table that a
+//! schema adds.
 
 ghost use Rattle.std.specs.Prelude.{◌≡◌, ◌≤◌, [], length, option_map, slice_index_or};
 ghost use Rattle.table_meaning.specs.Schema.{parts_at, newest};
@@ -10,7 +10,7 @@ ghost use Rattle.table_meaning.specs.Fills.{next_text as sql_next, fill_text as 
 use table_meaning::rows::StoredRow;
 use table_meaning::tables::{Fill, TableName};
 
-/// The CREATE text at this place in their order.
+/// The CREATE text at this place in the order of these texts.
 pub(crate) fn definition(at: usize) -> &'static str
     ensures { result.now ≡ slice_index_or definition_texts at [] }
 {
@@ -46,7 +46,7 @@ pub(crate) fn definition(at: usize) -> &'static str
     }
 }
 
-/// How many of these texts make the schema of this number. Number 0 is that of no schema.
+/// How many of these texts make the schema of this number. Number 0 has none.
 pub(crate) fn size_of(schema: u32) -> usize
     requires { schema ≤ newest }
     ensures { result ≡ length (parts_at schema) }
@@ -59,7 +59,7 @@ pub(crate) fn size_of(schema: u32) -> usize
     }
 }
 
-/// The statement that reads the table whole.
+/// The statement that reads the whole table.
 pub(crate) fn read_text(table: TableName) -> &'static str
     ensures { result.now ≡ sql_read table }
 {
@@ -115,8 +115,8 @@ pub(crate) fn put_text(row: &StoredRow) -> &'static str
     }
 }
 
-/// The statement that changes the row that stands at its key. There is one for the tables whose rows mostly stand before
-/// they are put, and it costs less there than the statement that puts the row.
+/// The statement that updates the row at its key. Only the tables whose rows mostly exist before they are put have one.
+/// For them it costs less than the statement that puts the row.
 pub(crate) fn update_text(row: &StoredRow) -> Option<&'static str>
     ensures { option_map (λ text. text.now) result ≡ update_first (table_at (key_of row.now)) }
 {
@@ -141,7 +141,7 @@ pub(crate) fn update_text(row: &StoredRow) -> Option<&'static str>
     }
 }
 
-/// The statement that reads the next number of a row from which the fill takes one.
+/// The statement that reads the next number of a row that the fill copies.
 pub fn next_text(fill: Fill) -> &'static str
     ensures { result.now ≡ sql_next fill }
 {
@@ -152,7 +152,7 @@ pub fn next_text(fill: Fill) -> &'static str
     }
 }
 
-/// The statement that puts what the fill takes from the row of a number.
+/// The statement that inserts what the fill copies from the row of a number.
 pub fn fill_text(fill: Fill) -> &'static str
     ensures { result.now ≡ sql_fill fill }
 {
@@ -166,7 +166,7 @@ pub fn fill_text(fill: Fill) -> &'static str
     }
 }
 
-/// The fills that lead from the schema of this number to the next one, in the order in which they are made.
+/// The fills that lead from the schema of this number to the next one, in the order in which they run.
 pub fn fills_of(schema: u32) -> &'static [Fill]
     ensures { result.now ≡ sql_fills schema }
 {

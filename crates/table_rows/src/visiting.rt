@@ -1,4 +1,4 @@
-//! Tables that are read one row at a time.
+//! Reads tables one row at a time.
 
 ghost use Rattle.std.specs.Prelude.{◌⊎◌, ◌≡◌, IfErr, OnOk};
 ghost use Rattle.sqlite.specs.Held.{state};
@@ -17,24 +17,24 @@ use std::alloc::Global;
 use table_meaning::rows::StoredRow;
 use table_meaning::tables::TableName;
 
-/// Who is given the rows of a table, one at a time.
+/// An object that is given the rows of a table, one at a time.
 pub trait RowVisitor {
     ghost use Rattle.table_meaning.specs.declared.rows.StoredRow.{StoredRow};
 
-    /// What a row does that is taken: the visitor before, the row, and the visitor after.
+    /// What taking a row does: the visitor before, the row, and the visitor after.
     ghost takes: { Self → StoredRow → Self → Type 0 };
 
-    /// Which rows it refuses.
+    /// The rows that it refuses.
     ghost refuses: { Self → StoredRow → Type 0 };
 
-    /// Takes the row. `BadRow` where it refuses it.
+    /// Takes the row. `BadRow` if it refuses the row.
     fn visit(&mut self, row: StoredRow) -> Result<(), OpenFault>
         ensures takes { OnOk result (takes self.old row self.new) }
         ensures refuses { IfErr result (λ e. e ≡ OpenFault.BadRow → refuses self.old row) };
 }
 
-/// Gives the visitor each row of the table with its types, in order; nothing but the row at hand is held. `BadRow` where a
-/// row has not the format of the table, or the visitor refuses one. The connection shows what it showed.
+/// Gives the visitor each row of the table with its types, in order. Only the row at hand is in memory. `BadRow` if a
+/// row does not have the format of the table, or if the visitor refuses one. What the connection shows is unchanged.
 pub fn visit_rows<S: Alter, V: RowVisitor>(
     alloc: Global,
     conn: &mut Connection<S>,

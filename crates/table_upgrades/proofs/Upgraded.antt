@@ -1,4 +1,4 @@
--- What is left of a step of an upgrade, and of an upgrade that took several steps, or looked at the tables first.
+-- What a step of an upgrade leaves, and what an upgrade leaves that made several steps or read the tables first.
 use Rattle.std.proofs.Common.{◌≡◌, ◌⊎◌, ◌+◌, ◌-◌, ◌≤◌, ◌<◌, ℕ, suc, IsTrue, refl, sym, subst, ◌∙◌, inl, inr, arith}
 use Rattle.sqlite.specs.Effect.{Database}
 use Rattle.sqlite.specs.State.{State, HasCleanDisk, Survives}
@@ -13,7 +13,7 @@ use Rattle.table_upgrades.specs.Frames.{IsCommitted, OutsideTransaction}
 
 -- ---- one step
 
--- its rows were put, and it was committed, or stopped before
+-- a step put its rows, and was committed or stopped before that
 pub step_stopped : (n : ℕ) (old mid new : State) → (HasCleanDisk mid → IsTrue old.is_open × MakesNext n old.now mid.now) → Survives old mid (λ _. ⊥) → Survives mid new (λ trees. trees ≡ mid.now.trees)
     → Survives old new (λ trees. IsTrue old.is_open × (db : Database) × MakesNext n old.now db × (trees ≡ db.trees))
 step_stopped n old mid new made one two = survives_then old mid new _ _ _ (λ _ db none. absurd none)
@@ -46,7 +46,7 @@ gone_nowhere n earlier old = record {
 
 module _ (n next : ℕ) (old mid new : State) (gone : HasGone n next old mid) (less : next < newest)
     (step : Survives mid new (λ trees. IsTrue mid.is_open × (db : Database) × MakesNext next mid.now db × (trees ≡ db.trees))) where
-  -- the next step is made
+  -- the next step was made
   one_more : HasCleanDisk mid → (db : Database) → MakesNext next mid.now db → Goes n (suc (next - n)) old.now db
   one_more clean db makes = let at : next ≡ n + (next - n) = omega (arith, gone.from) in (mid.now, gone.goes clean, subst (λ m. MakesNext m mid.now db) at makes)
 
@@ -72,7 +72,7 @@ module _ (n next : ℕ) (old mid new : State) (gone : HasGone n next old mid) (l
       early : HasCleanDisk new → HasCleanDisk mid
       early clean = omega (arith, step.clean)
 
-  -- the next step is refused
+  -- the next step was refused
   pub gone_no_further : HasCleanDisk new → (new.now ≡ mid.now) × (new.committed ≡ mid.committed) → StopsWithin n old new
   gone_no_further clean same = elim (here_or_later n next gone.from) [
     | inl at ↦
@@ -88,17 +88,17 @@ module _ (n next : ℕ) (old mid new : State) (gone : HasGone n next old mid) (l
       early : HasCleanDisk mid
       early = omega (arith, step.clean)
 
--- the last step is made
+-- the last step was made
 pub gone_all : (n next : ℕ) → IsEarlier n → (old now : State) → HasGone n next old now → newest ≤ next → HasCleanDisk now → Goes n (newest - n) old.now now.committed × IsCommitted now
 gone_all n next earlier old now gone past clean =
     let last : next ≡ newest = omega (arith, past, gone.within) in
     let committed = gone.later (omega (arith, past, earlier.1)) clean in
     (subst (λ m. Goes n (m - n) old.now now.committed) last (subst (λ (db : Database). Goes n (next - n) old.now db) committed.rest (gone.goes clean)), committed)
 
--- ---- the tables were looked at first
+-- ---- the tables were read first
 
 module _ (n : ℕ) (is_n : IsSchema n) (old mid new : State) (is : old.now.schema ≡ schema_at n) (reads : Reads old mid) (rests : IsTrue old.is_open → old.now ≡ old.committed) where
-  -- what was looked at is as it was
+  -- what was read is as it was
   pub looked_at : HasCleanDisk mid → IsTrue mid.is_open → (mid.now ≡ old.now) × (mid.committed ≡ old.committed)
   looked_at clean is_open = reads.same clean is_open (rests (reads.was_open clean is_open))
 

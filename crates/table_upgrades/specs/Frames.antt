@@ -1,4 +1,4 @@
--- Words. What every step of an upgrade leaves, whatever else it does: within its transaction, and on a connection with none open.
+-- Words. What every step of an upgrade leaves, regardless of what else it does: within its transaction, and on a connection with none open.
 use Rattle.std.specs.Prelude.{◌≡◌, false, IsTrue}
 use Rattle.std.specs.Borrow.{MutBor}
 use Rattle.sqlite_trees.specs.declared.store.Store.{Ghosts}
@@ -15,12 +15,12 @@ pub record WithinTransaction {S : Type 0} (g : Ghosts S) (old new : MutBor (Held
 abbrev pub StaysWithin : {S : Type 0} → Ghosts S → MutBor (Held S) → MutBor (Held S) → Type 0
 StaysWithin {S} g old new = HasCleanDisk (state g new.now) → IsTrue (state g old.now).in_transaction → IsTrue (state g new.now).in_transaction
 
--- With no transaction open: the connection was open if it is, and none is left open.
+-- With no open transaction: if the connection is open now, it was open before, and no transaction is left open.
 pub record OutsideTransaction (old new : State) : Type 0 where
   pub was_open : HasCleanDisk new → IsTrue new.is_open → IsTrue old.is_open
   pub idle : old.in_transaction ≡ false → new.in_transaction ≡ false
 
--- It is open, and all that it shows is committed.
+-- The connection is open, and all that it shows is committed.
 pub record IsCommitted (new : State) : Type 0 where
   pub is_open : IsTrue new.is_open
   pub rest : new.now ≡ new.committed

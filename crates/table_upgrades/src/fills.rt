@@ -1,4 +1,4 @@
-//! What a schema gains is filled from the tables of the schema before it: one row at a time.
+//! Fills the tables that a schema adds from the tables of the schema before it, one row at a time.
 
 ghost use Rattle.std.specs.Prelude.{◌≡◌, ◌+◌, ℕ, IsTrue, IfOk, IfErr, OnOk};
 ghost use Rattle.sqlite_trees.specs.declared.store.Shape.TheVariants.{Table as TableTree};
@@ -17,7 +17,7 @@ use table_rows::statements::{fill_text, fills_of, next_text};
 use table_rows::values::whole;
 use table_rows::{OpenFault, fields};
 
-/// The next number, from this one on, of a row from which the fill takes one. `BadRow` where it is out of range.
+/// Returns the next number, from this one on, of a row that the fill copies. `BadRow` if the number is out of range.
 fn next_number<S: Alter>(
     alloc: Global,
     tx: &mut Transaction<'_, S>,
@@ -41,7 +41,7 @@ fn next_number<S: Alter>(
     Ok(Some(number))
 }
 
-/// Puts what the fill takes from the row of this number, if there is one.
+/// Inserts what the fill copies from the row of this number, if it exists.
 fn fill_one<S: Alter>(tx: &mut Transaction<'_, S>, fill: Fill, number: u32) -> Result<(), Error>
     ensures within { WithinTransaction S.Store tx.old.conn tx.new.conn }
     ensures inside { OnOk result (StaysWithin S.Store tx.old.conn tx.new.conn) }
@@ -52,7 +52,8 @@ fn fill_one<S: Alter>(tx: &mut Transaction<'_, S>, fill: Fill, number: u32) -> R
     Ok(())
 }
 
-/// Puts what the fill takes from the next row from this number on, and gives the number to go on from, if there is one.
+/// Inserts what the fill copies from the next row, from this number on. Returns the number to continue from, or `None`
+/// if there is no next row.
 fn fill_next<S: Alter>(
     alloc: Global,
     tx: &mut Transaction<'_, S>,
@@ -75,7 +76,7 @@ fn fill_next<S: Alter>(
     Ok(Some(next))
 }
 
-/// Puts all that the fill takes, one row after another.
+/// Inserts all that the fill copies, one row after another.
 fn fill_all<S: Alter>(
     alloc: Global,
     tx: &mut Transaction<'_, S>,
@@ -97,7 +98,7 @@ fn fill_all<S: Alter>(
     Err(OpenFault::Unavailable)
 }
 
-/// Fills the tables that the schema after this one gains.
+/// Fills the tables that the schema after this one adds.
 pub(crate) fn fill_tables<S: Alter>(
     alloc: Global,
     tx: &mut Transaction<'_, S>,

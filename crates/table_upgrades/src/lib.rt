@@ -1,4 +1,4 @@
-//! Tables of an earlier schema made into those of the newest one. It knows no world.
+//! Makes tables of an earlier schema into those of the newest one. It knows no world.
 #![tactic(auto)]
 
 pub mod fills;

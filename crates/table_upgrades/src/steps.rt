@@ -1,4 +1,4 @@
-//! One schema after another, each in one transaction.
+//! Upgrades tables from one schema to the next, each step in one transaction.
 
 ghost use Rattle.std.specs.Prelude.{◌≡◌, ◌≢◌, ◌+◌, ◌-◌, ℕ, false, Some, IsTrue, IfOk, IfErr, OnOk, OnErr};
 ghost use Rattle.sqlite.specs.Held.{state};
@@ -21,7 +21,7 @@ use table_rows::statements::PUT_SETTING;
 use table_rows::values::whole;
 use table_rows::{OpenFault, test_open};
 
-/// Puts the row that says of which schema the tables are.
+/// Puts the row that names the schema of the tables.
 fn put_schema<S: Alter>(tx: &mut Transaction<'_, S>, schema: u32) -> Result<(), Error>
     requires { IsSchema schema }
     ensures within { WithinTransaction S.Store tx.old.conn tx.new.conn }
@@ -36,7 +36,7 @@ fn put_schema<S: Alter>(tx: &mut Transaction<'_, S>, schema: u32) -> Result<(), 
     Ok(())
 }
 
-/// Makes what the next schema has and this one lacks, fills it, and puts the row of the schema last.
+/// Makes the tables that the next schema has and this one lacks, fills them, and puts the row of the schema last.
 fn upgrade_tables<S: Alter>(
     alloc: Global,
     tx: &mut Transaction<'_, S>,
@@ -57,7 +57,7 @@ fn upgrade_tables<S: Alter>(
     Ok(())
 }
 
-/// Makes tables of the schema of this number into those of the next: all of it or nothing.
+/// Makes tables of the schema of this number into those of the next: everything or nothing.
 fn upgrade_step<S: Alter>(
     alloc: Global,
     conn: &mut Connection<S>,
@@ -102,11 +102,11 @@ fn upgrade_from<S: Alter>(
     Ok(())
 }
 
-/// Makes tables of an earlier schema into those of the newest one, with what they hold, and gives the number of that: one
-/// schema after another, each of them all or not at all. Tables of the newest schema stay as they are. `NotTables` where they
-/// are those of no schema, or say that they are of another one. A refusal leaves them as they were, or as those of a later
-/// schema that were made of them. A stop at any moment leaves what a stop could leave before, or whole tables of a later
-/// schema.
+/// Makes tables of an earlier schema into those of the newest one, with what they hold, and returns the newest schema's
+/// number. It does one schema after another, each of them completely or not at all. Tables of the newest schema stay as
+/// they are. `NotTables` if the tables are those of no schema, or name another schema. A refusal leaves the tables as
+/// they were, or whole tables of a later schema that were made from them. A stop at any moment leaves what a stop could
+/// leave before, or whole tables of a later schema.
 pub fn upgrade<S: Alter>(alloc: Global, conn: &mut Connection<S>) -> Result<u32, OpenFault>
     ensures outside { OutsideTransaction (state S.Store conn.old) (state S.Store conn.new) }
     ensures committed { HasCleanDisk (state S.Store conn.new) → OnOk result (IsCommitted (state S.Store conn.new)) }

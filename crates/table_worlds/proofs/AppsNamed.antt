@@ -13,7 +13,7 @@ use Rattle.table_meaning.specs.Worlds.{app_place}
 use Rattle.table_worlds.specs.ReadBack.{app_name_at}
 use Rattle.table_worlds.proofs.ByPlace.{nth_next}
 
--- where some application passes, the first that does stands at its index
+-- if some application passes, the first one that does is at its index
 first_that_passes : (p : App → Bool) (n : ℕ) (apps : List App) → list_any p apps ≡ true
     → (i : ℕ) × (a : App) × (position_from p n apps ≡ Some (i + n)) × (slice_get apps i ≡ Some a) × (p a ≡ true)
 first_that_passes p n [] any = absurd (true≢false (sym any))
@@ -27,7 +27,7 @@ first_that_passes p n (a ∷ apps) any = go (p a) refl any (first_that_passes p 
         let more = later any in
         (suc more.0, more.1, more.2 ∙ ap Some (let same : more.0 + (n + 1) ≡ suc more.0 + n = omega arith in same), more.3, more.4)
 
--- the application that stands at the place of a name has that name
+-- the application at the place of a name has that name
 pub named_app : (w : World) (name : List ℕ) → has_app w.apps name ≡ true → (a : App) × (nth w.apps (app_place w name) ≡ Some a) × (a.name ≡ name)
 named_app w name has =
     let p : App → Bool = λ a. bytes_eq a.name name in
@@ -37,7 +37,7 @@ named_app w name has =
       (bytes_eq-Decides first.1.name name).0 first.4,
     )
 
--- a name is told by its place, in any list that is the world's
+-- a name is read back from its place, for any list equal to the world's
 pub name_back : (apps : List App) (w : World) (name : List ℕ) → apps ≡ w.apps → has_app w.apps name ≡ true → app_name_at apps (app_place w name) ≡ name
 name_back apps w name are has =
     let named = named_app w name has in

@@ -1,4 +1,4 @@
--- A list whose items stand in a table, each at its number, is what is found at the numbers up to the greatest there.
+-- If a table has the items of a list, each at its number, the list is what is found at the numbers up to the table's greatest.
 use Rattle.std.proofs.Common.{◌≡◌, ◌≤◌, ◌<◌, ℕ, zero, suc, ◌+◌, List, [], ◌∷◌, length, Option, Some, None, option_map, refl, ap, subst, ◌∙◌, arith, inl, inr}
 use Rattle.std.specs.Prelude.{filter_map, slice_get}
 use Rattle.std.specs.List.{range_with_len, cons_option}
@@ -30,7 +30,7 @@ no_longer [] bound below = omega arith
 no_longer (x ∷ xs) zero below = absurd (omega (arith, below 0 x refl))
 no_longer (x ∷ xs) (suc bound) below = omega (arith, no_longer xs bound (λ i y is. omega (arith, below (suc i) y is)))
 
--- what is found at so many numbers from one on is the list, where each item is found at its number
+-- if each item is found at its number, what is found at enough numbers is the list
 all_found : {X : Type 0} (f : ℕ → Option X) (xs : List X) (from count : ℕ) → length xs ≤ count → ((i n : ℕ) → n ≡ i + from → f n ≡ slice_get xs i) → filter_map f (range_with_len from count) ≡ xs
 all_found f [] from zero few is = refl
 all_found f (x ∷ xs) from zero few is = absurd (omega (arith, few))
@@ -43,11 +43,11 @@ all_found f (x ∷ xs) from (suc count) few is =
 
 -- ---- tables by numbers
 
--- A table whose keys go by the number in a column, how an item is written as a row, and what is found at a number: nothing where no row is.
+-- A table whose keys are the numbers in a column, the row of an item, and what is found at a number: nothing if there is no row.
 module _ {X : Type 0} (trees : Trees) (t : TableName) (column : ℕ) (key : ℕ → RowKey) (of_table : (n : ℕ) → table_at (key n) ≡ t)
     (row : ℕ → X → StoredRow) (numbered : (n : ℕ) (x : X) → number_at (columns_of (row n x)) column ≡ n)
     (found : ℕ → Option X) (nothing : (n : ℕ) → look_up trees (key n) ≡ None → found n ≡ None) (xs : List X) where
-  -- where the items stand at the numbers from one on, and each is found where it stands
+  -- if the items are at the numbers from one number on, and each is found at its number
   module _ (from : ℕ) (stands : (i n : ℕ) → n ≡ i + from → look_up trees (key n) ≡ option_map columns_of (option_map (row n) (slice_get xs i)))
       (back : (i n : ℕ) (x : X) → n ≡ i + from → slice_get xs i ≡ Some x → look_up trees (key n) ≡ Some (columns_of (row n x)) → found n ≡ Some x) where
     item_back : (i n : ℕ) → n ≡ i + from → found n ≡ slice_get xs i
@@ -66,11 +66,11 @@ module _ {X : Type 0} (trees : Trees) (t : TableName) (column : ℕ) (key : ℕ 
         at_most column (rows_in trees (table_at (key (i + from)))) (columns_of (row (i + from) x)) (row_has trees (key (i + from)) (columns_of (row (i + from) x)) shows) in
         subst (λ u. i + from ≤ greatest column (rows_in trees u)) (of_table (i + from)) (omega (arith, most, numbered (i + from) x))
 
-    -- so the list is what is found at enough numbers
+    -- so what is found at enough numbers is the list
     pub list_found : (count : ℕ) → greatest column (rows_in trees t) < count + from → filter_map found (range_with_len from count) ≡ xs
     list_found count enough = all_found found xs from count (no_longer xs count (λ i x is. omega (arith, number_within i x is, enough))) item_back
 
--- the same where the row alone tells the item
+-- the same, if the row alone determines the item
 pub list_back : {X : Type 0} (trees : Trees) (t : TableName) (column : ℕ) (key : ℕ → RowKey) → ((n : ℕ) → table_at (key n) ≡ t)
     → (row : ℕ → X → StoredRow) → ((n : ℕ) (x : X) → number_at (columns_of (row n x)) column ≡ n) → (read : ℕ → Row → X) (xs : List X) (from : ℕ)
     → ((i n : ℕ) → n ≡ i + from → look_up trees (key n) ≡ option_map columns_of (option_map (row n) (slice_get xs i)))
@@ -80,10 +80,10 @@ list_back trees t column key of_table row numbered read xs from stands back =
     list_found trees t column key of_table row numbered (λ n. option_map (read n) (look_up trees (key n))) (λ n none. ap (option_map (read n)) none) xs from stands
     (λ i n x at is shows. ap (option_map (read n)) shows ∙ ap Some (back i n x at is))
 
--- and where the items stand at their places and the number is the first column
+-- and if the items are at their places and the number is the first column
 module _ {X : Type 0} (trees : Trees) (t : TableName) (key : ℕ → RowKey) (of_table : (n : ℕ) → table_at (key n) ≡ t)
     (row : ℕ → X → StoredRow) (numbered : (n : ℕ) (x : X) → number_at (columns_of (row n x)) 0 ≡ n) where
-  -- what stands at the place behind an index
+  -- the item at the place after an index
   at_index : (xs : List X) (i n : ℕ) → n ≡ i + 1 → nth xs n ≡ slice_get xs i
   at_index xs i n at = ap (nth xs) at ∙ nth_next xs i
 

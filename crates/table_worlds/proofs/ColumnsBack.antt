@@ -1,4 +1,4 @@
--- The rows of a workunit, of its mark and of an instance are told by their columns.
+-- The columns of the row of a workunit, of a mark and of an instance determine that row.
 use Rattle.std.proofs.Common.{◌≡◌, refl}
 use Rattle.table_meaning.specs.declared.rows.StoredInstance.{StoredInstance}
 use Rattle.table_meaning.specs.declared.rows.StoredUnit.{StoredUnit}
@@ -18,7 +18,7 @@ one_mark m n same = let rows = columns_told (stored.UnitMark m) (stored.UnitMark
 pub one_instance : (x y : StoredInstance) → columns_of (stored.Instance x) ≡ columns_of (stored.Instance y) → x ≡ y
 one_instance x y same = let rows = columns_told (stored.Instance x) (stored.Instance y) same in cc
 
--- a row of their table is theirs
+-- a row of their table is one of theirs
 pub is_unit_row : (r : StoredRow) → table_of r ≡ name.Unit → (u : StoredUnit) × (r ≡ stored.Unit u)
 is_unit_row (stored.Unit x) is = (x, refl)
 is_unit_row _ is = absurd (cc)

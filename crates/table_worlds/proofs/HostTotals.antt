@@ -25,7 +25,7 @@ nth-map_from f xs (suc i) =
     ∙ ap (λ m. option_map (f m) (slice_get xs i)) (let more : i + 1 ≡ suc i = omega arith in more)
     ∙ ap (option_map (f (suc i))) (sym (nth-suc xs i))
 
--- the row of a host with its total is that of the world
+-- the row made of a host and its total is the world's row of that host
 pub host_row_counted : (w : World) (totals : List Total) (id : ℕ) (h : HostRow) (t : Total) (row : StoredRow) → host_at w id ≡ Some h → nth totals id ≡ Some t → totals ≡ totals_of w
     → row ≡ stored.Host (host_row t.held t.credit id h) → Some row ≡ option_map (λ g. stored.Host (host_row (length (held_by w id)) (host_credit w id) id g)) (host_at w id)
 host_row_counted w totals id h t row stands total counted is =

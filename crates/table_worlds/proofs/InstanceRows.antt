@@ -22,7 +22,7 @@ abbrev place : ℕ → ℕ → Place
 place unit number = record { unit = unit; number = number }
 
 module _ (w : World) where
-  -- an instance's row at a place, where this is the workunit
+  -- an instance's row at a place, if this is the workunit
   abbrev row_of : ℕ → ℕ → Option UnitBook → Option StoredRow
   row_of unit number o = option_and_then (λ (b : UnitBook). option_map (λ (x : Job). stored.Instance (instance_row w b unit number x)) (slice_get b.instances number)) o
 
@@ -41,7 +41,7 @@ module _ (w : World) where
     pub instance_is : slice_get book.instances number ≡ Some instance
     pub row_is : r ≡ stored.Instance (instance_row w book (index + 1) number instance)
 
-  -- a row of the world at a place is that of an instance
+  -- a row of the world at the place of an instance is the row of that instance
   row_stands : (unit number : ℕ) (r : StoredRow) → row_in w (Instance (place unit number)) ≡ Some r → IsRowAt unit number r
   row_stands zero number r is = absurd (none-some r is)
   row_stands (suc index) number r is = of_unit (slice_get w.units index) refl (sym (at_index index number) ∙ subst (λ n. row_in w (Instance (place n number)) ≡ Some r) after is)
@@ -72,7 +72,7 @@ module _ (w : World) where
         | inr has ↦ kept_by (row_in w) (map Instance (places w)) (Instance (place (index + 1) number)) _ (mapped_has Instance (places w) (place (index + 1) number) has) stands
       ]
 
-  -- and each of these is one
+  -- and each of these rows is such a row
   pub listed_own : (r : StoredRow) → Has own_rows r → (p : Place) × IsRowAt p.unit p.number r
   listed_own r has =
       let from = given_by (row_in w) (map Instance (places w)) r has in

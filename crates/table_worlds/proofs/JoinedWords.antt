@@ -1,4 +1,4 @@
--- Words that commas join are the parts between the commas.
+-- Words joined by commas are the parts between the commas.
 use Rattle.std.proofs.Common.{◌≡◌, ℕ, true, false, List, [], ◌∷◌, ◌++◌, ap, ◌∙◌, arith, refl}
 use Rattle.std.specs.Prelude.{◌≤◌, codes, flat_map, length, All}
 use Rattle.std.specs.List.{list_all, slice_split, AllByRecursion}
@@ -22,7 +22,7 @@ no_commas (b ∷ bs) h = (word_byte_is_none b (and_parts (is_word_byte b) (list_
 word_has_none : (text : List ℕ) → is_word text ≡ true → All (λ b. is_comma b ≡ false) text
 word_has_none text h = All-from_recursion (λ b. is_comma b ≡ false) text (no_commas text (and_parts _ (list_all is_word_byte text) h).1)
 
--- a word with more behind it
+-- a word followed by more words
 split_more : (word : List ℕ) (more : List (List ℕ)) → is_word word ≡ true → All IsWord more → slice_split is_comma (word ++ flat_map (λ w. codes "," ++ w) more) ≡ word ∷ more
 split_more word [] here later = ap (slice_split is_comma) (append-nil word) ∙ slice_split_none is_comma word (word_has_none word here)
 split_more word (next ∷ more) here later =

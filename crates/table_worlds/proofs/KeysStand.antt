@@ -1,4 +1,4 @@
--- Every key at which a world has a row is among its keys, and the row has that key.
+-- Each key at which a world has a row is one of its keys, and the row has that key.
 use Rattle.std.proofs.Common.{◌≡◌, ◌⊎◌, ℕ, zero, suc, ◌+◌, ◌<◌, true, List, [], ◌∷◌, length, Option, Some, None, option_map, option_and_then, refl, sym, ap, subst, ◌∙◌, arith, inl, inr}
 use Rattle.std.specs.Prelude.{slice_get, unwrap_or}
 use Rattle.std.specs.List.{range_with_len}
@@ -22,11 +22,11 @@ use Rattle.table_worlds.specs.declared.keys.WorldKey.{WorldKey}
 use Rattle.table_worlds.specs.declared.keys.WorldKey.TheVariants.{Instance}
 use Rattle.table_worlds.specs.Keys.{row_key, row_in, keyed, numbered}
 
--- ---- members of lists put together
+-- ---- members of joined lists
 
 -- ---- keys by number
 
--- nothing stands at an index, or it is one of the list
+-- there is no item at an index, or the index is one of the list
 within : {X : Type 0} (xs : List X) (i : ℕ) → (slice_get xs i ≡ None) ⊎ (i < length xs)
 within [] i = inl refl
 within (x ∷ xs) zero = inr (omega arith)
@@ -68,7 +68,7 @@ among from (suc j) k (b ∷ bs) = elim (among (from + 1) j k bs) [
 
 -- ---- all keys
 
--- a row that is made of what stands is none where nothing stands
+-- if there is no item, no row is made of it
 pub no_row : {X Y : Type 0} (f : X → Y) (o : Option X) → o ≡ None → option_map f o ≡ None
 no_row f o none = ap (option_map f) none
 

@@ -1,4 +1,4 @@
--- Tables that hold the rows of settings and nothing else hold the world in which nothing stands.
+-- Tables that hold the rows of settings and nothing else hold the empty world with these settings.
 use Rattle.std.proofs.Common.{◌≡◌, ℕ, zero, suc, Bool, true, false, ◌||◌, List, [], codes, Some, None, option_map, option_and_then, refl, sym, ap, ◌∙◌, true≢false}
 use Rattle.std.specs.Str.{bytes_eq}
 use Rattle.std.specs.List.{AllByRecursion}
@@ -14,7 +14,7 @@ use Rattle.table_meaning.specs.Worlds.{setting_in, contents_of}
 use Rattle.table_meaning.proofs.Keys.{is_put, settled, key_itself}
 use Rattle.table_worlds.specs.RowsOf.{setting_rows}
 
--- nothing stands in no list
+-- an empty list has no item at a place
 none_there : {X : Type 0} (n : ℕ) → nth {X = X} [] n ≡ None
 none_there zero = refl
 none_there (suc i) = nth-suc [] i

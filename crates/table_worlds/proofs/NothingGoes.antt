@@ -1,4 +1,4 @@
--- Where a world has a row, it has one after changes.
+-- If a world has a row at a key, it still has one there after changes.
 use Rattle.std.proofs.Common.{◌≡◌, ℕ, zero, suc, ◌+◌, ◌-◌, ◌≤◌, Bool, true, false, cond, eqb, List, [], ◌∷◌, ◌++◌, length, Option, Some, None, option_map, option_and_then, refl, sym, ap, ◌∙◌, arith, nat_lt}
 use Rattle.std.specs.Prelude.{slice_get, slice_set}
 use Rattle.std.proofs.lemmas.Bool.{eqb-true}
@@ -68,7 +68,7 @@ no_job_row : (f : UnitBook → Job → StoredRow) (k : ℕ) (o : Option UnitBook
 no_job_row f k None none = refl
 no_job_row f k (Some b) none = ap (option_map (f b)) none
 
--- no list is shorter, and where an instance stood there is one
+-- no list is shorter, and each place that had an instance still has one
 record NoFewer (w w' : World) : Type 0 where
   accounts : length w.accounts ≤ length w'.accounts
   apps : length w.apps ≤ length w'.apps

@@ -1,4 +1,4 @@
--- Tables hold one sound world at most: the one that is read back from their rows.
+-- Tables hold at most one sound world: the one that is read back from their rows.
 use Rattle.std.proofs.Common.{sym, ap, ◌∙◌}
 use Rattle.table_worlds.specs.OneWorld.{TablesHoldOneWorld}
 use Rattle.table_worlds.specs.StoredWorld.{world_in}

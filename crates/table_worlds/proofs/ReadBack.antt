@@ -29,69 +29,69 @@ use Rattle.table_worlds.proofs.AppsNamed.{name_back}
 use Rattle.table_worlds.proofs.JoinedWords.{split_joined}
 use Rattle.texts.specs.Words.{IsWord}
 
--- ---- what a column tells
+-- ---- the values in columns
 
--- a number or none is told by its column
+-- a number or none is read back from its column
 number_back : (o : Option ℕ) → number_in (or_null whole o) ≡ o
 number_back None = refl
 number_back (Some n) = refl
 
 -- ---- accounts and applications
 
--- an account is told by its row
+-- an account is read back from its row
 pub account_back : (id : ℕ) (a : Account) → account_in (columns_of (stored.Account (account_row id a))) ≡ a
 account_back id a = refl
 
--- an agreement is told by its limit
+-- an agreement is read back from its limit
 agreement_back : (g : Agreement) → agreement_in (number_in (or_null whole (agreement_limit g))) ≡ g
 agreement_back Exact = refl
 agreement_back (Within n) = refl
 
--- an application is told by its row
+-- an application is read back from its row
 pub app_back : (id : ℕ) (a : App) → app_in (columns_of (stored.App (app_row id a))) ≡ a
 app_back id a = λ i. record { name = a.name; agreement = agreement_back a.agreement i }
 
--- ---- versions and workunits, where these are the applications
+-- ---- versions and workunits, for these applications
 
--- the rule of a workunit is told by the columns of its mark
+-- the rule of a workunit is read back from the columns of its mark
 rule_back : (id : ℕ) (rule : ClassRule) → rule_in (columns_of (stored.UnitMark (record { unit_id = id; marked = is_marked rule; class = class_of rule }))) ≡ rule
 rule_back id Any = refl
 rule_back id _ = refl
 
 module _ (apps : List App) (w : World) (are : apps ≡ w.apps) (id : ℕ) where
-  -- a version of an application that stands is told by its row and its class
+  -- a version of an application that exists is read back from its row and its class
   pub version_back : (v : Version) → has_app w.apps v.app ≡ true → version_in apps (columns_of (stored.Version (version_row w id v))) (columns_of (stored.VersionClass (class_row id v))) ≡ v
   version_back v has = λ i. record v { app = name_back apps w v.app are has i }
 
-  -- a workunit of an application that stands is told by its row and its mark
+  -- a workunit of an application that exists is read back from its row and its mark
   pub unit_back : (b : UnitBook) → has_app w.apps b.unit.app ≡ true → unit_in apps (columns_of (stored.Unit (unit_row w id b))) (columns_of (stored.UnitMark (mark_row id b))) ≡ b.unit
   unit_back b has = λ i. record b.unit { app = name_back apps w b.unit.app are has i; class_rule = rule_back id b.unit.class_rule i }
 
 -- ---- hosts
 
--- a host whose platforms are words is told by its row
+-- a host whose platforms are words is read back from its row
 pub host_back : (held credit id : ℕ) (h : HostRow) → (1 ≤ length h.platforms) × All IsWord h.platforms → host_in (columns_of (stored.Host (host_row held credit id h))) ≡ h
 host_back held credit id h words = λ i. record h { platforms = split_joined h.platforms words i }
 
 -- ---- instances
 
--- an owner or none is told by its three columns
+-- an owner or none is read back from its three columns
 owner_back : (o : Option Owner)
     → owner_in (number_in (or_null whole (option_map (λ (o : Owner). o.host) o))) (number_of (or_null Int (option_map (λ (o : Owner). pos o.sent) o))) (number_of (or_null Int (option_map (λ (o : Owner). pos o.deadline) o))) ≡ o
 owner_back None = refl
 owner_back (Some o) = refl
 
--- a success is told by its code
+-- a success is read back from its code
 success_back : (success : Bool) → ((if success then 1 else 3) == 1) ≡ success
 success_back true = refl
 success_back false = refl
 
--- a report or none is told by its three columns
+-- a report or none is read back from its three columns
 report_back : (r : Option Outcome)
     → report_in (number_in (or_null whole (option_map (λ (r : Outcome). if r.success then 1 else 3) r))) (bytes (or_null Text (option_map (λ (r : Outcome). r.output) r))) (number_in (or_null whole (option_and_then (λ (r : Outcome). r.place) r))) ≡ r
 report_back None = refl
 report_back (Some r) = λ i. Some (record { success = success_back r.success i; output = r.output; place = number_back r.place i })
 
--- an instance is told by its row
+-- an instance is read back from its row
 pub job_back : (w : World) (b : UnitBook) (unit num : ℕ) (x : Job) → job_in (columns_of (stored.Instance (instance_row w b unit num x))) ≡ x
 job_back w b unit num x = λ i. record { owner = owner_back x.owner i; lapse = lapse_back x.lapse i; report = report_back x.report i }

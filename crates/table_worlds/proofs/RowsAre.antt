@@ -34,7 +34,7 @@ over_map : {X Y Z : Type 0} (f : Y → Option Z) (g : X → Y) (xs : List X) →
 over_map f g [] = refl
 over_map f g (x ∷ xs) = ap (cons_option (f (g x))) (over_map f g xs)
 
--- ---- tables that are keyed by number
+-- ---- tables whose keys are numbers
 
 abbrev key_at : NumberedTable → ℕ → RowKey
 key_at t n = row_key (keyed t n)

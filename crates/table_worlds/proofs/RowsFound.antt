@@ -1,4 +1,4 @@
--- A row that was read of a table is what stands at its key.
+-- A row that was read from a table is the row at its key.
 use Rattle.std.proofs.Common.{◌≡◌, List, map, Some, sym, ap, subst, ◌∙◌}
 use Rattle.sqlite.specs.Effect.{Database}
 use Rattle.sqlite_rules.specs.Lists.{Has}

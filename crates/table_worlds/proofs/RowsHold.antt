@@ -32,7 +32,7 @@ use Rattle.table_worlds.specs.RowsOf.{setting_rows, HaveSame, WorldRows, AreRows
 use Rattle.table_worlds.proofs.KeysStand.{by_number, instance_listed, no_row, row_has_key}
 use Rattle.table_worlds.proofs.NewWorld.{each_stands, others_none}
 
--- ---- lists of what a function gives
+-- ---- lists of the results of a function
 
 pub kept_by : {X Y : Type 0} (f : X → Option Y) (xs : List X) (x : X) (y : Y) → Has xs x → f x ≡ Some y → Has (filter_map f xs) y
 kept_by f [] x y has is = absurd has
@@ -68,7 +68,7 @@ table_of_key table.Account id = refl
 table_of_key _ id = refl
 
 module _ (trees : Trees) (w : World) where
-  -- the rows of some keys, as a table
+  -- the rows at some keys, as a table
   module _ (t : TableName) (keys : List WorldKey) (rows : List StoredRow) (read : map columns_of rows ≡ rows_in trees t) (in_rows : (r : StoredRow) → Has rows r → Has (filter_map (row_in w) keys) r)
       (of_rows : (r : StoredRow) → Has (filter_map (row_in w) keys) r → Has rows r) (of_table : (k : WorldKey) → Has keys k → table_at (row_key k) ≡ t) where
     at_key : (key : WorldKey) → table_at (row_key key) ≡ t → ((row_in w key ≡ None) ⊎ Has keys key) → look_up trees (row_key key) ≡ option_map columns_of (row_in w key)
@@ -94,7 +94,7 @@ module _ (trees : Trees) (w : World) where
       (λ k has. let from = has_mapped Instance (places w) k has in ap (λ j. table_at (row_key j)) from.2)
       (Instance p) refl (elim (instance_listed w p.unit p.number) [ inl gone ↦ inl gone | inr has ↦ inr (mapped_has Instance (places w) p has) ])
 
-  -- each of their rows has a key
+  -- each of these rows has a key
   rows_keyed : (t : TableName) (keys : List WorldKey) (rows : List StoredRow) → map columns_of rows ≡ rows_in trees t → ((r : StoredRow) → Has rows r → Has (filter_map (row_in w) keys) r)
       → ((k : WorldKey) → Has keys k → table_at (row_key k) ≡ t) → HaveKeys t (trees (tree_of t))
   rows_keyed t keys rows read in_rows of_table =
@@ -111,7 +111,7 @@ module _ (s : Settings) where
   abbrev empty : RowKey → Option StoredRow
   empty = contents_of (empty_world s) (λ _ _. None) (λ _ _. None)
 
-  -- a setting that stands is one of the eight
+  -- a setting that exists is one of the eight
   pub setting_listed : (key : RowKey) (r : StoredRow) → empty key ≡ Some r → Has (setting_rows s) r
   setting_listed key r is = elim (cases_Bool (is_put (setting_rows s) key)) [
     | inl put ↦
@@ -154,7 +154,7 @@ world_held trees w rows read are calls batches kept imports (instance_key unit n
 world_held trees w rows read are calls batches kept imports (kept_key host slot) = kept host slot
 world_held trees w rows read are calls batches kept imports (batch_key kind text) = imports kind text
 
--- each row of each table has a key, where what is kept has
+-- each row of each table has a key, if the kept calls and imports have one
 pub world_keyed : (trees : Trees) (w : World) (rows : WorldRows) → AreRead trees rows → AreRowsOf w rows → HaveKeys name.Kept (trees (tree_of name.Kept)) → HaveKeys name.Batch (trees (tree_of name.Batch))
     → (t : TableName) → HaveKeys t (trees (tree_of t))
 world_keyed trees w rows read are calls imports name.Setting = keyed_by trees name.Setting rows.settings read.settings (λ r has. table_of_setting w.settings r (are.settings.0 r has))

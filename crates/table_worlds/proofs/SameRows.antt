@@ -1,4 +1,4 @@
--- What `==` says of two rows of a table: just that they are one.
+-- What `==` means for two rows of a table: they are equal.
 use Rattle.std.proofs.Common.{◌≡◌, Bool, true≢false, Option, Some, None, rules, refl, sym, ap, subst}
 use Rattle.std.specs.Bool.{Decides}
 use Rattle.std.specs.Cmp.{booleans_Decides}
@@ -71,7 +71,7 @@ abbrev AreSame : StoredInstance → StoredInstance → Type 0
 AreSame x y = (x.unit_id ≡ y.unit_id) × ((x.num ≡ y.num) × ((x.host_id ≡ y.host_id) × ((x.sent ≡ y.sent) × ((x.deadline ≡ y.deadline) × ((x.lapse ≡ y.lapse)
     × ((x.outcome ≡ y.outcome) × ((x.output ≡ y.output) × ((x.place ≡ y.place) × (x.queued ≡ y.queued)))))))))
 
--- they have too many options for a search
+-- (these rows have too many options for a search)
 pub instance_same : (x y : StoredInstance) → Decides ((instance.ghosts).eq x y) (x ≡ y)
 instance_same x y =
     let host = option_same Decides-eqb x.host_id y.host_id in

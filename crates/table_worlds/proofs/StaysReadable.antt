@@ -1,4 +1,4 @@
--- A sound world is told by its rows, and stays so where changes bring what is told by theirs.
+-- The rows of a sound world determine it. This stays true after changes whose rows can be read back.
 use Rattle.std.proofs.Common.{◌≡◌, ◌≤◌, ℕ, Bool, true, false, ◌||◌, cond, List, [], ◌∷◌, ◌++◌, length, ap, ◌∙◌, arith}
 use Rattle.std.specs.Prelude.{All, ◌==◌, ◌-◌, nat_le, nat_lt, slice_set}
 use Rattle.std.specs.List.{list_all, list_any}
@@ -23,7 +23,7 @@ use Rattle.sched_book.specs.declared.world.World.{World}
 use Rattle.sched_book.proofs.Fitting.{all_changed_nth}
 use Rattle.table_worlds.specs.Readable.{IsReadable, are_words, is_readable_change, are_readable_changes, SoundIsReadable, StaysReadable}
 
--- ---- what is asked of versions, workunits and hosts
+-- ---- the conditions on versions, workunits and hosts
 
 abbrev NamesApp : List App → Version → Type 0
 NamesApp apps v = has_app apps v.app ≡ true
@@ -34,7 +34,7 @@ IsOfApp apps b = has_app apps b.unit.app ≡ true
 abbrev HasWords : HostRow → Type 0
 HasWords h = (1 ≤ length h.platforms) × All IsWord h.platforms
 
--- a sound world is told by its rows
+-- the rows of a sound world determine it
 pub sound_is_readable : SoundIsReadable
 sound_is_readable w sound = record {
   versions = All-weaker (IsSoundVersion w.apps) (NamesApp w.apps) (λ v s. s.app) w.versions sound.rows.versions;
@@ -44,7 +44,7 @@ sound_is_readable w sound = record {
 
 -- ---- lists that change
 
--- what holds of all of a list holds of it with one put at a place
+-- what holds for all items of a list holds for them after one is put at a place
 all_put : {X : Type 0} (P : X → Type 0) (xs : List X) (n : ℕ) (x : X) → All P xs → P x → All P (set_nth xs n x)
 all_put P xs n x all one = at_place (n == 0) (nat_lt (n - 1) (length xs))
   where
@@ -53,13 +53,13 @@ all_put P xs n x all one = at_place (n == 0) (nat_lt (n - 1) (length xs))
     at_place false true = All-set P xs (n - 1) x one all
     at_place false false = All-push P xs x all one
 
--- an application stands among more
+-- an application of a list is one of a longer list
 still_has : (apps : List App) (a : App) (name : List ℕ) → has_app apps name ≡ true → has_app (apps ++ a ∷ []) name ≡ true
 still_has apps a name has =
     let p : App → Bool = λ b. bytes_eq b.name name in
     list_any-append p apps (a ∷ []) ∙ ap (λ b. b || list_any p (a ∷ [])) has
 
--- words by their test
+-- words by the test of words
 words_by_test : (words : List (List ℕ)) → are_words words ≡ true → (1 ≤ length words) × All IsWord words
 words_by_test words pass =
     let parts = and_parts (nat_le 1 (length words)) (list_all is_word words) pass in

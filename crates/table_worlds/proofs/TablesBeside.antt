@@ -1,4 +1,4 @@
--- The rows of all tables beside workunits, and those of each.
+-- The rows of all tables except those of workunits, marks and instances, together and table by table.
 use Rattle.std.proofs.Common.{List, [], ◌∷◌, refl, inl, inr}
 use Rattle.sqlite_rules.specs.Lists.{Has}
 use Rattle.sched_book.specs.declared.world.World.{World}

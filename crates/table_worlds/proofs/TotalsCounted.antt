@@ -1,4 +1,4 @@
--- Totals of hosts: one instance more, one workunit more, and what they say of a world.
+-- Totals of hosts: one instance more, one workunit more, and how the totals of a world are reached.
 use Rattle.std.proofs.Common.{◌≡◌, ℕ, ◌+◌, ◌*◌, Bool, true, false, cond, eqb, ◌&&◌, List, [], ◌∷◌, length, Option, Some, None, refl, sym, ap, ◌∙◌, arith}
 use Rattle.std.proofs.Math.Nat.{mul-add}
 use Rattle.std.proofs.lemmas.List.Sums.{sum_by-cons}
@@ -23,12 +23,12 @@ total held credit = record { held = held; credit = credit }
 pub same_total : (h k c d : ℕ) → h ≡ k → c ≡ d → total h c ≡ total k d
 same_total h k c d held credit = ap (λ m. total m c) held ∙ ap (total k) credit
 
--- an instance that nobody was given is counted of no host
+-- an instance without an owner is counted for no host
 pub none_more : (x : Instance) (credit : ℕ) (ts : List Total) → x.owner ≡ None → ts ≡ map_from 1 (with_instance x credit) ts
 none_more x credit ts is =
     sym (map_from-none 1 _ (λ n t. ap (λ (o : Option Owner). cond (option_any (λ m. eqb m n) (option_map (λ (w : Owner). w.host) o)) (more t (cond (is_held x) 1 0) credit) t) is) ts)
 
--- any other is counted of its owner's host
+-- any other instance is counted for its owner's host
 pub one_more : (x : Instance) (o : Owner) (held credit : ℕ) (ts : List Total) → x.owner ≡ Some o → held ≡ cond (is_held x) 1 0
     → modify_nth (λ t. more t held credit) ts o.host ≡ map_from 1 (with_instance x credit) ts
 one_more x o held credit ts is counts =
@@ -36,7 +36,7 @@ one_more x o held credit ts is counts =
     ∙ map_from-same 1 _ _ (λ n t. ap (λ (p : Option Owner). cond (option_any (λ m. eqb m n) (option_map (λ (w : Owner). w.host) p)) (more t held credit) t) (sym is)
     ∙ ap (λ m. cond (is_owned_by n x) (more t m credit) t) counts) ts
 
--- an instance, and then others, are all of them
+-- one instance and then the others are all of them
 pub instance_first : (valid : Instance → Bool) (credit earned : ℕ) (x : Instance) (xs : List Instance) (n : ℕ) (t : Total) → earned ≡ cond (valid x) credit 0
     → with_instances valid credit xs n (with_instance x earned n t) ≡ with_instances valid credit (x ∷ xs) n t
 instance_first valid credit earned x xs n t earns =
@@ -55,7 +55,7 @@ instance_first valid credit earned x xs n t earns =
         ∙ (let all : credit * (1 + b) ≡ credit * 1 + credit * b = mul-add credit 1 b in
         let once : credit * 1 ≡ credit = omega arith in omega (arith, all, once)))
 
--- what is done, then what is left, is still all, with one instance more
+-- the counted and the remaining instances are still all of them, after one more is counted
 pub instance_more : (valid : Instance → Bool) (credit earned : ℕ) (x : Instance) (xs : List Instance) (before after : List Total)
     → earned ≡ cond (valid x) credit 0 → after ≡ map_from 1 (with_instance x earned) before
     → map_from 1 (with_instances valid credit xs) after ≡ map_from 1 (with_instances valid credit (x ∷ xs)) before
@@ -64,7 +64,7 @@ instance_more valid credit earned x xs before after earns made =
     ∙ map_from-then 1 _ _ before
     ∙ map_from-same 1 _ _ (λ n t. instance_first valid credit earned x xs n t earns) before
 
--- one workunit more
+-- one workunit more is counted
 pub unit_more : (apps : List App) (b : UnitBook) (bs : List UnitBook) (before after : List Total) → after ≡ map_from 1 (with_unit apps b) before
     → map_from 1 (with_units apps bs) after ≡ map_from 1 (with_units apps (b ∷ bs)) before
 unit_more apps b bs before after made =
@@ -87,7 +87,7 @@ no_instance_left valid credit ts = map_from-none 1 _ (no_instance_first valid cr
 pub no_unit_left : (apps : List App) (ts : List Total) → map_from 1 (with_units apps []) ts ≡ ts
 no_unit_left apps ts = map_from-none 1 _ (λ n t. nothing_more t) ts
 
--- from nothing, all workunits make the totals
+-- counted from zero, all workunits give the totals
 from_replicate : {X Y Z : Type 0} (n : ℕ) (f : ℕ → Y → Z) (y : Y) (xs : List X) → map_from n f (replicate (length xs) y) ≡ map_from n (λ m x. f m y) xs
 from_replicate n f y [] = refl
 from_replicate n f y (x ∷ xs) = ap (λ zs. f n y ∷ zs) (from_replicate (n + 1) f y xs)

@@ -25,7 +25,7 @@ use Rattle.table_worlds.proofs.ByPlace.{all_nth}
 use Rattle.table_worlds.proofs.ReadBack.{account_back, app_back, version_back, unit_back, host_back, job_back}
 use Rattle.texts.specs.Words.{IsWord}
 
--- a switch is told by its number
+-- a switch is read back from its number
 switch_back : (on : Bool) → ((if on then 1 else 0) == 1) ≡ on
 switch_back true = refl
 switch_back false = refl
@@ -34,11 +34,11 @@ module _ (db : Database) (w : World) (calls : SlotCalls) (batches : List ℕ →
   abbrev trees : Trees
   trees = db.trees
 
-  -- the columns that stand at a key
+  -- the columns of the row at a key
   abbrev row_shown : Option Row → Row
   row_shown o = unwrap_or o []
 
-  -- each setting is told by its name
+  -- each setting is read back by its name
   settings_back : settings_in trees ≡ w.settings
   settings_back =
       let quota = ap (λ o. number_at (row_shown o) 1) (holds.rows (setting_key (codes "daily_result_quota"))) in
@@ -58,7 +58,7 @@ module _ (db : Database) (w : World) (calls : SlotCalls) (batches : List ℕ →
         resend_lost_results = resend i;
       }
 
-  -- accounts, applications, versions and hosts are told by their places; a version names its application by its place
+  -- accounts, applications, versions and hosts are read back by their places; a version names its application by its place
   accounts_back : accounts_in trees ≡ w.accounts
   accounts_back =
       places_back trees table.Account account_key (λ n. refl) (λ n (a : Account). stored.Account (account_row n a)) (λ n a. refl) (λ n. account_in) w.accounts
@@ -86,7 +86,7 @@ module _ (db : Database) (w : World) (calls : SlotCalls) (batches : List ℕ →
       (λ n. holds.rows (host_key n))
       (λ n h stands. host_back (length (held_by w n)) (host_credit w n) n h (all_nth (λ (h : HostRow). (1 ≤ length h.platforms) × All IsWord h.platforms) w.hosts n h stands readable.hosts))
 
-  -- the instances of a workunit are told by their numbers
+  -- the instances of a workunit are read back by their numbers
   jobs_back : (unit : ℕ) (b : UnitBook) → unit_at w unit ≡ Some b → jobs_in trees unit ≡ b.instances
   jobs_back unit b is =
       list_back trees table.Instance 1 (instance_key unit) (λ n. refl) (λ n (x : Job). stored.Instance (instance_row w b unit n x)) (λ n x. refl) (λ n. job_in) b.instances 0
@@ -98,7 +98,7 @@ module _ (db : Database) (w : World) (calls : SlotCalls) (batches : List ℕ →
       (λ i n x at stands. job_back w b unit n x)
       (greatest 1 (rows_in trees table.Instance) + 1) (omega arith)
 
-  -- so is each workunit with its instances
+  -- and so is each workunit with its instances
   units_back : units_in trees ≡ w.units
   units_back =
       places_found trees table.Unit unit_key (λ n. refl) (λ n (b : UnitBook). stored.Unit (unit_row w n b)) (λ n b. refl)

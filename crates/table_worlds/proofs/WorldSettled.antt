@@ -1,4 +1,4 @@
--- Tables that hold a world hold the world after changes, once the rows that lead there are put.
+-- Tables that hold a world hold the world after changes, once the rows of these changes are put.
 use Rattle.std.proofs.Common.{◌≡◌, ℕ, false, List, [], ◌∷◌, ◌++◌, Option, Some, option_map, refl, sym, ap, ◌∙◌, inl, inr}
 use Rattle.std.specs.List.{AllByRecursion}
 use Rattle.std.proofs.lemmas.List.Folds.{list_any-append}
@@ -21,7 +21,7 @@ use Rattle.table_worlds.specs.Changes.{AreChanges}
 use Rattle.table_worlds.proofs.KeysStand.{row_has_key}
 use Rattle.table_worlds.proofs.NothingGoes.{none_goes}
 
--- what the tables hold at a key of a world is its row there, whatever is kept
+-- the row that tables hold at a key of a world is the world's row, for any calls and imports that they keep
 at_world_key : (w : World) (calls : SlotCalls) (batches : List ℕ → List ℕ → Option BatchText) (key : WorldKey) → contents_of w calls batches (row_key key) ≡ row_in w key
 at_world_key w calls batches (Account id) = refl
 at_world_key w calls batches _ = refl

@@ -1,4 +1,4 @@
--- Rule. The keys of the rows that stand for a world, and the row at each. (The settings never change, and are not among them.)
+-- Rule. The keys of the rows that represent a world, and the row at each. (The settings never change, and are not among them.)
 use Rattle.std.specs.Prelude.{ℕ, List, map, Option, None}
 use Rattle.std.specs.List.{range_with_len}
 use Rattle.sched_book.specs.declared.world.World.{World}
@@ -24,7 +24,7 @@ row_key (Instance p) = instance_key p.unit p.number
 abbrev pub row_in : World → WorldKey → Option StoredRow
 row_in w key = contents_of w (λ _ _. None) (λ _ _. None) (row_key key)
 
--- the row that it has at a key of any table but those of workunits, their marks and instances
+-- the row at a key of any table except those of workunits, their marks and instances
 abbrev pub row_beside : World → WorldKey → Option StoredRow
 row_beside w (Account id) = row_in w (Account id)
 row_beside w (App id) = row_in w (App id)
@@ -45,6 +45,6 @@ keyed table.Unit id = Unit id
 keyed table.Mark id = Mark id
 keyed table.Host id = Host id
 
--- the keys of so many rows of a table, from number 1 on
+-- the keys of the first `count` rows of a table
 abbrev pub numbered : NumberedTable → ℕ → List WorldKey
 numbered t count = map (keyed t) (range_with_len 1 count)

@@ -20,7 +20,7 @@ use Rattle.sqlite_value.specs.Order.{Row, bytes, column}
 use Rattle.table_meaning.specs.Codes.{lapse_in}
 use Rattle.table_meaning.specs.Kept.{number_of}
 
--- ---- what a column tells
+-- ---- the values in columns
 
 -- the number and the text in a column
 abbrev pub number_at : Row → ℕ → ℕ
@@ -54,22 +54,22 @@ agreement_in (Some n) = Within n
 abbrev pub app_in : Row → App
 app_in row = record { name = text_at row 1; agreement = agreement_in (number_in (column row 2)) }
 
--- ---- versions and workunits, where these are the applications
+-- ---- versions and workunits, for these applications
 
 -- the name of the application at a place
 abbrev pub app_name_at : List App → ℕ → List ℕ
 app_name_at apps at = unwrap_or (option_map (λ (a : App). a.name) (nth apps at)) []
 
--- the version of a row, with the class of another
+-- the version of a row, with the class of another row
 abbrev pub version_in : List App → Row → Row → Version
 version_in apps row class = record { app = app_name_at apps (number_at row 1); platform = text_at row 2; version_num = number_at row 3; class = text_at class 1 }
 
--- the rule of a marked workunit with this class or none
+-- the rule of a marked workunit with this class, or with none
 abbrev pub rule_marked : Option (List ℕ) → ClassRule
 rule_marked None = OfFirst
 rule_marked (Some class) = Only class
 
--- the rule of a mark
+-- the rule in a row of marks
 abbrev pub rule_in : Row → ClassRule
 rule_in mark = if number_at mark 1 == 0 then Any else rule_marked (text_in (column mark 2))
 
@@ -111,12 +111,12 @@ host_in row = record {
 
 -- ---- instances
 
--- to which host it was given, when and until when
+-- the host that it was sent to, the moment of sending and the deadline
 abbrev pub owner_in : Option ℕ → ℕ → ℕ → Option Owner
 owner_in None sent deadline = None
 owner_in (Some host) sent deadline = Some (record { host = host; sent = sent; deadline = deadline })
 
--- what was reported: its code, its output and its place
+-- the report: its code, its output and its place
 abbrev pub report_in : Option ℕ → List ℕ → Option ℕ → Option Outcome
 report_in None output place = None
 report_in (Some code) output place = Some (record { success = code == 1; output = output; place = place })

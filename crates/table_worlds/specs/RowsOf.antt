@@ -1,4 +1,4 @@
--- Rule. The rows of a world, a table each.
+-- Rule. The rows of a world, table by table.
 use Rattle.std.specs.Prelude.{◌≡◌, ℕ, ◌-◌, List, [], ◌∷◌, map, filter_map, length, codes, option_map}
 use Rattle.sqlite_rules.specs.Lists.{Has}
 use Rattle.sqlite_trees.specs.Tree.{Trees}
@@ -51,7 +51,7 @@ pub record WorldRows : Type 0 where
   pub hosts : List StoredRow
   pub instances : List StoredRow
 
--- These are the rows of a world: of settings and instances in any order.
+-- These are the rows of a world. Those of settings and instances are in any order.
 pub record AreRowsOf (w : World) (rows : WorldRows) : Type 0 where
   pub settings : HaveSame rows.settings (setting_rows w.settings)
   pub accounts : rows.accounts ≡ filter_map (row_in w) (numbered table.Account (length w.accounts))
@@ -75,7 +75,7 @@ pub record AreRead (trees : Trees) (rows : WorldRows) : Type 0 where
   pub hosts : map columns_of rows.hosts ≡ rows_in trees name.Host
   pub instances : map columns_of rows.instances ≡ rows_in trees name.Instance
 
--- ---- workunits, their marks and instances apart from the others
+-- ---- the tables of workunits, their marks and instances, and the other tables
 
 -- a world with these workunits in place of its own
 abbrev pub having : World → List UnitBook → World
@@ -84,11 +84,11 @@ having w books = record w { units = books }
 abbrev pub without_units : World → World
 without_units w = having w []
 
--- the rows of all tables but those
+-- the rows of all tables except those
 abbrev pub rows_beside : WorldRows → TableRows
 rows_beside rows = record { settings = rows.settings; accounts = rows.accounts; apps = rows.apps; versions = rows.versions; classes = rows.classes; hosts = rows.hosts }
 
--- These are the rows of a world but for those of workunits, their marks and instances: of settings in any order.
+-- These are the rows of a world, except those of workunits, their marks and instances. Those of settings are in any order.
 pub record AreRowsBeside (w : World) (rows : TableRows) : Type 0 where
   pub settings : HaveSame rows.settings (setting_rows w.settings)
   pub accounts : rows.accounts ≡ filter_map (row_beside w) (numbered table.Account (length w.accounts))
@@ -97,7 +97,7 @@ pub record AreRowsBeside (w : World) (rows : TableRows) : Type 0 where
   pub classes : rows.classes ≡ filter_map (row_beside w) (numbered table.Class (length w.versions))
   pub hosts : rows.hosts ≡ filter_map (row_beside w) (numbered table.Host (length w.hosts))
 
--- the rows of a table that were read, and how many of them a world has: none of workunits and their marks
+-- the rows of a table that were read, and how many a world has; none for workunits and their marks
 abbrev pub rows_of_table : TableRows → NumberedTable → List StoredRow
 rows_of_table rows table.Account = rows.accounts
 rows_of_table rows table.App = rows.apps
@@ -120,6 +120,6 @@ count_beside w table.Host = length w.hosts
 abbrev pub IsTableBeside : World → TableRows → NumberedTable → Type 0
 IsTableBeside w rows t = rows_of_table rows t ≡ filter_map (row_beside w) (numbered t (count_beside w t))
 
--- the rows of a workunit of a number, of its mark, and of its instances in their order, where these are the applications of the world
+-- the rows of a workunit of a number: its row, its mark, and its instances in order, for the applications of this world
 abbrev pub rows_of_unit : World → ℕ → UnitBook → UnitRows
 rows_of_unit w id b = record { unit = unit_row w id b; mark = mark_row id b; instances = map_from 1 (λ n x. instance_row w b id (n - 1) x) b.instances }

@@ -1,4 +1,4 @@
--- Rule. The world that stands in tables, as a function of their rows: each part of it is found at its keys.
+-- Rule. The world in tables, as a function of their rows: each part of it is found at its keys.
 use Rattle.std.specs.Prelude.{◌≡◌, ℕ, ◌+◌, max, ◌==◌, List, [], ◌∷◌, filter_map, codes, Option, option_map, option_and_then, unwrap_or}
 use Rattle.std.specs.List.{range_with_len}
 use Rattle.sched_book.specs.declared.instance.Instance.{Instance as Job}
@@ -36,7 +36,7 @@ settings_in trees = record {
   resend_lost_results = number_at (setting_row_in trees (codes "resend_lost_results")) 1 == 1;
 }
 
--- ---- the others, each by its number
+-- ---- the other tables, each by number
 
 -- the greatest number in a column of rows
 abbrev pub greatest : ℕ → List Row → ℕ
@@ -53,7 +53,7 @@ accounts_in trees = filter_map (λ id. option_map account_in (look_up trees (acc
 abbrev pub apps_in : Trees → List App
 apps_in trees = filter_map (λ id. option_map app_in (look_up trees (app_key id))) (numbers_in trees table.App)
 
--- the version of a number, where it has a class
+-- the version of a number, if it has a class
 abbrev pub version_of : Trees → ℕ → Row → Option Version
 version_of trees id row = option_map (version_in (apps_in trees) row) (look_up trees (class_key id))
 
@@ -63,15 +63,15 @@ versions_in trees = filter_map (λ id. option_and_then (version_of trees id) (lo
 abbrev pub hosts_in : Trees → List HostRow
 hosts_in trees = filter_map (λ id. option_map host_in (look_up trees (host_key id))) (numbers_in trees table.Host)
 
--- the instances of a workunit, whose numbers begin with zero
+-- the instances of a workunit; their numbers begin with 0
 abbrev pub jobs_in : Trees → ℕ → List Job
 jobs_in trees unit = filter_map (λ num. option_map job_in (look_up trees (instance_key unit num))) (range_with_len 0 (greatest 1 (rows_in trees table.Instance) + 1))
 
--- the workunit of a number, of which these are the row and the mark
+-- the workunit of a number, with this row and this mark
 abbrev pub book_in : Trees → ℕ → Row → Row → UnitBook
 book_in trees id row mark = record { unit = unit_in (apps_in trees) row mark; instances = jobs_in trees id }
 
--- it, where it has a mark
+-- the same, if it has a mark
 abbrev pub book_of : Trees → ℕ → Row → Option UnitBook
 book_of trees id row = option_map (book_in trees id row) (look_up trees (mark_key id))
 
@@ -90,7 +90,7 @@ world_in trees = record {
   hosts = hosts_in trees;
 }
 
--- the world that tables hold, where it is told by its rows, is the world in them, whatever they keep beside it
+-- if tables hold a world that its rows determine, it is the world in them, for any calls and imports that they keep
 abbrev pub HeldIsReadBack : Type 0
 HeldIsReadBack =
     (db : Database) (w : World) (calls : SlotCalls) (batches : List ℕ → List ℕ → Option BatchText)

@@ -6,8 +6,8 @@ ghost use Rattle.table_worlds.specs.Keys.{keyed, numbered};
 use sched_book::{Place, Unavailable};
 use texts::Listed;
 
-/// What names a row of a world: a place or a number from 1 on, or the place of an instance. A class is of the version, a mark
-/// of the workunit of that number.
+/// The key of a row of a world: a place or a number, counted from 1, or the place of an instance. A class has the
+/// number of its version, a mark that of its workunit.
 #[derive(Clone, Copy)]
 pub enum WorldKey {
     Account(u32),
@@ -20,7 +20,7 @@ pub enum WorldKey {
     Instance(Place),
 }
 
-/// The tables whose rows are named by a number alone.
+/// The tables whose keys are numbers.
 #[derive(Clone, Copy)]
 pub enum NumberedTable {
     Account,
@@ -49,7 +49,7 @@ impl NumberedTable {
     }
 }
 
-/// The number of the row at an index, which counts from 1.
+/// The number of the row at an index. It counts from 1.
 pub(crate) fn number_of(index: usize) -> Result<u32, Unavailable>
     ensures { IfOk result (λ number. number ≡ index + 1) }
 {
@@ -59,7 +59,7 @@ pub(crate) fn number_of(index: usize) -> Result<u32, Unavailable>
     }
 }
 
-/// Puts the keys of the first rows of a table behind others, so many as are counted.
+/// Appends the keys of the first `count` rows of a table.
 pub(crate) fn push_numbered(
     keys: &mut Listed<WorldKey>,
     table: NumberedTable,

@@ -4,22 +4,22 @@ ghost use Rattle.table_worlds.specs.OneWorld.{TablesHoldOneWorld};
 ghost use Rattle.table_worlds.specs.Readable.{SoundIsReadable, StaysReadable};
 ghost use Rattle.table_worlds.specs.StoredWorld.{HeldIsReadBack};
 
-/// The world that tables hold is the one that is read back from their rows.
+/// A world that tables hold is the one that is read back from their rows.
 pub fn world_read_back()
     ensures { HeldIsReadBack }
 {}
 
-/// A sound world is told by its rows.
+/// The rows of a sound world determine it.
 pub fn sound_is_readable()
     ensures { SoundIsReadable }
 {}
 
-/// It stays so after changes that bring what is told by its rows.
+/// This stays true after changes whose rows can be read back.
 pub fn stays_readable()
     ensures { StaysReadable }
 {}
 
-/// Tables hold one sound world at most.
+/// Tables hold at most one sound world.
 pub fn one_world()
     ensures { TablesHoldOneWorld }
 {}

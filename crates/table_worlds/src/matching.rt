@@ -18,7 +18,8 @@ use std::alloc::Global;
 use table_meaning::rows::StoredRow;
 use texts::{Listed, Memory};
 
-/// The rows of the tables that hold a world but for its workunits, their marks and instances, as they were read.
+/// The rows of the tables that hold a world, as they were read. The tables of workunits, their marks and instances are
+/// left out.
 #[derive(Drop)]
 pub struct TableRows {
     pub settings: Listed<StoredRow>,
@@ -30,7 +31,7 @@ pub struct TableRows {
 }
 
 impl TableRows {
-    /// The rows of a table; none of workunits and their marks.
+    /// The rows of a table. None for workunits and their marks.
     fn rows_of(&self, table: NumberedTable) -> &[StoredRow]
         ensures { result.now ≡ rows_of_table self.now table }
     {
@@ -45,7 +46,7 @@ impl TableRows {
     }
 }
 
-/// The tables whose rows are named by a number, without those of workunits and their marks.
+/// The tables whose keys are numbers, except those of workunits and their marks.
 const TABLES_BESIDE: [NumberedTable; 5] = [
     NumberedTable::Account,
     NumberedTable::App,
@@ -98,7 +99,7 @@ fn are_among(rows: &[StoredRow], others: &[StoredRow]) -> bool
     true
 }
 
-/// Whether these are the rows of the settings, in whatever order.
+/// Whether these are the rows of the settings, in any order.
 fn are_setting_rows(alloc: Global, settings: &Settings, rows: &[StoredRow]) -> Result<bool, Memory>
     ensures { IfOk result (λ same. Decides same (HaveSame rows.now (specified_settings settings.now))) }
 {
@@ -106,7 +107,7 @@ fn are_setting_rows(alloc: Global, settings: &Settings, rows: &[StoredRow]) -> R
     Ok(are_among(rows, own.as_slice()) && are_among(own.as_slice(), rows))
 }
 
-/// The rows behind the world's own one, where they begin with it. Where it has none, they are all of them.
+/// The rows after the world's own row, if they begin with it. If the world has none, all of the rows.
 fn behind<'a>(own: &Option<StoredRow>, rows: &'a [StoredRow]) -> Option<&'a [StoredRow]>
     ensures { MatchOption result ((more : _) → rows.now ≢ cons_option own.now more) (λ more. rows.now ≡ cons_option own.now more.now) }
 {
@@ -140,7 +141,7 @@ fn are_rows_at(
     Ok(left.is_empty())
 }
 
-/// How many rows of a table a world has, whatever its workunits are; none of workunits and their marks.
+/// How many rows of a table a world has, for any workunits. None of the tables of workunits and their marks.
 fn count_of(world: &World, table: NumberedTable) -> usize
     ensures { (books : List Book) → result ≡ count_beside (having world.now books) table }
 {
@@ -187,8 +188,8 @@ fn are_tables(
     Ok(true)
 }
 
-/// Whether these are the rows of a world, whatever its workunits are, whose hosts have these totals. It is unavailable where
-/// memory is wanting, or a number of the world is not one that a table can hold.
+/// Whether these are the rows of a world whose hosts have these totals, for any workunits. `Unavailable` if out of
+/// memory, or if a table can't hold a number of the world.
 pub fn are_rows_beside(
     alloc: Global,
     world: &World,

@@ -36,7 +36,7 @@ fn written(number: u64) -> Result<i64, Unavailable>
     i64::try_from(number).map_err(|_| Unavailable)
 }
 
-/// How far apart two outputs may be, or none where they have to be equal.
+/// How far apart two outputs may be. `None` if they must be equal.
 fn agreement_limit(agreement: Agreement) -> Option<u32>
     ensures { result ≡ agreement_limit agreement }
 {
@@ -68,7 +68,7 @@ fn app_index(apps: &[App], name: &str) -> Option<usize>
     apps.iter().position(|app| app.name.is(name))
 }
 
-/// The place of the application of this name, 0 where none has it.
+/// The place of the application of this name, or 0 if none has it.
 pub(crate) fn app_place(world: &World, name: &str) -> Result<u32, Unavailable>
     ensures { IfOk result (λ place. place ≡ app_place world.now name.now) }
 {
@@ -78,7 +78,7 @@ pub(crate) fn app_place(world: &World, name: &str) -> Result<u32, Unavailable>
     }
 }
 
-/// The row of an account. It is unavailable where memory is wanting.
+/// The row of an account. `Unavailable` if out of memory.
 pub fn account_row(id: u32, account: &Account) -> Result<StoredAccount, Unavailable>
     ensures { IfOk result (λ row. row ≡ account_row id account.now) }
 {
@@ -89,7 +89,7 @@ pub fn account_row(id: u32, account: &Account) -> Result<StoredAccount, Unavaila
     })
 }
 
-/// The row of an application. It is unavailable where memory is wanting.
+/// The row of an application. `Unavailable` if out of memory.
 pub fn app_row(id: u32, app: &App) -> Result<StoredApp, Unavailable>
     ensures { IfOk result (λ row. row ≡ app_row id app.now) }
 {
@@ -100,7 +100,7 @@ pub fn app_row(id: u32, app: &App) -> Result<StoredApp, Unavailable>
     })
 }
 
-/// The row of a version in each world where its application is at this place. It is unavailable where memory is wanting.
+/// The row of a version, for any world with its application at this place. `Unavailable` if out of memory.
 pub fn version_row(id: u32, app: u32, version: &Version) -> Result<StoredVersion, Unavailable>
     ensures { IfOk result (λ row. (w : World) → app ≡ app_place w version.now.app → row ≡ version_row w id version.now) }
 {
@@ -112,7 +112,7 @@ pub fn version_row(id: u32, app: u32, version: &Version) -> Result<StoredVersion
     })
 }
 
-/// The row of a version's class. It is unavailable where memory is wanting.
+/// The row of a version's class. `Unavailable` if out of memory.
 pub fn class_row(id: u32, version: &Version) -> Result<StoredVersionClass, Unavailable>
     ensures { IfOk result (λ row. row ≡ class_row id version.now) }
 {
@@ -131,7 +131,7 @@ fn is_marked(rule: &ClassRule) -> bool
     }
 }
 
-/// The class that a workunit of this rule keeps to, where it has one.
+/// The class that a workunit of this rule keeps to, if it has one.
 fn class_of(rule: &ClassRule) -> Result<Option<Text>, Memory>
     ensures { IfOk result (λ class. class ≡ class_of rule.now) }
 {
@@ -141,7 +141,7 @@ fn class_of(rule: &ClassRule) -> Result<Option<Text>, Memory>
     }
 }
 
-/// The row of the mark of each workunit of this rule. It is unavailable where memory is wanting.
+/// The row of the mark of any workunit of this rule. `Unavailable` if out of memory.
 pub fn mark_row(id: u32, rule: &ClassRule) -> Result<StoredUnitMark, Unavailable>
     ensures { IfOk result (λ row. (b : UnitBook) → b.unit.class_rule ≡ rule.now → row ≡ mark_row id b) }
 {
@@ -152,7 +152,7 @@ pub fn mark_row(id: u32, rule: &ClassRule) -> Result<StoredUnitMark, Unavailable
     })
 }
 
-/// Where a workunit of the world stands; one with more instances than it may have is not told.
+/// The status of a workunit of the world. `Unavailable` if it has more instances than it may have.
 pub(crate) fn status_of(world: &World, book: &UnitBook) -> Result<Status, Unavailable>
     ensures { IfOk result (λ status. status ≡ status_of world.now book.now) }
 {
@@ -162,8 +162,8 @@ pub(crate) fn status_of(world: &World, book: &UnitBook) -> Result<Status, Unavai
     Ok(book_status(world.apps.as_slice(), book))
 }
 
-/// The row of a workunit in each world where its application is at this place and where it has this status, whatever its
-/// rule for versions is. It is unavailable where memory is wanting, or a number is not one that a table can hold.
+/// The row of a workunit, for any world where its application is at this place and it has this status, and for any
+/// class rule. `Unavailable` if out of memory, or if a table can't hold a number of it.
 pub fn unit_row(
     id: u32,
     app: u32,
@@ -191,8 +191,8 @@ pub fn unit_row(
     })
 }
 
-/// The row of a host, with what is counted of it. It is unavailable where memory is wanting, or a number is not one that a
-/// table can hold.
+/// The row of a host, with its counted columns. `Unavailable` if out of memory, or if a table can't hold a number of
+/// it.
 pub fn host_row(
     alloc: Global,
     id: u32,
@@ -228,7 +228,7 @@ fn times(instance: &Instance) -> Result<(Option<i64>, Option<i64>), Unavailable>
     }
 }
 
-/// The outcome, the output and the place of what was reported.
+/// The outcome, the output and the place of a report.
 fn report_columns(
     report: &Option<Outcome>,
 ) -> Result<(Option<u32>, Option<Text>, Option<u32>), Unavailable>
@@ -244,8 +244,8 @@ fn report_columns(
     }
 }
 
-/// The row of an instance in each world where its workunit has this status. It is unavailable where memory is wanting, or a
-/// number is not one that a table can hold.
+/// The row of an instance, for any world where its workunit has this status. `Unavailable` if out of memory, or if a
+/// table can't hold a number of it.
 pub fn instance_row(
     place: Place,
     instance: &Instance,
@@ -269,7 +269,7 @@ pub fn instance_row(
     })
 }
 
-/// The row of a host, with what is counted of it.
+/// The row of a host, with its counted columns.
 fn host_at(
     alloc: Global,
     world: &World,
@@ -287,8 +287,8 @@ fn host_at(
     }
 }
 
-/// The row of a world at a key, whatever its workunits are, where these are the totals of its hosts; none at a key of a
-/// workunit, its mark or an instance. It is unavailable where memory is wanting, or a number is not one that a table can hold.
+/// The row of a world at a key, if its hosts have these totals, for any workunits. None at a key of a workunit, a mark
+/// or an instance. `Unavailable` if out of memory, or if a table can't hold a number of it.
 pub(crate) fn row_at(
     alloc: Global,
     world: &World,

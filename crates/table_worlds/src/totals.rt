@@ -1,4 +1,4 @@
-//! What each host holds, and its credit.
+//! How many instances each host holds, and its credit.
 
 ghost use Rattle.std.specs.Prelude.{◌≡◌, ◌≤◌, length, replicate, if◌then◌else◌, IfOk, OnOk};
 ghost use Rattle.sched_book.specs.Count.{verdict_by, is_valid};
@@ -12,7 +12,7 @@ use sched_book::{Agreement, App, Instance, Unavailable, UnitBook};
 use std::alloc::Global;
 use texts::Memory;
 
-/// What is counted of a host.
+/// The counted columns of a host.
 #[derive(Clone, Copy)]
 pub struct Total {
     /// How many instances it holds.
@@ -22,8 +22,8 @@ pub struct Total {
 }
 
 impl Total {
-    /// With so many more instances held, and so much more credit. That either is past what fits comes about in no
-    /// world whose tables are no longer than they may be: it has 20 million instances, and 2 * 10^15 millicredits.
+    /// Adds `held` held instances and `credit` millicredits. `Unavailable` if a sum does not fit. That can't happen in
+    /// a world whose tables are within their limits: it has at most 20 million instances and 2 * 10^15 millicredits.
     pub fn plus(self, held: u32, credit: u64) -> Result<Total, Unavailable>
         ensures { IfOk result (λ total. total ≡ more self held credit) }
     {
@@ -34,7 +34,7 @@ impl Total {
     }
 }
 
-/// Counts so many more instances held and so much more credit of the host of a number, where it stands.
+/// Adds `held` held instances and `credit` millicredits to the host of a number, if it exists.
 fn count_more(totals: &mut [Total], host: u32, held: u32, credit: u64) -> Result<(), Unavailable>
     ensures { OnOk result (totals.new ≡ modify_nth (λ t. more t held credit) totals.old host) }
 {
@@ -49,7 +49,7 @@ fn count_more(totals: &mut [Total], host: u32, held: u32, credit: u64) -> Result
     Ok(())
 }
 
-/// Counts an instance that earned so much, where it was given to a host.
+/// Counts an instance that earned `credit` millicredits, if it was sent to a host.
 fn count_instance(totals: &mut [Total], instance: &Instance, credit: u64) -> Result<(), Unavailable>
     ensures { OnOk result (totals.new ≡ map_from 1 (with_instance instance.now credit) totals.old) }
 {
@@ -59,7 +59,7 @@ fn count_instance(totals: &mut [Total], instance: &Instance, credit: u64) -> Res
     }
 }
 
-/// What an instance of a workunit earned, by the number of the canonical result.
+/// What an instance of a workunit earned, by the index of the canonical result.
 fn earned(
     agreement: &Agreement,
     book: &UnitBook,
@@ -75,7 +75,7 @@ fn earned(
     }
 }
 
-/// Counts the instances of a workunit; one with more instances than it may have is not counted.
+/// Counts the instances of a workunit. `Unavailable` if it has more instances than it may have.
 pub fn count_unit(totals: &mut [Total], apps: &[App], book: &UnitBook) -> Result<(), Unavailable>
     ensures { OnOk result (totals.new ≡ map_from 1 (with_unit apps.now book.now) totals.old) }
 {
@@ -95,7 +95,7 @@ pub fn count_unit(totals: &mut [Total], apps: &[App], book: &UnitBook) -> Result
     Ok(())
 }
 
-/// Totals of so many hosts, of which nothing was counted yet.
+/// Makes the totals of `count` hosts, with nothing counted yet.
 pub fn no_totals(alloc: Global, count: usize) -> Result<Vec<Total>, Memory>
     ensures { IfOk result (λ totals. totals.items ≡ replicate count (record { held = 0; credit = 0 })) }
 {

@@ -22,7 +22,7 @@ pub struct UnitRows {
     pub instances: Listed<StoredInstance>,
 }
 
-/// Whether the row is that of an instance whose workunit has this status.
+/// Whether the row is that of an instance of a workunit with this status.
 fn is_row_of(
     place: Place,
     instance: &Instance,
@@ -36,7 +36,7 @@ fn is_row_of(
     Ok(*row == own)
 }
 
-/// Whether these are the rows of the instances of a workunit that has this status.
+/// Whether these are the rows of the instances of a workunit with this status.
 fn are_instance_rows(
     unit: u32,
     status: Status,
@@ -58,7 +58,7 @@ fn are_instance_rows(
     Ok(true)
 }
 
-/// Whether the row is that of a workunit of this number, which has this status.
+/// Whether the row is that of a workunit with this number and this status.
 fn is_row_of_unit(
     world: &World,
     id: u32,
@@ -73,7 +73,7 @@ fn is_row_of_unit(
     Ok(*row == own)
 }
 
-/// Whether the row is that of the mark of a workunit of this number and of this rule.
+/// Whether the row is that of the mark of a workunit with this number and this rule.
 fn is_row_of_mark(id: u32, rule: &ClassRule, row: &StoredUnitMark) -> Result<bool, Unavailable>
     ensures { (b : UnitBook) → b.unit.class_rule ≡ rule.now → IfOk result (λ same. Decides same (row.now ≡ mark_row id b)) }
 {
@@ -81,8 +81,8 @@ fn is_row_of_mark(id: u32, rule: &ClassRule, row: &StoredUnitMark) -> Result<boo
     Ok(*row == own)
 }
 
-/// Whether these are the rows of a workunit of this number with its mark and its instances, where these are the applications of the
-/// world. It is unavailable where memory is wanting, or a number is not one that a table can hold.
+/// Whether these are the rows of a workunit of this number, of its mark and of its instances, for the applications of
+/// this world. `Unavailable` if out of memory, or if a table can't hold a number of it.
 pub fn are_unit_rows(
     world: &World,
     id: u32,

@@ -4,7 +4,7 @@ use Rattle.table_worlds.specs.Readable.{IsReadable}
 use Rattle.table_changes.specs.Imported.{AreImported}
 use Rattle.table_changes.proofs.imports.rows_of_import.Given as goal
 
--- the rows of the changes so far lead to the world with these made
+-- the rows of the changes so far lead to the world after these changes
 abbrev pub invariant-loop-change : goal.invariant-loop-change
 invariant-loop-change g l = record {
   reads : g.D.Units.reads l.fn.desk l.desk;

@@ -9,7 +9,7 @@ use Rattle.table_worlds.proofs.SameRows.{instance_same}
 use Rattle.table_changes.proofs.PageRows.{instance_gone, instance_stays, instance_changed, none_is_change}
 use Rattle.table_changes.proofs.instances.changed_instance.Goals as goal
 
--- what was got of a slice
+-- the item that a slice returned
 got : (xs ys : List Job) (i : ℕ) (r : Option (Bor Job)) → IsItemAt xs i r → xs ≡ ys → slice_get ys i ≡ option_copied r
 got xs ys i r at same = ap (λ zs. slice_get zs i) (sym same) ∙ cases r at
   where

@@ -4,7 +4,7 @@ use Rattle.table_worlds.specs.Totals.{with_instances}
 use Rattle.table_changes.specs.Tallies.{tally}
 use Rattle.table_changes.proofs.tallies.count_instances.Given as goal
 
--- the instances so far, and those which are left
+-- the instances so far, and those that are left
 abbrev pub invariant-loop-instance : goal.invariant-loop-instance
 invariant-loop-instance l =
     (host : ℕ) → with_instances (λ x. is_valid (verdict l.agreement l.unit l.instances x)) l.unit.credit (drop l.instance-index l.instances) host (tally l.totals host)

@@ -4,6 +4,6 @@ use Rattle.std.specs.Ordering.{nat_cmp}
 use Rattle.table_changes.specs.Tallies.{AreTallies}
 use Rattle.table_changes.proofs.tallies.tallies_of.Given as goal
 
--- what the workunits so far give
+-- the tallies of the workunits so far
 abbrev pub invariant-loop-unit : goal.invariant-loop-unit
 invariant-loop-unit l = AreTallies (get nat_cmp l.page.leaves) (take l.unit-index l.units) l.tallies

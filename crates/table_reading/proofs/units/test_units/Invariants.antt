@@ -8,7 +8,7 @@ use Rattle.table_reading.specs.Testing.{AreTested}
 use Rattle.table_reading.proofs.UnitsTested.{AreNames, AreCounted}
 use Rattle.table_reading.proofs.units.test_units.Given as goal
 
--- the workunits so far, with their names, what is counted of them, and the least deadline of what is held
+-- the workunits so far, with their names and totals, and the least deadline of what is held
 abbrev pub invariant-loop-index : goal.invariant-loop-index
 invariant-loop-index g l =
     let old = state g.S.Store l.fn.conn in

@@ -6,7 +6,7 @@ use Rattle.table_meaning.specs.Rows.{columns_of, whole as sql_whole}
 use Rattle.table_rows.specs.Utf8.{IsUtf8Value, HasUtf8}
 use Rattle.table_rows.proofs.columns.values_of.Goals as goal
 
--- where nothing that stands is a text, what may be missing is none
+-- if each value is in UTF-8 or is no text, so is an optional one
 none_is_text : {X : Type 0} (value : X → Value) → ((x : X) → IsUtf8Value (value x)) → (o : Option X) → IsUtf8Value (or_null value o)
 none_is_text value is None = tt
 none_is_text value is (Some x) = is x

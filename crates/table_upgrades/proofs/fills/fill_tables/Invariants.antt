@@ -6,7 +6,7 @@ use Rattle.table_meaning.specs.Fills.{fills_of, FillsEach}
 use Rattle.table_upgrades.specs.Frames.{WithinTransaction, StaysWithin}
 use Rattle.table_upgrades.proofs.fills.fill_tables.Given as goal
 
--- what is left to be filled fills all
+-- the fills that are left complete all fills
 abbrev pub invariant-loop-fill : goal.invariant-loop-fill
 invariant-loop-fill g l =
     let old = state g.S.Store l.fn.tx.conn.now in
