@@ -62,7 +62,7 @@ abbrev pub after_past : Choosing → Candidate → Version → Option Bool → C
 after_past t c v None = unjudged_at t c
 after_past t c v (Some had) = if had then t else with_job t c v
 
--- what becomes of a candidate, by whether the user had its workunit and by the version that the host runs
+-- the taker after a candidate, by whether the user had its workunit and by the version that the host runs
 abbrev pub after_version : Choosing → Candidate → Option Bool → Option Version → Choosing
 after_version t c had None = t
 after_version t c had (Some v) = if fits t.host.now c.unit (Some v) then after_past t c v had else t

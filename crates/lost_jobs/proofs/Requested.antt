@@ -23,7 +23,7 @@ use Rattle.lost_jobs.specs.Holding.{HoldsNoMore}
 use Rattle.lost_jobs.specs.Requested.{RecordsReports, IsLostBy, AreLostBy, LostJobsAreOfTheRequest}
 use Rattle.lost_jobs.proofs.Reported.{reports_hold_no_more, held_unreported, unreported_held}
 
--- names stay where the rows of workunits do
+-- names stay if the rows of workunits do
 names_stay : (old new : World) → ChangesInstancesAlone old new → (p : Place) → name_at new p ≡ name_at old p
 names_stay old new same p =
     by_row new

@@ -85,7 +85,7 @@ fn verdicts_of(agreement: &Agreement, unit: &Workunit, instances: &[Instance]) -
     Verdicts { row }
 }
 
-/// What the workunit comes to with these instances: its status, how many instances it is to get, and the verdicts.
+/// What these instances mean for the workunit: its status, how many instances it is to get, and the verdicts.
 pub fn settle(agreement: &Agreement, unit: &Workunit, instances: &[Instance]) -> Settled
     requires { length instances.now ≤ MOST_INSTANCES }
     ensures status { result.status ≡ status agreement.now unit.now instances.now }

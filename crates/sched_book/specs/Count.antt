@@ -64,7 +64,7 @@ output_of xs i = told_output (report_of xs i)
 abbrev pub place_of : List Instance → ℕ → ℕ
 place_of xs i = told_place (report_of xs i)
 
--- the numbers, from n on, of those that pass
+-- the numbers of the instances that pass; the first instance has the number n
 abbrev pub numbers_from : ℕ → (Instance → Bool) → List Instance → List ℕ
 numbers_from n p [] = []
 numbers_from n p (x ∷ xs) = if p x then n ∷ numbers_from (n + 1) p xs else numbers_from (n + 1) p xs

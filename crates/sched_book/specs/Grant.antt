@@ -14,7 +14,7 @@ pub record Asking : Type 0 where
   -- the host, its number and its row
   pub number : ℕ
   pub host : HostRow
-  -- the seconds of the jobs that are sent again, which count first
+  -- the seconds of the jobs that are sent again
   pub before : ℕ
   -- how many jobs the host holds
   pub held : ℕ

@@ -49,7 +49,7 @@ module _ {T : Type 0} (takes : T → Candidate → Flow → T → Type 0) where
     pub to_some : (last : T) → OffersSome takes now left last → OffersSome takes old all last
 
 module _ {T : Type 0} (takes : T → Candidate → Flow → T → Type 0) where
-  -- These were offered, whatever candidates follow: the taker continues with those, or has stopped.
+  -- These were offered, regardless of the candidates that follow: the taker continues with those, or has stopped.
   abbrev pub Offered : T → List Candidate → T → Flow → Type 0
   Offered old these new GoOn = (more : List Candidate) → Leads takes old (these ++ more) new more
   Offered old these new Stop = (more : List Candidate) → OffersAll takes old (these ++ more) new

@@ -41,7 +41,7 @@ first_of_each text seen (x ∷ xs) =
 abbrev pub first_reports : List Report → List Report
 first_reports reports = first_of_each (λ r. r.name) [] reports
 
--- the place of the next report of a workunit that is judged
+-- the place of the next judged report of a workunit
 abbrev pub next_place : World → ℕ → ℕ
 next_place w unit = unwrap_or (option_map (λ b. 1 + count_by is_judged b.instances) (unit_at w unit)) 1
 

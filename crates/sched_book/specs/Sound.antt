@@ -13,7 +13,7 @@ use Rattle.sched_book.specs.declared.rows.HostRow.{HostRow}
 use Rattle.sched_book.specs.declared.rows.Version.{Version}
 use Rattle.sched_book.specs.declared.world.World.{World}
 
--- the two were not given to hosts of one user
+-- the two were not given to hosts of the same user
 abbrev pub AreOfOtherUsers : List HostRow → Instance → Instance → Type 0
 AreOfOtherUsers hosts x y = IsTrue (is_some (host_of x)) → IsTrue (is_some (host_of y)) → user_of hosts x ≢ user_of hosts y
 
@@ -33,9 +33,9 @@ HasClassOnceGiven b = b.unit.class_rule ≡ OfFirst → All (λ x. x.owner ≡ N
 abbrev pub has_place : List Instance → ℕ → Bool
 has_place xs n = list_any (λ x. option_any (λ place. place == n) (report_place x)) xs
 
--- A workunit with its instances, if these are the hosts and applications. That it has the instances that it needs is
--- left out:
--- this holds between two steps, and not within one.
+-- A workunit with its instances, if these are the hosts and applications. Left out are the instances that it needs and
+-- its class:
+-- these it has between two steps, but not always within one.
 pub record IsWellUnit (hosts : List HostRow) (apps : List App) (b : UnitBook) : Type 0 where
   pub one_for_each_user : AllPairs (AreOfOtherUsers hosts) b.instances
   -- the places of the judged reports are 1 up to their count

@@ -152,7 +152,7 @@ job_at w h resent p =
 abbrev pub user_name : World → ℕ → List ℕ
 user_name w account = unwrap_or (option_map (λ (a : Account). a.name) (nth w.accounts account)) []
 
--- there is room for a new host
+-- if the host is new, there is room for it
 abbrev pub HasRoom : World → Caller → Type 0
 HasRoom w c = c.host ≡ None → length w.hosts < w.settings.max_hosts
 

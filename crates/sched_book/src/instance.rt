@@ -1,4 +1,4 @@
-//! Instances of workunits, and what became of them.
+//! Instances of workunits, and what happened to them.
 
 ghost use Rattle.std.specs.Prelude.{◌≡◌, Some};
 ghost use Rattle.sched_book.specs.Count.{tells_success, tells_error, is_judged, is_held, is_live, is_open, has_failed};

@@ -73,7 +73,7 @@ pub fn lost_jobs_are_held_and_unlisted()
     ensures { LostAreHeldAndUnlisted }
 {}
 
-/// Reports change instances alone.
+/// Reports change only instances.
 pub fn reports_change_instances_alone()
     ensures { ReportsChangeInstancesAlone }
 {}

@@ -29,7 +29,7 @@ const MOST_PLATFORMS: usize = 8;
 /// The last deadline, in seconds since 1970-01-01T00:00:00Z.
 const LAST_DEADLINE: u64 = 250_100_000_000;
 
-/// The most instances of a workunit, as the counts of a workunit are held.
+/// The most instances of a workunit, in the type of its counts.
 const MOST_IN_UNIT: u32 = MOST_INSTANCES as u32;
 
 /// Whether a text is a word: 1 to 64 ASCII letters, digits, `_`, `-` or `.`.

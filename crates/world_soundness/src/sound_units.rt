@@ -59,7 +59,7 @@ fn are_places_without_gap(instances: &[Instance], judged: usize) -> bool
     (0..judged).all(|number| has_place(instances, number + 1))
 }
 
-/// Whether the place of a judged report is at most their count.
+/// Whether the place of its judged report, if it has one, is at most `judged`.
 fn is_place_within(judged: usize, instance: &Instance) -> bool
     ensures { IsTrue result ↔ IfSome (report_place instance.now) (λ place. place ≤ judged) }
 {
@@ -91,7 +91,7 @@ fn user_of(hosts: &[HostRow], instance: &Instance) -> Option<u32>
     Some(host.account)
 }
 
-/// Whether two instances were not given to hosts of one user.
+/// Whether two instances were not given to hosts of the same user.
 fn are_of_other_users(hosts: &[HostRow], left: &Instance, right: &Instance) -> bool
     ensures { IsTrue result ↔ AreOfOtherUsers hosts.now left.now right.now }
 {
@@ -107,7 +107,7 @@ fn are_all_of_other_users(hosts: &[HostRow], instances: &[Instance], instance: &
         .all(|other| are_of_other_users(hosts, other, instance))
 }
 
-/// Whether no two instances were given to hosts of one user.
+/// Whether no two instances were given to hosts of the same user.
 fn is_one_for_each_user(hosts: &[HostRow], instances: &[Instance]) -> bool
     ensures { IsTrue result ↔ AllPairs (AreOfOtherUsers hosts.now) instances.now }
 {
