@@ -46,8 +46,7 @@ IsHostAt entry present number None = host_at present number ≡ host_at entry nu
 IsHostAt entry present number (Some h) = host_at present number ≡ Some h
 
 -- A page of a call that found this world. The changes of the page are only of instances, of classes of workunits, and of
--- hosts.
--- Each leaf and each host is that of the world with these changes made.
+-- hosts. Each leaf and each host is that of the world with these changes made.
 pub record IsPageOf (entry : World) (p : Page) : Type 0 where
   pub settings : p.settings ≡ entry.settings
   pub leaves : (unit : ℕ) → IsLeafAt entry (applied entry p.delta) unit (get nat_cmp p.leaves unit)

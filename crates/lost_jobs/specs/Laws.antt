@@ -17,8 +17,7 @@ abbrev pub ReportsKeepDeadlines : Type 0
 ReportsKeepDeadlines = (entry : World) (host : ℕ) (reports : List Report) → KeepsDeadlines entry (recorded entry host reports) host
 
 -- The fates of the lost jobs follow from their places, and send each job again or drop it. This assumes that what the
--- host holds
--- has the deadlines that it had at entry.
+-- host holds has the deadlines that it had at entry.
 abbrev pub FatesResendOrDrop : Type 0
 FatesResendOrDrop = (entry w : World) (h : HostRow) (now host : ℕ) (names : Option (List (List ℕ))) → KeepsDeadlines entry w host
     → AreByPlace (map (fate entry h now) (lost w host names))

@@ -18,8 +18,7 @@ pub record RecordsReports (w : World) (changes : List Change) (host : ℕ) (r : 
   pub is : applied w changes ≡ recorded (record w { hosts = hosts }) host r.results
 
 -- Lost jobs are sent again, the client sent a list, and the host held the instance at the place. No report of the
--- request names
--- it, and its name is not in the list.
+-- request names it, and its name is not in the list.
 pub record IsLostBy (w : World) (host : ℕ) (r : Request) (p : Place) : Type 0 where
   pub resends : w.settings.resend_lost_results ≡ true
   pub listed : List (List ℕ)

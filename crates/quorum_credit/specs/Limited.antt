@@ -11,8 +11,7 @@ use Rattle.sched_book.specs.declared.instance.UnitBook.{UnitBook}
 use Rattle.sched_book.specs.declared.world.World.{World}
 
 -- no workunit has more instances than it may; the host of each instance exists, an instance without owner is bare, and
--- the values
--- are in range
+-- the values are in range
 pub record IsLimited (w : World) : Type 0 where
   pub few : (unit : ℕ) (b : UnitBook) → unit_at w unit ≡ Some b → length b.instances ≤ most_instances
   pub each : (p : Place) (x : Instance) → instance_at w p ≡ Some x → HasOwnerAmong w.hosts x × IsBare x × IsInstanceInLimits x

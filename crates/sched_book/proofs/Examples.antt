@@ -68,8 +68,7 @@ leading_zero : agree (Within 2) (codes "01") (codes "1") ≡ false
 leading_zero = refl
 
 -- Outputs 10, 13 and 12 within 2, with a quorum of three. 10 agrees with 12, so the first is canonical. The second is
--- invalid,
--- although it agrees with the third.
+-- invalid, although it agrees with the third.
 abbrev three : List Instance
 three = told 1 (codes "10") 1 ∷ told 2 (codes "13") 2 ∷ told 3 (codes "12") 3 ∷ []
 

@@ -1,5 +1,5 @@
--- Promise. What is counted of a workunit from scratch: agreement, the canonical result, how many instances it needs,
--- its status and the verdicts on its instances. The limits are those of BOINC's workunits. Counting them exactly, from all
+-- Promise. What is counted of a workunit from scratch: agreement, the canonical result, how many instances it needs, its
+-- status and the verdicts on its instances. The limits are those of BOINC's workunits. Counting them exactly, from all
 -- reports each time, is this profile's own. The instances of a workunit are a list, and an instance's number is its
 -- index there.
 use Rattle.std.specs.Prelude.{ℕ, ◌+◌, ◌-◌, ◌/◌, max, Bool, true, false, not, ◌&&◌, ◌||◌, nat_lt, nat_le, if◌then◌else◌, List, [], ◌∷◌, ◌++◌, length, take, drop, fold, find, count_by, insert, Option, Some, None, option_and_then, is_some, is_none, unwrap_or, slice_get}
@@ -104,8 +104,7 @@ abbrev pub majority : Workunit → ℕ
 majority u = u.min_quorum / 2 + 1
 
 -- The number of the canonical result. Take the shortest front of the good reports that is at least a quorum long and in
--- which
--- some report agrees with a majority. It is the first such report.
+-- which some report agrees with a majority. It is the first such report.
 abbrev pub canonical : Agreement → Workunit → List Instance → Option ℕ
 canonical a u xs =
     if nat_le u.min_quorum (length (good xs))

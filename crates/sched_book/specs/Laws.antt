@@ -81,8 +81,7 @@ abbrev pub FirstReportsAreFirst : Type 0
 FirstReportsAreFirst = (reports : List Report) (r : Report) → Contains (first_reports reports) r → IsFirstOfName reports r
 
 -- What is recorded at a place after the reports: a first report names the place, and its instance awaited the report.
--- The instance
--- is as it was, except for the report, which is judged if the workunit had not failed at entry.
+-- The instance is as it was, except for the report, which is judged if the workunit had not failed at entry.
 pub record IsRecordedAt (entry : World) (host : ℕ) (reports : List Report) (p : Place) : Type 0 where
   pub report : Report
   pub first : Contains (first_reports reports) report

@@ -1,6 +1,5 @@
 -- Rule. The ranges of the values of a world. They are this profile's, and are defined only here. Imported rows, changes
--- that
--- fit and sound worlds refer to them.
+-- that fit and sound worlds refer to them.
 use Rattle.std.specs.Prelude.{◌≡◌, ℕ, ◌^◌, ◌≤◌, Bool, ◌&&◌, nat_le, IsTrue, List, length, All, IfSome}
 use Rattle.rpc_records.specs.Members.{is_output}
 use Rattle.sched_book.specs.Classes.{class_of, imported}

@@ -34,8 +34,7 @@ abbrev pub has_place : List Instance → ℕ → Bool
 has_place xs n = list_any (λ x. option_any (λ place. place == n) (report_place x)) xs
 
 -- A workunit with its instances, if these are the hosts and applications. Left out are the instances that it needs and
--- its class:
--- these it has between two steps, but not always within one.
+-- its class: these it has between two steps, but not always within one.
 pub record IsWellUnit (hosts : List HostRow) (apps : List App) (b : UnitBook) : Type 0 where
   pub one_for_each_user : AllPairs (AreOfOtherUsers hosts) b.instances
   -- the places of the judged reports are 1 up to their count

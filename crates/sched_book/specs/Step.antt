@@ -113,8 +113,7 @@ abbrev pub granted : World → ℕ → ℕ → List Place → World
 granted w host now jobs = fold (grant_one host now) w jobs
 
 -- after a grant each workunit of a granted job keeps to the class of the granted version, if this is its first one. The
--- version
--- is the one that the host, as this call describes it, runs in the world that the call found
+-- version is the one that the host, as this call describes it, runs in the world that the call found
 abbrev pub class_granted : World → ℕ → List ℕ → World
 class_granted w unit class = record w { units = modify_nth (with_class class) w.units unit }
 

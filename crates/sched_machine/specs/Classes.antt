@@ -36,8 +36,7 @@ Follows OfFirst v = ⊥
 Follows (Only class) v = class ≡ v.class
 
 -- In the world w and at a moment, the call gives the instance at a place to its owner, the host that calls, with the
--- version
--- that this host runs. In a later world the workunit keeps to that version's class, or to no class at all.
+-- version that this host runs. In a later world the workunit keeps to that version's class, or to no class at all.
 pub record IsGivenBy (w later : World) (c : Caller) (r : Request) (now : ℕ) (p : Place) (o : Owner) : Type 0 where
   pub host : o.host ≡ host_number w c
   pub sent : o.sent ≡ now

@@ -51,8 +51,7 @@ abbrev pub IsNamed : World → Reply → Place → Type 0
 IsNamed w reply p = (j : Job) × Contains reply.results j × (j.name ≡ name_at w p)
 
 -- After a call that lists these names and gets this reply, its host holds exactly what is retained and what the reply
--- names.
--- All these instances existed before the call. Each job of the reply is one of them.
+-- names. All these instances existed before the call. Each job of the reply is one of them.
 pub record IsHeldByName (w after : World) (c : Caller) (r : Request) (names : List (List ℕ)) (reply : Reply) : Type 0 where
   pub from : (p : Place) → holds after (host_number w c) p ≡ true → IsRetained w c r names p ⊎ IsNamed w reply p
   pub stood : (p : Place) → holds after (host_number w c) p ≡ true → is_some (instance_at w p) ≡ true

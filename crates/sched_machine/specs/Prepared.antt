@@ -18,8 +18,7 @@ use Rattle.sched_machine.specs.declared.preparing.Ready.{Ready}
 use Rattle.sched_machine.specs.declared.settlement.SettledCall.{SettledCall}
 
 -- The reports of a call were taken, its lost jobs were sent again or dropped, and all this was settled. The changes fit
--- and leave
--- the world v.
+-- and leave the world v.
 pub record IsSettledCall (w : World) (r : Request) (k : Calling) (now : ℕ) (done : SettledCall) (v : World) (changes : List Change) : Type 0 where
   pub left : v ≡ after_settlement w k.caller r now
   pub fits : Fits w changes

@@ -171,14 +171,14 @@ pub fn classes_stay()
     ensures { HoldsInRuns ClassesStay }
 {}
 
-/// From a sound world: the owner of an instance after a step owned it before, or the step gives it to the owner, which
-/// is its caller. If the workunit is marked, the version is then of the class that the workunit keeps to.
+/// From a sound world: after a step the owner of an instance owned it before, or is the caller and got it by this step.
+/// If the workunit is marked, it then keeps to the class of the version with which the owner got the instance.
 pub fn owners_are_of_classes()
     ensures { OwnersAreOfClasses }
 {}
 
-/// So the owner of an instance in a world of a run owned it at the beginning, or an earlier call gave it to the owner,
-/// with a version of the class that the workunit keeps to in that world.
+/// So in a world of a run the owner of an instance owned it at the beginning, or got it by an earlier call, with a
+/// version of the class that the workunit keeps to in that world.
 pub fn owners_are_of_classes_in_runs()
     ensures { OwnersAreOfClassesInRuns }
 {}

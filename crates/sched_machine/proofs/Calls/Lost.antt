@@ -50,8 +50,7 @@ module _ (w : World) (c : Caller) (r : Request) where
     lost_resent fates known = ap resent_places known ∙ resent_are w (host_at_entry w c r) now (lost_of w c r)
 
 -- What the steps say that found a call's lost jobs and put their fates. The call found the world w, its reports left v,
--- and the
--- fates left u.
+-- and the fates left u.
 pub record AreLost (w v u : World) (r : Request) (k : Calling) (now : ℕ) (places : List Place) (fates : List Fate) (before after : List Change) : Type 0 where
   pub found : HoldsNoMore w v k.number → places ≡ lost v k.number r.other_results
   pub told : fates ≡ map (fate w k.host now) places

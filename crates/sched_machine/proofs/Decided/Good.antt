@@ -25,8 +25,7 @@ report_here zs k z there =
     ∙ ap (option_and_then (λ (y : Instance). y.report)) there
 
 -- An instance and what it became, if n reports were judged before and the workunit had failed or not. Its report stays.
--- A new report
--- that is judged has a later place, and is of no failed workunit.
+-- A new report that is judged has a later place, and is of no failed workunit.
 abbrev pub IsLate : ℕ → Bool → Instance → Type 0
 IsLate n failed y = is_judged y ≡ true → (n < told_place y.report) × (failed ≡ false)
 

@@ -67,8 +67,7 @@ abbrev pub IsLater : World → ℕ → Option ℕ → Type 0
 IsLater w unit place = (n : ℕ) → place ≡ Some n → (judged_at w unit < n) × (has_failed (status_at w unit) ≡ false)
 
 -- A relation between the instance at a place and the one there later. It lasts through each of these changes: a report,
--- a lapse, and
--- a new deadline, under what is known of the instance when a step makes the change.
+-- a lapse, and a new deadline, under what is known of the instance when a step makes the change.
 pub record Lasts (w : World) (c : Call) (p : Place) (R : Option Instance → Option Instance → Type 0) : Type 0 where
   pub same : (o : Option Instance) → R o o
   pub chain : (o q s : Option Instance) → R o q → R q s → R o s
