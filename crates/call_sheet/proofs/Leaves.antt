@@ -1,4 +1,4 @@
--- The keys of a map rise, and are those at which something is found.
+-- The keys of a map are in rising order, and are those at which something is found.
 use Rattle.std.proofs.Common.{◌≡◌, ℕ, ◌<◌, Bool, true, false, cond, eqb, lit<, List, [], ◌∷◌, Some, Less, IfOk, Ok, Err, Result, Vec, Global, sym, refl, ap, ◌∙◌, subst, arith}
 use Rattle.std.proofs.lemmas.Bool.Decides.{nat_tests}
 use Rattle.std.proofs.lemmas.Map.Keys.{below_from_sorted}
@@ -17,7 +17,7 @@ less : (m n : ℕ) → nat_cmp m n ≡ Less → m < n
 unfolding IsStrictlySortedBy
 less m n is = below_from_sorted (m ∷ n ∷ []) 0 1 0 ((is, tt), (tt, tt)) (lit< tt) (lit< tt)
 
--- equal in the order, the same number
+-- equal in the order means the same number
 pub same : (m n : ℕ) → is_eq (nat_cmp m n) ≡ eqb n m
 same m n = unsigned_tied m n ∙ (let turned : eqb m n ≡ eqb n m = grind (arith, nat_tests) in turned)
 
@@ -25,13 +25,13 @@ above : (m : ℕ) (ns : List ℕ) → AllByRecursion (λ n. nat_cmp m n ≡ Less
 above m [] below = tt
 above m (n ∷ ns) below = (less m n below.0, above m ns below.1)
 
--- strictly sorted, each less than all behind it
+-- in a strictly sorted list each number is less than all after it
 pub rising : (ns : List ℕ) → IsStrictlySortedBy nat_cmp ns → AreRising ns
 unfolding IsStrictlySortedBy
 rising [] sorted = tt
 rising (n ∷ ns) sorted = (above n ns sorted.0, rising ns sorted.1)
 
--- something is found just at the keys
+-- something is found exactly at the keys
 among : {X : Type 0} (unit : ℕ) (es : List (ℕ × X)) → is_some (lookup (is_at (nat_cmp unit)) es) ≡ list_any (λ n. eqb n unit) (keys_of es)
 among unit [] = refl
 among {X} unit (e ∷ es) = cases (among unit es) (eqb e.0 unit) (same unit e.0)
@@ -47,7 +47,7 @@ keys_are_all m units ordered are = record {
   all = λ unit. among unit m.entries ∙ ap (list_any (λ n. eqb n unit)) (sym are);
 }
 
--- the keys that were collected, where memory served
+-- the keys that were collected, if there was enough memory
 pub collected : {E : Type 0} (m : BTreeMap ℕ Leaf) (r : Result (Vec ℕ Global) E) → IsOrdered nat_cmp m → IfOk r (λ v. v.items ≡ keys m)
     → IfOk r (λ v. AreAllOf (get nat_cmp m) v.items)
 collected m (Ok v) ordered are = keys_are_all m v.items ordered are

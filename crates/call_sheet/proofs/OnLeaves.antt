@@ -1,4 +1,4 @@
--- What a leaf says, as the worlds before a call and now say it.
+-- A leaf says the same as the worlds before a call and now.
 use Rattle.std.proofs.Common.{◌≡◌, ℕ, [], Option, Some, None, sym, ap, ◌∙◌}
 use Rattle.std.specs.Prelude.{option_map, option_and_then, unwrap_or, slice_get}
 use Rattle.sched_book.specs.Count.{status}
@@ -32,7 +32,7 @@ status_before-is entry present unit (Some k) read =
     ap (λ a. status a k.unit k.before) (sym read.agreement)
     ∙ sym (ap (λ (b : Option UnitBook). unwrap_or (option_map (status_of entry) b) FailedTotal) read.before)
 
--- the place, if an instance stood there
+-- the place, if there was an instance
 pub standing-is : (entry present : World) (p : Place) (o : Option Leaf) → IsReadAt entry present p.unit o → standing_on o p ≡ standing entry p
 standing-is entry present p o read = ap (option_map (λ (x : Instance). p)) (instance_before-is entry present p o read)
 

@@ -1,4 +1,4 @@
--- What reading and putting make of a page.
+-- What a page is after reading and putting.
 use Rattle.std.proofs.Common.{◌≡◌, ℕ, ◌+◌, ◌-◌, Bool, true, false, cond, eqb, List, [], ◌∷◌, ◌++◌, length, take, Option, Some, None, sym, refl, ap, ◌∙◌, subst, arith, length-append}
 use Rattle.std.proofs.lemmas.Bool.{eqb-true}
 use Rattle.std.specs.Prelude.{option_map, unwrap_or, IsSome}
@@ -33,7 +33,7 @@ use Rattle.call_sheet.proofs.SetRows.{nth-put, nth_found}
 finds_none : {X : Type 0} (m : BTreeMap ℕ X) (k : ℕ) → m.entries ≡ [] → get nat_cmp m k ≡ None
 finds_none m k empty = ap (λ es. lookup (is_at (nat_cmp k)) es) empty
 
--- a page on which nothing stands
+-- an empty page
 pub new_page : (w : World) (s : Settings) (leaves : BTreeMap ℕ Leaf) (hosts : BTreeMap ℕ HostRow) (cs : List Change) → s ≡ w.settings
     → leaves.entries ≡ [] → hosts.entries ≡ [] → cs ≡ [] → IsPageOf w (record { settings = s; leaves = leaves; hosts = hosts; delta = cs })
 new_page w s leaves hosts cs is no_leaf no_host none =
@@ -45,7 +45,7 @@ new_page w s leaves hosts cs is no_leaf no_host none =
       names = λ name. refl;
     })
 
--- a page on which the same is found
+-- a page with the same entries
 pub same_page : (w : World) (old new : Page) → new.settings ≡ old.settings → ((unit : ℕ) → get nat_cmp new.leaves unit ≡ get nat_cmp old.leaves unit)
     → ((number : ℕ) → get nat_cmp new.hosts number ≡ get nat_cmp old.hosts number) → new.delta ≡ old.delta → IsPageOf w old → IsPageOf w new
 same_page w old new settings leaves hosts delta page = record {
@@ -58,7 +58,7 @@ same_page w old new settings leaves hosts delta page = record {
   names = λ name. ap (λ cs. unit_named (applied w cs) name) delta ∙ page.names name;
 }
 
--- a leaf more
+-- one more leaf
 pub leaf_more : (w : World) (old new : Page) (unit : ℕ) (k : Leaf) → new.settings ≡ old.settings → new.hosts ≡ old.hosts → new.delta ≡ old.delta
     → ((other : ℕ) → get nat_cmp new.leaves other ≡ cond (eqb unit other) (Some k) (get nat_cmp old.leaves other))
     → IsLeafAt w (applied w old.delta) unit (Some k) → IsPageOf w old → IsPageOf w new
@@ -76,7 +76,7 @@ leaf_more w old new unit k settings hosts delta leaves leaf page = record {
     cases other true is = subst (λ (n : ℕ). IsLeafAt w (applied w old.delta) n (Some k)) (eqb-true unit other is) leaf
     cases other false is = page.leaves other
 
--- a change that was pushed and is taken back
+-- a change that was pushed and taken back
 front : {X : Type 0} (xs ys : List X) → take (length xs) (xs ++ ys) ≡ xs
 front [] ys = refl
 front (x ∷ xs) ys = ap (λ zs. x ∷ zs) (front xs ys)
@@ -89,14 +89,14 @@ taken_back xs x =
 one_more : (w : World) (cs : List Change) (c : Change) → applied w (cs ++ c ∷ []) ≡ applied_one (applied w cs) c
 one_more w cs c = fold-append applied_one w cs (c ∷ [])
 
--- what is done to a workunit and to its leaf alike
+-- a change of a workunit, and the same change of its leaf
 record AreAlike (f : UnitBook → UnitBook) (g : Leaf → Leaf) : Type 0 where
   name : (b : UnitBook) → (f b).unit.name ≡ b.unit.name
   now : (k : Leaf) → f (book_now k) ≡ book_now (g k)
   before : (k : Leaf) → book_before k ≡ book_before (g k)
   agreement : (k : Leaf) → k.agreement ≡ (g k).agreement
 
--- what a leaf is behind it
+-- the leaf after it
 leaf_done : (f : UnitBook → UnitBook) (g : Leaf → Leaf) → AreAlike f g → (entry present after : World) (unit : ℕ) (b : Bool) (o : Option Leaf) → (b ≡ true → IsSome o)
     → unit_at after unit ≡ cond b (option_map f (unit_at present unit)) (unit_at present unit)
     → IsLeafAt entry present unit o → IsLeafAt entry after unit (cond b (option_map g o) o)
@@ -109,7 +109,7 @@ leaf_done f g alike entry present after unit true (Some k) some is leaf = record
   agreement = ap (λ (b : UnitBook). agreement_by entry.apps b.unit.app) (sym (alike.before k)) ∙ leaf.agreement ∙ alike.agreement k;
 }
 
--- it is done to the leaf of the workunit at a place, and is the last change
+-- the change is made on the leaf of the workunit at a place, and is the last change
 unit_done : (f : UnitBook → UnitBook) (g : Leaf → Leaf) → AreAlike f g → (w : World) (old new : Page) (place : ℕ) (c : Change)
     → ((v : World) → applied_one v c ≡ record v { units = modify_nth f v.units place })
     → new.settings ≡ old.settings → new.hosts ≡ old.hosts → new.delta ≡ old.delta ++ c ∷ []
@@ -147,7 +147,7 @@ instance_put w old new p x y copy settings hosts delta puts page =
     unit_done (with_instance p.number x) (with_put p x) (record { name = λ b. refl; now = λ k. refl; before = λ k. refl; agreement = λ k. refl })
     w old new p.unit (change.Instance p x) (λ v. refl) settings hosts delta same.0 same.1 page
 
--- a version of a class is granted on its workunit's leaf, which is the last change
+-- a version of a class is granted on its workunit's leaf, and that is the last change
 pub class_put : (w : World) (old new : Page) (unit : ℕ) (class copied : List ℕ) → copied ≡ class → new.settings ≡ old.settings → new.hosts ≡ old.hosts
     → new.delta ≡ old.delta ++ change.Class unit copied ∷ [] → AreClassed old.leaves new.leaves unit class → IsPageOf w old → IsPageOf w new
 class_put w old new unit class copied copy settings hosts delta puts page =
@@ -187,11 +187,11 @@ host_put w old new number h k copy place settings leaves delta hosts page = reco
 
 pub ruleset page_steps = (new_page, same_page, leaf_more, taken_back, instance_put, class_put, host_put)
 
--- a number that a host has is a place
+-- the number of a host is a place
 pub stands_there : (w : World) (number : ℕ) (h : HostRow) → host_at w number ≡ Some h → HasPlace w number
 stands_there w number h found = nth_found w.hosts number h found
 
--- a leaf as it is read of the world before, of a workunit to which nothing was changed
+-- a leaf that was read in the world before, of a workunit that was not changed
 pub asked : (entry present : World) (unit : ℕ) (o : Option Leaf) → unit_at present unit ≡ unit_at entry unit → IsReadAt entry entry unit o
     → IsReadAt entry present unit o
 asked entry present unit None same read = (same ∙ read.0, read.0)
@@ -222,7 +222,7 @@ read_in_turn w v u unit row rule a before present same next is agrees lists copy
           agreement = ap (λ (r : Workunit). agreement_by w.apps r.app) (sym unit_is) ∙ agreed;
         }
 
--- the world with one change more
+-- the world with one more change
 pub world_put : (w v : World) (old new : List Change) (c : Change) → v ≡ w → new ≡ old ++ c ∷ [] → applied v new ≡ applied_one (applied w old) c
 world_put w v old new c same is = ap (λ (u : World). applied u new) same ∙ ap (applied w) is ∙ one_more w old c
 

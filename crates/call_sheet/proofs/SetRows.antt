@@ -8,7 +8,7 @@ use Rattle.sched_book.specs.Places.{nth}
 use Rattle.sched_book.specs.Delta.{set_at, set_nth}
 use Rattle.sched_book.proofs.PlacesOf.{nth-suc, nth-push}
 
--- what stands at an index after one element was written
+-- the element at an index after one element was written
 slice_get-set : {X : Type 0} (xs : List X) (i j : ℕ) (x : X) → i < length xs
     → slice_get (set xs i x) j ≡ cond (eqb i j) (Some x) (slice_get xs j)
 slice_get-set [] i j x within = absurd (omega arith)
@@ -19,7 +19,7 @@ slice_get-set (y ∷ ys) (suc i) (suc j) x within =
     slice_get-set ys i j x (omega arith)
     ∙ sym (ap (λ (b : Bool). cond b (Some x) (slice_get ys j)) (eqb-suc-suc i j))
 
--- a row put at a place gets that place, or the next
+-- a row put at a place is at that place, or at the next
 put_suc : {X : Type 0} (xs : List X) (i : ℕ) (x : X) → set_nth xs (suc i) x ≡ set_at xs i x
 put_suc xs i x =
     ap (λ (b : Bool). cond b xs (set_at xs (suc i - 1) x)) (eqb-suc-zero i)
@@ -55,7 +55,7 @@ nth-set_nth xs (suc i) x n =
     ∙ nth-set_at xs i x n
     ∙ sym (ap (λ (b : Bool). cond b (nth xs n) (cond (eqb (min (suc i) (length xs + 1)) n) (Some x) (nth xs n))) (eqb-suc-zero i))
 
--- at the place of a row, or at the next
+-- the row at a place after a row was put at an existing place or the next
 pub nth-put : {X : Type 0} (xs : List X) (m : ℕ) (x : X) (n : ℕ) → 1 ≤ m → m ≤ length xs + 1 → nth (set_nth xs m x) n ≡ cond (eqb m n) (Some x) (nth xs n)
 nth-put xs zero x n some place = absurd (omega arith)
 nth-put xs (suc i) x n some place =
@@ -63,7 +63,7 @@ nth-put xs (suc i) x n some place =
     ∙ ap (λ (b : Bool). cond b (nth xs n) (cond (eqb (min (suc i) (length xs + 1)) n) (Some x) (nth xs n))) (eqb-suc-zero i)
     ∙ ap (λ k. cond (eqb k n) (Some x) (nth xs n)) (let same : min (suc i) (length xs + 1) ≡ suc i = omega arith in same)
 
--- a place at which a row stands
+-- a place at which there is a row
 pub nth_found : {X : Type 0} (xs : List X) (n : ℕ) (x : X) → nth xs n ≡ Some x → (1 ≤ n) × (n ≤ length xs + 1)
 nth_found xs zero x found = absurd cc
 nth_found xs (suc i) x found =

@@ -1,11 +1,11 @@
--- Sums over numbers: over so many from one on, and over the numbers of a list that rises.
+-- Sums over numbers: over consecutive numbers, and over the numbers of a list in rising order.
 use Rattle.std.proofs.Common.{◌≡◌, ℕ, zero, suc, ◌+◌, ◌≤◌, ◌<◌, Bool, true, false, eqb, List, [], ◌∷◌, length, sym, refl, ap, ◌∙◌, arith}
 use Rattle.std.specs.Prelude.{◌||◌, option_map, slice_get, sum_by, unwrap_or}
 use Rattle.std.proofs.lemmas.Bool.Decides.{nat_tests}
 use Rattle.std.proofs.lemmas.List.Sums.{sum_by-cons}
 use Rattle.call_sheet.specs.Sheets.{is_among, AreAbove, AreRising}
 
--- the sum of g from n on, of so many
+-- the sum of g over so many numbers, of which n is the first
 unfoldable pub sum_from : (ℕ → ℕ) → ℕ → ℕ → ℕ
 sum_from g n zero = 0
 sum_from g n (suc k) = g n + sum_from g (suc n) k
@@ -43,9 +43,9 @@ sum_listed f g n (x ∷ xs) more same =
     let whole : g n + sum_from g (suc n) (length xs + more) ≡ f x + sum_by f xs = omega arith in
     ap (sum_from g n) (let at : suc (length xs) + more ≡ suc (length xs + more) = omega arith in at) ∙ whole ∙ sym (sum_by-cons f x xs)
 
--- ---- numbers of a list that rises
+-- ---- numbers of a list in rising order
 
--- all of these are m or more
+-- all of these are at least m
 pub AreFrom : ℕ → List ℕ → Type 0
 AreFrom m [] = Unit {0}
 AreFrom m (n ∷ ns) = (m ≤ n) × AreFrom m ns
@@ -74,7 +74,7 @@ all_zero g [] m from none = refl
 all_zero g (n ∷ ns) m from none =
     sum_by-cons g n ns ∙ ap (λ k. k + sum_by g ns) (none n from.0) ∙ ap (λ k. 0 + k) (all_zero g ns m from.1 none)
 
--- two functions that agree but at some places
+-- two functions that agree except at some places
 module _ (g h : ℕ → ℕ) where
   pub differ : (k n : ℕ) (ns : List ℕ) → AreRising ns → AreFrom n ns → ((m : ℕ) → n ≤ m → is_among ns m ≡ false → g m ≡ h m)
       → ((m : ℕ) → n + k ≤ m → g m ≡ 0) → ((m : ℕ) → n + k ≤ m → h m ≡ 0) → sum_from g n k + sum_by h ns ≡ sum_from h n k + sum_by g ns
@@ -112,7 +112,7 @@ module _ (g h : ℕ → ℕ) where
           later (t ∷ ns) rising all (λ m far among. others m (omega arith) among) (λ m far. none m (omega arith)) (λ m far. nothing m (omega arith)) in
           omega (arith, here, rest)
 
--- a sum over all is one over some, where it is nothing at the others
+-- a sum over all places is one over some, if it is 0 at the others
 pub sum_of_some : (g : ℕ → ℕ) (k n : ℕ) (ns : List ℕ) → AreRising ns → AreFrom n ns → ((m : ℕ) → n ≤ m → is_among ns m ≡ false → g m ≡ 0)
     → ((m : ℕ) → n + k ≤ m → g m ≡ 0) → sum_from g n k ≡ sum_by g ns
 sum_of_some g k n ns rising from others beyond =

@@ -20,10 +20,10 @@ use sched_book::{
 use std::alloc::Global;
 use texts::{Listed, Memory, Text};
 
-/// Who stands for the world that a call found with the changes that the call makes.
+/// Who represents the world that a call found, with the changes that the call makes.
 ///
-/// As [`Units`] it answers for the world with the changes made. What its further calls ask of the world is asked of the one
-/// that the call found, but for workunits and hosts.
+/// As [`Units`] it answers for the world with the changes made. Its further look-ups are of the world that the call
+/// found, except those of workunits and hosts.
 pub trait Draft: Units {
     /// The world that the call found.
     ghost entry: { Self → World };
@@ -41,7 +41,7 @@ pub trait Draft: Units {
     fn settings(&self) -> &Settings
         ensures { Self.well_kept self.now → result.now ≡ (entry self.now).settings };
 
-    /// Reads a workunit, unless it was.
+    /// Reads a workunit, unless it was read before.
     fn read(&mut self, alloc: Global, unit: u32) -> Result<(), Unavailable>
         ensures reads { Self.reads self.old self.new }
         ensures answer { Trusted Self.Units self.old self.new (
@@ -60,28 +60,31 @@ pub trait Draft: Units {
         ensures reads { Self.reads self.old self.new }
         ensures answer { Trusted Self.Units self.old self.new (IfOk result (λ r. r ≡ host_at (Self.world self.old) number)) };
 
-    /// Puts an instance at a place: over the one that stands there, or as the next of its workunit, which was read.
+    /// Puts an instance at a place: it replaces the instance there, or is the next one of its workunit. The workunit
+    /// must have been read.
     fn put_instance(&mut self, place: Place, row: &Instance) -> Result<(), Unavailable>
         ensures works { works self.old self.new }
         ensures put { Trusted Self.Units self.old self.new (
             OnOk result (Self.world self.new ≡ applied_one (Self.world self.old) (change.Instance place row.now))) }
         ensures delta { OnOk result (delta self.new ≡ delta self.old ++ change.Instance place row.now ∷ []) };
 
-    /// Has a version of a class granted for a workunit, which was read: with its first it takes the class, if it is marked.
+    /// Grants a version of a class for a workunit, which must have been read. If it is marked, it takes the class with
+    /// its first one.
     fn put_class(&mut self, unit: u32, class: &Text) -> Result<(), Unavailable>
         ensures works { works self.old self.new }
         ensures put { Trusted Self.Units self.old self.new (
             OnOk result (Self.world self.new ≡ applied_one (Self.world self.old) (change.Class unit class.now))) }
         ensures delta { OnOk result (delta self.new ≡ delta self.old ++ change.Class unit class.now ∷ []) };
 
-    /// Puts a host in the place of the one that has this number. It is unavailable where none has.
+    /// Replaces the host of this number. Unavailable if there is no such host.
     fn put_host(&mut self, alloc: Global, number: u32, row: &HostRow) -> Result<(), Unavailable>
         ensures works { works self.old self.new }
         ensures put { Trusted Self.Units self.old self.new (
             OnOk result (Self.world self.new ≡ applied_one (Self.world self.old) (change.Host number row.now))) }
         ensures delta { OnOk result (delta self.new ≡ delta self.old ++ change.Host number row.now ∷ []) };
 
-    /// Puts a host behind the others, before any other change, and gives its number; none, where so many stand already.
+    /// Adds a host after the others, before any other change, and returns its number; none if there are already so many
+    /// hosts.
     fn add_host(&mut self, row: &HostRow, most: u32) -> Result<Option<u32>, Unavailable>
         ensures works { works self.old self.new }
         ensures number { Trusted Self.Units self.old self.new (
@@ -131,18 +134,19 @@ pub trait Draft: Units {
         ensures reads { Self.reads self.old self.new }
         ensures answer { Trusted Self.Units self.old self.new (IfOk result (λ r. r ≡ version_at (entry self.old) host.now app)) };
 
-    // It stands for the world that the call found with the changes made.
+    // It represents the world that the call found, with the changes made.
     ghost is_applied: { (s : Self) → Self.world s ≡ applied (entry s) (delta s) };
 
-    // The changes are of workunits' instances, of their classes and of hosts alone, and no workunit gets another name.
+    // The changes are only of instances, of classes of workunits, and of hosts. No workunit gets another name.
     ghost rest_stays: { (s : Self) → Self.well_kept s → Self.world s ≡ record (entry s) { units = (Self.world s).units; hosts = (Self.world s).hosts } };
 
     ghost names_stay: { (s : Self) → Self.well_kept s → (name : List ℕ) → unit_named (Self.world s) name ≡ unit_named (entry s) name };
 
-    // What was read is so, and of what was not read nothing was changed.
+    // What was read is as the leaf says. What was not read was not changed.
     ghost leaves_are: { (s : Self) → Self.well_kept s → (unit : ℕ) → IsLeafAt (entry s) (Self.world s) unit (kept s unit) };
 
-    // Reading is work that changes nothing; work may go on; and work leaves the world that the call found.
+    // A read is work that changes nothing. Two pieces of work are together one. Work keeps the world that the call
+    // found.
     ghost reads_works: { (s t : Self) → Self.reads s t → works s t };
 
     ghost reads_delta: { (s t : Self) → Self.reads s t → delta t ≡ delta s };

@@ -1,4 +1,4 @@
-//! The instances of one workunit, of which there are never more than a workunit may have.
+//! The instances of one workunit: never more than a workunit may have.
 
 ghost use Rattle.std.specs.Prelude.{◌≡◌, ◌≤◌, length, IfOk, OnOk, OnErr};
 ghost use Rattle.sched_book.specs.Delta.{set_at};
@@ -28,7 +28,7 @@ impl Model for Instances {
 }
 
 impl Instances {
-    /// These instances, which are not copied.
+    /// These instances, without a copy.
     pub fn of(rows: Listed<Instance>) -> Instances
         requires { length rows ≤ MOST_INSTANCES }
         ensures { result ≡ rows }
@@ -61,8 +61,8 @@ impl Instances {
         self.rows.clone()
     }
 
-    /// Puts an instance at a number: in the place of the one that has it, or else behind the others. It is refused where
-    /// there would be too many, or memory is; they are then as before.
+    /// Puts an instance at a number: it replaces the instance there, or follows the others. Refused if there would be
+    /// too many or there is no memory; the instances are then as before.
     pub fn put(&mut self, number: u32, row: Instance) -> Result<(), Unavailable>
         ensures ok { OnOk result (self.new ≡ set_at self.old number row) }
         ensures err { OnErr result (self.new ≡ self.old) }

@@ -8,13 +8,13 @@ use sched_book::count::status;
 use sched_book::{Agreement, ClassRule, Status, Workunit, copy_of};
 use texts::Memory;
 
-/// A workunit with how its application compares outputs, and with its instances: as they were before the call, and as
-/// they are now.
+/// A workunit, how its application compares outputs, and its instances, both as they were before the call and as they
+/// are now.
 #[derive(Drop)]
 pub struct Leaf {
     /// The row as it was before the call.
     pub unit: Workunit,
-    /// Which versions may do it now: of a row a call changes nothing else.
+    /// Which versions may do it now. A call changes nothing else in a row.
     pub rule: ClassRule,
     pub agreement: Agreement,
     pub before: Instances,

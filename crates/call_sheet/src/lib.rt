@@ -1,8 +1,8 @@
 //! The sheet of a call: what the call read, each row once, and the changes that it makes.
 //!
-//! A [`Page`] holds what was read of a desk and the changes so far; a [`Sheet`] is a desk with its page, and answers for
-//! the world with the changes made. A step of a call is generic in what a sheet does ([`Draft`]), decides on a
-//! [`Leaf`], and puts what it changes.
+//! A [`Page`] has what was read of a desk, and the changes so far. A [`Sheet`] is a desk with its page, and answers for
+//! the world with the changes made. A step of a call is generic in what a sheet does ([`Draft`]), decides by a [`Leaf`],
+//! and puts what it changes.
 #![tactic(auto)]
 
 pub mod draft;

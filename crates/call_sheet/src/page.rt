@@ -38,14 +38,14 @@ impl Page {
         }
     }
 
-    /// The leaf of a workunit, where it was read and stands.
+    /// The leaf of a workunit, if the workunit exists and was read.
     pub fn leaf(&self, unit: u32) -> Option<&Leaf>
         ensures { option_copied result ≡ get nat_cmp self.now.leaves unit }
     {
         self.leaves.get(&unit)
     }
 
-    /// The places of the workunits that were read and stand, in order.
+    /// The places of the workunits that exist and were read, in order.
     pub fn units(&self, alloc: Global) -> Result<Vec<u32>, Memory>
         ensures { IfOk result (λ units. AreAllOf (get nat_cmp self.now.leaves) units.items) }
     {
@@ -64,7 +64,7 @@ impl Page {
         Ok(())
     }
 
-    /// The host of this number, where it was read.
+    /// The host of this number, if it was read.
     pub fn host(&self, number: u32) -> Option<&HostRow>
         ensures { option_copied result ≡ get nat_cmp self.now.hosts number }
     {
@@ -97,8 +97,8 @@ impl Page {
         }
     }
 
-    /// Puts an instance at a place: over the one that stands there, or as the next of its workunit, which has to have a
-    /// leaf.
+    /// Puts an instance at a place: it replaces the instance there, or is the next one of its workunit. The workunit
+    /// must have a leaf.
     #[tactic(auto, using(crate::proofs::Pages::page_steps))]
     pub fn put_instance(&mut self, place: Place, row: &Instance) -> Result<(), Unavailable>
         ensures page { (w : World) → IsPageOf w self.old → IsPageOf w self.new }
@@ -117,7 +117,7 @@ impl Page {
         }
     }
 
-    /// Has a version of a class granted on the leaf of a workunit.
+    /// Grants a version of a class on the leaf of a workunit.
     pub(crate) fn class_on_leaf(&mut self, unit: u32, class: &Text) -> Result<(), Unavailable>
         ensures ok { OnOk result (AreClassed self.old.leaves self.new.leaves unit class.now) }
         ensures err { OnErr result ((other : ℕ) → get nat_cmp self.new.leaves other ≡ get nat_cmp self.old.leaves other) }
@@ -134,7 +134,7 @@ impl Page {
         }
     }
 
-    /// Has a version of a class granted for a workunit, which has to have a leaf.
+    /// Grants a version of a class for a workunit, which must have a leaf.
     #[tactic(auto, using(crate::proofs::Pages::page_steps))]
     pub fn put_class(&mut self, unit: u32, class: &Text) -> Result<(), Unavailable>
         ensures page { (w : World) → IsPageOf w self.old → IsPageOf w self.new }

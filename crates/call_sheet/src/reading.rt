@@ -38,7 +38,7 @@ fn ask_leaf<D: Desk>(alloc: Global, desk: &mut D, unit: u32) -> Result<Option<Le
     }))
 }
 
-/// Reads a workunit onto the page, unless it is there.
+/// Reads a workunit onto the page, unless it is already there.
 pub(crate) fn read_leaf<D: Desk>(
     alloc: Global,
     desk: &mut D,
@@ -84,7 +84,7 @@ pub(crate) fn read_host<D: Desk>(
     Ok(Some(row))
 }
 
-/// Puts a host in the place of the one that has this number. It is unavailable where none has.
+/// Replaces the host of this number. Unavailable if there is no such host.
 pub(crate) fn put_host<D: Desk>(
     alloc: Global,
     desk: &mut D,
@@ -104,7 +104,7 @@ pub(crate) fn put_host<D: Desk>(
     Ok(())
 }
 
-/// Puts a host behind the others, unless so many stand already, and gives its number. It is unavailable behind any other
+/// Adds a host after the others, unless there are already so many, and returns its number. Unavailable after any other
 /// change.
 pub(crate) fn add_host<D: Desk>(
     desk: &mut D,

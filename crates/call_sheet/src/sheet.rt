@@ -13,7 +13,7 @@ use sched_book::{
 use std::alloc::Global;
 use texts::{Listed, Memory, Text};
 
-/// A view of a desk and of the page of a call over it, for the length of a step.
+/// A view of a desk and of the page of a call over it, for the duration of a step.
 pub struct Sheet<'a, D> {
     pub desk: &'a mut D,
     pub page: &'a mut Page,

@@ -13,7 +13,7 @@ use crate::leaf::Leaf;
 use sched_book::{Change, HostRow, Place, Unavailable, split_name};
 use std::alloc::Global;
 
-/// The place, if an instance stood there when the call came.
+/// The place, if there was an instance when the call came.
 fn stood_at(leaf: Option<&Leaf>, place: Place) -> Option<Place>
     ensures { result ≡ standing_on (option_copied leaf.entry) place }
 {
@@ -26,7 +26,7 @@ fn stood_at(leaf: Option<&Leaf>, place: Place) -> Option<Place>
     }
 }
 
-/// The place of the instance that a name meant when the call came. Its workunit is read.
+/// The place of the instance that a name denoted when the call came. Its workunit is read.
 #[tactic(auto, using(crate::proofs::OnLeaves::standing_steps))]
 pub fn place_before<S: Draft>(
     alloc: Global,
@@ -46,7 +46,7 @@ pub fn place_before<S: Draft>(
     Ok(stood_at(sheet.leaf(unit), Place { unit, number }))
 }
 
-/// Puts a host at its number, where one stands there or it is the next.
+/// Puts a host at its number, if the number is that of a host or the next.
 fn put_row<S: Draft>(
     alloc: Global,
     sheet: &mut S,
@@ -67,7 +67,7 @@ fn put_row<S: Draft>(
     }
 }
 
-/// Makes one change, of an instance, of a class or of a host; any other is refused.
+/// Makes one change, of an instance, of a class or of a host. Any other is refused.
 fn put_change<S: Draft>(alloc: Global, sheet: &mut S, change: &Change) -> Result<(), Unavailable>
     ensures works { S.works sheet.old sheet.new }
     ensures put { Trusted S.Units sheet.old sheet.new (
@@ -88,7 +88,7 @@ fn put_change<S: Draft>(alloc: Global, sheet: &mut S, change: &Change) -> Result
     }
 }
 
-/// Makes changes of instances, of classes and of hosts in turn; any other is refused.
+/// Makes changes of instances, of classes and of hosts in turn. Any other is refused.
 pub fn put_all<S: Draft>(
     alloc: Global,
     sheet: &mut S,

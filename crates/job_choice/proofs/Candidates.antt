@@ -1,4 +1,4 @@
--- The candidates of a world are its instances without owner of open workunits, in the order of their places.
+-- The candidates of a world are the instances without owner of its open workunits, in the order of their places.
 use Rattle.std.proofs.Common.{◌≡◌, ℕ, zero, suc, ◌+◌, ◌<◌, ◌⊎◌, inl, inr, Bool, true, false, cond, not, eqb, List, [], ◌∷◌, ◌++◌, Option, Some, None, sym, refl, ap, ◌∙◌, subst, arith}
 use Rattle.std.specs.Prelude.{◌&&◌, nat_lt, slice_get, is_none, option_map, option_and_then, unwrap_or, Contains}
 use Rattle.std.proofs.lemmas.Bool.{or_cases, or_left, or_right, and_parts, and_from, ltb-true, eqb-true, lt-ltb, eq-eqb}
@@ -34,7 +34,7 @@ before_test p q h = elim h [
       (and_from (eqb p.unit q.unit) (nat_lt p.number q.number) (eq-eqb p.unit q.unit same.0) (lt-ltb p.number q.number same.1))
 ]
 
--- each stands before all that follow it
+-- each candidate is before all that follow it
 abbrev pub Rising : List Candidate → Type 0
 Rising [] = Unit {0}
 Rising (c ∷ cs) = ((d : Candidate) → Contains cs d → Before c.place d.place) × Rising cs
@@ -179,7 +179,7 @@ rising_among w from first (b ∷ bs) = cases (is_open (status_of w b)) (rising_a
         inl (omega arith)))
     cases false more = more
 
--- a free instance of an open workunit is a candidate
+-- an instance without owner of an open workunit is a candidate
 listed_in : (from : Place) (place : ℕ) (unit : Workunit) (n : ℕ) (xs : List Instance) (i : ℕ) (x : Instance) (m : ℕ)
     → slice_get xs i ≡ Some x → is_none x.owner ≡ true → m ≡ n + i → is_before (record { unit = place; number = m }) from ≡ false
     → Contains (unsent_in from place unit n xs) (record { place = record { unit = place; number = m }; unit = unit })
@@ -235,7 +235,7 @@ world_lists w from first (y ∷ ys) (suc i) b x p found stands free opened place
     more true there = Contains-append_right (unsent_in from first y.unit 0 y.instances) (unsent_among w from (first + 1) ys) (record { place = p; unit = b.unit }) there
     more false there = there
 
--- what stands at a place that counts from 1
+-- the element at a place that counts from 1
 pub nth_found : {X : Type 0} (xs : List X) (n : ℕ) (x : X) → nth xs n ≡ Some x → (i : ℕ) × (n ≡ 1 + i) × (slice_get xs i ≡ Some x)
 nth_found xs zero x h = absurd (let never : None ≡ Some x = h in cc)
 nth_found xs (suc i) x h = (i, omega arith, sym (nth-suc xs i) ∙ h)

@@ -1,4 +1,4 @@
--- A grant of one world is one of another that is like it in all that a grant speaks of.
+-- A grant of one world is a grant of another that is like it in everything that a grant depends on.
 use Rattle.std.proofs.Common.{◌≡◌, ◌⊎◌, inl, inr, ℕ, ◌+◌, ◌<◌, ◌≤◌, Bool, true, false, cond, List, [], ◌∷◌, length, take, get_or, sym, refl, ap, ◌∙◌, subst}
 use Rattle.std.specs.Prelude.{◌&&◌, ◌||◌, nat_le, is_none, filter, sum_by, Contains}
 use Rattle.std.specs.List.{list_any, list_all}

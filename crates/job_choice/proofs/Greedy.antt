@@ -83,7 +83,7 @@ module _ (w : World) (q : Asking) where
     sorted = rising_among w first_place 1 w.units;
   }
 
-  -- the next candidate is left where it is not eligible or its workunit has a job
+  -- the next candidate is left if it is not eligible or its workunit has a job
   pub passed_over : (jobs : List Place) (c : Candidate) (left : List Candidate) → AreTaken jobs (c ∷ left)
       → (is_eligible w q.host c.place ≡ true → has_unit c.place.unit jobs ≡ true) → AreTaken jobs left
   passed_over jobs c left h over = record {
@@ -106,7 +106,7 @@ module _ (w : World) (q : Asking) where
     sorted = h.sorted.1;
   }
 
-  -- a job before the next candidate is of an earlier workunit, unless it is of the candidate's
+  -- each job before the next candidate is of an earlier workunit, unless the candidate's workunit has a job
   below : (jobs : List Place) (c : Candidate) (left : List Candidate) → AreTaken jobs (c ∷ left) → has_unit c.place.unit jobs ≡ false
       → (s : Place) → Contains jobs s → s.unit < c.place.unit
   below jobs c left h new s among = elim (h.ahead s c among (front_of c left)) [
@@ -114,7 +114,7 @@ module _ (w : World) (q : Asking) where
     | inr same ↦ absurd (both_ways (has_unit c.place.unit jobs) new (has_from jobs s c.place.unit among same.0))
   ]
 
-  -- what is eligible and stands before the next candidate is of a workunit that has a job
+  -- an eligible instance before the next candidate is of a workunit that has a job
   earlier : (jobs : List Place) (c : Candidate) (left : List Candidate) → AreTaken jobs (c ∷ left)
       → (r : Place) → is_eligible w q.host r ≡ true → Before r c.place → Earlier jobs c.place r
   earlier jobs c left h r for before = elim (h.covered r for) [
@@ -175,7 +175,7 @@ module _ (w : World) (q : Asking) where
         sorted = h.sorted.1;
       }
 
-  -- where nothing is left, each eligible instance is of a workunit that has a job
+  -- if no candidate is left, each eligible instance is of a workunit that has a job
   pub all_seen : (jobs : List Place) → AreTaken jobs [] → is_maximal w q jobs ≡ true
   all_seen jobs h =
       or_right (is_enough w q jobs || fills_reply w (length jobs) || fills_progress w q (length jobs) || fills_day w q (length jobs))
@@ -188,7 +188,7 @@ module _ (w : World) (q : Asking) where
       ])
       (filter (is_eligible w q.host) (places w)) (All-contains_itself (filter (is_eligible w q.host) (places w)))))
 
-  -- once nothing more can be given the jobs are a grant
+  -- if nothing more can be given, the jobs are a grant
   pub is_grant : (jobs : List Place) (left : List Candidate) → AreTaken jobs left → is_maximal w q jobs ≡ true → IsGrant w q jobs
   is_grant jobs left h maximal = record {
     rising = h.rising;

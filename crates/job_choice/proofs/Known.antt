@@ -1,4 +1,4 @@
--- What the desk says of an application by its name, and what is known of it.
+-- What the desk says of an application with a name, and what is known of it.
 use Rattle.std.proofs.Common.{◌≡◌, ℕ, Bool, true, false, cond, List, [], ◌∷◌, ◌++◌, Option, Some, None, All, sym, refl, ap, ◌∙◌}
 use Rattle.std.specs.Prelude.{◌||◌, find, is_some, option_map, option_and_then}
 use Rattle.std.specs.List.{list_any}
@@ -28,7 +28,7 @@ module _ (versions : List Version) (platforms : List (List ℕ)) (name : List �
   abbrev of_app : App → Option Version
   of_app a = version_among versions a.name platforms
 
-  -- the first application of the name, where there is one
+  -- the first application of the name, if there is one
   of_first : (apps : List App) → option_and_then of_app (find named apps) ≡ cond (list_any named apps) (version_among versions name platforms) None
   of_first [] = refl
   of_first (a ∷ apps) = cases (bytes_eq a.name name) refl (of_first apps)
@@ -39,7 +39,7 @@ module _ (versions : List Version) (platforms : List (List ℕ)) (name : List �
       cases true is later = ap (λ n. version_among versions n platforms) ((bytes_eq-Decides a.name name).0 is)
       cases false is later = later
 
--- the place of an application stands for it
+-- the place of an application represents it
 by_place : (w : World) (h : HostRow) (o : Option ℕ)
     → option_and_then (λ (a : App). version_among w.versions a.name h.platforms) (option_and_then (nth w.apps) o)
     ≡ option_and_then (λ (a : Placed App). version_at w h a.place) (option_and_then (placed_at w.apps) o)
@@ -58,11 +58,11 @@ version_is w h name =
     ∙ ap (option_and_then (λ (a : App). version_among w.versions a.name h.platforms)) (find-is (λ (a : App). bytes_eq a.name name) w.apps)
     ∙ by_place w h (place_where (λ (a : App). bytes_eq a.name name) w.apps)
 
--- there is none where there is no application of the name
+-- there is no version if there is no application of the name
 pub version_none : (w : World) (h : HostRow) (name : List ℕ) → app_by_name w name ≡ None → version_for w h name ≡ None
 version_none w h name none = version_is w h name ∙ ap (option_and_then (λ (a : Placed App). version_at w h a.place)) none
 
--- or else it is that of the application at the place
+-- otherwise it is the version of the application at the place
 pub version_some : (w : World) (h : HostRow) (name : List ℕ) (a : Placed App) → app_by_name w name ≡ Some a → version_for w h name ≡ version_at w h a.place
 version_some w h name a some = version_is w h name ∙ ap (option_and_then (λ (a : Placed App). version_at w h a.place)) some
 
@@ -79,7 +79,7 @@ known_is w h name (y ∷ ys) k right found = by (bytes_eq y.app name) refl (know
         ap (λ (k : KnownApp). k.version) (sym same) ∙ All-head (IsKnown w h) y ys right ∙ ap (version_for w h) ((bytes_eq-Decides y.app name).0 is)
     by false is further found = further found
 
--- of an application that was asked for it is known whether the host runs it
+-- after an application was asked about, it is known whether the host runs it
 pub runs_more : (known more : List KnownApp) (app : List ℕ) (version : Option Version) → more ≡ known ++ (record { app = app; version = version }) ∷ []
     → known_runs known app ≡ None → known_runs more app ≡ Some (is_some version)
 runs_more known more app version added unknown =

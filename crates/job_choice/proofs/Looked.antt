@@ -26,7 +26,7 @@ none_below first p (b ∷ bs) unit below = by (p b) (none_below (first + 1) p bs
     by true more = ap (λ s. s || list_any (λ u. eqb unit u) (units_from (first + 1) p bs)) (ne_eqb unit first (λ same. omega arith)) ∙ more
     by false more = more
 
--- a workunit is among those that pass where one stands there that passes
+-- a place is among those that pass if and only if there is a workunit that passes
 listed_at : (first : ℕ) (p : UnitBook → Bool) (bs : List UnitBook) (i unit : ℕ) → unit ≡ first + i
     → list_any (λ u. eqb unit u) (units_from first p bs) ≡ option_any p (slice_get bs i)
 listed_at first p [] i unit place = refl

@@ -1,4 +1,4 @@
--- There is no more than one grant: behind a common front two grants go on alike.
+-- There is at most one grant: after a common front two grants continue alike.
 use Rattle.std.proofs.Common.{◌≡◌, ◌⊎◌, inl, inr, suc, ◌+◌, ◌<◌, ◌≤◌, Bool, true, false, eqb, List, [], ◌∷◌, ◌++◌, length, take, get_or, All, sym, refl, ap, ◌∙◌, subst, append_assoc, arith}
 use Rattle.std.specs.Prelude.{◌&&◌, ◌||◌, filter, Contains, AllPairs}
 use Rattle.std.specs.List.{list_any, list_all}
@@ -30,7 +30,7 @@ some_of false false false false e h = inr (inr (inr (inr h)))
 abbrev IsRising : List Place → Type 0
 IsRising jobs = AllPairs (λ (p r : Place). p.unit < r.unit) jobs
 
--- each job before one is of an earlier workunit, each behind it of a later one
+-- each job before one is of an earlier workunit, and each job after it of a later one
 below : (front : List Place) (p : Place) (ps : List Place) → IsRising (front ++ p ∷ ps) → (s : Place) → Contains front s → s.unit < p.unit
 below front p ps rising s h =
     let at_s : get_or (front ++ p ∷ ps) h.0 s ≡ s = get_or_append_left front (p ∷ ps) s h.0 h.1 ∙ h.2 in
@@ -92,7 +92,7 @@ module _ (w : World) (q : Asking) where
         ]
       ]
 
-  -- behind a common front no grant goes on with an earlier place than another
+  -- after a common front no grant continues with an earlier place than another
   goes_first : (front : List Place) (p r : Place) (ps rs : List Place) → IsGrant w q (front ++ p ∷ ps) → IsGrant w q (front ++ r ∷ rs) → Before p r → ⊥
   goes_first front p r ps rs one other before =
       let eligible : is_eligible w q.host p ≡ true = All-contains (λ (p : Place). is_eligible w q.host p ≡ true) (front ++ p ∷ ps) p one.eligible (among front p ps) in

@@ -1,4 +1,4 @@
--- What passes a test, among some.
+-- Elements that pass a test, among several.
 use Rattle.std.proofs.Common.{◌≡◌, inl, inr, ℕ, ◌-◌, ◌+◌, Bool, true, false, eqb, List, [], ◌∷◌, ap, ◌∙◌, arith}
 use Rattle.std.specs.Prelude.{nat_le, Contains}
 use Rattle.std.specs.List.{list_any}
@@ -20,7 +20,7 @@ any_found test (y ∷ ys) h = elim (or_cases (test y) (list_any test ys) h) [
   | inr later ↦ (let there = any_found test ys later in (there.0, behind y ys there.0 there.1, there.2))
 ]
 
--- remainders and sums
+-- differences and sums
 pub nothing_left : (a b : ℕ) → eqb (a - b) 0 ≡ nat_le a b
 nothing_left a b = grind (arith, nat_tests)
 

@@ -1,4 +1,4 @@
--- What is unsent from the place of a candidate on is that candidate and those behind it.
+-- The unsent instances from the place of a candidate on are that candidate and the ones after it.
 use Rattle.std.proofs.Common.{◌≡◌, ℕ, ◌+◌, Bool, true, false, cond, not, List, [], ◌∷◌, ◌++◌, sym, refl, ap, ◌∙◌, subst, arith}
 use Rattle.std.specs.Prelude.{◌&&◌, is_none, filter, Contains}
 use Rattle.std.proofs.lemmas.Bool.{both_ways, not-true, false_from_ne_true}
@@ -20,7 +20,7 @@ use Rattle.job_choice.proofs.Greedy.{before_both}
 abbrev stands_from : Place → Candidate → Bool
 stands_from from c = not (is_before c.place from)
 
--- from a later place on there are those of an earlier one that stand from it on
+-- the candidates from a later place on are those from an earlier place on that are not before it
 module _ (early late : Place) (above : (r : Place) → is_before r late ≡ false → is_before r early ≡ false) where
   later_in : (place : ℕ) (unit : Workunit) (n : ℕ) (xs : List Instance)
       → unsent_in late place unit n xs ≡ filter (stands_from late) (unsent_in early place unit n xs)
@@ -60,7 +60,7 @@ module _ (early late : Place) (above : (r : Place) → is_before r late ≡ fals
           ∙ ap (λ cs. filter (stands_from late) (unsent_in early first b.unit 0 b.instances) ++ cs) rest
           ∙ sym (filter-append (stands_from late) (unsent_in early first b.unit 0 b.instances) (unsent_among w early (first + 1) bs))
 
--- what is unsent from a place on doesn't stand before it
+-- what is unsent from a place on is not before it
 not_before : (w : World) (from : Place) (c : Candidate) → Contains (unsent w from) c → is_before c.place from ≡ false
 not_before w from c there =
     not-true (is_before c.place from)

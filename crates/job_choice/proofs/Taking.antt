@@ -1,4 +1,4 @@
--- One who takes the candidates in turn, as long as it may, ends with a grant.
+-- A taker that takes the candidates in turn, as long as it may, ends with a grant.
 use Rattle.std.proofs.Common.{◌≡◌, inl, inr, ℕ, ◌+◌, ◌-◌, ◌/◌, Bool, true, false, cond, not, eqb, List, [], ◌∷◌, ◌++◌, length, Option, Some, None, All, sym, refl, ap, ◌∙◌, subst, arith}
 use Rattle.std.specs.Prelude.{◌&&◌, ◌||◌, nat_le, is_none, filter, option_map, option_and_then, unwrap_or, sum_by, Contains}
 use Rattle.std.specs.List.{list_all}
@@ -58,7 +58,7 @@ goes true h = absurd cc
 goes false h = refl
 
 module _ (w : World) (q : Asking) where
-  -- what was read is that of the world, and what is granted was taken by place
+  -- what was read is that of the world, and the jobs were taken by place
   record IsOn (t : Choosing) (left : List Candidate) : Type 0 where
     host : t.host.now ≡ q.host
     limits_are : t.limits ≡ limits_on w q.number q.host q.held (q.now / 86400)
@@ -66,7 +66,7 @@ module _ (w : World) (q : Asking) where
     jobs : All (IsJob w q.host) t.jobs
     taken : AreTaken w q (places_of t.jobs) left
 
-  -- its tests are those of the definitions
+  -- the taker's tests are those of the definitions
   module _ (t : Choosing) (left : List Candidate) (on : IsOn t left) where
     count_is : length t.jobs ≡ length (places_of t.jobs)
     count_is = sym (length-map t.jobs (λ (j : Granted). j.place))
@@ -135,7 +135,7 @@ module _ (w : World) (q : Asking) where
       estimate_here =
           ap (λ h. estimate c.unit.rsc_fpops_est h.p_fpops) on.host ∙ ap (λ u. estimate u.rsc_fpops_est q.host.p_fpops) here.row
 
-      -- it is left
+      -- the candidate is left
       left_out : (is_eligible w q.host c.place ≡ true → has_unit c.place.unit (places_of t.jobs) ≡ true) → IsOn t left
       left_out over = record {
         host = on.host;
@@ -155,7 +155,7 @@ module _ (w : World) (q : Asking) where
           absurd (both_ways (not (user_had w q.host.account here.book)) (ap not (sym had_here ∙ had))
           (and_parts (unit_fits w q.host here.book) (not (user_had w q.host.account here.book)) (sym eligible_is ∙ eligible)).1))
 
-      -- it is taken
+      -- the candidate is taken
       taken_in : (v : Version) → version_for w t.host.now c.unit.app ≡ Some v → is_full t ≡ false → has_job_of t.jobs c.place.unit ≡ false
           → fits t.host.now c.unit (Some v) ≡ true → user_had_at w t.host.now.account c.place.unit ≡ false → IsOn (with_job t c v) left
       taken_in v is room has fit had =
@@ -215,7 +215,7 @@ module _ (w : World) (q : Asking) where
           by false (Some v) has is =
               by_past v is has (fits t.host.now c.unit (Some v)) (user_had_at w t.host.now.account c.place.unit) refl refl
 
-  -- whatever is known
+  -- regardless of what is known
   knowing : (t : Choosing) (known : Known) (left : List Candidate) → IsOn t left → IsOn (record t { known = known }) left
   knowing t known left on = record {
     host = on.host;
@@ -280,7 +280,7 @@ module _ (w : World) (q : Asking) where
         | inr all ↦ choice new g (ends (unsent w first_place) old new on all.0 (λ c k. in_world w first_place 1 w.units c k) all.1) jobs word
       ]
 
-  -- the same where the world, the limits and the seconds come by other names
+  -- the same, with other names for the world, the limits and the seconds
   pub chosen_at : (offered_in : World) (limits : Limits) (wanted day : ℕ) (old new : Choosing) (g : Grant)
       → offered_in ≡ w → day ≡ q.now / 86400 → limits ≡ limits_on w q.number q.host q.held day → wanted ≡ q.asked - q.before
       → IsBegun q.host limits wanted old → (IsReady offered_in old → HasChosen offered_in old new) → g.jobs ≡ new.jobs → g.end_word ≡ end_word_at new → IsChoice w q g

@@ -1,4 +1,4 @@
--- Offers in turns, each up to a candidate that could not be judged, are one choice among all candidates.
+-- Offers in turns, each up to a candidate that could not be judged, make one choice among all candidates.
 use Rattle.std.proofs.Common.{◌≡◌, ◌⊎◌, inl, inr, Bool, true, false, cond, List, [], ◌∷◌, ◌++◌, Option, Some, None, sym, refl, ap, ◌∙◌, subst}
 use Rattle.std.specs.Prelude.{◌||◌, is_some, unwrap_or}
 use Rattle.std.proofs.lemmas.Bool.{both_ways}
@@ -23,7 +23,7 @@ use Rattle.job_choice.proofs.Resuming.{resumed}
 use Rattle.job_choice.proofs.Taking.{goes}
 
 module _ (w : World) where
-  -- A candidate, as it is left by one who is ready.
+  -- A candidate, as a taker that is ready leaves it.
   module _ (t : Choosing) (c : Candidate) where
     abbrev had : Bool
     had = user_had_at w t.host.now.account c.place.unit
@@ -65,7 +65,7 @@ module _ (w : World) where
         by_app (Some k) found is = by_version (version_for w t.host.now c.unit.app)
             (is ∙ ap (after_version t c known_past) (known_is w t.host.now c.unit.app t.known.apps k ready.known.apps found))
 
-        -- of a workunit of which the user had one nothing is taken
+        -- nothing is taken of a workunit that the user had an instance of
         had_one : (o : Option Version) → true ≡ had → t ≡ after_version t c (Some had) o
         had_one None one = refl
         had_one (Some v) one = subst (λ h. t ≡ cond (fits t.host.now c.unit (Some v)) (cond h t (with_job t c v)) t) one (same (fits t.host.now c.unit (Some v)))
@@ -86,7 +86,7 @@ module _ (w : World) where
         by_job true is = inl is
         by_job false is = by_known known_past refl is
 
-    -- what is known makes no difference to what the world says
+    -- what is known does not change what the world says
     knows_else : (known later : Known) → record (judged w (record t { known = known }) c) { known = later } ≡ record (judged w t c) { known = later }
     knows_else known later = by (has_job_of t.jobs c.place.unit) (version_for w t.host.now c.unit.app)
       where
@@ -121,7 +121,7 @@ module _ (w : World) where
     | inr more ↦ inr (more.0, (more.1.0, more.1.1 ∙ knows_else t c known more.0.known), more.2)
   ]
 
-  -- The offers stopped at a candidate that could not be judged; what is chosen from it on is chosen of all.
+  -- The offers stopped at a candidate that could not be judged. What is chosen from it on is chosen from all.
   record StoppedAt (old : Choosing) (all : List Candidate) (new : Choosing) : Type 0 where
     front : List Candidate
     c : Candidate
@@ -179,7 +179,7 @@ module _ (w : World) where
     ]
   ]
 
-  -- What is chosen from a place on is chosen of all candidates.
+  -- What is chosen from a place on is chosen from all candidates.
   pub record Resumes (old now : Choosing) (from : Place) : Type 0 where
     pub ready : IsReady w now
     pub room : is_full now ≡ false
@@ -198,7 +198,7 @@ module _ (w : World) where
         ],
       )
 
-  -- a turn that stopped at a candidate that could not be judged, with more known then
+  -- a turn that stopped at a candidate that could not be judged, after more was learned
   pub turns_go_on : (v : World) (old now new : Choosing) (from : Place) (left : Option Unjudged) (at : Unjudged) (more : Known) → v ≡ w
       → Resumes old now from → new.refused ≡ false → OffersAll Takes now (unsent v from) new → new.unjudged ≡ Some at → left ≡ None
       → (IsRight w new.host.now new.known → IsRight w new.host.now more) → Resumes old (record new { unjudged = left; known = more }) at.place

@@ -1,12 +1,12 @@
--- Rule. When a grant of one world is one of another.
+-- Rule. When a grant of one world is a grant of another.
 use Rattle.std.specs.Prelude.{◌≡◌, List}
 use Rattle.sched_book.specs.Fits.{is_eligible, estimate_at}
 use Rattle.sched_book.specs.Grant.{Asking, IsGrant, sent_today, end_word}
 use Rattle.sched_book.specs.declared.instance.Place.{Place}
 use Rattle.sched_book.specs.declared.world.World.{World}
 
--- Of the host that asks, the same places are eligible, and take the same seconds, and as many jobs were sent on the
--- day, under the same limits.
+-- For the host that asks, the same places are eligible and take the same seconds, as many jobs were sent on the day, and
+-- the limits are the same.
 pub record IsLike (w v : World) (q : Asking) : Type 0 where
   pub eligible : (p : Place) → is_eligible v q.host p ≡ is_eligible w q.host p
   pub seconds : (p : Place) → estimate_at v q.host p ≡ estimate_at w q.host p

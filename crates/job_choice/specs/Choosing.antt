@@ -1,4 +1,4 @@
--- Rule. What one who chooses jobs does with each candidate, and when it stops.
+-- Rule. What the taker that chooses jobs does with each candidate, and when it stops.
 use Rattle.std.specs.Prelude.{◌≡◌, ◌⊎◌, ℕ, ◌-◌, Bool, false, not, ◌||◌, ◌==◌, nat_le, if◌then◌else◌, IsTrue, List, [], ◌∷◌, ◌++◌, length, find, Option, Some, None, is_some, option_map, unwrap_or}
 use Rattle.std.specs.List.{list_any}
 use Rattle.std.specs.Str.{bytes_eq}
@@ -17,7 +17,7 @@ use Rattle.job_choice.specs.declared.choosing.KnownApp.{KnownApp}
 use Rattle.job_choice.specs.declared.choosing.Unjudged.{Unjudged}
 use Rattle.job_choice.specs.declared.granted.Granted.{Granted}
 
--- the seconds are granted, or a limit is reached
+-- the seconds are reached, or a limit is
 abbrev pub is_full : Choosing → Bool
 is_full t = (t.wanted == 0) || nat_le t.limits.reply (length t.jobs) || nat_le t.limits.progress (length t.jobs) || nat_le t.limits.day (length t.jobs)
 
@@ -36,12 +36,12 @@ has_job_of jobs unit = list_any (λ j. j.place.unit == unit) jobs
 abbrev pub known_of : List KnownApp → List ℕ → Option KnownApp
 known_of apps app = find (λ k. bytes_eq k.app app) apps
 
--- whether the host runs a version of the application of this name, where it is known
+-- whether the host runs a version of the application of this name, if that is known
 abbrev pub known_runs : List KnownApp → List ℕ → Option Bool
 known_runs apps app = option_map (λ k. is_some k.version) (known_of apps app)
 
--- A candidate can be judged: it is known whether the host runs its application, and where it does, whether the user had
--- its workunit.
+-- A candidate can be judged: it is known whether the host runs its application and, if it does, whether the user had its
+-- workunit.
 abbrev pub can_judge : Known → Unjudged → Bool
 can_judge known u = option_any (λ runs. not runs || is_some (known_had known.past u.place.unit)) (known_runs known.apps u.app)
 
@@ -57,12 +57,12 @@ unjudged_of c = record { place = c.place; app = c.unit.app }
 abbrev pub unjudged_at : Choosing → Candidate → Choosing
 unjudged_at t c = record t { unjudged = Some (unjudged_of c) }
 
--- a candidate that fits is taken where the user had none of its workunit
+-- a candidate that fits is taken if the user had no instance of its workunit
 abbrev pub after_past : Choosing → Candidate → Version → Option Bool → Choosing
 after_past t c v None = unjudged_at t c
 after_past t c v (Some had) = if had then t else with_job t c v
 
--- by whether the user had its workunit, and by the version that the host runs
+-- the taker after a candidate, by whether the user had its workunit and by the version that the host runs
 abbrev pub after_version : Choosing → Candidate → Option Bool → Option Version → Choosing
 after_version t c had None = t
 after_version t c had (Some v) = if fits t.host.now c.unit (Some v) then after_past t c v had else t
@@ -72,17 +72,17 @@ abbrev pub after_app : Choosing → Candidate → Option Bool → Option KnownAp
 after_app t c had None = unjudged_at t c
 after_app t c had (Some k) = after_version t c had k.version
 
--- nothing of the workunit is taken, whatever it is: there is a job of it, or it is known that the user had one
+-- no candidate of the workunit is taken: there is a job of it, or it is known that the user had one
 abbrev pub is_left : Choosing → ℕ → Bool
 is_left t unit = has_job_of t.jobs unit || unwrap_or (known_had t.known.past unit) false
 
--- a candidate of whose workunit a job may be taken is judged by what is known
+-- if a job of its workunit may still be taken, the candidate is judged by what is known
 abbrev pub after : Choosing → Candidate → Choosing
 after t c =
     if is_left t c.place.unit then t
     else after_app t c (known_had t.known.past c.place.unit) (known_of t.known.apps c.unit.app)
 
--- It stops for want of memory; or else at a candidate that it could not judge, and once it is full.
+-- It stops if it is out of memory. Otherwise it stops at a candidate that it could not judge, or when it is full.
 abbrev pub Takes : Choosing → Candidate → Flow → Choosing → Type 0
 Takes old c flow new =
     ((flow ≡ Stop) × IsTrue new.refused)

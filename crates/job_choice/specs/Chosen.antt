@@ -17,12 +17,12 @@ pub record IsJob (w : World) (h : HostRow) (j : Granted) : Type 0 where
   pub estimate_is : option_map (λ b. estimate b.unit.rsc_fpops_est h.p_fpops) (unit_at w j.place.unit) ≡ Some j.estimate
   pub version_is : option_and_then (λ b. version_for w h b.unit.app) (unit_at w j.place.unit) ≡ Some j.version
 
--- the jobs are a grant, and the end word tells why there are no more
+-- the jobs are a grant, and the end word says why there are no more
 pub record IsChoice (w : World) (q : Asking) (g : Grant) : Type 0 where
   pub grant : IsGrant w q (places_of g.jobs)
   pub end_word_is : g.end_word ≡ end_word w q (places_of g.jobs)
   pub jobs : All (IsJob w q.host) g.jobs
 
--- a world and what is asked for have one grant
+-- there is one grant for a world and what is asked for
 abbrev pub OneGrant : Type 0
 OneGrant = (w : World) (q : Asking) (jobs others : List Place) → IsGrant w q jobs → IsGrant w q others → jobs ≡ others

@@ -1,4 +1,4 @@
--- Rule. What is known before the first offer and behind each stop, and what is chosen then.
+-- Rule. What is known before the first offer and after each stop, and what is then chosen.
 use Rattle.std.specs.Prelude.{◌≡◌, ◌⊎◌, ℕ, ◌-◌, true, false, if◌then◌else◌, [], All, Some, None}
 use Rattle.sched_book.specs.Fits.{version_for}
 use Rattle.sched_book.specs.Offers.{unsent, OffersAll}
@@ -28,7 +28,7 @@ limits_on w number h held day = record {
 abbrev pub nothing_known : Known
 nothing_known = record { past = InPart []; apps = [] }
 
--- before the first offer, to a host with these limits that still wants so many seconds
+-- before the first offer, for a host with these limits that still wants so many seconds
 pub record IsBegun (h : HostRow) (limits : Limits) (wanted : ℕ) (t : Choosing) : Type 0 where
   pub host : t.host.now ≡ h
   pub known : t.known ≡ nothing_known
@@ -44,27 +44,28 @@ first_place = record { unit = 1; number = 0 }
 abbrev pub IsKnown : World → HostRow → KnownApp → Type 0
 IsKnown w h k = k.version ≡ version_for w h k.app
 
--- what is known for the host is so
+-- what is known for the host is true
 pub record IsRight (w : World) (h : HostRow) (known : Known) : Type 0 where
   pub past : IsPast w h.account known.past
   pub apps : All (IsKnown w h) known.apps
 
--- and no candidate is left unjudged
+-- what is known is true, and no candidate is left unjudged
 pub record IsReady (w : World) (t : Choosing) : Type 0 where
   pub known : IsRight w t.host.now t.known
   pub unjudged : t.unjudged ≡ None
 
--- what a candidate leaves, by the user's past and by the version that the host runs in the world
+-- the result of judging a candidate by the user's past and by the version that the host runs in the world
 abbrev pub judged : World → Choosing → Candidate → Choosing
 judged w t c =
     if has_job_of t.jobs c.place.unit then t
     else after_version t c (Some (user_had_at w t.host.now.account c.place.unit)) (version_for w t.host.now c.unit.app)
 
--- The candidate is judged by the world, whatever is known then, and it stops once it is full.
+-- The candidate is judged by the world, regardless of what is known, and the taker stops when it is full.
 abbrev pub Chooses : World → Choosing → Candidate → Flow → Choosing → Type 0
 Chooses w old c flow new = (flow ≡ (if is_full new then Stop else GoOn)) × (new ≡ record (judged w old c) { known = new.known })
 
--- Nothing was chosen where nothing could be taken; else of all candidates, up to the one at which it stopped.
+-- If nothing could be taken, nothing was chosen. Otherwise jobs were chosen from all candidates, up to the one at which
+-- it stopped.
 abbrev pub HasChosen : World → Choosing → Choosing → Type 0
 HasChosen w old new =
     ((is_full old ≡ true) × (new ≡ old))

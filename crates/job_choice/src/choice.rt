@@ -15,10 +15,11 @@ use sched_book::{Desk, HostRow, Moment, Place, Unavailable, Version};
 use std::alloc::Global;
 use texts::Text;
 
-/// The most stops of the offers: each finds out about an application, about a workunit, or about all that the user had.
+/// The most stops of the offers: at each one the choice learns about an application, a workunit, or everything that the
+/// user had.
 const MOST_STOPS: usize = MOST_APPS + MOST_LOOKED_AT + 1;
 
-/// Asks what limits the jobs of a host on this day.
+/// Asks for the limits on the jobs of a host on this day.
 fn read_limits<D: Desk>(
     alloc: Global,
     desk: &mut D,
@@ -40,18 +41,18 @@ fn read_limits<D: Desk>(
     })
 }
 
-/// The seconds that are wanted beyond those that the host gets anyway.
+/// The seconds that are wanted in addition to those that the host gets anyway.
 fn still_wanted(asked: u64, before: u64) -> u64
     ensures { result ≡ asked - before }
 {
     asked.saturating_sub(before)
 }
 
-/// The version that the host runs of the application of this name; none where there is no such application.
+/// The version that the host runs of the application of this name; none if there is no such application.
 ///
 /// # Errors
 ///
-/// [`Unavailable`] where memory is wanting or the desk is unavailable.
+/// [`Unavailable`] if there is no memory or the desk is unavailable.
 #[tactic(auto, using(crate::proofs::Known::version_none))]
 pub fn version_for<D: Desk>(
     alloc: Global,
@@ -69,7 +70,7 @@ pub fn version_for<D: Desk>(
     }
 }
 
-/// Whether the host runs a version of the application of this name. Asks which, where that is not known.
+/// Whether the host runs a version of the application of this name. If that is not known, asks which.
 #[tactic(auto, using(crate::proofs::Known::runs_more))]
 fn learn_app<D: Desk>(
     alloc: Global,
@@ -92,7 +93,7 @@ fn learn_app<D: Desk>(
     Ok(runs)
 }
 
-/// Asks what is wanting for a candidate to be judged: which version the host runs of its application, and where it runs one,
+/// Asks for what is needed to judge a candidate: which version the host runs of its application and, if it runs one,
 /// whether the user had its workunit.
 fn learn<D: Desk>(
     alloc: Global,
@@ -113,10 +114,10 @@ fn learn<D: Desk>(
     look_at(alloc, desk, host.account, &mut known.past, unit)
 }
 
-/// Offers the candidates, unless none could be taken. Where the offers stop at one that could not be judged, it asks
-/// what is wanting, and has them go on from there.
+/// Offers the candidates, unless none could be taken. If the offers stop at a candidate that could not be judged, it
+/// asks for what is needed, and the offers continue from there.
 ///
-/// It is unavailable where more applications come up than a world may have.
+/// Unavailable if more applications occur than a world may have.
 fn offer_all<D: Desk>(
     alloc: Global,
     desk: &mut D,
@@ -144,12 +145,12 @@ fn offer_all<D: Desk>(
     Err(Unavailable)
 }
 
-/// Chooses jobs for the host of this number, which has this row, asks for `asked` seconds of work, and gets
-/// `before` seconds of it by jobs that are sent to it again.
+/// Chooses jobs for the host of this number, which has this row and asks for `asked` seconds of work. Jobs that are sent
+/// to it again give it `before` seconds of these.
 ///
-/// `held` is how many jobs it holds. The candidates are offered by place, and no further one once it has enough or
-/// has reached a limit. It is unavailable where memory or the desk is, or where candidates of more applications
-/// come up than a world may have.
+/// `held` is how many jobs it holds. The candidates are offered by place, until the host has enough or a limit is
+/// reached. Unavailable if there is no memory, if the desk is unavailable, or if more applications occur among the
+/// candidates than a world may have.
 pub fn choose<D: Desk>(
     alloc: Global,
     desk: &mut D,

@@ -1,4 +1,4 @@
-//! The taker: what is granted so far, and what it still takes.
+//! The taker: what it has granted so far, and what it still takes.
 
 ghost use Rattle.std.specs.Prelude.{◌≡◌, nat_le, OnOk};
 ghost use Rattle.std.specs.Option.{option_copied};
@@ -18,9 +18,9 @@ use texts::{Listed, Memory, Text};
 pub(crate) struct Limits {
     /// As many as a reply may have.
     pub(crate) reply: u32,
-    /// So many that the host has no more in progress than it may.
+    /// As many as the host may still have in progress.
     pub(crate) progress: u32,
-    /// So many that the host gets no more on this day than it may.
+    /// As many as the host may still get on this day.
     pub(crate) day: u32,
 }
 
@@ -29,20 +29,20 @@ pub(crate) struct Limits {
 pub(crate) struct KnownApp {
     /// Its name.
     pub(crate) app: Text,
-    /// The version that the host runs, where it runs any.
+    /// The version that the host runs, if it runs any.
     pub(crate) version: Option<Version>,
 }
 
-/// What was found out for the host while candidates were offered.
+/// What was learned for the host while candidates were offered.
 #[derive(Drop)]
 pub(crate) struct Known {
-    /// Of which workunits the user had an instance.
+    /// Which workunits the user had an instance of.
     pub(crate) past: UserPast,
-    /// The applications that were asked for.
+    /// The applications that were asked about.
     pub(crate) apps: Listed<KnownApp>,
 }
 
-/// The candidate at which the offers stopped, since it is not known yet which version the host runs of its application, or
+/// The candidate at which the offers stopped. It is not known yet which version the host runs of its application, or
 /// whether the user had its workunit.
 #[derive(Drop)]
 pub(crate) struct Unjudged {
@@ -51,7 +51,7 @@ pub(crate) struct Unjudged {
     pub(crate) app: Text,
 }
 
-/// Who chooses jobs for a host while candidates are offered.
+/// The taker that chooses jobs for a host from the candidates offered.
 #[derive(Drop)]
 pub(crate) struct Choosing<'a> {
     pub(crate) host: &'a HostRow,
@@ -61,11 +61,11 @@ pub(crate) struct Choosing<'a> {
     pub(crate) wanted: u64,
     pub(crate) jobs: Listed<Granted>,
     pub(crate) unjudged: Option<Unjudged>,
-    /// Memory was refused, and an offer is lost.
+    /// There was no memory, and an offer is lost.
     pub(crate) refused: bool,
 }
 
-/// One who was offered nothing yet, and knows nothing of the user's past.
+/// A taker that was offered nothing yet, and knows nothing of the user's past.
 pub(crate) fn begin(alloc: Global, host: &HostRow, limits: Limits, wanted: u64) -> Choosing
     ensures { IsBegun host.now limits wanted result }
 {
@@ -140,8 +140,8 @@ fn has_job(jobs: &[Granted], unit: u32) -> bool
     jobs.iter().any(|job| job.place.unit == unit)
 }
 
-/// Whether nothing of the workunit at this place is taken, whatever it is: there is a job of it, or it is known that the
-/// user had one.
+/// Whether no candidate of the workunit at this place is taken: there is a job of it, or it is known that the user had
+/// one.
 fn is_left(choosing: &Choosing, unit: u32) -> bool
     ensures { result ≡ leaves choosing.now unit }
 {
@@ -156,7 +156,7 @@ fn find_known<'a>(apps: &'a [KnownApp], app: &str) -> Option<&'a KnownApp>
 }
 
 impl Known {
-    /// Whether the host runs a version of the application of this name; `None` where that is not known.
+    /// Whether the host runs a version of the application of this name; `None` if that is not known.
     pub(crate) fn runs(&self, app: &str) -> Option<bool>
         ensures { result ≡ known_runs self.now.apps app.now }
     {
@@ -164,7 +164,7 @@ impl Known {
     }
 }
 
-/// Marks the candidate as one of which too little is known.
+/// Marks the candidate as unjudged: too little is known of it.
 fn leave_unjudged(choosing: &mut Choosing, candidate: &Candidate) -> Result<(), Memory>
     ensures { OnOk result (choosing.new ≡ unjudged_at choosing.old candidate.now) }
 {
@@ -190,9 +190,9 @@ fn take(choosing: &mut Choosing, candidate: &Candidate, version: Version) -> Res
     Ok(())
 }
 
-/// Takes the candidate if the host may have it, or marks it as unjudged where too little is known of it.
+/// Takes the candidate if the host may have it, or marks it as unjudged if too little is known of it.
 ///
-/// The user's past is asked about last, since to find it out costs most.
+/// The user's past comes last, because learning it costs most.
 fn consider(choosing: &mut Choosing, candidate: &Candidate) -> Result<(), Memory>
     ensures { OnOk result (choosing.new ≡ after choosing.old candidate.now) }
 {

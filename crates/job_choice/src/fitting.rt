@@ -8,7 +8,7 @@ ghost use Rattle.sched_book.specs.Fits as spec;
 
 use sched_book::{ClassRule, HostRow, Version, Workunit};
 
-/// The seconds that so many floating-point operations take at so many a second, rounded up, and at least 1.
+/// The seconds that so many floating-point operations take at so many per second, rounded up, and at least 1.
 pub fn estimate(fpops: u64, p_fpops: u64) -> u64
     requires { 0 < p_fpops }
     ensures { result ≡ spec.estimate fpops p_fpops }
@@ -16,7 +16,7 @@ pub fn estimate(fpops: u64, p_fpops: u64) -> u64
     fpops.div_ceil(p_fpops).max(1)
 }
 
-/// The same, and 1 where the speed is 0, which is that of no host.
+/// The same. If the speed is 0, which no host has, the result is 1.
 pub fn seconds_at(fpops: u64, p_fpops: u64) -> u64
     ensures { result ≡ spec.estimate fpops p_fpops }
 {
@@ -46,8 +46,8 @@ fn has_suited(rule: &ClassRule, version: Option<&Version>) -> bool
     }
 }
 
-/// Whether a host has the memory, the disk, the speed and a version for a workunit, of the class that it keeps to. A host of
-/// unknown speed counts as fast.
+/// Whether a host has the memory, disk, speed and a version for a workunit, and the version suits the class that the
+/// workunit keeps to. A host of unknown speed counts as fast.
 pub fn fits(host: &HostRow, unit: &Workunit, version: Option<&Version>) -> bool
     ensures { result ≡ spec.fits host.now unit.now (option_copied version.entry) }
 {

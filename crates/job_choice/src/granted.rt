@@ -7,7 +7,7 @@ use texts::Listed;
 /// A job that a host is given.
 #[derive(Drop)]
 pub struct Granted {
-    /// Where the instance stands.
+    /// The place of the instance.
     pub place: Place,
     /// Seconds that the job takes on the host.
     pub estimate: u64,

@@ -1,10 +1,9 @@
 //! Which jobs a host is given.
 //!
-//! [`choose`] asks a desk for what bears on the choice, and is then offered the candidates in their order. It
-//! takes each that the host may have, until the host has enough or a limit is reached. Which version the host runs
-//! of an application is asked only once a candidate needs it, and whether the user had a workunit only where the
-//! host runs its application. What is chosen is the one grant that the definitions allow: a maximal list of jobs, by
-//! place.
+//! [`choose`] asks a desk for what matters to the choice. It is then offered the candidates in their order, and takes
+//! each that the host may have, until the host has enough or a limit is reached. It asks which version the host runs of
+//! an application only when a candidate needs it. It asks whether the user had a workunit only if the host runs its
+//! application. The choice is the one grant that the definitions allow: a maximal list of jobs, by place.
 #![tactic(auto)]
 
 pub mod choice;

@@ -1,4 +1,4 @@
-//! What is known of a user's past: the workunits of which the user had an instance.
+//! What is known of a user's past: the workunits that the user had an instance of.
 
 ghost use Rattle.std.specs.Prelude.{◌≡◌, is_some, IsTrue, IfOk, OnOk};
 ghost use Rattle.std.specs.List.{list_any};
@@ -12,7 +12,7 @@ use sched_book::{Desk, Instance, Unavailable};
 use std::alloc::Global;
 use texts::{Listed, Memory, SeenSet};
 
-/// The most workunits that are looked at one by one. Behind them the desk is asked for all that the user had.
+/// The most workunits that are looked at one by one. After them the desk is asked for all that the user had.
 pub(crate) const MOST_LOOKED_AT: usize = 8;
 
 /// What was found of a workunit that was looked at by itself.
@@ -24,16 +24,16 @@ pub(crate) struct LookedAt {
     pub(crate) had: bool,
 }
 
-/// What is known of the workunits of which the user had an instance.
+/// What is known of the workunits that the user had an instance of.
 #[derive(Drop)]
 pub(crate) enum UserPast {
-    /// It is known of the workunits that were looked at.
+    /// Only the workunits that were looked at are known.
     InPart(Listed<LookedAt>),
-    /// It is known of every workunit: these are all that the user had.
+    /// Every workunit is known: these are all that the user had.
     Whole(SeenSet<u32>),
 }
 
-/// The look at the workunit at this place, where there is one.
+/// The look at the workunit at this place, if there is one.
 fn find_look(looks: &[LookedAt], unit: u32) -> Option<&LookedAt>
     ensures { option_copied result ≡ look_of looks.now unit }
 {
@@ -41,7 +41,7 @@ fn find_look(looks: &[LookedAt], unit: u32) -> Option<&LookedAt>
 }
 
 impl UserPast {
-    /// Whether the user had an instance of the workunit at this place; `None` where that is not known.
+    /// Whether the user had an instance of the workunit at this place; `None` if that is not known.
     pub(crate) fn user_had(&self, unit: u32) -> Option<bool>
         ensures { result ≡ known_had self.now unit }
     {
@@ -61,7 +61,7 @@ impl UserPast {
         }
     }
 
-    /// Takes note of one more look, where not all is known.
+    /// Notes one more look, unless everything is known.
     fn note(&mut self, look: LookedAt) -> Result<(), Memory>
         ensures { OnOk result (self.new ≡ with_look self.old look) }
     {
@@ -126,7 +126,7 @@ fn user_had<D: Desk>(
     is_any_of_user(alloc, desk, account, instances.as_slice())
 }
 
-/// All workunits of which the user had an instance.
+/// All workunits that the user had an instance of.
 fn units_had<D: Desk>(
     alloc: Global,
     desk: &mut D,
@@ -140,8 +140,8 @@ fn units_had<D: Desk>(
     Ok(SeenSet::of(alloc, units.as_slice())?)
 }
 
-/// Finds out whether the user had the workunit at this place, where that is not known: by the hosts of its instances, or,
-/// once [`MOST_LOOKED_AT`] workunits were looked at, by the list of all that the user had.
+/// Learns whether the user had the workunit at this place, if that is not known yet. It looks at the hosts of the
+/// workunit's instances or, after [`MOST_LOOKED_AT`] such looks, at the list of all that the user had.
 pub(crate) fn look_at<D: Desk>(
     alloc: Global,
     desk: &mut D,

@@ -1,4 +1,4 @@
--- The fates of lost jobs, as changes and as what becomes of a world.
+-- The fates of lost jobs, as changes and as what they do to a world.
 use Rattle.std.proofs.Common.{◌≡◌, ℕ, zero, suc, ◌-◌, Bool, true, false, cond, eqb, List, [], ◌∷◌, map, Option, Some, None, sym, refl, ap, ◌∙◌, subst}
 use Rattle.std.specs.Prelude.{fold, filter_map, option_map, option_and_then, slice_get}
 use Rattle.std.specs.List.{cons_option}
@@ -17,7 +17,7 @@ use Rattle.sched_book.proofs.Recording.{instance_at-with_changed, is_same-true}
 use Rattle.lost_jobs.specs.Fated.{fated, with_fate, fate_change, AreByPlace}
 use Rattle.lost_jobs.specs.declared.fates.Fate.{Fate}
 
--- two changes that do the same to what stands at a place
+-- two functions that agree on the element at an index change the list alike
 modify_at-same : {X : Type 0} (f g : X → X) (xs : List X) (i : ℕ) → ((x : X) → slice_get xs i ≡ Some x → f x ≡ g x)
     → modify_at f xs i ≡ modify_at g xs i
 modify_at-same f g [] i same = refl
@@ -56,7 +56,7 @@ module _ (w : World) (p : Place) where
       (modify_nth-same (with_number f p.number) (with_number g p.number) w.units p.unit
       (λ b is. ap (λ xs. record b { instances = xs }) (modify_at-same f g b.instances p.number (λ x there. same x (stands_at b is ∙ there)))))
 
-  -- where no instance stands nothing is changed
+  -- if there is no instance, nothing is changed
   with_changed-none : (f : Instance → Instance) → instance_at w p ≡ None → with_changed f w p ≡ w
   with_changed-none f none =
       with_changed-same f (λ x. x) (λ x stands. let never : None ≡ Some x = sym none ∙ stands in absurd cc)
@@ -65,7 +65,7 @@ module _ (w : World) (p : Place) where
       (λ b is. ap (λ xs. record b { instances = xs }) (modify_at-none b.instances p.number))
       ∙ modify_nth-none w.units p.unit)
 
-  -- where one stands it is put as it is changed
+  -- if there is one, the changed instance is put in its place
   pub with_changed-is : (f : Instance → Instance) (x : Instance) → instance_at w p ≡ Some x → with_changed f w p ≡ applied_one w (change.Instance p (f x))
   with_changed-is f x stands =
       ap (λ units. record w { units = units })
@@ -87,7 +87,7 @@ module _ (r : Place → Option ℕ) (before : World) where
   abbrev pub by_place : Place → Fate
   by_place p = record { place = p; resent = r p }
 
-  -- the fate of what stands at each place is that of what stood there before any
+  -- at each place the fate of the instance is that of the instance before any fate
   abbrev pub Alike : World → Type 0
   Alike w = (p : Place) → option_map (fated (r p)) (instance_at w p) ≡ option_map (fated (r p)) (instance_at before p)
 
@@ -125,7 +125,7 @@ module _ (r : Place → Option ℕ) (before : World) where
       one w p (filter_map (fate_change before) (map by_place ps)) (instance_at before p) (instance_at w p) refl (alike p)
       ∙ in_turn (with_fate w (by_place p)) ps (stay_alike w p alike)
 
--- the changes of fates that follow from the places are these fates in turn
+-- the changes of fates that follow from the places do the same as these fates in turn
 pub made_by_fates : (w : World) (fates : List Fate) → AreByPlace fates → applied w (filter_map (fate_change w) fates) ≡ fold with_fate w fates
 made_by_fates w fates by =
     subst (λ fs. applied w (filter_map (fate_change w) fs) ≡ fold with_fate w fs) (sym by.are)

@@ -16,7 +16,7 @@ use Rattle.texts.specs.SeenSet.{has_seen}
 use Rattle.lost_jobs.specs.Holding.{HoldsNoMore, is_missing}
 use Rattle.texts.specs.declared.seen_set.SeenSet.{SeenSet}
 
--- what an instance passes, where one stands
+-- a test of an instance; false if there is none
 abbrev test : (Instance → Bool) → Option Instance → Bool
 test g o = unwrap_or (option_map g o) false
 
@@ -24,7 +24,7 @@ abbrev stands_in : List UnitBook → ℕ → ℕ → Option Instance
 stands_in bs j i = option_and_then (λ (b : UnitBook). slice_get b.instances i) (slice_get bs j)
 
 module _ (g : Instance → Bool) (t : Place → Bool) where
-  -- a first place, which is in the later list only where it is in the earlier
+  -- a first place, which is in the later list only if it is in the earlier one
   step : (now before : Bool) (p : Place) (xs ys : List Place) → t p ≡ now → (now ≡ true → before ≡ true) → xs ≡ filter t ys
       → cond now (p ∷ xs) xs ≡ filter t (cond before (p ∷ ys) ys)
   step true true p xs ys is less rest = ap (λ zs. p ∷ zs) rest ∙ sym (ap (λ (b : Bool). cond b (p ∷ filter t ys) (filter t ys)) is)
@@ -67,7 +67,7 @@ module _ (g : Instance → Bool) (t : Place → Bool) where
       ∙ ap (λ ps. filter t (places_in unit 0 g ys) ++ ps) rest
       ∙ sym (filter-append t (places_in unit 0 g ys) (places_among (unit + 1) (λ b x. g x) bs))
 
-  -- the same of workunits
+  -- the same for workunits
   among : (unit : ℕ) (cs bs : List UnitBook)
       → ((j i : ℕ) → t (record { unit = unit + j; number = i }) ≡ test g (stands_in cs j i))
       → ((j i : ℕ) → test g (stands_in cs j i) ≡ true → test g (stands_in bs j i) ≡ true)
@@ -83,14 +83,14 @@ module _ (g : Instance → Bool) (t : Place → Bool) where
       both unit c.instances b.instances (places_among (unit + 1) (λ b x. g x) cs) bs
       (λ i. here unit i ∙ is 0 i) (less 0) (among (unit + 1) cs bs (λ j i. next unit j i ∙ is (suc j) i) (λ j. less (suc j)))
 
--- a test of what stands at a place of a world, by the indices
+-- a test of the instance at a place of a world, by the indices
 at_index : (g : Instance → Bool) (w : World) (j i : ℕ) → passes w (λ b x. g x) (record { unit = 1 + j; number = i }) ≡ test g (stands_in w.units j i)
 at_index g w j i =
     passes-is w g (record { unit = 1 + j; number = i })
     ∙ ap (λ n. test g (option_and_then (λ (b : UnitBook). slice_get b.instances i) (nth w.units n))) (let same : 1 + j ≡ suc j = omega arith in same)
     ∙ ap (λ o. test g (option_and_then (λ (b : UnitBook). slice_get b.instances i) o)) (nth-suc w.units j)
 
--- what the host holds after is what it held before, as far as it still holds it
+-- what the host holds afterwards is what it held before and still holds
 pub held_after : (before after : World) (host : ℕ) → HoldsNoMore before after host
     → held_by after host ≡ filter (passes after (λ b x. is_held_by host x)) (held_by before host)
 held_after before after host no_more =
@@ -110,7 +110,7 @@ filter_twice p q (x ∷ xs) = cases (p x) (q x) (filter_twice p q xs) refl
     cases true false rest is = ap (λ (b : Bool). cond b (x ∷ filter q (filter p xs)) (filter q (filter p xs))) is ∙ rest
     cases false t rest is = rest
 
--- the missing ones among what the host held are those that it holds and does not list
+-- the missing ones among what the host held are those that it holds and its client does not list
 pub unlisted_is : (before after : World) (host : ℕ) (set : SeenSet (List ℕ)) (names : List (List ℕ))
     → ((name : List ℕ) → has_seen bytes_eq set name ≡ list_any (bytes_eq name) names) → HoldsNoMore before after host
     → filter (is_missing after host set) (held_by before host) ≡ unlisted after host (Some names)
@@ -120,7 +120,7 @@ unlisted_is before after host set names has no_more =
     (filter (passes after (λ b x. is_held_by host x)) (held_by before host))
     ∙ ap (filter (λ p. not (is_listed after names p))) (sym (held_after before after host no_more))
 
--- where lost jobs are sent again, those lost are those not listed; where not, there are none
+-- if lost jobs are sent again, the lost ones are those not listed; otherwise there are none
 pub lost_is : (w : World) (resends : Bool) (host : ℕ) (names : Option (List (List ℕ))) → w.settings.resend_lost_results ≡ resends
     → lost w host names ≡ cond resends (unlisted w host names) []
 lost_is w resends host names is = ap (λ (b : Bool). cond b (unlisted w host names) []) is

@@ -1,4 +1,4 @@
--- What a leaf says of lost jobs, as the worlds before the call and now say it.
+-- A leaf says the same of lost jobs as the worlds before the call and now.
 use Rattle.std.proofs.Common.{◌≡◌, ℕ, Bool, true, false, cond, List, [], Option, Some, None, sym, refl, ap, ap₂, ◌∙◌}
 use Rattle.std.specs.Prelude.{◌&&◌, not, option_map, option_and_then, unwrap_or}
 use Rattle.std.specs.Str.{bytes_eq}
@@ -36,7 +36,7 @@ name_on-is : (entry present : World) (p : Place) (o : Option Leaf) → IsReadAt 
 name_on-is entry present p None read = sym (ap (named_by p.number) read.0)
 name_on-is entry present p (Some k) read = sym (ap (named_by p.number) read.here)
 
--- what the host holds and does not list
+-- what the host holds and its client does not list
 pub missing-is : (host : ℕ) (listed : SeenSet (List ℕ)) (entry present : World) (p : Place) (o : Option Leaf) → IsReadAt entry present p.unit o
     → is_missing_on host listed o p.number ≡ is_missing present host listed p
 missing-is host listed entry present p o read =
@@ -54,7 +54,7 @@ change-is entry present f o read =
 
 pub ruleset change_steps = (change-is)
 
--- a job is sent again where its workunit is open and it fits the host
+-- a job is sent again if its workunit is open and it fits the host
 module _ (w : World) (h : HostRow) (now : ℕ) (p : Place) where
   abbrev made : Workunit → Status → ℕ → Option OpenJob
   made u s deadline = cond (is_open s) (Some (record { unit = u; deadline = deadline })) None
@@ -89,7 +89,7 @@ module _ (w : World) (h : HostRow) (now : ℕ) (p : Place) where
   by_book None = refl
   by_book (Some b) = either (status_at w p.unit) (is_open (status_at w p.unit)) b refl
 
-  -- so the job that its leaf told is sent again
+  -- so the job that its leaf gives is sent again
   pub resent-is : (present : World) (o : Option Leaf) (job : Option OpenJob) → IsReadAt w present p.unit o → job ≡ open_job_on o p.number
       → option_and_then here job ≡ resent_to w h now p
   resent-is present o job read told = ap (option_and_then here) (told ∙ job-is present o read) ∙ by_book (unit_at w p.unit)

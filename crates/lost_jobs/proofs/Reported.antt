@@ -18,7 +18,7 @@ use Rattle.lost_jobs.specs.Laws.{ReportsHoldNoMore, ReportsKeepDeadlines}
 abbrev deadline_in : Option Instance → ℕ
 deadline_in o = unwrap_or (option_map (λ (x : Instance). deadline_of x.owner) o) 0
 
--- who reported an instance does not hold it
+-- a host does not hold an instance that it reported
 not_held : (host : ℕ) (r : Report) (place : Option ℕ) (x : Instance) → is_held_by host (with_report r place x) ≡ false
 not_held host r place x = both (is_owned_by host x) (is_some x.owner) (is_none x.lapse)
   where
@@ -44,7 +44,7 @@ reports_keep_deadlines entry host reports p holds = elim (reports_are_recorded_b
   | inr told ↦ ap deadline_in told.recorded ∙ sym (ap deadline_in told.stood)
 ]
 
--- who holds an instance may report it
+-- a host may report an instance that it holds
 held_awaits : (host : ℕ) (x : Instance) → is_held_by host x ≡ true → awaits_report host x ≡ true
 held_awaits host x held = cases (is_owned_by host x) (is_some x.owner) (is_none x.report) (is_none x.lapse) held
   where
@@ -69,7 +69,7 @@ module _ (entry : World) (host : ℕ) (reports : List Report) (p : Place) where
   recorded_not_held told =
       passes-is (recorded entry host reports) (is_held_by host) p ∙ ap holds_in told.recorded ∙ not_held host told.report told.place told.before
 
-  -- what the host holds after the reports none of them names
+  -- no report names what the host still holds after the reports
   pub held_unreported : holds (recorded entry host reports) ≡ true → (t : Report) → Contains reports t → IsNamedBy t → ⊥
   held_unreported held t there names = at_place (instance_at entry p) refl (sym (passes-is entry (is_held_by host) p) ∙ before)
     where
@@ -85,7 +85,7 @@ module _ (entry : World) (host : ℕ) (reports : List Report) (p : Place) where
           let never : true ≡ false = sym held ∙ recorded_not_held told in
           absurd cc
 
-  -- and what it held and none of them names it holds
+  -- what the host held and no report names, it still holds
   pub unreported_held : holds entry ≡ true → ((t : Report) → Contains reports t → IsNamedBy t → ⊥) → holds (recorded entry host reports) ≡ true
   unreported_held held unreported = elim (reports_are_recorded_by_place entry host reports p).stays_or_recorded [
     | inl same ↦

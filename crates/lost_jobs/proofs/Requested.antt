@@ -23,7 +23,7 @@ use Rattle.lost_jobs.specs.Holding.{HoldsNoMore}
 use Rattle.lost_jobs.specs.Requested.{RecordsReports, IsLostBy, AreLostBy, LostJobsAreOfTheRequest}
 use Rattle.lost_jobs.proofs.Reported.{reports_hold_no_more, held_unreported, unreported_held}
 
--- names stay where the rows of workunits do
+-- names stay if the rows of workunits do
 names_stay : (old new : World) → ChangesInstancesAlone old new → (p : Place) → name_at new p ≡ name_at old p
 names_stay old new same p =
     by_row new
@@ -81,7 +81,7 @@ module _ (w : World) (hosts : List HostRow) (host : ℕ) (r : Request) where
 pub lost_jobs_are_of_the_request : LostJobsAreOfTheRequest
 lost_jobs_are_of_the_request w hosts host r = are_lost_by w hosts host r
 
--- what is lost of two worlds is lost of the same two
+-- what was lost between two worlds was lost between equal ones
 pub lost_of_both : (host : ℕ) (r : Request) (ps : List Place) (v before changed after : World) → v ≡ before → changed ≡ after
     → (HoldsNoMore v changed host → ps ≡ lost changed host r.other_results)
     → HoldsNoMore before after host → ps ≡ lost after host r.other_results
@@ -89,7 +89,7 @@ lost_of_both host r ps v before changed after same_before same_after are no_more
     are (subst (λ u. HoldsNoMore u changed host) (sym same_before) (subst (λ u. HoldsNoMore before u host) (sym same_after) no_more))
     ∙ ap (λ u. lost u host r.other_results) same_after
 
--- the lost jobs after changes that record the reports, which leave the host no more than it held before
+-- the lost jobs after changes that record the reports: after these the host holds no more than before
 pub lost_by_request : (w : World) (changes : List Change) (host : ℕ) (r : Request) → RecordsReports w changes host r → (ps : List Place)
     → (HoldsNoMore w (applied w changes) host → ps ≡ lost (applied w changes) host r.other_results) → AreLostBy w host r ps
 lost_by_request w changes host r records ps are =

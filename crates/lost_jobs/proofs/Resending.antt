@@ -1,4 +1,4 @@
--- The fates of lost jobs are what the definition makes of each in turn.
+-- The fates of lost jobs do what the definition does with each job in turn.
 use Rattle.std.proofs.Common.{◌≡◌, ℕ, ◌+◌, Bool, true, false, cond, List, [], ◌∷◌, map, Option, Some, None, sym, refl, ap, ◌∙◌}
 use Rattle.std.specs.Prelude.{fold, option_map, unwrap_or, nat_le, Contains}
 use Rattle.std.proofs.lemmas.List.Elements.{All-contains}
@@ -41,7 +41,7 @@ module _ (entry : World) (h : HostRow) (now : ℕ) where
   abbrev deadline_in : Option Instance → ℕ
   deadline_in o = unwrap_or (option_map (λ (x : Instance). deadline_of x.owner) o) 0
 
-  -- moving the deadline at a place comes to the same as at entry
+  -- moving the deadline at a place gives the same as at entry
   abbrev IsReady : World → Place → Type 0
   IsReady w p = moved p (deadline_at w p) ≡ moved p (deadline_at entry p)
 
@@ -58,7 +58,7 @@ module _ (entry : World) (h : HostRow) (now : ℕ) where
   dropped None = refl
   dropped (Some x) = refl
 
-  -- what is done at one place leaves each ready
+  -- a change at one place keeps each place ready
   stay_ready : (w : World) (q p : Place) → IsReady w p → IsReady (resend_or_drop entry h now w q) p
   stay_ready w q p ready = by_fate (is_resent entry h q)
     where

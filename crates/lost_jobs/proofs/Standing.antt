@@ -1,4 +1,4 @@
--- What stands at a place.
+-- The instance at a place, and its name.
 use Rattle.std.proofs.Common.{◌≡◌, ℕ, Bool, true, List, [], Option, Some, None, refl, sym, ap, ◌∙◌}
 use Rattle.std.specs.Prelude.{option_map, unwrap_or, not, ◌||◌}
 use Rattle.sched_book.specs.Count.{has_failed}
@@ -27,7 +27,7 @@ name_none w p none = by_unit p (unit_at w p.unit) ∙ ap (λ o. unwrap_or (optio
 pub name_some : (w : World) (p : Place) (u : Workunit) → workunit_at w p.unit ≡ Some u → name_at w p ≡ instance_name u.name p.number
 name_some w p u stands = by_unit p (unit_at w p.unit) ∙ ap (λ o. unwrap_or (option_map (λ (u : Workunit). instance_name u.name p.number) o) []) stands
 
--- whether it awaits a report decides on its name
+-- whether it awaits a report, and whether its workunit failed, decide on its name
 pub aborted-is : (w : World) (host : ℕ) (name : List ℕ) (p : Place) (o : Option Instance) (awaits : Bool)
     → Some p ≡ place_named w name → o ≡ instance_at w p → option_any (awaits_report host) o ≡ awaits
     → (not awaits || has_failed (status_at w p.unit)) ≡ is_aborted w host name

@@ -20,11 +20,11 @@ fated (Some deadline) x = with_deadline (λ before. deadline) x
 abbrev pub with_fate : World → Fate → World
 with_fate w f = with_changed (fated f.resent) w f.place
 
--- the same as a change; there is none where no instance stands
+-- the same as a change; none if there is no instance
 abbrev pub fate_change : World → Fate → Option Change
 fate_change w f = option_map (λ x. change.Instance f.place (fated f.resent x)) (instance_at w f.place)
 
--- Fates that follow from the places: two of one place are the same.
+-- Fates that follow from the places: two fates of one place are the same.
 pub record AreByPlace (fates : List Fate) : Type 0 where
   pub places : List Place
   pub resent_at : Place → Option ℕ

@@ -1,4 +1,4 @@
--- Rule. What a host holds, and what of it its client does not list.
+-- Rule. What a host holds, and which of it its client does not list.
 use Rattle.std.specs.Prelude.{◌≡◌, ℕ, Bool, true, not, ◌&&◌, List}
 use Rattle.std.specs.Str.{bytes_eq}
 use Rattle.sched_book.specs.Places.{passes, is_held_by, name_at}
@@ -8,7 +8,7 @@ use Rattle.sched_book.specs.declared.world.World.{World}
 use Rattle.texts.specs.SeenSet.{has_seen}
 use Rattle.texts.specs.declared.seen_set.SeenSet.{SeenSet}
 
--- each instance that the host holds after changes it held before
+-- each instance that the host holds after changes was held by it before
 abbrev pub HoldsNoMore : World → World → ℕ → Type 0
 HoldsNoMore before after host =
     (p : Place) → passes after (λ b x. is_held_by host x) p ≡ true → passes before (λ b x. is_held_by host x) p ≡ true

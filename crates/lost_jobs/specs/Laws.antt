@@ -1,4 +1,4 @@
--- Rule. What the definitions come to.
+-- Rule. What follows from the definitions.
 use Rattle.std.specs.Prelude.{◌≡◌, ℕ, List, map, fold, Option}
 use Rattle.rpc_records.specs.declared.request.Report.{Report}
 use Rattle.sched_book.specs.Reports.{recorded}
@@ -16,8 +16,8 @@ ReportsHoldNoMore = (entry : World) (host : ℕ) (reports : List Report) → Hol
 abbrev pub ReportsKeepDeadlines : Type 0
 ReportsKeepDeadlines = (entry : World) (host : ℕ) (reports : List Report) → KeepsDeadlines entry (recorded entry host reports) host
 
--- The fates of the lost jobs follow from their places, and come to sending each again or dropping it, where what
--- the host holds has the deadlines that it had at entry.
+-- The fates of the lost jobs follow from their places, and send each job again or drop it. This assumes that what the
+-- host holds has the deadlines that it had at entry.
 abbrev pub FatesResendOrDrop : Type 0
 FatesResendOrDrop = (entry w : World) (h : HostRow) (now host : ℕ) (names : Option (List (List ℕ))) → KeepsDeadlines entry w host
     → AreByPlace (map (fate entry h now) (lost w host names))

@@ -15,7 +15,7 @@ use Rattle.lost_jobs.specs.declared.fates.OpenJob.{OpenJob}
 use Rattle.texts.specs.SeenSet.{has_seen}
 use Rattle.texts.specs.declared.seen_set.SeenSet.{SeenSet}
 
--- the name of an instance, empty where no workunit stands
+-- the name of an instance; empty if there is no workunit
 abbrev pub name_on : Option Leaf → ℕ → List ℕ
 name_on None number = []
 name_on (Some k) number = instance_name k.unit.name number
@@ -32,6 +32,6 @@ open_job_on (Some k) number =
     then Some (record { unit = k.unit; deadline = unwrap_or (option_map (λ (x : Instance). deadline_of x.owner) (slice_get k.before number)) 0 })
     else None
 
--- what a fate changes of the instance as it is now; nothing where none stands
+-- what a fate changes of the instance as it is now; nothing if there is no instance
 abbrev pub change_on : Option Leaf → Fate → Option Change
 change_on k f = option_map (λ x. change.Instance f.place (fated f.resent x)) (instance_now k f.place.number)

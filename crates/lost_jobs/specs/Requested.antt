@@ -1,4 +1,5 @@
--- Rule. What a request lost, in the world that it finds: the jobs that its host held, that it neither reports nor lists.
+-- Rule. What a request lost, in the world that it finds: the jobs that its host held, and that it neither reports nor
+-- lists.
 use Rattle.std.specs.Prelude.{◌≡◌, ℕ, true, List, All, AllPairs, Contains, Some}
 use Rattle.rpc_records.specs.declared.request.Report.{Report}
 use Rattle.rpc_records.specs.declared.request.Request.{Request}
@@ -16,8 +17,8 @@ pub record RecordsReports (w : World) (changes : List Change) (host : ℕ) (r : 
   pub hosts : List HostRow
   pub is : applied w changes ≡ recorded (record w { hosts = hosts }) host r.results
 
--- Lost jobs are sent again, the client sent a list, the host held the instance at the place, no report of the request
--- names it, and the list has not its name.
+-- Lost jobs are sent again, the client sent a list, and the host held the instance at the place. No report of the
+-- request names it, and its name is not in the list.
 pub record IsLostBy (w : World) (host : ℕ) (r : Request) (p : Place) : Type 0 where
   pub resends : w.settings.resend_lost_results ≡ true
   pub listed : List (List ℕ)
@@ -32,7 +33,7 @@ pub record AreLostBy (w : World) (host : ℕ) (r : Request) (ps : List Place) : 
   pub none_missed : (p : Place) → IsLostBy w host r p → Contains ps p
   pub rising : AllPairs (λ p q. is_before p q ≡ true) ps
 
--- what is lost after a request's reports, where the rows of hosts were renewed before them
+-- the lost jobs after a request's reports, if the rows of hosts were renewed before these
 abbrev pub LostJobsAreOfTheRequest : Type 0
 LostJobsAreOfTheRequest = (w : World) (hosts : List HostRow) (host : ℕ) (r : Request)
     → AreLostBy w host r (lost (recorded (record w { hosts = hosts }) host r.results) host r.other_results)

@@ -9,8 +9,8 @@ use sched_book::{Unavailable, Units, first_of_each, place_named, status_at};
 use std::alloc::Global;
 use texts::{Listed, Text};
 
-/// Whether the client of the host may forget this name: no instance of it awaits a report of the host, or its workunit has
-/// failed.
+/// Whether the client of the host may forget this name: no instance of the name awaits a report of the host, or its
+/// workunit has failed.
 fn is_aborted<U: Units>(
     alloc: Global,
     units: &mut U,
@@ -33,9 +33,9 @@ fn is_aborted<U: Units>(
     Ok(status_at(alloc, units, place.unit)?.has_failed())
 }
 
-/// The names of the client's list that it may forget, each once, in their order.
+/// The names in the client's list that it may forget, each once, in their order.
 ///
-/// Such a name is of no instance of its host, or of one that was reported, or its workunit has failed.
+/// A client may forget the name of no instance of its host, of one that was reported, and of one of a failed workunit.
 pub fn aborts<U: Units>(
     alloc: Global,
     units: &mut U,

@@ -24,7 +24,7 @@ fn fated(resent: Option<u64>, instance: &Instance) -> Result<Instance, Memory>
     Ok(row)
 }
 
-/// What a fate changes on a leaf; nothing where no instance stands.
+/// What a fate changes on a leaf; nothing if there is no instance.
 fn change_on(leaf: Option<&Leaf>, fate: Fate) -> Result<Option<Change>, Memory>
     ensures { IfOk result (λ change. change ≡ change_on (option_copied leaf.entry) fate) }
 {
@@ -41,11 +41,11 @@ fn change_on(leaf: Option<&Leaf>, fate: Fate) -> Result<Option<Change>, Memory>
     }
 }
 
-/// Puts what these fates change on the sheet of a call. Two fates of one place have to be the same.
+/// Puts what these fates change on the sheet of a call. Two fates of one place must be the same.
 ///
 /// # Errors
 ///
-/// [`Unavailable`] where memory is wanting or the desk is unavailable.
+/// [`Unavailable`] if there is no memory or the desk is unavailable.
 #[tactic(auto, using(crate::proofs::OnLeaves::change_steps))]
 pub fn put_fates<S: Draft>(alloc: Global, sheet: &mut S, fates: &[Fate]) -> Result<(), Unavailable>
     ensures works { S.works sheet.old sheet.new }

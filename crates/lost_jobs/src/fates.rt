@@ -1,4 +1,4 @@
-//! What becomes of lost jobs.
+//! What happens to lost jobs.
 
 ghost use Rattle.std.specs.Prelude.{◌≡◌, map, IfOk};
 ghost use Rattle.std.specs.Option.{option_copied};
@@ -14,11 +14,11 @@ use sched_book::{HostRow, Moment, Place, Unavailable, Version, Workunit, copy_of
 use std::alloc::Global;
 use texts::{Listed, Memory};
 
-/// What becomes of a lost job.
+/// What happens to a lost job.
 #[derive(Clone, Copy)]
 pub struct Fate {
     pub place: Place,
-    /// Its deadline where it is sent again, and none where it is dropped.
+    /// Its new deadline if it is sent again, and none if it is dropped.
     pub resent: Option<u64>,
 }
 
@@ -26,11 +26,11 @@ pub struct Fate {
 #[derive(Drop)]
 pub(crate) struct OpenJob {
     pub(crate) unit: Workunit,
-    /// Its deadline, 0 where nobody was given it.
+    /// Its deadline; 0 if it was given to nobody.
     pub(crate) deadline: u64,
 }
 
-/// The deadline of a job that is sent again: it stays where the host can still meet it.
+/// The deadline of a job that is sent again: it stays if the host can still meet it.
 fn deadline_after(now: Moment, seconds: u64, delay: u32, deadline: u64) -> u64
     ensures { result ≡ deadline_after now seconds delay deadline }
 {
@@ -40,7 +40,7 @@ fn deadline_after(now: Moment, seconds: u64, delay: u32, deadline: u64) -> u64
     }
 }
 
-/// The job of a number on a leaf, where its workunit was open.
+/// The job of a number on a leaf, if its workunit was open.
 fn open_job_on(leaf: Option<&Leaf>, number: u32) -> Result<Option<OpenJob>, Memory>
     ensures { IfOk result (λ job. job ≡ open_job_on (option_copied leaf.entry) number) }
 {
@@ -61,12 +61,12 @@ fn open_job_on(leaf: Option<&Leaf>, number: u32) -> Result<Option<OpenJob>, Memo
     }))
 }
 
-/// The version that the host runs of the application of this name, on the sheet of its call; none where there is no such
+/// The version that the host runs of the application of this name, on the sheet of its call; none if there is no such
 /// application.
 ///
 /// # Errors
 ///
-/// [`Unavailable`] where memory is wanting or the desk is unavailable.
+/// [`Unavailable`] if there is no memory or the desk is unavailable.
 #[tactic(auto, using(job_choice::proofs::Known::version_none))]
 pub fn version_on<S: Draft>(
     alloc: Global,
@@ -84,7 +84,7 @@ pub fn version_on<S: Draft>(
     }
 }
 
-/// The deadline to which a lost job is sent again, where it is.
+/// The new deadline of a lost job that is sent again; none if it is dropped.
 fn resent_to<S: Draft>(
     alloc: Global,
     sheet: &mut S,
@@ -107,14 +107,14 @@ fn resent_to<S: Draft>(
     Ok(fits(host, unit, version.as_ref()).then_some(deadline))
 }
 
-/// What becomes of these lost jobs of a host, which has this row now, on the sheet of its call.
+/// What happens to these lost jobs of a host, which has this row now, on the sheet of its call.
 ///
-/// A job is sent again where its workunit was open when the call came and fits the host; its deadline then stays where
-/// the host can meet it, or else is as for a new job. The others are dropped.
+/// A job is sent again if its workunit was open when the call came and fits the host. Its deadline stays if the host can
+/// meet it; otherwise it is that of a new job. The other jobs are dropped.
 ///
 /// # Errors
 ///
-/// [`Unavailable`] where memory is wanting or the desk is unavailable.
+/// [`Unavailable`] if there is no memory or the desk is unavailable.
 pub fn fates_on<S: Draft>(
     alloc: Global,
     sheet: &mut S,

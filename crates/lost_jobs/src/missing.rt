@@ -36,13 +36,13 @@ fn is_missing_on(
     }
 }
 
-/// The jobs of the host that its client lost, on the sheet of its call: of the places that it held when the call
-/// came, those that it still holds and does not list, by place. There are none where lost jobs are not sent again, or
-/// where the client sent no list.
+/// The jobs of the host that its client lost, on the sheet of its call, by place. Of the places that the host held when
+/// the call came, they are those that it still holds and does not list. There are none if lost jobs are not sent again,
+/// or if the client sent no list.
 ///
 /// # Errors
 ///
-/// [`Unavailable`] where memory is wanting or the desk is unavailable.
+/// [`Unavailable`] if there is no memory or the desk is unavailable.
 #[tactic(auto, using(crate::proofs::OnLeaves::missing_steps))]
 pub fn lost_on<S: Draft>(
     alloc: Global,

@@ -1,5 +1,5 @@
-//! Calls that the program does not make, for who has a desk and no sheet: tests, and another scheduler. They open a sheet
-//! for the steps that the program runs, [`lost_on`] and [`fates_on`].
+//! Calls that the program does not make. They are for a caller that has a desk and no sheet: tests, or another
+//! scheduler. They open a sheet for the steps that the program runs, [`lost_on`] and [`fates_on`].
 
 ghost use Rattle.std.specs.Prelude.{◌≡◌, map, IfOk};
 ghost use Rattle.sched_book.specs.Delta.{applied};
@@ -17,10 +17,10 @@ use sched_book::{Delta, Desk, HostRow, Moment, Place, Unavailable};
 use std::alloc::Global;
 use texts::Listed;
 
-/// The jobs of the host that its client lost: what it still holds after changes and the client does not list, by
-/// place. There are none where lost jobs are not sent again, or where the client sent no list. The changes must
-/// leave the host no job that it did not hold before; where they record the request's reports, the lost jobs are those
-/// that it held before, and that the request neither reports nor lists.
+/// The jobs of the host that its client lost, by place: what the host still holds after changes and the client does not
+/// list. There are none if lost jobs are not sent again, or if the client sent no list. The changes must leave the host
+/// no job that it did not hold before. If they record the request's reports, the lost jobs are those that the host held
+/// before, and that the request neither reports nor lists.
 pub fn lost<D: Desk>(
     alloc: Global,
     desk: &mut D,
@@ -46,10 +46,10 @@ pub fn lost<D: Desk>(
     lost_on(alloc, &mut sheet, host, held.as_slice(), request)
 }
 
-/// What becomes of these lost jobs of a host as it is told now.
+/// What happens to these lost jobs of a host, as its call describes it.
 ///
-/// A job is sent again where its workunit is open and fits the host; its deadline then stays where the host can
-/// meet it, or else is as for a new job. The others are dropped.
+/// A job is sent again if its workunit is open and fits the host. Its deadline stays if the host can meet it; otherwise
+/// it is that of a new job. The other jobs are dropped.
 pub fn resend_or_drop<D: Desk>(
     alloc: Global,
     desk: &mut D,

@@ -1,4 +1,4 @@
--- What holds of all reports holds of the first of each name.
+-- What holds of all reports holds of the first one of each name.
 use Rattle.std.proofs.Common.{◌≡◌, ℕ, Bool, true, false, cond, List, [], ◌∷◌, sym, subst, Bor}
 use Rattle.std.specs.Prelude.{All, map}
 use Rattle.std.specs.List.{list_any}

@@ -1,4 +1,4 @@
--- What reports change fits, in a world whose instances keep within limits.
+-- What reports change fits, in a world whose instances are within limits.
 use Rattle.std.proofs.Common.{◌≡◌, ℕ, zero, suc, ◌+◌, ◌<◌, ◌≤◌, Bool, true, false, cond, eqb, List, [], ◌∷◌, ◌++◌, length, Option, Some, None, get_or, sym, refl, ap, ◌∙◌, subst, arith, Bor, IfSome}
 use Rattle.std.specs.Prelude.{◌&&◌, ◌==◌, All, IsTrue, count_by, is_none, is_some, option_map, option_and_then, unwrap_or, slice_get}
 use Rattle.std.proofs.lemmas.List.Sums.{count_by-le-length, fold-append, sum_by-cons}
@@ -76,13 +76,13 @@ module _ (f : Instance → Instance) (w : World) (p : Place) (limited : IsLimite
   pub limited_after : (x : Instance) → instance_at w p ≡ Some x → HasOwnerAmong w.hosts (f x) × IsBare (f x) × IsInstanceInLimits (f x) → IsLimited (with_changed f w p)
   limited_after x stood good = record { few = few_after; each = each_after x stood good }
 
--- an instance that awaits a report is not judged, so that not all are
+-- an instance that awaits a report is not judged, so not all are judged
 not_judged : (o : Option Outcome) (b : Bool) → (b && is_none o) ≡ true → is_some (option_and_then (λ (t : Outcome). t.place) o) ≡ false
 not_judged None b awaits = refl
 not_judged (Some r) true awaits = absurd cc
 not_judged (Some r) false awaits = absurd cc
 
--- one more, which counts or does not
+-- one more element, which counts or not
 count_step : {X : Type 0} (p : X → Bool) (y : X) (xs : List X) (n : ℕ) → cond {A = ℕ} (p y) 1 0 + count_by p xs < n → count_by p (y ∷ xs) < n
 count_step p y xs n less = subst (λ m. m < n) (sym (sum_by-cons (λ x. cond {A = ℕ} (p x) 1 0) y xs)) less
 
@@ -106,7 +106,7 @@ place_in_range : (failed : Bool) (n : ℕ) → n < most_instances → IfSome (co
 place_in_range true n less = tt
 place_in_range false n less = (omega arith, omega arith)
 
--- what is done to an instance at a place fits, where what comes of it is within limits
+-- a changed instance at a place fits, if it is within limits
 pub done_fits : (f : Instance → Instance) (w : World) (p : Place) (b : UnitBook) (x : Instance) → IsLimited w → unit_at w p.unit ≡ Some b
     → slice_get b.instances p.number ≡ Some x → HasOwnerAmong w.hosts (f x) × IsBare (f x) × IsInstanceInLimits (f x)
     → FitsOne w (change.Instance p (f x)) × IsLimited (applied_one w (change.Instance p (f x)))
@@ -125,12 +125,12 @@ done_fits f w p b x limited stands is good =
       subst IsLimited (with_changed-is f w p b x stands is) (limited_after f w p limited x here good),
     )
 
--- an instance that the host was given stays with it, so that it is bare in no case
+-- an instance that the host owns has an owner, so `IsBare` holds of it
 owned : (host : ℕ) (o : Option Owner) (b : Bool) → (option_any (λ n. n == host) (option_map (λ (o : Owner). o.host) o) && b) ≡ true → o ≡ None → ⊥
 owned host None b awaits none = absurd cc
 owned host (Some o) b awaits none = absurd cc
 
--- one report more, whose output is in range
+-- one more report, whose output is in range
 module _ (host : ℕ) (r : Report) (short : IsTrue (is_output r.output)) (failed : Bool) (w : World) (p : Place) (limited : IsLimited w) where
   abbrev FitsAndStays : Change → Type 0
   FitsAndStays c = FitsOne w c × IsLimited (applied_one w c)
@@ -177,7 +177,7 @@ fits_more : (w : World) (cs : List Change) (c : Change) → Fits w cs → FitsOn
 fits_more w [] c fits one = (one, tt)
 fits_more w (d ∷ ds) c fits one = (fits.0, fits_more (applied_one w d) ds c fits.1 one)
 
--- one change more that fits
+-- one more change that fits
 pub fit_more : (entry : World) (cs more : List Change) (c : Change) → more ≡ cs ++ c ∷ []
     → (IsLimited (applied entry cs) → FitsOne (applied entry cs) c × IsLimited (applied_one (applied entry cs) c)) → FitWithin entry cs → FitWithin entry more
 fit_more entry cs more c pushed one before =
@@ -188,7 +188,7 @@ fit_more entry cs more c pushed one before =
       limited = subst IsLimited (sym (fold-append applied_one entry cs (c ∷ []))) next.1;
     })
 
--- what a page with no changes of a sound world goes on to fits
+-- the changes of a page of a sound world fit, if the page began with none
 pub page_fits : (w v : World) (before after : List Change) → v ≡ w → before ≡ [] → (FitWithin v before → FitWithin v after) → Sound w → Fits w after
 page_fits w v before after same none more sound =
     subst (λ u. Fits u after) same
@@ -205,12 +205,12 @@ fit_report entry w host r failed p y cs more here puts pushed short =
     report_fits host r short failed (applied entry cs) p limited y
     (ap (λ v. reported_in host r failed (instances_at v p.unit) p.number) (sym here) ∙ puts))
 
--- the report of a number is in range where all are
+-- the report at an index is in range if all reports are
 pub report_there : (reports : List (Bor Report)) (i : ℕ) (r d : Bor Report) → r ≡ get_or reports i d → i < length reports
     → All (λ r. IsReport r.now) reports → IsReport r.now
 report_there reports i r d is within all = subst (λ (x : Bor Report). IsReport x.now) (sym is) (all i d within)
 
--- before any change nothing is out of its limits in a sound world
+-- in a sound world everything is within limits before any change
 pub nothing_put_within : (w : World) (changes : List Change) → changes ≡ [] → Sound w → FitWithin w changes
 nothing_put_within w changes none sound =
     subst (FitWithin w) (sym none) (let within : FitWithin w [] = record { fits = tt; limited = limited_from_sound w sound } in within)

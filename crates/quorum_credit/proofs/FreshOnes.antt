@@ -8,14 +8,14 @@ use Rattle.quorum_credit.specs.Leaves.{growth_on}
 use Rattle.quorum_credit.specs.Growing.{fresh_changes}
 use Rattle.quorum_credit.specs.Settled.{new_instances}
 
--- the instance of the next number stands first
+-- the instance of the next number comes first
 fresh_next : (unit number end : ℕ) → number < end
     → fresh_changes unit number (end - number)
     ≡ change.Instance (record { unit = unit; number = number }) fresh ∷ fresh_changes unit (number + 1) (end - (number + 1))
 fresh_next unit number end less =
     ap (fresh_changes unit number) (let next : end - number ≡ suc (end - (number + 1)) = omega arith in next)
 
--- one put, and the others left
+-- one is put, and the others are left
 pub fresh_step : (before more all : List Change) (unit number end : ℕ) → number < end
     → more ≡ before ++ change.Instance (record { unit = unit; number = number }) fresh ∷ []
     → before ++ fresh_changes unit number (end - number) ≡ all → more ++ fresh_changes unit (number + 1) (end - (number + 1)) ≡ all
@@ -26,7 +26,7 @@ fresh_step before more all unit number end less pushed told =
     ∙ sym (ap (λ cs. before ++ cs) (fresh_next unit number end less))
     ∙ told
 
--- what a workunit is to get, by its numbers
+-- what a workunit is to get, by the numbers of the instances
 pub growth_by_numbers : (unit first end : ℕ) (k : Leaf) → first ≡ length k.present → end ≡ length k.present + new_instances k.agreement k.unit k.present
     → fresh_changes unit first (end - first) ≡ growth_on unit (Some k)
 growth_by_numbers unit first end k first_is end_is =

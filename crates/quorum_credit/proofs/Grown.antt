@@ -1,4 +1,4 @@
--- What the new instances of workunits make of a world.
+-- What the new instances of workunits do to a world.
 use Rattle.std.proofs.Common.{◌≡◌, ℕ, zero, suc, ◌+◌, ◌<◌, Bool, true, false, cond, eqb, List, [], ◌∷◌, ◌++◌, length, Option, Some, None, sym, refl, ap, ◌∙◌, append_assoc, length-append, arith}
 use Rattle.std.specs.Prelude.{◌||◌, replicate, option_map, unwrap_or, slice_set}
 use Rattle.std.proofs.lemmas.Bool.{le-ltb, eq-eqb, ne_eqb, eqb-true}
@@ -21,7 +21,7 @@ use Rattle.quorum_credit.specs.Settling.{TouchJust, grown_among, with_grown_amon
 use Rattle.call_sheet.specs.Sheets.{AreAbove, AreRising, is_among}
 use Rattle.sched_book.proofs.ByPlace.{all_nth, same_by_place, nth-map_places}
 
--- one more instance behind a workunit's own
+-- one more instance after a workunit's own
 abbrev pub one_behind : UnitBook → UnitBook
 one_behind b = record b { instances = b.instances ++ fresh ∷ [] }
 
@@ -32,7 +32,7 @@ put_behind unit number count b last =
     ∙ ap (λ (t : Bool). Some (record b { instances = cond t (slice_set b.instances number fresh) (b.instances ++ fresh ∷ []) }))
     (le-ltb number (length b.instances) (omega arith))
 
--- so many behind its own
+-- so many instances after its own
 pub fresh_here : (unit number count many : ℕ) (b : UnitBook) → number ≡ length b.instances
     → book_after unit count (Some b) (fresh_changes unit number many) ≡ Some (record b { instances = b.instances ++ replicate many fresh })
 fresh_here unit number count zero b last = ap (λ xs. Some (record b { instances = xs })) (sym (append-nil b.instances))
@@ -43,7 +43,7 @@ fresh_here unit number count (suc many) b last =
     omega arith)
     ∙ ap (λ xs. Some (record b { instances = xs })) (append_assoc b.instances (fresh ∷ []) (replicate many fresh))
 
--- those of another workunit leave it as it is
+-- the instances of another workunit leave it as it is
 pub fresh_elsewhere : (unit other number count many : ℕ) (o : Option UnitBook) → eqb other unit ≡ false
     → book_after unit count o (fresh_changes other number many) ≡ o
 fresh_elsewhere unit other number count zero o apart = refl
@@ -51,7 +51,7 @@ fresh_elsewhere unit other number count (suc many) o apart =
     ap (λ (t : Bool). book_after unit count (cond t (option_map (with_instance number fresh) o) o) (fresh_changes other (number + 1) many)) apart
     ∙ fresh_elsewhere unit other (number + 1) count many o apart
 
--- first these, then others
+-- first these instances, then others
 fresh_then : (unit other number count many : ℕ) (o : Option UnitBook) (rest : List Change)
     → book_after unit count o (fresh_changes other number many ++ rest)
     ≡ book_after unit count (book_after unit count o (fresh_changes other number many)) rest
@@ -60,7 +60,7 @@ fresh_then unit other number count (suc many) o rest =
     fresh_then unit other (number + 1) count many
     (cond (eqb other unit) (option_map (with_instance number fresh) o) o) rest
 
--- a place below all of these is not among them
+-- a place below all of these is not one of them
 pub above_others : (unit n : ℕ) (units : List ℕ) → n ≡ unit → AreAbove n units → is_among units unit ≡ false
 above_others unit n [] same above = refl
 above_others unit n (other ∷ units) same above =
@@ -101,7 +101,7 @@ module _ (w : World) (unit count : ℕ) where
       cases None = refl
       cases (Some b) = fresh_then unit other (length b.instances) count (new_instances (agreement_of w b) b.unit b.instances) o rest
 
-  -- a workunit that is not among them stays
+  -- a workunit that is not one of these stays as it is
   pub all_elsewhere : (units : List ℕ) (o : Option UnitBook) → is_among units unit ≡ false → book_after unit count o (all_growth w units) ≡ o
   all_elsewhere [] o apart = refl
   all_elsewhere (other ∷ units) o apart =
@@ -117,7 +117,7 @@ module _ (w : World) (unit count : ℕ) where
       later true b is = absurd cc
       later false b is = is
 
-  -- a workunit gets what it needs where it is among them
+  -- a workunit gets what it needs if it is one of these
   pub all_here : (units : List ℕ) → AreRising units
       → book_after unit count (unit_at w unit) (all_growth w units)
       ≡ cond (is_among units unit) (option_map (grown w.apps) (unit_at w unit)) (unit_at w unit)
@@ -136,7 +136,7 @@ module _ (w : World) (unit count : ℕ) where
           ∙ growth_here
       cases false is later = ap (λ o. book_after unit count o (all_growth w units)) (growth_elsewhere other (unit_at w unit) is) ∙ later
 
--- nothing but workunits is changed
+-- only workunits are changed
 abbrev ChangesUnits : List Change → Type 0
 ChangesUnits cs = (v : World) → applied v cs ≡ record v { units = (applied v cs).units }
 
@@ -156,7 +156,7 @@ all_units w (unit ∷ units) v = cases (unit_at w unit) (all_units w units)
     cases (Some b) later =
         fresh_units unit (length b.instances) (new_instances (agreement_of w b) b.unit b.instances) (all_growth w units) later v
 
--- what stands at a place with what those among the places need
+-- the workunit at a place; if it is one of these, with what it needs
 grown_at : (units : List ℕ) (w : World) (n : ℕ)
     → nth (with_grown_among units w).units n ≡ cond (is_among units n) (option_map (grown w.apps) (unit_at w n)) (unit_at w n)
 grown_at units w n = nth-map_places (grown_among w.apps units) w.units n ∙ cases (is_among units n) (unit_at w n)

@@ -1,4 +1,4 @@
--- What workunits need fits, where their numbers are within limits.
+-- What workunits need fits, if their numbers are within limits.
 use Rattle.std.proofs.Common.{◌≡◌, ℕ, zero, suc, ◌+◌, ◌<◌, ◌≤◌, Bool, true, false, cond, eqb, List, [], ◌∷◌, ◌++◌, length, Option, Some, None, sym, refl, ap, ◌∙◌, subst, length-append, arith, IfSome}
 use Rattle.std.specs.Prelude.{◌||◌, nat_lt, IsTrue, is_some, option_map, unwrap_or}
 use Rattle.std.proofs.lemmas.Bool.{eq-eqb, ne_eqb}
@@ -23,16 +23,16 @@ use Rattle.quorum_credit.specs.Settling.{AreUnitsInLimits}
 use Rattle.call_sheet.specs.Sheets.{AreRising, is_among}
 use Rattle.quorum_credit.proofs.Grown.{one_behind, put_behind, above_others, growth_elsewhere}
 
--- changes that fit behind others that do
+-- changes that fit after others that do
 pub fits_then : (v : World) (cs ds : List Change) → Fits v cs → Fits (applied v cs) ds → Fits v (cs ++ ds)
 fits_then v [] ds front behind = behind
 fits_then v (c ∷ cs) ds front behind = (front.0, fits_then (applied_one v c) cs ds front.1 behind)
 
--- an instance that nobody was given is within limits
+-- an instance that was given to nobody is within limits
 pub fresh_in_limits : IsInstanceInLimits fresh
 fresh_in_limits = record { sent = tt; deadline = tt; output = tt; place = tt }
 
--- so many fit behind a workunit's own, where they stay within a hundred
+-- so many instances fit after a workunit's own, if there are at most a hundred in all
 fresh_fits : (v : World) (unit number many : ℕ) (b : UnitBook) → unit_at v unit ≡ Some b → number ≡ length b.instances → number + many ≤ most_instances
     → Fits v (fresh_changes unit number many)
 fresh_fits v unit number zero b stands last few = tt
@@ -56,7 +56,7 @@ fresh_fits v unit number (suc many) b stands last few =
           (omega arith),
     )
 
--- an open workunit has, with what it needs, no more than it may
+-- an open workunit has, with what it needs, at most as many instances as it may
 pub open_total : (a : Agreement) (u : Workunit) (xs : List Instance) → is_open (status a u xs) ≡ true → length xs + need u xs ≤ u.max_total_results
 open_total a u xs is_it =
     ltb-false u.max_total_results (length xs + need u xs)
@@ -87,7 +87,7 @@ module _ (w : World) (limits : AreUnitsInLimits w) where
       cases None here stands = tt
       cases (Some b) here stands = open_or_not b here stands (is_open (book_status w.apps b)) refl
 
-  -- those of several workunits fit, as long as none of these was changed
+  -- the instances of several workunits fit, if none of these was changed
   growth_all_fits : (v : World) (units : List ℕ) → AreRising units
       → ((n : ℕ) → is_among units n ≡ true → unit_at v n ≡ unit_at w n) → Fits v (all_growth w units)
   growth_all_fits v [] rising same = tt

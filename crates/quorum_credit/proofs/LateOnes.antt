@@ -20,7 +20,7 @@ use Rattle.quorum_credit.specs.Limited.{IsLimited, FitWithin}
 use Rattle.quorum_credit.proofs.Recorded.{with_changed-is}
 use Rattle.quorum_credit.proofs.FitReports.{done_fits, fit_more}
 
--- what stands at a place
+-- the instance at a place
 record Stands (w : World) (p : Place) (x : Instance) : Type 0 where
   book : UnitBook
   unit : unit_at w p.unit ≡ Some book

@@ -19,7 +19,7 @@ use Rattle.quorum_credit.specs.declared.host_quotas.Tally.{Tally}
 use Rattle.quorum_credit.specs.declared.scores.Score.{Score}
 use Rattle.quorum_credit.proofs.Numbered.{same_rows, same_row, number_within, length-numbered, put_row}
 
--- the world with its hosts made anew, each from its number and row
+-- the world with new rows of its hosts, each made from its number and row
 abbrev with_rows : World → (ℕ × HostRow → HostRow) → World
 with_rows w f = record w { hosts = map f (enumerate_from 1 w.hosts) }
 
@@ -27,7 +27,7 @@ same_world : (w : World) (f g : ℕ × HostRow → HostRow) → ((n : ℕ) (h : 
     → with_rows w f ≡ with_rows w g
 same_world w f g same = ap (λ hosts. record w { hosts = hosts }) (same_rows f g w.hosts same)
 
--- the host of a tally put with its new quota
+-- the host of a tally, put with its new quota
 abbrev with_one : ℕ → Tally → (ℕ × HostRow → HostRow) → ℕ × HostRow → HostRow
 with_one limit s f e = cond (eqb s.host e.0) (with_quota_by limit s e.1) (f e)
 
@@ -45,11 +45,11 @@ module _ (scores : List Score) (w : World) where
   abbrev TellsAll : Tally → Type 0
   TellsAll s = (s.charges ≡ charges_in scores s.host) × (s.merits ≡ merits_in scores s.host)
 
-  -- the quotas of these hosts are new, those of the others as they were
+  -- the quotas of these hosts are new, those of the others are as before
   abbrev with_quotas_where : (ℕ → Bool) → ℕ × HostRow → HostRow
   with_quotas_where p e = cond (p e.0) (quota_by scores limit e) e.1
 
-  -- one host more
+  -- one more host
   put_quotas : (p : ℕ → Bool) (s : Tally) (h : HostRow) → host_at w s.host ≡ Some h → TellsAll s
       → applied_one (with_rows w (with_quotas_where p)) (change.Host s.host (with_quota_by limit s h)) ≡ with_rows w (with_quotas_where (λ n. eqb s.host n || p n))
   put_quotas p s h stands tells =
@@ -101,7 +101,7 @@ module _ (scores : List Score) (w : World) where
           ∙ same_world w (with_quotas_where (λ n. is_tallied ss n || (eqb s.host n || p n))) (with_quotas_where (λ n. (eqb s.host n || is_tallied ss n) || p n))
           (λ n g there. ap (λ (b : Bool). cond b (quota_by scores limit (n, g)) g) (reordered (is_tallied ss n) (eqb s.host n) (p n)))
 
-  -- a host of which nothing is said keeps its quota
+  -- a host of which the scores say nothing keeps its quota
   untallied : AreHostsInLimits w → (n : ℕ) (h : HostRow) → host_at w n ≡ Some h → (charges_in scores n ≡ 0) × (merits_in scores n ≡ 0) → quota_by scores limit (n, h) ≡ h
   untallied limits n h there nothing =
       let low : 1 ≤ h.quota = (limits n h there).1.quota.0 in
@@ -168,7 +168,7 @@ module _ (w : World) (limits : AreHostsInLimits w) (some : 1 ≤ w.settings.dail
   quotas_fit sums =
       subst (λ hosts. Fits (record w { hosts = hosts }) (new_quotas w w.settings.daily_result_quota sums)) (same_row w.hosts) (all_fit sums (λ e. e.1))
 
--- they put hosts alone
+-- only hosts are put
 hosts_alone : (w v : World) (most : ℕ) (ms : List Tally) → applied v (new_quotas w most ms) ≡ record v { hosts = (applied v (new_quotas w most ms)).hosts }
 hosts_alone w v most [] = refl
 hosts_alone w v most (m ∷ ms) = cases (host_at w m.host) (λ z. hosts_alone w z most ms)

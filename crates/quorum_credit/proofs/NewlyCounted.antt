@@ -19,7 +19,7 @@ use Rattle.call_sheet.specs.Sheets.{is_among}
 use Rattle.call_sheet.proofs.Sums.{sum_from, at_one, from_zero, sum_of_some}
 use Rattle.quorum_credit.specs.declared.scores.Standing.{Standing}
 
--- a test for the host's own alone is two tests
+-- a test of the host's own instances is two tests
 owned_and : (w : World) (host : ℕ) (t : UnitBook → Instance → Bool) (p : Place)
     → passes w (λ b x. is_owned_by host x && t b x) p ≡ (passes w (λ b x. is_owned_by host x) p && passes w t p)
 owned_and w host t p = at_unit (unit_at w p.unit)
@@ -37,7 +37,7 @@ owned_and w host t p = at_unit (unit_at w p.unit)
     at_unit None = refl
     at_unit (Some b) = at_number b (slice_get b.instances p.number)
 
--- a test of instances that looks at how they stand
+-- a test of instances by their standings
 by_standing : (w : World) (t : UnitBook → Instance → Bool) (s : Standing → Bool) → s no_standing ≡ false
     → ((b : UnitBook) (x : Instance) → s (standing_with (book_verdict w.apps b x) x) ≡ t b x) → (p : Place)
     → passes w t p ≡ s (standing_at w p)
@@ -58,7 +58,7 @@ one_of_owned : (own new old : Bool) → cond {A = ℕ} ((own && new) && not old)
 one_of_owned true new old = refl
 one_of_owned false new old = refl
 
--- what is newly so, as a sum over the places
+-- what newly passes, as a sum over the places
 newly-sum : (t : World → UnitBook → Instance → Bool) (s : Standing → Bool) → s no_standing ≡ false
     → ((w : World) (b : UnitBook) (x : Instance) → s (standing_with (book_verdict w.apps b x) x) ≡ t w b x) → (old new : World) (host : ℕ)
     → newly t old new host
@@ -115,7 +115,7 @@ module _ (f : Place → ℕ) (g : ℕ → ℕ) where
       ∙ ap (λ ps. g n + sum_by f ps) next
       ∙ ap (λ m. g n + m) (sum_of_units bs (suc n) (λ i c is. subst (λ m. g m ≡ sum_by f (places_in m 0 (λ x. true) c.instances)) (let same : n + suc i ≡ suc n + i = omega arith in same) (each (suc i) c is)))
 
--- where a workunit is as it was, nothing is new
+-- if a workunit is as it was, nothing is new
 none_new : (b : Bool) → one_if_new b b ≡ 0
 none_new true = refl
 none_new false = refl
@@ -133,7 +133,7 @@ zero_either : (own : Bool) (n : ℕ) → n ≡ 0 → cond own n 0 ≡ 0
 zero_either true n is = is
 zero_either false n is = refl
 
--- a sum over the places of one workunit where each is nothing
+-- a sum over the places of one workunit is 0 if each term is
 pub sum_in-zero : (f : Place → ℕ) (unit number : ℕ) (xs : List Instance) → ((i : ℕ) → f (record { unit = unit; number = i }) ≡ 0)
     → sum_by f (places_in unit number (λ x. true) xs) ≡ 0
 sum_in-zero f unit number [] none = refl
@@ -149,7 +149,7 @@ module _ (units : List ℕ) (old new : World) (touch : TouchJust units old new) 
       ap (λ o. unwrap_or (option_map (λ b. standing_in new.apps b i) o) no_standing) (touch.others unit among)
       ∙ ap (λ apps. unwrap_or (option_map (λ b. standing_in apps b i) (unit_at old unit)) no_standing) touch.apps
 
-  -- a count that is nothing where nothing is new, over all and over the touched
+  -- a count that is 0 if nothing is new: over all workunits it is the same as over the touched ones
   over_touched : (own : Place → Bool) (between : Standing → Standing → ℕ) → ((s : Standing) → between s s ≡ 0)
       → sum_by (λ p. cond (own p) (between (standing_at old p) (standing_at new p)) 0) (places new)
       ≡ sum_by (λ unit. sum_by (λ p. cond (own p) (between (standing_at old p) (standing_at new p)) 0) (places_in unit 0 (λ x. true) (instances_at new unit))) units

@@ -16,7 +16,7 @@ use Rattle.call_sheet.proofs.SetRows.{nth-set_nth}
 pub length-numbered : {X Y : Type 0} (f : ℕ × X → Y) (xs : List X) → length (map f (enumerate_from 1 xs)) ≡ length xs
 length-numbered f xs = length-map (enumerate_from 1 xs) f ∙ length-enumerate_from 1 xs
 
--- only what is made of the rows that stand counts
+-- the lists are equal if the functions agree on the rows that exist
 pub same_rows : {X Y : Type 0} (f g : ℕ × X → Y) (xs : List X) → ((n : ℕ) (x : X) → nth xs n ≡ Some x → f (n, x) ≡ g (n, x))
     → map f (enumerate_from 1 xs) ≡ map g (enumerate_from 1 xs)
 same_rows {X} f g xs same =
@@ -34,12 +34,12 @@ same_row {X} xs = same_by_place (map (λ e. e.1) (enumerate_from 1 xs)) xs (λ n
     cases None = refl
     cases (Some x) = refl
 
--- a row that stands has a number from 1 to their count
+-- an existing row has a number from 1 to their count
 pub number_within : {X : Type 0} (xs : List X) (n : ℕ) (x : X) → nth xs n ≡ Some x → (1 ≤ n) × (n ≤ length xs)
 number_within xs zero x stands = absurd cc
 number_within xs (suc i) x stands = let within = slice_get_within xs i x (sym (nth-suc xs i) ∙ stands) in (omega arith, omega arith)
 
--- a row put at the number of one that stands
+-- a row put at the number of an existing one
 pub put_row : {X : Type 0} (f : ℕ × X → X) (h : X → X) (xs : List X) (n : ℕ) (x : X) → nth xs n ≡ Some x
     → set_nth (map f (enumerate_from 1 xs)) n (h x) ≡ map (λ e. cond (eqb n e.0) (h e.1) (f e)) (enumerate_from 1 xs)
 put_row {X} f h xs n x stands =

@@ -1,4 +1,4 @@
--- What a leaf says, as the worlds before the call and now say it.
+-- A leaf says the same as the worlds before the call and now.
 use Rattle.std.proofs.Common.{◌≡◌, ℕ, List, [], length, Option, Some, None, sym, ap, ap₂, ◌∙◌}
 use Rattle.std.specs.Prelude.{option_map, unwrap_or}
 use Rattle.rpc_records.specs.declared.request.Report.{Report}
@@ -32,7 +32,7 @@ pub late-is : (entry present : World) (p : Place) (o : Option Leaf) → IsReadAt
     → late_on o p.number ≡ late_in (instances_at present p.unit) p.number
 late-is entry present p o read = ap (λ (xs : List Instance). late_in xs p.number) (instances_now-is entry present p.unit o read)
 
--- the agreement of a workunit is as it was, since the applications are
+-- the agreement of a workunit is as it was, because the applications are
 agreed : (entry present : World) (k : Leaf) → present ≡ record entry { units = present.units; hosts = present.hosts }
     → agreement_by entry.apps k.unit.app ≡ k.agreement → agreement_by present.apps k.unit.app ≡ k.agreement
 agreed entry present k rest agreement = ap (λ (v : World). agreement_by v.apps k.unit.app) rest ∙ agreement

@@ -1,4 +1,4 @@
--- One report more, as a change of the instance that awaits it.
+-- One more report, as a change of the instance that awaits it.
 use Rattle.std.proofs.Common.{◌≡◌, ℕ, zero, suc, ◌-◌, Bool, true, false, cond, eqb, List, [], ◌∷◌, Option, Some, None, sym, refl, ap, ◌∙◌}
 use Rattle.std.specs.Prelude.{◌+◌, count_by, option_map, option_and_then, unwrap_or, slice_get}
 use Rattle.rpc_records.specs.declared.request.Report.{Report}
@@ -15,7 +15,7 @@ use Rattle.sched_book.specs.declared.world.World.{World}
 use Rattle.sched_book.proofs.Changes.{modify_at-put}
 use Rattle.quorum_credit.specs.Taken.{place_among, reported_in}
 
--- two changes that do the same to what stands at a place
+-- two functions that agree on the element at an index change the list alike
 modify_at-same : {X : Type 0} (f g : X → X) (xs : List X) (i : ℕ) (x : X) → slice_get xs i ≡ Some x → f x ≡ g x → modify_at f xs i ≡ modify_at g xs i
 modify_at-same f g [] i x stands same = refl
 modify_at-same f g (y ∷ xs) zero x stands same = let is : y ≡ x = cc in ap (λ z. z ∷ xs) (ap f is ∙ same ∙ sym (ap g is))
@@ -28,7 +28,7 @@ modify_nth-same {X} f g xs n x stands same = cases (eqb n 0) stands
     cases true none = refl
     cases false there = modify_at-same f g xs (n - 1) x there same
 
--- what is done to the instance at a place, as a change
+-- a change of the instance at a place, as a change of the world
 pub with_changed-is : (f : Instance → Instance) (w : World) (p : Place) (b : UnitBook) (x : Instance) → unit_at w p.unit ≡ Some b
     → slice_get b.instances p.number ≡ Some x → with_changed f w p ≡ applied_one w (change.Instance p (f x))
 with_changed-is f w p b x stands is =
@@ -69,7 +69,7 @@ module _ (entry : World) (host : ℕ) (w : World) (r : Report) (p : Place) where
   pub record_at-is : record_at entry host r w p ≡ put (reported_in host r failed (instances_at w p.unit) p.number)
   record_at-is = at_unit (unit_at w p.unit) refl
 
--- of a report that its instance awaits
+-- a report that its instance awaits
 pub report_some : (entry : World) (host : ℕ) (w : World) (r : Report) (p : Place) (x : Instance)
     → reported_in host r (has_failed (status_at entry p.unit)) (instances_at w p.unit) p.number ≡ Some x
     → applied_one w (change.Instance p x) ≡ record_at entry host r w p

@@ -1,4 +1,5 @@
--- Changes that leave all tables but those of workunits and hosts, and as many workunits, put hosts, instances and classes alone.
+-- If changes leave all tables except workunits and hosts as they are, and add no workunit, they put only hosts,
+-- instances and classes.
 use Rattle.std.proofs.Common.{◌≡◌, ℕ, suc, ◌+◌, ◌≤◌, true, List, [], ◌∷◌, length, Option, Some, None, sym, refl, ap, ◌∙◌, arith}
 use Rattle.std.proofs.lemmas.List.{length_push}
 use Rattle.std.specs.Prelude.{is_some, slice_get}
@@ -15,7 +16,7 @@ use Rattle.call_sheet.specs.Sheets.{IsLeafAt}
 use Rattle.call_sheet.specs.declared.leaf.Leaf.{Leaf}
 use Rattle.quorum_credit.specs.Settling.{puts_row}
 
--- how many rows stand that are no hosts
+-- how many rows there are, without hosts
 abbrev row_count : World → ℕ
 row_count w = length w.accounts + length w.apps + length w.versions + length w.units
 
@@ -35,7 +36,7 @@ grow w (c ∷ cs) =
     let rest : row_count (applied_one w c) ≤ row_count (applied w (c ∷ cs)) = grow (applied_one w c) cs in
     omega arith
 
--- where none is more, none was added
+-- if there are no more rows than before, none was added
 none_added : (w : World) (cs : List Change) → row_count (applied w cs) ≡ row_count w → list_all puts_row cs ≡ true
 none_added w [] same = refl
 none_added w (change.Account a ∷ cs) same =
@@ -54,7 +55,7 @@ none_added w (change.Class unit class ∷ cs) same =
     none_added (applied_one w (change.Class unit class)) cs
     (same ∙ ap (λ n. length w.accounts + length w.apps + length w.versions + n) (sym (length-modify_nth (with_class class) w.units unit)))
 
--- as many stand where something is found at the same places
+-- lists with elements at the same indices have the same length
 same_length_at : {X : Type 0} (xs ys : List X) → ((i : ℕ) → is_some (slice_get xs i) ≡ is_some (slice_get ys i)) → length xs ≡ length ys
 same_length_at [] [] same = refl
 same_length_at [] (y ∷ ys) same = let never = same 0 in absurd cc
@@ -69,7 +70,7 @@ stands_alike : (entry present : World) (unit : ℕ) (o : Option Leaf) → IsLeaf
 stands_alike entry present unit None leaf = ap is_some leaf
 stands_alike entry present unit (Some k) leaf = ap is_some leaf.here ∙ sym (ap is_some leaf.before)
 
--- so the changes of a call do
+-- so the changes of a call put only these
 pub call_puts : (entry present : World) (cs : List Change) (kept : ℕ → Option Leaf) → present ≡ applied entry cs
     → present ≡ record entry { units = present.units; hosts = present.hosts } → ((unit : ℕ) → IsLeafAt entry present unit (kept unit))
     → list_all puts_row cs ≡ true

@@ -1,4 +1,4 @@
--- How the instances of a workunit stand, and what their scores come to.
+-- The standings of the instances of a workunit, and what their scores add up to.
 use Rattle.std.proofs.Common.{◌≡◌, ℕ, suc, ◌+◌, Bool, true, false, cond, eqb, List, [], ◌∷◌, map, Option, Some, None, sym, refl, ap, ◌∙◌, arith}
 use Rattle.std.specs.Prelude.{◌==◌, ◌&&◌, not, if◌then◌else◌, sum_by, option_map, option_and_then, unwrap_or, slice_get}
 use Rattle.std.proofs.lemmas.Bool.{eqb-true}
@@ -38,7 +38,7 @@ standing_of-at w unit number = at (unit_at w unit)
         (slice_get-map (λ x. owned_standing (book_verdict w.apps b x) x) b.instances number)
         ∙ one b (slice_get b.instances number)
 
--- what scores say of a host, by one of their numbers
+-- what scores say of a host, by one number of a score
 abbrev said : (Score → ℕ) → ℕ → List Score → ℕ
 said count host scores = sum_by (λ (m : Score). if m.host == host then count m else 0) scores
 
@@ -47,12 +47,12 @@ abbrev new_at : (ℕ → Standing → Standing → ℕ) → World → World → 
 new_at between old new host p =
     if passes new (λ b x. is_owned_by host x) p then between (unit_credit new p.unit) (standing_at old p) (standing_at new p) else 0
 
--- The number of a score that is what is new, in a workunit of some credit; where nothing counts it is none.
+-- This number of a score is what is new, in a workunit of some credit. If nothing counts, it is 0.
 record Counts (count : Score → ℕ) (between : ℕ → Standing → Standing → ℕ) : Type 0 where
   counted : (credit host : ℕ) (a b : Standing) → count (score_between credit host a b) ≡ between credit a b
   none : (credit : ℕ) (a b : Standing) → charges_between a b ≡ 0 → merits_between a b ≡ 0 → between credit a b ≡ 0
 
--- of one instance
+-- the score of one instance
 said-score : (count : Score → ℕ) (between : ℕ → Standing → Standing → ℕ) → Counts count between
     → (host credit : ℕ) (a : Standing) (v : Option Verdict) (x : Instance) (scores : List Score)
     → said count host (with_score (score_of credit a (owned_standing v x)) scores)
@@ -71,7 +71,7 @@ said-score count between counts host credit a v x scores = at x.owner
         sum_by-cons _ _ scores
         ∙ ap (λ n. cond (eqb o.host host) n 0 + said count host scores) (counts.counted credit o.host a s)
 
-    -- one that counts nothing is left out
+    -- a score that counts nothing is left out
     one : (o : Owner) (c m : Bool) → eqb (charges_between a s) 0 ≡ c → eqb (merits_between a s) 0 ≡ m
         → said count host (with_score (cond (c && m) None (Some (score_between credit o.host a s))) scores)
         ≡ cond (eqb o.host host) (between credit a s) 0 + said count host scores
@@ -87,7 +87,7 @@ said-score count between counts host credit a v x scores = at x.owner
     at None = omega arith
     at (Some o) = one o (eqb (charges_between a s) 0) (eqb (merits_between a s) 0) refl refl
 
--- what is new at the place of an instance of a workunit that stands in the new world
+-- what is new at the place of an instance, if its workunit exists in the new world
 new_at-is : (between : ℕ → Standing → Standing → ℕ) (old new : World) (host unit number : ℕ) (b : UnitBook) (x : Instance)
     → unit_at new unit ≡ Some b → slice_get b.instances number ≡ Some x
     → (if is_owned_by host x then between (unit_credit new unit) (standing_of (standings_at old unit) number) (standing_with (book_verdict new.apps b x) x) else 0)
@@ -105,7 +105,7 @@ new_at-is between old new host unit number b x stands here =
     ∙ ap (λ s. if is_owned_by host x then between credit (standing_at old p) s else 0) (sym after)
     ∙ ap (λ (o : Bool). if o then between credit (standing_at old p) (standing_at new p) else 0) (sym owned)
 
--- of its instances, from a number on
+-- the scores of its instances, from a number on
 said-from : (count : Score → ℕ) (between : ℕ → Standing → Standing → ℕ) → Counts count between
     → (old new : World) (host unit : ℕ) (b : UnitBook) → unit_at new unit ≡ Some b
     → (number : ℕ) (xs : List Instance) → ((i : ℕ) → slice_get b.instances (number + i) ≡ slice_get xs i)
@@ -126,7 +126,7 @@ said-from count between counts old new host unit b stands number (x ∷ xs) left
     ∙ ap (λ n. n + rest) (new_at-is between old new host unit number b x stands here)
     ∙ sym (sum_by-cons (new_at between old new host) (record { unit = unit; number = number }) (places_in unit (number + 1) (λ x. true) xs))
 
--- of the workunit at a place
+-- the scores of the workunit at a place
 said-at : (count : Score → ℕ) (between : ℕ → Standing → Standing → ℕ) → Counts count between → (old new : World) (host unit : ℕ)
     → said count host (scores_at old new unit) ≡ sum_by (new_at between old new host) (places_in unit 0 (λ x. true) (instances_at new unit))
 said-at count between counts old new host unit = at (unit_at new unit) refl
@@ -139,7 +139,7 @@ said-at count between counts old new host unit = at (unit_at new unit) refl
         said-from count between counts old new host unit b stands 0 b.instances
         (λ i. ap (slice_get b.instances) (let same : 0 + i ≡ i = omega arith in same))
 
--- of workunits
+-- the scores of workunits
 said-of : (count : Score → ℕ) (between : ℕ → Standing → Standing → ℕ) → Counts count between → (old new : World) (host : ℕ) (units : List ℕ)
     → said count host (scores_of_units old new units)
     ≡ sum_by (λ unit. sum_by (new_at between old new host) (places_in unit 0 (λ x. true) (instances_at new unit))) units
@@ -159,7 +159,7 @@ pub merits_in-scores : (old new : World) (units : List ℕ) (host : ℕ)
     → merits_in (scores_of_units old new units) host ≡ sum_by (unit_merits old new host) units
 merits_in-scores old new units host = said-of (λ m. m.merits) (λ credit. merits_between) (record { counted = λ credit host a b. refl; none = λ credit a b charges merits. merits }) old new host units
 
--- without a valid result that is new there is no new credit
+-- if no result is newly valid, there is no new credit
 no_credit : (valid : Bool) (credit : ℕ) → cond {A = ℕ} valid 1 0 ≡ 0 → cond valid credit 0 ≡ 0
 no_credit true credit none = absurd (omega arith)
 no_credit false credit none = refl

@@ -1,4 +1,4 @@
--- The credit of a host after a call is what it was before, and what the scores bring.
+-- The credit of a host after a call is its credit before, plus what the scores bring.
 use Rattle.std.proofs.Common.{◌≡◌, ℕ, zero, suc, ◌+◌, ◌<◌, Bool, true, false, cond, List, [], ◌∷◌, length, Option, Some, None, sym, refl, ap, ap₂, ◌∙◌, subst, zero-add, arith}
 use Rattle.std.specs.Prelude.{◌&&◌, ◌==◌, not, sum_by, option_map, option_and_then, unwrap_or, slice_get}
 use Rattle.std.proofs.lemmas.List.Sums.{sum_by-cons}
@@ -42,7 +42,7 @@ sum_placed f unit n (x ∷ xs) more none =
     ∙ ap (λ m. f (place unit n) + sum_by f (places_in unit m (λ x. true) xs)) (let at : suc n ≡ n + 1 = omega arith in at)
     ∙ sym (sum_by-cons f (place unit n) (places_in unit (n + 1) (λ x. true) xs))
 
--- the credit that a host has of the instance at a place
+-- the credit that a host has for the instance at a place
 abbrev credit_of_one : List App → ℕ → UnitBook → Instance → ℕ
 credit_of_one apps host b x = cond (is_owned_by host x && is_valid (book_verdict apps b x)) b.unit.credit 0
 
@@ -52,7 +52,7 @@ credit_of_unit apps host o number = unwrap_or (option_and_then (λ (b : UnitBook
 abbrev won_at : World → ℕ → Place → ℕ
 won_at w host p = credit_of_unit w.apps host (unit_at w p.unit) p.number
 
--- that of all instances of a workunit, and of all workunits
+-- the credit for all instances of a workunit, and of all workunits
 abbrev won_in : World → ℕ → ℕ → ℕ
 won_in w host unit = unwrap_or (option_map (credit_in w.apps host) (unit_at w unit)) 0
 
@@ -124,14 +124,14 @@ one_new false owned valid false credit stays same = by owned
     by true = refl
     by false = refl
 
--- A world that goes on: at each place the host has what it had, and what is new there.
+-- A world that continues: at each place the host has what it had, plus what is new there.
 module _ (old new : World) (goes : CreditGoesOn old new) (host unit number : ℕ) where
   abbrev new_in : UnitBook → Standing → Option Instance → ℕ
   new_in c before q =
       cond (unwrap_or (option_map (is_owned_by host) q) false)
       (credit_between c.unit.credit before (unwrap_or (option_map (λ y. standing_with (book_verdict new.apps c y) y) q) no_standing)) 0
 
-  -- nothing stood there
+  -- there was no instance
   from_none : (c : UnitBook) (q : Option Instance) → unwrap_or (option_map (credit_of_one new.apps host c) q) 0 ≡ 0 + new_in c no_standing q
   from_none c None = refl
   from_none c (Some y) = one_new (is_owned_by host y) false (is_valid (book_verdict new.apps c y)) false c.unit.credit (λ never. absurd cc) (λ never. absurd cc)
@@ -141,7 +141,7 @@ module _ (old new : World) (goes : CreditGoesOn old new) (host unit number : ℕ
   unpaid true false credit is = refl
   unpaid false was credit is = refl
 
-  -- an instance stood there
+  -- there was an instance
   from_some : (b c : UnitBook) → UnitGoesOn old new b c → (x : Instance) → slice_get b.instances number ≡ Some x
       → (q : Option Instance) → slice_get c.instances number ≡ q
       → unwrap_or (option_map (credit_of_one new.apps host c) q) 0 ≡ credit_of_one old.apps host b x + new_in c (standing_with (book_verdict old.apps b x) x) q
@@ -186,7 +186,7 @@ module _ (old new : World) (goes : CreditGoesOn old new) (host unit number : ℕ
           let same : there.0 ≡ c = (let both : Some there.0 ≡ Some c = sym there.1 ∙ stands in cc) in
           in_unit b c (subst (UnitGoesOn old new b) same there.2) (slice_get b.instances number) refl
 
--- nothing is new where no instance stands
+-- nothing is new if there is no instance
 none_at : (old new : World) (host unit number : ℕ) → slice_get (instances_at new unit) number ≡ None → credit_new_at old new host (place unit number) ≡ 0
 none_at old new host unit number past =
     ap (λ own. cond own (credit_between (unit_credit new unit) (standing_at old (place unit number)) (standing_at new (place unit number))) 0)
@@ -198,7 +198,7 @@ none_at old new host unit number past =
     by (Some b) past = ap (λ o. unwrap_or (option_map (is_owned_by host) o) false) past
 
 module _ (old new : World) (goes : CreditGoesOn old new) (host : ℕ) where
-  -- of a workunit the host has what it had, and what is new
+  -- for a workunit the host has what it had, plus what is new
   unit_goes_on : (unit : ℕ) → won_in new host unit ≡ won_in old host unit + unit_credits old new host unit
   unit_goes_on unit =
       let before : ℕ = length (instances_at old unit) in
@@ -227,7 +227,7 @@ module _ (old new : World) (goes : CreditGoesOn old new) (host : ℕ) where
     either true n is = is
     either false n is = refl
 
-    -- what is new is of the touched workunits
+    -- what is new belongs to the touched workunits
     untouched : (unit : ℕ) → is_among units unit ≡ false → unit_credits old new host unit ≡ 0
     untouched unit among =
         sum_in-zero (credit_new_at old new host) unit 0 (instances_at new unit) (λ i.
@@ -260,7 +260,7 @@ module _ (old new : World) (goes : CreditGoesOn old new) (host : ℕ) where
         (ap (sum_from (won_in old host) 1) turned ∙ host_credit-units old host after)
         (all_new before)
 
--- so a host has what it had, and what the scores bring
+-- so a host has what it had, plus what the scores bring
 pub host_credit-scored : (old new : World) (scores : List Score) → AreScores old new scores → CreditGoesOn old new → (host : ℕ)
     → host_credit new host ≡ host_credit old host + credits_in scores host
 host_credit-scored old new scores scored goes host =

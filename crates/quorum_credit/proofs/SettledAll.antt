@@ -1,4 +1,4 @@
--- The steps of settlement come to the settled world.
+-- The steps of settlement lead to the settled world.
 use Rattle.std.proofs.Common.{◌≡◌, ℕ, ◌≤◌, Bool, true, false, cond, eqb, List, [], ◌∷◌, ◌++◌, length, Option, Some, None, drop, sym, refl, ap, ◌∙◌, subst, append_assoc, arith}
 use Rattle.std.specs.Prelude.{IsTrue, is_some, map, option_map, sum_by}
 use Rattle.std.specs.List.{enumerate_from, list_any, list_all}
@@ -107,7 +107,7 @@ grown_touch_just units old changed sound touch = record {
   others = untouched_stays units old changed sound touch;
 }
 
--- the settled world, in which the quotas of hosts are new beside
+-- the settled world, in which the hosts also have new quotas
 pub settled_touch_just : (units : List ℕ) (old changed : World) → Sound old → TouchJust units old changed → TouchJust units old (settled old changed)
 settled_touch_just units old changed sound touch = record {
   rising = touch.rising;
@@ -165,11 +165,11 @@ hosts_in_limits w (c ∷ cs) puts limits fits =
     let parts = and_parts (puts_row c) (list_all puts_row cs) puts in
     hosts_in_limits (applied_one w c) cs parts.1 (hosts_one w c parts.0 limits fits.0) fits.1
 
--- the row of a workunit but for its class
+-- the row of a workunit, without its class
 abbrev plain : Option UnitBook → Option Workunit
 plain o = option_map (λ (b : UnitBook). imported b.unit) o
 
--- it stays where one workunit is changed and it does
+-- it stays if one workunit is changed and the change keeps it
 plain_stays : (f : UnitBook → UnitBook) → ((b : UnitBook) → imported (f b).unit ≡ imported b.unit) → (xs : List UnitBook) (place unit : ℕ)
     → plain (nth (modify_nth f xs place) unit) ≡ plain (nth xs unit)
 plain_stays f keeps xs place unit = ap plain (nth-modify_nth f xs place unit) ∙ cases (eqb place unit) (nth xs unit)
@@ -179,7 +179,7 @@ plain_stays f keeps xs place unit = ap plain (nth-modify_nth f xs place unit) �
     cases true (Some b) = ap Some (keeps b)
     cases false o = refl
 
--- so the rows stay but for their classes
+-- so the rows stay, except for their classes
 row_stays : (w : World) (c : Change) (unit : ℕ) → puts_row c ≡ true → plain (unit_at (applied_one w c) unit) ≡ plain (unit_at w unit)
 row_stays w (change.Account a) unit puts = absurd cc
 row_stays w (change.App a) unit puts = absurd cc
@@ -204,8 +204,8 @@ units_in_limits w cs sound puts unit b stands = cases (unit_at w unit) refl (sym
         let same : imported c.unit ≡ imported b.unit = cc in
         subst IsUnitInLimits same (imported_in_limits c.unit (all_nth (IsSoundUnit w.hosts w.apps) w.units unit c sound.units is).well.limits)
 
--- The three steps of settlement from a world w of a call that found world e: to v by new instances, scores, and to u by
--- quotas; and the changes before and after.
+-- The three steps of settlement in a call that found the world e: from w to v by new instances, then the scores, and from
+-- v to u by quotas. `before` and `after` are the changes before and after them.
 pub record AreSteps (e w v u : World) (before after quotas : List Change) (units : List ℕ) (scores : List Score) : Type 0 where
   pub here : w ≡ applied e before
   pub puts : list_all puts_row before ≡ true
@@ -217,7 +217,7 @@ pub record AreSteps (e w v u : World) (before after quotas : List Change) (units
 
 module _ (e w v u : World) (before after quotas : List Change) (units : List ℕ) (scores : List Score)
     (steps : AreSteps e w v u before after quotas units scores) where
-  -- the scores are of all that is new in the end, since quotas alone come behind them
+  -- the scores cover everything new at the end, because only quotas come after them
   pub scores_hold : scores ≡ scores_of_units e u units
   scores_hold = steps.scored ∙ ap (λ z. scores_of_units e z units) (sym (steps.put ∙ steps.quoted.alone))
 
@@ -247,7 +247,7 @@ module _ (e w v u : World) (before after quotas : List Change) (units : List ℕ
         (subst (λ z. (host : ℕ) → charges_in scores host ≡ sum_by (unit_charges e z host) units) all_grown charged)
         (subst (λ z. (host : ℕ) → merits_in scores host ≡ sum_by (unit_merits e z host) units) all_grown merited)
 
-    -- the new instances fit behind the changes before, and lead to v
+    -- the new instances fit after the earlier changes, and lead to v
     grown_here : applied e (before ++ all_growth w units) ≡ v
     grown_here =
         fold-append applied_one e before (all_growth w units)
@@ -269,13 +269,13 @@ module _ (e w v u : World) (before after quotas : List Change) (units : List ℕ
         (all_fit w units just.rising (subst AreUnitsInLimits (sym steps.here) (units_in_limits e before sound steps.puts)))))
         (subst (λ z. Fits z quotas) (sym grown_here) (steps.quoted.fit limits some_quota)))
 
--- changes with some behind them go on
+-- changes with others after them are the front of the list
 pub goes_on : {X : Type 0} (before new more after : List X) → after ≡ (before ++ new) ++ more → before ++ drop (length before) after ≡ after
 goes_on before new more after is =
     let all : after ≡ before ++ (new ++ more) = is ∙ append_assoc before new more in
     ap (λ cs. before ++ drop (length before) cs) all ∙ ap (λ cs. before ++ cs) (drop-append_seam before (new ++ more)) ∙ sym all
 
--- what is handed back of a settlement is what stands behind the changes
+-- what a settlement returns is what follows the changes
 module _ (w : World) (cs more all : List Change) (units : List ℕ) (settlement : IsSettlement w cs all units)
     (count : ℕ) (long : count ≡ length cs) (behind : more ≡ drop count all) (puts : list_all puts_row all ≡ true) where
   joined : cs ++ more ≡ all
@@ -293,7 +293,7 @@ module _ (w : World) (cs more all : List Change) (units : List ℕ) (settlement 
   pub joined_fit : Sound w → Fits w cs → AreTouched cs units → Fits w (cs ++ more)
   joined_fit sound fits touched = subst (Fits w) (sym joined) (settlement.fits sound fits (just_touched touched))
 
--- The workunits that a call has read are more than it touches.
+-- A call touches only workunits that it has read.
 pub read_touch : (entry present : World) (kept : ℕ → Option Leaf) (units : List ℕ)
     → present ≡ record entry { units = present.units; hosts = present.hosts }
     → ((unit : ℕ) → IsLeafAt entry present unit (kept unit)) → AreAllOf kept units → TouchJust units entry present

@@ -16,7 +16,7 @@ use Rattle.quorum_credit.specs.Tallies.{is_named, is_tallied, tally_of, tally_af
 use Rattle.quorum_credit.specs.declared.host_quotas.Tally.{Tally}
 use Rattle.quorum_credit.specs.declared.scores.Score.{Score}
 
--- one score more in front
+-- one more score in front
 charges_cons : (m : Score) (ms : List Score) (host : ℕ) (b : Bool) → eqb m.host host ≡ b → charges_in (m ∷ ms) host ≡ cond b m.charges 0 + charges_in ms host
 charges_cons m ms host b is =
     sum_by-cons (λ (m : Score). cond (eqb m.host host) m.charges 0) m ms ∙ ap (λ (b : Bool). cond b m.charges 0 + charges_in ms host) is
@@ -25,14 +25,14 @@ merits_cons : (m : Score) (ms : List Score) (host : ℕ) (b : Bool) → eqb m.ho
 merits_cons m ms host b is =
     sum_by-cons (λ (m : Score). cond (eqb m.host host) m.merits 0) m ms ∙ ap (λ (b : Bool). cond b m.merits 0 + merits_in ms host) is
 
--- of another host
+-- a score of another host
 charges_other : (m : Score) (ms : List Score) (host : ℕ) → eqb m.host host ≡ false → charges_in (m ∷ ms) host ≡ charges_in ms host
 charges_other m ms host is = let one = charges_cons m ms host false is in omega arith
 
 merits_other : (m : Score) (ms : List Score) (host : ℕ) → eqb m.host host ≡ false → merits_in (m ∷ ms) host ≡ merits_in ms host
 merits_other m ms host is = let one = merits_cons m ms host false is in omega arith
 
--- what is said of a host where something was said before
+-- the tally of a host after further scores
 abbrev with_more : ℕ → Tally → List Score → Tally
 with_more host s ms = record s { charges = s.charges + charges_in ms host; merits = s.merits + merits_in ms host }
 
@@ -60,7 +60,7 @@ tally_some host s (m ∷ ms) = cases (λ s. tally_some host s ms) (eqb m.host ho
         ∙ ap (λ c. Some (both s (s.charges + c) (s.merits + merits_in ms host))) (sym (charges_other m ms host is))
         ∙ ap (λ c. Some (both s (s.charges + charges_in (m ∷ ms) host) (s.merits + c))) (sym (merits_other m ms host is))
 
--- what is said of a host
+-- the tally of a host
 abbrev said : List Score → ℕ → Tally
 said ms host = record { host = host; charges = charges_in ms host; merits = merits_in ms host }
 
@@ -83,7 +83,7 @@ tally_none host (m ∷ ms) = cases (tally_none host ms) (eqb m.host host) refl
         ∙ ap (λ c. cond (is_named ms host) (triple host c (merits_in ms host)) None) (sym (charges_other m ms host is))
         ∙ ap (λ c. cond (is_named ms host) (triple host (charges_in (m ∷ ms) host) c) None) (sym (merits_other m ms host is))
 
--- nothing is said of a host that no score names
+-- scores say nothing of a host that none of them names
 charges_none : (ms : List Score) (host : ℕ) → is_named ms host ≡ false → (charges_in ms host ≡ 0) × (merits_in ms host ≡ 0)
 charges_none [] host none = (refl, refl)
 charges_none (m ∷ ms) host none = cases (charges_none ms host) (eqb m.host host) refl none

@@ -1,4 +1,4 @@
--- The places in a set rise, and are those that came by.
+-- The places in a set are in rising order, and are those that were added.
 use Rattle.std.proofs.Common.{◌≡◌, ℕ, Bool, eqb, List, [], ◌∷◌, sym, refl, ap₂, ◌∙◌}
 use Rattle.std.specs.Prelude.{◌||◌}
 use Rattle.std.specs.BTreeSet.{BTreeSet, IsOrdered, contains}
@@ -12,7 +12,7 @@ among : (unit : ℕ) (ns : List ℕ) → list_any (λ n. is_eq (nat_cmp unit n))
 among unit [] = refl
 among unit (n ∷ ns) = ap₂ (λ (a b : Bool). a || b) (same unit n) (among unit ns)
 
--- the set has just the workunits that the changes touch
+-- the set has exactly the workunits that the changes touch
 abbrev pub HasTouched : List Change → BTreeSet ℕ → Type 0
 HasTouched cs units = (unit : ℕ) → contains nat_cmp units unit ≡ list_any (touches unit) cs
 

@@ -8,21 +8,21 @@ use Rattle.sched_book.specs.declared.instance.UnitBook.{UnitBook}
 use Rattle.sched_book.specs.declared.world.World.{World}
 use Rattle.quorum_credit.specs.Settled.{new_instances}
 
--- so many instances of a workunit that nobody was given, numbered on from a number
+-- so many instances of a workunit that were given to nobody; the first has the number `number`
 abbrev pub fresh_changes : ℕ → ℕ → ℕ → List Change
 fresh_changes unit number zero = []
 fresh_changes unit number (suc count) =
     change.Instance (record { unit = unit; number = number }) fresh ∷ fresh_changes unit (number + 1) count
 
--- those that a workunit with its instances is to get
+-- the instances that a workunit is to get
 abbrev pub growth_of : World → ℕ → UnitBook → List Change
 growth_of w unit b = fresh_changes unit (length b.instances) (new_instances (agreement_of w b) b.unit b.instances)
 
--- those that the workunit at a place is to get; none where none stands
+-- the same of the workunit at a place; none if there is no workunit
 abbrev pub growth : World → ℕ → List Change
 growth w unit = unwrap_or (option_map (growth_of w unit) (unit_at w unit)) []
 
--- those of the workunits at these places
+-- the same of the workunits at these places
 abbrev pub all_growth : World → List ℕ → List Change
 all_growth w [] = []
 all_growth w (unit ∷ units) = growth w unit ++ all_growth w units

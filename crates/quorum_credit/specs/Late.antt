@@ -1,4 +1,4 @@
--- Words. What a deadline that went by makes of an instance, and of several.
+-- Words. What happens to an instance, and to several, when the deadline passes.
 use Rattle.std.specs.Prelude.{ℕ, if◌then◌else◌, List, fold, Option, None, option_map, slice_get}
 use Rattle.sched_book.specs.Count.{is_held}
 use Rattle.sched_book.specs.Places.{option_any}
@@ -9,7 +9,7 @@ use Rattle.sched_book.specs.declared.instance.Lapse.TheVariants.{Late}
 use Rattle.sched_book.specs.declared.instance.Place.{Place}
 use Rattle.sched_book.specs.declared.world.World.{World}
 
--- the instance of a number, late, where a host holds it
+-- the instance of a number, late, if a host holds it
 abbrev pub late_in : List Instance → ℕ → Option Instance
 late_in xs number = if option_any is_held (slice_get xs number) then option_map (with_lapse Late) (slice_get xs number) else None
 

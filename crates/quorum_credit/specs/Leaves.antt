@@ -13,11 +13,11 @@ use Rattle.quorum_credit.specs.Settled.{new_instances}
 use Rattle.quorum_credit.specs.Taken.{reported_in}
 use Rattle.quorum_credit.specs.declared.scores.Score.{Score}
 
--- the instance of a number with one report more, where it awaits it from the host
+-- the instance of a number with one more report, if it awaits a report from the host
 abbrev pub reported_on : ℕ → Report → Option Leaf → ℕ → Option Instance
 reported_on host r k number = reported_in host r (has_failed (status_before k)) (instances_now k) number
 
--- the instance of a number, late, where a host holds it
+-- the instance of a number, late, if a host holds it
 abbrev pub late_on : Option Leaf → ℕ → Option Instance
 late_on k number = late_in (instances_now k) number
 

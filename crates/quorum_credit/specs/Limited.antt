@@ -1,4 +1,4 @@
--- Words. Changes that fit, in a world whose instances keep within limits.
+-- Words. Changes that fit, in a world whose instances are within limits.
 use Rattle.std.specs.Prelude.{◌≡◌, ℕ, ◌≤◌, List, length, Some}
 use Rattle.sched_book.specs.Places.{unit_at, instance_at}
 use Rattle.sched_book.specs.Limits.{most_instances, IsInstanceInLimits}
@@ -10,8 +10,8 @@ use Rattle.sched_book.specs.declared.instance.Place.{Place}
 use Rattle.sched_book.specs.declared.instance.UnitBook.{UnitBook}
 use Rattle.sched_book.specs.declared.world.World.{World}
 
--- no workunit has more instances than it may; the hosts that have them stand, what nobody was given is bare, and their
--- values are in range
+-- no workunit has more instances than it may; the host of each instance exists, an instance without owner is bare, and
+-- the values are in range
 pub record IsLimited (w : World) : Type 0 where
   pub few : (unit : ℕ) (b : UnitBook) → unit_at w unit ≡ Some b → length b.instances ≤ most_instances
   pub each : (p : Place) (x : Instance) → instance_at w p ≡ Some x → HasOwnerAmong w.hosts x × IsBare x × IsInstanceInLimits x

@@ -1,4 +1,4 @@
--- Words. The steps from the world with its changes to the settled one. Of the workunits only those that the changes touch are looked at.
+-- Words. The steps from the world with its changes to the settled one. They look only at workunits that the changes touch.
 use Rattle.std.specs.Prelude.{◌≡◌, ℕ, ◌≤◌, ◌++◌, Bool, true, false, if◌then◌else◌, List, length, drop, map, Some, is_some, IsTrue}
 use Rattle.std.specs.List.{enumerate_from}
 use Rattle.sched_book.specs.Classes.{imported}
@@ -18,7 +18,7 @@ use Rattle.quorum_credit.specs.Scores.{charges_in, merits_in}
 use Rattle.call_sheet.specs.Sheets.{AreRising, is_among}
 use Rattle.quorum_credit.specs.declared.scores.Score.{Score}
 
--- the change puts a host or an instance or has a workunit take a class, as those of a call and of a tick do
+-- the change puts a host or an instance, or a workunit takes a class: the changes of a call and of a tick
 abbrev pub puts_row : Change → Bool
 puts_row (change.Account a) = false
 puts_row (change.App a) = false
@@ -28,20 +28,20 @@ puts_row (change.Host number h) = true
 puts_row (change.Instance p x) = true
 puts_row (change.Class unit class) = true
 
--- Between two worlds no workunit is touched but these, whose places rise.
+-- Between two worlds only these workunits are touched, and their places rise.
 pub record TouchJust (units : List ℕ) (old changed : World) : Type 0 where
   pub rising : AreRising units
   pub settings : changed.settings ≡ old.settings
   pub apps : changed.apps ≡ old.apps
   pub others : (unit : ℕ) → is_among units unit ≡ false → unit_at changed unit ≡ unit_at old unit
 
--- These are the scores of all that is new between two worlds, where no workunits but some were touched.
+-- These are the scores of all that is new between two worlds, in which only the workunits `units` were touched.
 pub record AreScores (old new : World) (scores : List Score) : Type 0 where
   pub units : List ℕ
   pub just : TouchJust units old new
   pub are : scores ≡ scores_of_units old new units
 
--- the workunit of a place, with the instances that it needs where the place is one of these
+-- the workunit of a place; if the place is one of these, with the instances that it needs
 abbrev pub grown_among : List App → List ℕ → ℕ × UnitBook → UnitBook
 grown_among apps units e = if is_among units e.0 then grown apps e.1 else e.1
 
@@ -52,13 +52,13 @@ with_grown_among units w = record w { units = map (grown_among w.apps units) (en
 abbrev pub AreUnitsInLimits : World → Type 0
 AreUnitsInLimits w = (unit : ℕ) (b : UnitBook) → unit_at w unit ≡ Some b → IsUnitInLimits (imported b.unit)
 
--- each host is within limits, and its account stands
+-- each host is within limits, and its account exists
 abbrev pub AreHostsInLimits : World → Type 0
 AreHostsInLimits w =
     (host : ℕ) (h : HostRow) → host_at w host ≡ Some h
     → IsTrue (is_some (nth w.accounts h.account)) × IsHostInLimits w.settings.daily_result_quota h × (host ≤ w.settings.max_hosts)
 
--- the host of a number, with the quota that these scores leave it
+-- the host of a number, with the quota that results from these scores
 abbrev pub quota_by : List Score → ℕ → ℕ × HostRow → HostRow
 quota_by scores limit e =
     record e.1 { quota = next_quota e.1.quota (charges_in scores e.0) (merits_in scores e.0) limit }
@@ -66,17 +66,17 @@ quota_by scores limit e =
 abbrev pub with_quotas_by : List Score → World → World
 with_quotas_by scores w = record w { hosts = map (quota_by scores w.settings.daily_result_quota) (enumerate_from 1 w.hosts) }
 
--- These changes give the hosts the quotas that the scores leave them, and change nothing else.
+-- These changes give the hosts the quotas that result from the scores, and change nothing else.
 pub record AreQuotasBy (scores : List Score) (w : World) (quotas : List Change) : Type 0 where
   pub quoted : AreHostsInLimits w → applied w quotas ≡ with_quotas_by scores w
   pub fit : AreHostsInLimits w → 1 ≤ w.settings.daily_result_quota → Fits w quotas
   pub alone : applied w quotas ≡ record w { hosts = (applied w quotas).hosts }
 
--- the later changes are the earlier ones with some behind them
+-- the later changes are the earlier ones, followed by others
 abbrev pub GoesOn : List Change → List Change → Type 0
 GoesOn earlier later = earlier ++ drop (length earlier) later ≡ later
 
--- These changes are others with their settlement behind them, where no workunits but these are touched.
+-- These changes are the earlier ones followed by their settlement, if only these workunits are touched.
 pub record IsSettlement (w : World) (changes all : List Change) (units : List ℕ) : Type 0 where
   pub goes_on : GoesOn changes all
   pub settles : Sound w → Fits w changes → TouchJust units w (applied w changes) → applied w all ≡ settled w (applied w changes)

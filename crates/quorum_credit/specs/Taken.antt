@@ -10,11 +10,11 @@ use Rattle.sched_book.specs.declared.delta.Change.TheVariants as change
 use Rattle.sched_book.specs.declared.instance.Instance.{Instance}
 use Rattle.call_sheet.specs.Sheets.{AreRising}
 
--- the place that the next report of a workunit with these instances gets: none where the workunit had failed
+-- the place that the next report of a workunit with these instances gets: none if the workunit had failed
 abbrev pub place_among : Bool → List Instance → Option ℕ
 place_among failed xs = if failed then None else Some (1 + count_by is_judged xs)
 
--- the instance of a number with one report more, where it awaits it
+-- the instance of a number with one more report, if it awaits it
 abbrev pub reported_in : ℕ → Report → Bool → List Instance → ℕ → Option Instance
 reported_in host r failed xs number =
     if option_any (awaits_report host) (slice_get xs number)
@@ -31,7 +31,7 @@ touches unit (change.Host number h) = false
 touches unit (change.Instance p x) = p.unit == unit
 touches unit (change.Class place class) = place == unit
 
--- These are the places of the workunits that the changes touch, in their order and each once.
+-- These are the places of the workunits that the changes touch, in order and each once.
 pub record AreTouched (changes : List Change) (units : List ℕ) : Type 0 where
   pub rising : AreRising units
   pub just : (unit : ℕ) → list_any (λ n. n == unit) units ≡ list_any (touches unit) changes

@@ -1,4 +1,4 @@
--- Words. The hosts that scores speak of, and the quotas that these leave them.
+-- Words. The hosts that scores name, and the quotas that result for them.
 use Rattle.std.specs.Prelude.{◌≡◌, ℕ, ◌+◌, min, Bool, false, ◌==◌, if◌then◌else◌, List, [], ◌∷◌, filter_map, All, Option, None, Some, option_map}
 use Rattle.std.specs.BTreeMap as tree
 use Rattle.std.specs.BTreeMap.{BTreeMap}
@@ -14,15 +14,15 @@ use Rattle.quorum_credit.specs.Scores.{charges_in, merits_in}
 use Rattle.quorum_credit.specs.declared.host_quotas.Tally.{Tally}
 use Rattle.quorum_credit.specs.declared.scores.Score.{Score}
 
--- the number that a host gets that is put at a number, where `count` hosts stand: a new one is the next; at 0 none is put
+-- the number of a host that is put at a number, if there are `count` hosts: a new host is the next one; at 0 none is put
 abbrev pub number_got : ℕ → ℕ → ℕ
 number_got count number = min number (count + 1)
 
--- a host with the quota that one tally leaves it
+-- a host with the quota that results from one tally
 abbrev pub with_quota_by : ℕ → Tally → HostRow → HostRow
 with_quota_by limit s h = record h { quota = next_quota h.quota s.charges s.merits limit }
 
--- its host with that quota, as a change, where it stands
+-- the host of a tally with that quota, as a change, if the host exists
 abbrev pub new_quota : World → ℕ → Tally → Option Change
 new_quota w limit s = option_map (λ h. change.Host s.host (with_quota_by limit s h)) (host_at w s.host)
 
@@ -41,21 +41,21 @@ is_tallied tallies host = list_any (λ (s : Tally). s.host == host) tallies
 abbrev pub tally_of : Score → Tally
 tally_of m = record { host = m.host; charges = m.charges; merits = m.merits }
 
--- what was said of a host so far, and one score more
+-- the tally of a host so far, with one more score
 abbrev pub tally_with : Option Tally → Score → Tally
 tally_with None m = tally_of m
 tally_with (Some s) m = record s { charges = s.charges + m.charges; merits = s.merits + m.merits }
 
--- the same with the scores that are of the host
+-- the same, with all scores that are of the host
 abbrev pub tally_after : ℕ → Option Tally → List Score → Option Tally
 tally_after host tally [] = tally
 tally_after host tally (m ∷ ms) = tally_after host (if m.host == host then Some (tally_with tally m) else tally) ms
 
--- what is said of a host so far
+-- the tally of a host so far
 abbrev pub tally_in : BTreeMap ℕ Tally → ℕ → Option Tally
 tally_in tallies host = tree.get nat_cmp tallies host
 
--- Each of these says all that the scores say of its host, and the scores say nothing of other hosts.
+-- Each of these sums has all that the scores say of its host. The scores say nothing of other hosts.
 pub record AreSums (scores : List Score) (sums : List Tally) : Type 0 where
   pub each : All (λ (s : Tally). (s.charges ≡ charges_in scores s.host) × (s.merits ≡ merits_in scores s.host)) sums
   pub others : (host : ℕ) → is_tallied sums host ≡ false → (charges_in scores host ≡ 0) × (merits_in scores host ≡ 0)

@@ -14,8 +14,7 @@ use sched_book::{Change, Delta, Instance, Place, Unavailable};
 use std::alloc::Global;
 use texts::Listed;
 
-/// Puts the instances that the workunit of a leaf is to get behind those of others. Where they would be too many it is
-/// refused.
+/// Adds the instances that the workunit of a leaf is to get after those of others. Refused if these would be too many.
 #[tactic(auto, using(crate::proofs::FreshOnes::growth_steps))]
 fn push_growth(more: &mut Delta, unit: u32, leaf: &Leaf) -> Result<(), Unavailable>
     ensures { OnOk result (more.new ≡ more.old ++ growth_on unit (Some leaf.now)) }
@@ -23,7 +22,8 @@ fn push_growth(more: &mut Delta, unit: u32, leaf: &Leaf) -> Result<(), Unavailab
     let instances = leaf.present.as_slice();
     let count = new_instances(&leaf.agreement, &leaf.unit, instances);
     if count > MOST_INSTANCES - instances.len() {
-        // Not met by workunits within limits: an open one has and needs at most `max_total_results`, which is at most 100.
+        // Does not happen for workunits within limits: an open one has and needs at most `max_total_results`, which is
+        // at most 100.
         return Err(Unavailable);
     }
     let first = instances.len() as u32;
@@ -41,7 +41,7 @@ fn push_growth(more: &mut Delta, unit: u32, leaf: &Leaf) -> Result<(), Unavailab
     Ok(())
 }
 
-/// Puts the instances that the workunit at a place is to get behind those of others. Where none stands it is refused.
+/// Adds the instances that the workunit at a place is to get after those of others. Refused if there is no workunit.
 #[tactic(auto, using(crate::proofs::OnLeaves::growth_steps))]
 fn add_growth<S: Draft>(
     alloc: Global,
@@ -59,7 +59,7 @@ fn add_growth<S: Draft>(
     }
 }
 
-/// The new instances of these workunits: for each that is open, those that it lacks, numbered on.
+/// The new instances of these workunits: for each open one those that it lacks, with the next numbers.
 fn growth_in_turn<S: Draft>(
     alloc: Global,
     sheet: &mut S,

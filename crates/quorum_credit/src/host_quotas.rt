@@ -23,7 +23,7 @@ struct Tally {
     merits: u32,
 }
 
-/// Puts the host of a tally with its new quota behind the others. A host that does not stand is refused.
+/// Adds the host of a tally, with its new quota, after the others. Refused if the host does not exist.
 fn add_quota<S: Draft>(
     alloc: Global,
     sheet: &mut S,
@@ -66,7 +66,7 @@ fn quotas_in_turn<S: Draft>(
     Ok(quotas)
 }
 
-/// What was said of a host so far, and one score more. Sums past 32 bits are refused.
+/// The tally of a host so far, with one more score. Refused if a sum exceeds 32 bits.
 fn tally_with(tally: Option<Tally>, score: &Score) -> Result<Tally, Unavailable>
     ensures { IfOk result (λ sum. sum ≡ tally_with tally score.now) }
 {
@@ -77,8 +77,8 @@ fn tally_with(tally: Option<Tally>, score: &Score) -> Result<Tally, Unavailable>
             merits: score.merits,
         });
     };
-    // Not met in a sound world, where a step charges a host at most 60,000,000 times and has at most 20,000,000 merits
-    // for it: `sched_book::laws::charges_are_few`.
+    // Does not happen in a sound world: there a step charges a host at most 60,000,000 times and has at most 20,000,000
+    // merits for it (`sched_book::laws::charges_are_few`).
     let Some(charges) = before.charges.checked_add(score.charges) else {
         return Err(Unavailable);
     };
@@ -92,7 +92,7 @@ fn tally_with(tally: Option<Tally>, score: &Score) -> Result<Tally, Unavailable>
     })
 }
 
-/// Adds one score to what was said of its host.
+/// Adds one score to the tally of its host.
 fn add_score(tallies: &mut BTreeMap<u32, Tally>, score: &Score) -> Result<(), Unavailable>
     ensures { OnOk result ((host : ℕ) → tally_in tallies.new host ≡
         if score.now.host == host then Some (tally_with (tally_in tallies.old host) score.now) else tally_in tallies.old host) }
@@ -123,7 +123,7 @@ fn sums_of(alloc: Global, scores: &[Score]) -> Result<Vec<Tally>, Unavailable>
     Ok(tallies.values().copied().collect(alloc)?)
 }
 
-/// The hosts that these scores speak of, each with the quota that the scores leave it.
+/// The hosts that these scores name, each with the quota that results from them.
 pub(crate) fn new_quotas<S: Draft>(
     alloc: Global,
     sheet: &mut S,

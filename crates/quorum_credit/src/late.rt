@@ -1,4 +1,4 @@
-//! Instances whose deadline went by.
+//! Instances whose deadline passed.
 
 ghost use Rattle.std.specs.Prelude.{◌≡◌, IfOk, OnOk};
 ghost use Rattle.std.specs.Option.{option_copied};
@@ -15,7 +15,7 @@ use sched_book::{Instance, Lapse, Place, Unavailable, copy_of};
 use std::alloc::Global;
 use texts::Memory;
 
-/// The instance of this number on a leaf, late, where a host holds it.
+/// The instance of this number on a leaf, late, if a host holds it.
 fn late_on(leaf: Option<&Leaf>, number: u32) -> Result<Option<Instance>, Memory>
     ensures { IfOk result (λ row. row ≡ late_on (option_copied leaf.entry) number) }
 {
@@ -32,7 +32,7 @@ fn late_on(leaf: Option<&Leaf>, number: u32) -> Result<Option<Instance>, Memory>
     }
 }
 
-/// Puts the lapse of the instance at a place. An instance that no host holds is refused.
+/// Puts the lapse of the instance at a place. Refused if no host holds it.
 fn put_late<S: Draft>(alloc: Global, sheet: &mut S, place: Place) -> Result<(), Unavailable>
     ensures works { S.works sheet.old sheet.new }
     ensures put { Trusted S.Units sheet.old sheet.new (
@@ -50,12 +50,12 @@ fn put_late<S: Draft>(alloc: Global, sheet: &mut S, place: Place) -> Result<(), 
     }
 }
 
-/// Lets the instances at these places lapse late, in their order, on the sheet of a call. An instance that no host holds is
-/// refused.
+/// Lets the instances at these places lapse late, in their order, on the sheet of a call. Refused if no host holds one
+/// of them.
 ///
 /// # Errors
 ///
-/// [`Unavailable`] where memory is wanting or the desk is unavailable.
+/// [`Unavailable`] if there is no memory or the desk is unavailable.
 pub fn lapse_on<S: Draft>(alloc: Global, sheet: &mut S, places: &[Place]) -> Result<(), Unavailable>
     ensures works { S.works sheet.old sheet.new }
     ensures lapsed { Trusted S.Units sheet.old sheet.new (

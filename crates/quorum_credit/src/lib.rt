@@ -1,10 +1,10 @@
-//! What reports and lapses come to: which are recorded, what workunits need then, and the quotas of hosts.
+//! What reports and lapses lead to: which are recorded, what workunits then need, and the quotas of hosts.
 //!
-//! A host reports what its jobs came to. Reports agree or not, enough that agree make a workunit done, and a
-//! workunit that is still open gets the instances that it lacks. BOINC's clients report in scheduler requests;
-//! what is counted, and how a host's daily quota moves, is this profile's. Everything is counted from scratch by
-//! [`sched_book::count`]. The steps of a call ([`record_on`], [`lapse_on`], [`settle_on`]) put what changes on its sheet;
-//! what is asked of a desk alone only reads it, and hands back what changes as a delta.
+//! A host reports the results of its jobs. If enough outputs agree, the workunit is done. A workunit that is still open
+//! gets the instances that it lacks. BOINC's clients report in scheduler requests; what is counted, and how a host's
+//! daily quota moves, is this profile's. Everything is counted from scratch by [`sched_book::count`]. The steps of a
+//! call ([`record_on`], [`lapse_on`], [`settle_on`]) put their changes on its sheet. A function that has only a desk
+//! reads it, and returns the changes as a delta.
 #![tactic(auto)]
 
 mod growth;

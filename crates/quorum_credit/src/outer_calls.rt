@@ -1,5 +1,6 @@
-//! Calls that the program does not make, for who counts one workunit by itself, or has a desk and no sheet: tests, and
-//! another scheduler. They stand on the steps that the program runs, [`record_on`], [`settle_on`] and [`lapse_places`].
+//! Calls that the program does not make. They are for a caller that counts one workunit by itself, or has a desk and no
+//! sheet: tests, or another scheduler. They use the steps that the program runs, [`record_on`], [`settle_on`] and
+//! [`lapse_places`].
 
 ghost use Rattle.std.specs.Prelude.{◌≡◌, ◌≤◌, ◌++◌, All, true, drop, length, map, IfOk, OnOk};
 ghost use Rattle.std.specs.List.{list_all};
@@ -39,7 +40,7 @@ pub fn agree(agreement: &Agreement, left: &str, right: &str) -> bool
     count::agree(agreement, left, right)
 }
 
-/// The verdicts on the instances of a workunit, by number; `None` where there is none.
+/// The verdicts on the instances of a workunit, by number; `None` if an instance has none.
 #[derive(Drop)]
 pub struct Verdicts {
     row: ArrayVec<Option<Verdict>, MOST_INSTANCES>,
@@ -62,11 +63,11 @@ impl Verdicts {
     }
 }
 
-/// What a workunit comes to with the reports that it has.
+/// What the reports of a workunit lead to.
 #[derive(Drop)]
 pub struct Settled {
     pub status: Status,
-    /// How many instances it is to get: what it needs where it is open, and none where it is not.
+    /// How many instances it is to get: what it needs if it is open, else none.
     pub new_instances: usize,
     pub verdicts: Verdicts,
 }
@@ -84,7 +85,7 @@ fn verdicts_of(agreement: &Agreement, unit: &Workunit, instances: &[Instance]) -
     Verdicts { row }
 }
 
-/// What the workunit comes to with these instances.
+/// What these instances mean for the workunit: its status, how many instances it is to get, and the verdicts.
 pub fn settle(agreement: &Agreement, unit: &Workunit, instances: &[Instance]) -> Settled
     requires { length instances.now ≤ MOST_INSTANCES }
     ensures status { result.status ≡ status agreement.now unit.now instances.now }
@@ -98,7 +99,7 @@ pub fn settle(agreement: &Agreement, unit: &Workunit, instances: &[Instance]) ->
     }
 }
 
-/// What the reports of a call come to.
+/// What the reports of a call lead to.
 #[derive(Drop)]
 pub struct Taken {
     /// The instances that they change.
@@ -109,11 +110,11 @@ pub struct Taken {
     pub touched: Listed<u32>,
 }
 
-/// The places of the workunits that the changes touch, in their order and each once.
+/// The places of the workunits that the changes touch, in order and each once.
 ///
 /// # Errors
 ///
-/// [`Memory`] where memory is wanting.
+/// [`Memory`] if there is no memory.
 fn touched_by(alloc: Global, changes: &[Change]) -> Result<Listed<u32>, Memory>
     ensures { IfOk result (λ units. AreTouched changes.now units) }
 {
@@ -138,9 +139,9 @@ fn touched_by(alloc: Global, changes: &[Change]) -> Result<Listed<u32>, Memory>
 
 /// Takes the reports of a call from the host of this number.
 ///
-/// Of each name the first report counts. It is recorded where the host was given the instance and did not report
-/// it yet, also after a lapse; it is judged where the workunit had not failed before the call, and then gets the
-/// next place among the workunit's judged reports. Every name is acknowledged, whatever became of its report.
+/// The first report of each name counts. It is recorded if the instance was given to the host, which has not reported it
+/// yet, even if it lapsed. It is judged if the workunit had not failed before the call, and then gets the next place
+/// among the workunit's judged reports. Every name is acknowledged, whether its report was recorded or not.
 pub fn take_reports<D: Desk>(
     alloc: Global,
     desk: &mut D,
@@ -190,21 +191,21 @@ fn settle_onto<D: Desk>(
     Ok(())
 }
 
-/// The changes of a list that stand behind so many.
+/// The changes of a list after the first `count`.
 fn behind(alloc: Global, delta: Delta, count: usize) -> Result<Delta, Memory>
     ensures { IfOk result (λ more. more ≡ drop count delta) }
 {
     Ok(Listed::of(delta.into_vec().into_iter().skip(count).collect(alloc)?))
 }
 
-/// Settles the workunits that changes touch, which stand at these places: the further changes that give each open
-/// one the instances that it lacks, and each of their hosts the quota that follows from what is new.
+/// Settles the workunits that changes touch, which are at these places. Returns the further changes: each open workunit
+/// gets the instances that it lacks, and each of their hosts the quota that follows from what is new.
 ///
-/// The changes are those of a call or a tick, which put hosts, instances and classes; others are refused.
+/// The changes must be those of a call or a tick, which put hosts, instances and classes. Others are refused.
 ///
 /// # Errors
 ///
-/// [`Unavailable`] where memory is wanting or the desk is unavailable.
+/// [`Unavailable`] if there is no memory or the desk is unavailable.
 pub fn settle_all<D: Desk>(
     alloc: Global,
     desk: &mut D,
@@ -229,7 +230,7 @@ pub fn settle_all<D: Desk>(
 ///
 /// # Errors
 ///
-/// [`Unavailable`] where memory is wanting or the desk is unavailable.
+/// [`Unavailable`] if there is no memory or the desk is unavailable.
 pub fn lapse<D: Desk>(alloc: Global, desk: &mut D, now: Moment) -> Result<Delta, Unavailable>
     ensures reads { D.reads desk.old desk.new }
     ensures settled { Trusted D.Units desk.old desk.new (IfOk result (λ delta.

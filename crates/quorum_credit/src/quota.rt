@@ -3,7 +3,7 @@
 ghost use Rattle.std.specs.Prelude.{◌≡◌, ◌≤◌, ◌*◌, ◌^◌, min};
 ghost use Rattle.sched_book.specs.Settle.{next_quota};
 
-/// A number doubled so many times, at most the limit. It stops at the limit, so at most 32 doublings are done.
+/// A number doubled so many times, but at most the limit. It stops at the limit, so there are at most 32 doublings.
 fn raised(number: u32, times: u32, limit: u32) -> u32
     requires { 1 ≤ number }
     ensures { result ≡ min limit (number * 2 ^ times) }
@@ -18,9 +18,8 @@ fn raised(number: u32, times: u32, limit: u32) -> u32
     raised.min(u64::from(limit)) as u32
 }
 
-/// The quota of a host after `charges` things that count against it, and then `merits` that count for it: it is
-/// lowered by one for each of the former, to no less than one, then doubled for each of the latter, to no more
-/// than the limit.
+/// The quota of a host after `charges` things that count against it, and then `merits` that count for it. Each charge
+/// lowers it by one, to no less than one. Each merit then doubles it, to no more than the limit.
 pub fn next_quota(quota: u32, charges: u32, merits: u32, limit: u32) -> u32
     ensures { result ≡ next_quota quota charges merits limit }
 {

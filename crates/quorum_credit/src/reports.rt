@@ -28,7 +28,7 @@ fn names_of(alloc: Global, reports: &[&Report]) -> Result<Listed<Text>, Memory>
     Ok(names)
 }
 
-/// The place that the next report of a workunit with these instances gets: none where the workunit had failed.
+/// The place that the next report of a workunit with these instances gets: none if the workunit had failed.
 fn place_among(failed: bool, instances: &[Instance]) -> Option<u32>
     requires { length instances.now ≤ most_instances }
     ensures { result ≡ place_among failed instances.now }
@@ -59,8 +59,8 @@ fn with_report(report: &Report, place: Option<u32>, instance: &Instance) -> Resu
     })
 }
 
-/// The instance of this number on a leaf with one report more, where it awaits it from this host. The report is judged
-/// where the workunit had not failed before the call.
+/// The instance of this number on a leaf with one more report, if it awaits one from this host. The report is judged if
+/// the workunit had not failed before the call.
 fn reported_on(
     host: u32,
     report: &Report,
@@ -146,16 +146,16 @@ fn take_in_turn<S: Draft>(
     Ok(())
 }
 
-/// Puts what the reports of a call from the host of this number change on the sheet of the call, and gives the names that
+/// Puts what the reports of a call from the host of this number change on the sheet of the call. Returns the names that
 /// are acknowledged, each once, in the order of their first places.
 ///
-/// Of each name the first report counts. It is recorded where the host was given the instance and did not report
-/// it yet, also after a lapse; it is judged where the workunit had not failed before the call, and then gets the
-/// next place among the workunit's judged reports. Every name is acknowledged, whatever became of its report.
+/// The first report of each name counts. It is recorded if the instance was given to the host, which has not reported it
+/// yet, even if it lapsed. It is judged if the workunit had not failed before the call, and then gets the next place
+/// among the workunit's judged reports. Every name is acknowledged, whether its report was recorded or not.
 ///
 /// # Errors
 ///
-/// [`Unavailable`] where memory is wanting or the desk is unavailable.
+/// [`Unavailable`] if there is no memory or the desk is unavailable.
 pub fn record_on<S: Draft>(
     alloc: Global,
     sheet: &mut S,

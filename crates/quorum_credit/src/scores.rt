@@ -1,4 +1,4 @@
-//! What settlement counts for the hosts of instances, and against them, and the credit that it brings them.
+//! What settlement counts for and against the hosts of instances, and the credit that they get from it.
 
 ghost use Rattle.std.specs.Prelude.{◌≡◌, ◌≤◌, ◌++◌, length, IfOk, OnOk};
 ghost use Rattle.sched_book.specs.Count.{is_invalid};
@@ -15,17 +15,17 @@ use sched_book::{Agreement, Instance, Lapse, Owner, Unavailable, Verdict, Workun
 use std::alloc::Global;
 use texts::{Listed, Memory};
 
-/// How an instance stands.
+/// The standing of an instance: what settlement counts by.
 #[derive(Clone, Copy, Debug, PartialEq, Eq)]
 pub(crate) struct Standing {
-    /// A client error was reported of it and judged.
+    /// It has a judged report of a client error.
     pub has_error: bool,
     /// It lapsed at its deadline.
     pub is_late: bool,
     pub verdict: Option<Verdict>,
 }
 
-/// What is new of one instance of a host. Something is: it counts for the host or against it.
+/// What is new of one instance of a host. At least one thing counts for the host or against it.
 #[derive(Clone, Copy, Debug, PartialEq, Eq)]
 pub struct Score {
     pub host: u32,
@@ -33,12 +33,12 @@ pub struct Score {
     pub charges: u32,
     /// How much counts for it.
     pub merits: u32,
-    /// The millicredits that it brings the host: those of the workunit where its result is valid now and was not before,
+    /// The millicredits that the host gets from it: those of the workunit if its result is valid now and was not before,
     /// else 0.
     pub credit: u32,
 }
 
-/// To which host an instance was given, and how it stands.
+/// The host that an instance was given to, and the standing of the instance.
 #[derive(Clone, Copy)]
 struct OwnedStanding {
     owner: Option<Owner>,
@@ -55,7 +55,7 @@ fn is_late(lapse: Option<Lapse>) -> bool
     }
 }
 
-/// To which host the instance was given, and how it stands, with this verdict on it.
+/// The host that the instance was given to, and its standing with this verdict.
 fn owned_standing(verdict: Option<Verdict>, instance: &Instance) -> OwnedStanding
     ensures { result ≡ owned_standing verdict instance.now }
 {
@@ -69,7 +69,7 @@ fn owned_standing(verdict: Option<Verdict>, instance: &Instance) -> OwnedStandin
     }
 }
 
-/// How the instances of a workunit stand.
+/// The standings of the instances of a workunit.
 fn standings_in(
     alloc: Global,
     agreement: &Agreement,
@@ -91,7 +91,7 @@ fn standings_in(
         .collect(alloc)
 }
 
-/// How the instance of a number stands among these.
+/// The standing of the instance of a number among these.
 fn standing_of(rows: &[OwnedStanding], number: usize) -> Standing
     ensures { result ≡ standing_of rows.now number }
 {
@@ -105,7 +105,7 @@ fn standing_of(rows: &[OwnedStanding], number: usize) -> Standing
     }
 }
 
-/// One where a test passes that did not pass before.
+/// One if a test passes that did not pass before.
 fn one_if_new(new: bool, old: bool) -> u32
     ensures value { result ≡ one_if_new new old }
     ensures small { result ≤ 1 }
@@ -123,7 +123,7 @@ fn is_invalid(verdict: Option<Verdict>) -> bool
     }
 }
 
-/// What is new and counts against the host.
+/// What newly counts against the host.
 fn charges_between(old: Standing, new: Standing) -> u32
     ensures { result ≡ charges_between old new }
 {
@@ -132,7 +132,7 @@ fn charges_between(old: Standing, new: Standing) -> u32
         + one_if_new(is_invalid(new.verdict), is_invalid(old.verdict))
 }
 
-/// The millicredits that are new: those of the workunit where the result is valid now and was not before.
+/// The new millicredits: those of the workunit if the result is valid now and was not before.
 fn credit_between(credit: u32, old: Standing, new: Standing) -> u32
     ensures { result ≡ credit_between credit old new }
 {
@@ -143,8 +143,8 @@ fn credit_between(credit: u32, old: Standing, new: Standing) -> u32
     }
 }
 
-/// What is new of an instance of a workunit of this credit; none where it has no owner or nothing is new, and one that
-/// counts nothing brings no credit either.
+/// What is new of an instance in a workunit of this credit; none if it has no owner or nothing is new. If nothing
+/// counts, there is no new credit either.
 fn score_of(credit: u32, old: Standing, new: &OwnedStanding) -> Option<Score>
     ensures { result ≡ score_of credit old new.now }
 {
@@ -165,7 +165,7 @@ fn score_of(credit: u32, old: Standing, new: &OwnedStanding) -> Option<Score>
     }
 }
 
-/// Puts the scores of the instances of a workunit of this credit behind the others.
+/// Adds the scores of the instances of a workunit of this credit after the others.
 fn push_scores(
     scores: &mut Listed<Score>,
     credit: u32,
@@ -182,7 +182,7 @@ fn push_scores(
     Ok(())
 }
 
-/// Puts what is new of the instances of the workunit at a place behind the other scores.
+/// Adds what is new of the instances of the workunit at a place after the other scores.
 #[tactic(auto, using(crate::proofs::OnLeaves::scores_steps))]
 fn add_scores<S: Draft>(
     alloc: Global,
@@ -204,8 +204,8 @@ fn add_scores<S: Draft>(
     Ok(())
 }
 
-/// What is new of the instances of these workunits since the call came: a score for each that has a host and of which
-/// something is new.
+/// What is new of the instances of these workunits since the call came: a score for each instance that has a host and
+/// something new.
 pub(crate) fn scores_of_units<S: Draft>(
     alloc: Global,
     sheet: &mut S,

@@ -1,4 +1,4 @@
-//! What its reports come to for one workunit.
+//! What the reports of one workunit lead to.
 
 ghost use Rattle.std.specs.Prelude.{◌≡◌, ◌≤◌, length};
 ghost use Rattle.sched_book.specs.Count.{canonical};
@@ -7,8 +7,8 @@ ghost use Rattle.quorum_credit.specs.Settled.{new_instances};
 use sched_book::limits::MOST_INSTANCES;
 use sched_book::{Agreement, Instance, Workunit, count};
 
-/// The number of the workunit's canonical result, where there is one: of the least number of judged successes, no
-/// smaller than the quorum, among which some report agrees with more than half a quorum, the first such report.
+/// The number of the workunit's canonical result, if there is one. Take the shortest front of the judged successes that
+/// is at least a quorum long, and in which some report agrees with more than half a quorum. It is the first such report.
 pub fn canonical(agreement: &Agreement, unit: &Workunit, instances: &[Instance]) -> Option<usize>
     requires { length instances.now ≤ MOST_INSTANCES }
     ensures { result ≡ canonical agreement.now unit.now instances.now }

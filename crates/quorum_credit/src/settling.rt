@@ -18,12 +18,13 @@ use sched_book::{Delta, Desk, Place, Unavailable};
 use std::alloc::Global;
 use texts::Listed;
 
-/// Settles these workunits on the sheet of a call: each open one gets the instances that it lacks, and each of their hosts
-/// the quota that follows from what is new, of which the scores tell. No workunit but these may have been changed.
+/// Settles these workunits on the sheet of a call. Each open one gets the instances that it lacks, and each of their
+/// hosts the quota that follows from what is new. Returns the scores of what is new. Only these workunits may have been
+/// changed.
 ///
 /// # Errors
 ///
-/// [`Unavailable`] where memory is wanting or the desk is unavailable.
+/// [`Unavailable`] if there is no memory or the desk is unavailable.
 pub fn settle_on<S: Draft>(
     alloc: Global,
     sheet: &mut S,
@@ -47,11 +48,12 @@ pub fn settle_on<S: Draft>(
     Ok(scores)
 }
 
-/// Settles the workunits that a call or a tick has read on its sheet, and tells what is new in them. No other is touched.
+/// Settles the workunits that a call or a tick has read on its sheet, and returns what is new in them. No other is
+/// touched.
 ///
 /// # Errors
 ///
-/// [`Unavailable`] where memory is wanting or the desk is unavailable.
+/// [`Unavailable`] if there is no memory or the desk is unavailable.
 pub fn settle_read<S: Draft>(alloc: Global, sheet: &mut S) -> Result<Listed<Score>, Unavailable>
     ensures works { S.works sheet.old sheet.new }
     ensures settled { Trusted S.Units sheet.old sheet.new (OnOk result (
@@ -80,12 +82,12 @@ fn lapse_read<S: Draft>(alloc: Global, sheet: &mut S, places: &[Place]) -> Resul
     Ok(())
 }
 
-/// Lets the instances at these places lapse late, and settles their workunits: the changes. An instance that no host holds
-/// is refused.
+/// Lets the instances at these places lapse late, settles their workunits, and returns the changes. Refused if no host
+/// holds one of the instances.
 ///
 /// # Errors
 ///
-/// [`Unavailable`] where memory is wanting or the desk is unavailable.
+/// [`Unavailable`] if there is no memory or the desk is unavailable.
 pub fn lapse_places<D: Desk>(
     alloc: Global,
     desk: &mut D,

@@ -1,4 +1,4 @@
--- No list of places of a bounded world is longer than 200,000 workunits have instances.
+-- No list of places of a bounded world is longer than the number of instances that 200,000 workunits have at most.
 use Rattle.std.proofs.Common.{◌≡◌, ℕ, ◌+◌, ◌*◌, ◌≤◌, Bool, true, false, cond, not, List, [], ◌∷◌, length, length-append, arith}
 use Rattle.std.specs.Prelude.{◌&&◌, All}
 use Rattle.std.proofs.lemmas.List.Elements.{All-head, All-tail, All-weaker}

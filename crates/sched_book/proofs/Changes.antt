@@ -6,26 +6,26 @@ use Rattle.std.proofs.lemmas.Option.{slice_get_within, get_or_from_slice_get}
 use Rattle.sched_book.specs.Delta.{set_at}
 use Rattle.sched_book.specs.Reports.{modify_at, modify_nth}
 
--- where an element stands, it alone is changed
+-- if there is an element at the index, it alone is changed
 pub modify_at-set : {X : Type 0} (f : X → X) (xs : List X) (i : ℕ) (x : X) → i < length xs → x ≡ get_or xs i x → modify_at f xs i ≡ set xs i (f x)
 modify_at-set f [] i x within is = refl
 modify_at-set f (y ∷ xs) zero x within is = ap (λ z. f z ∷ xs) (sym is)
 modify_at-set f (y ∷ xs) (suc i) x within is = ap (λ zs. y ∷ zs) (modify_at-set f xs i x (omega arith) is)
 
--- where an element is, changing it is putting the changed one
+-- if there is an element, changing it is putting the changed one in its place
 pub modify_at-put : {X : Type 0} (f : X → X) (xs : List X) (i : ℕ) (x : X) → slice_get xs i ≡ Some x → modify_at f xs i ≡ set_at xs i (f x)
 modify_at-put f xs i x stands =
     let within : i < length xs = slice_get_within xs i x stands in
     modify_at-set f xs i x within (sym (get_or_from_slice_get xs i x x stands))
     ∙ sym (ap (λ (b : Bool). cond b (slice_set xs i (f x)) (xs ++ f x ∷ [])) (lt-ltb i (length xs) within))
 
--- where none stands, nothing is
+-- if there is none, nothing is changed
 pub modify_at-past : {X : Type 0} (f : X → X) (xs : List X) (i : ℕ) → length xs ≤ i → modify_at f xs i ≡ xs
 modify_at-past f [] i past = refl
 modify_at-past f (y ∷ xs) zero past = absurd (omega arith)
 modify_at-past f (y ∷ xs) (suc i) past = ap (λ zs. y ∷ zs) (modify_at-past f xs i (omega arith))
 
--- the same where places count from 1
+-- the same, with places that count from 1
 pub modify_nth-set : {X : Type 0} (f : X → X) (xs : List X) (n : ℕ) (x y : X) → n ≢ 0 → n - 1 < length xs → x ≡ get_or xs (n - 1) x
     → y ≡ f x → modify_nth f xs n ≡ set xs (n - 1) y
 modify_nth-set f xs n x y some within is value =

@@ -8,13 +8,13 @@ use Rattle.sched_book.specs.declared.rows.ClassRule.TheVariants.{Any, OfFirst, O
 use Rattle.sched_book.specs.declared.rows.Workunit.{Workunit}
 use Rattle.texts.specs.Words.{IsWord}
 
--- with a class granted the rule that a workunit was imported with is the same
+-- granting a class does not change the rule that a workunit was imported with
 pub first_stays : (rule : ClassRule) (class : List ℕ) → first_rule (rule_after rule class) ≡ first_rule rule
 first_stays Any class = refl
 first_stays OfFirst class = refl
 first_stays (Only own) class = refl
 
--- a row stays within limits under a rule that is
+-- a row stays within limits under another rule that is within them
 pub limits_with_rule : (u : Workunit) (rule : ClassRule) → IfSome (class_of rule) IsWord → IsUnitInLimits u → IsUnitInLimits (record u { class_rule = rule })
 limits_with_rule u rule ruled limits = record {
   name = limits.name;

@@ -1,4 +1,4 @@
--- Credits: the credit of a user is that of the instances which were given to the user's hosts.
+-- Credits: the credit of a user is that of the instances that were given to the user's hosts.
 use Rattle.std.proofs.Common.{◌≡◌, ℕ, zero, suc, ◌+◌, ◌*◌, ◌<◌, Bool, true, false, cond, eqb, List, [], ◌∷◌, Option, Some, None, sym, refl, ap, ◌∙◌, arith}
 use Rattle.std.proofs.lemmas.Bool.{eq-eqb}
 use Rattle.std.proofs.lemmas.Bool.Decides.{nat_tests}
@@ -40,7 +40,7 @@ exchange f (x ∷ xs) ys =
     ∙ sum_plus (f x) (λ y. sum_by (λ x. f x y) xs) ys
     ∙ sum_same (λ y. f x y + sum_by (λ x. f x y) xs) (λ y. sum_by (λ x. f x y) (x ∷ xs)) (λ y. sym (sum_by-cons (λ x. f x y) x xs)) ys
 
--- so much for each that passes
+-- the same amount for each element that passes
 pub times : {X : Type 0} (c : ℕ) (t : X → Bool) (hs : List X) → c * count_by t hs ≡ sum_by (λ h. cond (t h) c 0) hs
 times c t [] = omega arith
 times c t (h ∷ hs) =
@@ -53,7 +53,7 @@ times c t (h ∷ hs) =
     one true k = omega arith
     one false k = ap (λ n. c * n) (let same : 0 + k ≡ k = omega arith in same) ∙ (let same : c * k ≡ 0 + c * k = omega arith in same)
 
--- each number stands once among the numbered hosts
+-- each number occurs once among the numbered hosts
 module _ (t : HostRow → Bool) (c : ℕ) where
   abbrev one_of : ℕ → ℕ × HostRow → ℕ
   one_of h e = cond (t e.1) (cond (eqb h e.0) c 0) 0
@@ -101,14 +101,14 @@ module _ (t : HostRow → Bool) (c : ℕ) where
       ∙ once xs 1 i
       ∙ ap (λ o. cond (unwrap_or (option_map t o) false) c 0) (sym (nth-suc xs i))
 
--- the credit of one instance, where it is meant
+-- the credit of one instance, if it is included
 abbrev credit_by : World → UnitBook → Instance → ℕ
 credit_by w b x = cond (is_valid (book_verdict w.apps b x)) b.unit.credit 0
 
 abbrev credit_if : (Instance → Bool) → World → UnitBook → Instance → ℕ
 credit_if p w b x = cond (p x) (credit_by w b x) 0
 
--- what is counted a workunit at a time, an instance at a time
+-- counted workunit by workunit, and instance by instance
 both : (own valid : Bool) (c : ℕ) → cond (own && valid) c 0 ≡ cond own (cond valid c 0) 0
 both true valid c = refl
 both false valid c = refl
@@ -135,7 +135,7 @@ module _ (w : World) (account : ℕ) where
   of_host false n =
       sym (sum_zero (λ (b : UnitBook). sum_by (λ (x : Instance). 0) b.instances) (λ b. sum_zero (λ x. 0) (λ x. refl) b.instances) w.units)
 
-  -- each instance is of one host at most
+  -- each instance belongs to one host at most
   of_instance : (b : UnitBook) (x : Instance) → sum_by (λ e. part e b x) (enumerate_from 1 w.hosts) ≡ credit_if (is_of_user w.hosts account) w b x
   of_instance b x = cases (host_of x)
     where

@@ -1,4 +1,4 @@
--- The first of each text: by index, in order, one for each text.
+-- The first element of each text: by index, in order, one for each text.
 use Rattle.std.proofs.Common.{◌≡◌, ◌≢◌, ◌⊎◌, inl, inr, ℕ, zero, suc, ◌<◌, Bool, true, false, cond, List, [], ◌∷◌, map, Some, None, sym, refl, ap, ◌∙◌, arith}
 use Rattle.std.specs.Prelude.{◌||◌, filter_map, slice_get, All, AllPairs, Contains}
 use Rattle.std.specs.List.{cons_option, list_any}
@@ -28,7 +28,7 @@ at_next : {X : Type 0} (x : X) (xs : List X) (is : List ℕ) → filter_map (sli
 at_next x xs [] = refl
 at_next x xs (i ∷ is) = ap (cons_option (slice_get xs i)) (at_next x xs is)
 
--- the same beyond the texts that were seen
+-- the same, without the texts that were seen
 record IsFirstBeyond {X : Type 0} (text : X → List ℕ) (seen : List (List ℕ)) (xs : List X) (index : ℕ) : Type 0 where
   first : IsFirstWithText text xs index
   unseen : list_any (bytes_eq (text first.element)) seen ≡ false
@@ -42,7 +42,7 @@ record AreBeyond {X : Type 0} (text : X → List ℕ) (seen : List (List ℕ)) (
 
 -- one element in front
 module _ {X : Type 0} (text : X → List ℕ) (x : X) (xs : List X) (seen : List (List ℕ)) where
-  -- what is first beyond some texts is so one place on, where the element's text is not its own
+  -- what is first without some texts is still first one index later, if its text differs from the element's
   further : (more : List (List ℕ)) (i : ℕ) (f : IsFirstBeyond text more xs i) → (text x ≡ text f.first.element → ⊥)
       → list_any (bytes_eq (text f.first.element)) seen ≡ false → IsFirstBeyond text seen (x ∷ xs) (suc i)
   further more i f other unseen = record {
@@ -65,7 +65,7 @@ module _ {X : Type 0} (text : X → List ℕ) (x : X) (xs : List X) (seen : List
     unseen = unseen;
   }
 
-  -- its text was seen
+  -- the element's text was seen
   passed : (firsts : List X) → list_any (bytes_eq (text x)) seen ≡ true → AreBeyond text seen xs firsts → AreBeyond text seen (x ∷ xs) firsts
   passed firsts was rest = record {
     indices = map suc rest.indices;
@@ -85,7 +85,7 @@ module _ {X : Type 0} (text : X → List ℕ) (x : X) (xs : List X) (seen : List
       missed zero f = absurd (apart (text f.first.element) (ap text (let is : Some x ≡ Some f.first.element = f.first.stands in let here : x ≡ f.first.element = cc in here)) f.unseen)
       missed (suc i) f = among_next rest.indices i (rest.none_missed i (nearer seen i f f.unseen))
 
-  -- its text is new
+  -- the element's text is new
   kept : (firsts : List X) → list_any (bytes_eq (text x)) seen ≡ false → AreBeyond text (text x ∷ seen) xs firsts
       → AreBeyond text seen (x ∷ xs) (x ∷ firsts)
   kept firsts was_not rest = record {
@@ -142,7 +142,7 @@ are_beyond {X} text seen (x ∷ xs) = cases (list_any (bytes_eq (text x)) seen) 
     cases true is skip take_on = passed text x xs seen (first_of_each text seen xs) is skip
     cases false is skip take_on = kept text x xs seen (first_of_each text (text x ∷ seen) xs) is take_on
 
--- each text was seen, or one has it
+-- each text was seen, or one of the first ones has it
 each_text : {X : Type 0} (text : X → List ℕ) (seen : List (List ℕ)) (xs : List X) (x : X) → Contains xs x
     → (list_any (bytes_eq (text x)) seen ≡ true) ⊎ ((first : X) × Contains (first_of_each text seen xs) first × (text first ≡ text x))
 each_text text seen [] x there = absurd (none_in_nothing x there)
@@ -172,7 +172,7 @@ each_text {X} text seen (y ∷ ys) x there =
       | inr has ↦ inr (has.0, behind y rest has.0 has.1, has.2)
     ]
 
--- none has a text that was seen, and no two have one
+-- none of the first ones has a text that was seen, and no two have the same text
 unseen : {X : Type 0} (text : X → List ℕ) (seen : List (List ℕ)) (xs : List X)
     → All (λ y. list_any (bytes_eq (text y)) seen ≡ false) (first_of_each text seen xs)
 unseen text seen [] = All-nil (λ y. list_any (bytes_eq (text y)) seen ≡ false)

@@ -53,11 +53,11 @@ given host = record { owner = Some (record { host = host; sent = 1000; deadline 
 abbrev late : ℕ → Instance
 late host = record (given host) { lapse = Some Late }
 
--- the same, with a success of this output and this place
+-- the same, with a reported success of this output and this place
 abbrev told : ℕ → List ℕ → ℕ → Instance
 told host output place = record (given host) { report = Some (record { success = true; output = output; place = Some place }) }
 
--- Outputs that agree within 2: whole numbers that are near, and equal texts; `01` is no whole number.
+-- Outputs that agree within 2: whole numbers that are near each other, and equal texts. `01` is no whole number.
 near : agree (Within 2) (codes "-1") (codes "1") ≡ true
 near = refl
 
@@ -67,8 +67,8 @@ equal = refl
 leading_zero : agree (Within 2) (codes "01") (codes "1") ≡ false
 leading_zero = refl
 
--- Outputs 10, 13 and 12 within 2, with a quorum of three: 10 agrees with 12, so the first is canonical, and the
--- second is invalid though it agrees with the third.
+-- Outputs 10, 13 and 12 within 2, with a quorum of three. 10 agrees with 12, so the first is canonical. The second is
+-- invalid, although it agrees with the third.
 abbrev three : List Instance
 three = told 1 (codes "10") 1 ∷ told 2 (codes "13") 2 ∷ told 3 (codes "12") 3 ∷ []
 
@@ -91,7 +91,7 @@ no_majority = refl
 by_place : good (told 1 (codes "x") 2 ∷ told 2 (codes "y") 1 ∷ []) ≡ 1 ∷ 0 ∷ []
 by_place = refl
 
--- Two late instances of a workunit that wants two and may have two: it needs two more, and fails by its total.
+-- Two late instances of a workunit that wants two and may have two. It needs two more, and fails by its total.
 abbrev two_late : List Instance
 two_late = late 1 ∷ late 2 ∷ []
 
@@ -101,11 +101,11 @@ needs_two = refl
 fails_by_total : status Exact (unit_of 2 2 2) two_late ≡ FailedTotal
 fails_by_total = refl
 
--- One success where two are the quorum: the workunit is open and needs nothing.
+-- One success, with a quorum of two: the workunit is open and needs nothing.
 still_open : status Exact (unit_of 2 2 3) (told 1 (codes "x") 1 ∷ given 2 ∷ []) ≡ Open
 still_open = refl
 
--- A late report at the failed workunit is recorded, and not judged; the workunit stays failed.
+-- A late report on an instance of the failed workunit is recorded, but not judged. The workunit stays failed.
 abbrev settings : Settings
 settings = record {
   daily_result_quota = 4;
@@ -135,15 +135,15 @@ recorded_late = refl
 stays_failed : status_at (recorded failed_world 1 (late_report ∷ [])) 1 ≡ FailedTotal
 stays_failed = refl
 
--- The report of another host on it is not recorded.
+-- A report of another host on it is not recorded.
 recorded_for_another : recorded failed_world 2 (late_report ∷ []) ≡ failed_world
 recorded_for_another = refl
 
--- A name of no instance, and one of a failed workunit, may be forgotten; each is told once.
+-- A name of no instance, and one of a failed workunit, may be forgotten; each is listed once.
 may_forget : aborts failed_world 1 (Some (codes "zz_0" ∷ codes "w1_0" ∷ codes "zz_0" ∷ [])) ≡ codes "zz_0" ∷ codes "w1_0" ∷ []
 may_forget = refl
 
--- Quotas: less the charges, at least one, then doubled, at most the limit.
+-- Quotas: minus the charges, but at least one; then doubled, but at most the limit.
 quota_falls : next_quota 3 2 0 4 ≡ 1
 quota_falls = refl
 
@@ -153,7 +153,7 @@ quota_of_one = refl
 quota_at_the_limit : next_quota 4 1 3 4 ≡ 4
 quota_at_the_limit = refl
 
--- Names are split at the last underscore; a number has no leading zero and is at most 99.
+-- Names are split at the last underscore. A number has no leading zero and is at most 99.
 name_made : instance_name (codes "w_1") 0 ≡ codes "w_1_0"
 unfolding digits
 name_made = refl
@@ -177,7 +177,7 @@ an_hour = refl
 longer : estimate 3600000 499 ≡ 7215
 longer = refl
 
--- A deadline stays while the host can meet it: at 4600 it can meet 8200 in an hour, at 4601 it can't.
+-- A deadline stays while the host can meet it. At 4600 it can meet 8200 in an hour, at 4601 it can't.
 deadline_stays : deadline_after 4600 3600 7200 8200 ≡ 8200
 deadline_stays = refl
 
@@ -198,7 +198,7 @@ version_of number = record { app = codes "dock"; platform = codes "linux"; versi
 newest_of_two : newest (version_of 101 ∷ version_of 102 ∷ []) ≡ Some (version_of 102)
 newest_of_two = refl
 
--- The third row has the name of the first; and a duplicate is told before an unknown application.
+-- The third row has the name of the first. A duplicate is reported before an unknown application.
 abbrev account_of : List ℕ → Account
 account_of word = record { authenticator = word; name = word }
 

@@ -1,4 +1,4 @@
--- The first reports are those that are the first of their name.
+-- Each of the first reports is the first with its name.
 use Rattle.std.proofs.Common.{◌≡◌, ℕ, inl, inr, Bool, true, false, cond, List, [], ◌∷◌, ◌++◌, sym, refl, ap, ◌∙◌, subst}
 use Rattle.std.specs.Prelude.{Contains}
 use Rattle.std.specs.Str.{bytes_eq}
@@ -10,7 +10,7 @@ use Rattle.sched_book.specs.Reports.{first_of_each}
 use Rattle.sched_book.specs.Laws.{FirstReportsAreFirst}
 use Rattle.sched_book.proofs.Newest.{none_in_nothing, in_front}
 
--- the same of any text, beyond the texts that were seen
+-- the same of any text, without the texts that were seen
 record IsFirst {X : Type 0} (text : X → List ℕ) (seen : List (List ℕ)) (xs : List X) (x : X) : Type 0 where
   earlier : List X
   later : List X
@@ -18,7 +18,7 @@ record IsFirst {X : Type 0} (text : X → List ℕ) (seen : List (List ℕ)) (xs
   new_text : (other : X) → Contains earlier other → bytes_eq (text x) (text other) ≡ false
   unseen : list_any (bytes_eq (text x)) seen ≡ false
 
--- a text that was seen is not one that was not
+-- a text that was seen differs from one that was not
 apart : (s t : List ℕ) (seen : List (List ℕ)) (b : Bool) → bytes_eq t s ≡ b → list_any (bytes_eq s) seen ≡ true → list_any (bytes_eq t) seen ≡ false
     → bytes_eq t s ≡ false
 apart s t seen false is was was_not = is

@@ -1,4 +1,4 @@
--- The first of each text, by the steps of a loop.
+-- The first element of each text, by the steps of a loop.
 use Rattle.std.proofs.Common.{◌≡◌, ℕ, Bool, true, false, cond, List, [], ◌∷◌, refl, sym, ap, ◌∙◌}
 use Rattle.std.specs.Prelude.{◌||◌}
 use Rattle.std.specs.List.{list_any}
@@ -8,7 +8,7 @@ use Rattle.sched_book.specs.Firsts.{first_beyond}
 use Rattle.sched_book.specs.Reports.{first_of_each}
 
 module _ {X : Type 0} (text : X → List ℕ) where
-  -- only which texts came by counts
+  -- the result depends only on which texts were seen
   pub same_came : (came other : List ℕ → Bool) → ((name : List ℕ) → came name ≡ other name) → (xs : List X)
       → first_beyond text came xs ≡ first_beyond text other xs
   same_came came other same [] = refl
@@ -20,7 +20,7 @@ module _ {X : Type 0} (text : X → List ℕ) where
       ∙ ap (λ ys. cond (other (text x)) (first_beyond text other xs) (x ∷ ys))
       (same_came later later_other (λ name. ap (λ b. bytes_eq name (text x) || b) (same name)) xs)
 
-  -- the texts that came by as a list
+  -- the texts that were seen, as a list
   pub by_list : (came : List ℕ → Bool) (seen : List (List ℕ)) → ((name : List ℕ) → came name ≡ list_any (bytes_eq name) seen) → (xs : List X)
       → first_beyond text came xs ≡ first_of_each text seen xs
   by_list came seen same [] = refl
@@ -31,12 +31,12 @@ module _ {X : Type 0} (text : X → List ℕ) where
       ∙ ap (λ ys. cond (list_any (bytes_eq (text x)) seen) (first_of_each text seen xs) (x ∷ ys))
       (by_list later (text x ∷ seen) (λ name. ap (λ b. bytes_eq name (text x) || b) (same name)) xs)
 
-  -- before any came by
+  -- with no text seen yet
   pub first_beyond-none : (came : List ℕ → Bool) → ((name : List ℕ) → came name ≡ false) → (xs : List X)
       → first_beyond text came xs ≡ first_of_each text [] xs
   first_beyond-none came none xs = by_list came [] none xs
 
-  -- a text that came by comes by again
+  -- seeing a text again changes nothing
   again : (came : List ℕ → Bool) (name other : List ℕ) (b : Bool) → bytes_eq other name ≡ b → came name ≡ true → (b || came other) ≡ came other
   again came name other false is was = refl
   again came name other true is was =

@@ -17,11 +17,11 @@ use Rattle.sched_book.specs.declared.instance.UnitBook.{UnitBook}
 use Rattle.sched_book.specs.declared.world.World.{World}
 use Rattle.sched_book.proofs.PlacesOf.{length-modify_nth}
 
--- one more is as many as the limit at most
+-- with one more element a list that has room stays within the limit
 pushed : {X : Type 0} (xs : List X) (x : X) (limit : ℕ) → length xs < limit → length (xs ++ x ∷ []) ≤ limit
 pushed xs x limit room = let long : length (xs ++ x ∷ []) ≡ length xs + 1 = length-append xs (x ∷ []) in omega arith
 
--- put at an index below the limit, the list stays within it
+-- with an element put at an index below the limit, a list stays within it
 put_within : {X : Type 0} (xs : List X) (i : ℕ) (x : X) (limit : ℕ) → length xs ≤ limit → i < limit → length (set_at xs i x) ≤ limit
 put_within xs i x limit short below = cases (ltb i (length xs)) refl
   where
@@ -45,7 +45,7 @@ all_changed_nth P f keeps xs n all = cases (eqb n 0)
 abbrev HasFew : UnitBook → Type 0
 HasFew b = length b.instances ≤ most_instances
 
--- a host put at an old number or the next
+-- a host put at an existing number or the next
 hosts_within : {X : Type 0} (xs : List X) (n : ℕ) (x : X) → length xs ≤ most_hosts → n ≤ most_hosts → length (set_nth xs n x) ≤ most_hosts
 hosts_within xs zero x short low = short
 hosts_within xs (suc i) x short low = cases (eqb (suc i) 0)

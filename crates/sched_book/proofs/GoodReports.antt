@@ -13,7 +13,7 @@ use Rattle.sched_book.specs.declared.instance.Instance.{Instance}
 use Rattle.sched_book.proofs.Newest.{front_of, behind, in_front, none_in_nothing}
 use Rattle.sched_book.proofs.Rising.{RisesFrom, rises_lower, pairs_head, pairs_tail, pairs_nil}
 
--- a number goes to its place behind the front whose keys are not greater
+-- a number is inserted after the longest front whose keys are not greater
 pub put_step : (key : ℕ → ℕ) (j : ℕ) (js : List ℕ) (i : ℕ) (b : Bool) → nat_le (key j) (key i) ≡ b
     → put_by key (j ∷ js) i ≡ cond b (j ∷ put_by key js i) (i ∷ j ∷ js)
 put_step key j js i b is =
@@ -86,7 +86,7 @@ module _ (xs : List Instance) where
       cases true rises = ((let least : k ≤ k = omega arith in least), rises)
       cases false rises = rises_lower k (k + 1) rest (omega arith) rises
 
-  -- ---- each goes to its place
+  -- ---- each is inserted at its place
 
   abbrev put : List ℕ → ℕ → List ℕ
   put is i = put_by (place_of xs) is i
@@ -101,7 +101,7 @@ module _ (xs : List Instance) where
       let at : ℕ = prefix_len (λ j. nat_le (place_of xs j) (place_of xs i)) is in
       Contains-permutation (i ∷ is) (insert is at i) j (IsPermutation-insert is at i) there
 
-  -- one before another, and a third with a lesser place than the first
+  -- one is judged before another, and a third has a lesser place than the first
   before_both : (i j k : ℕ) → place_of xs i < place_of xs j → IsJudgedBefore xs j k → IsJudgedBefore xs i k
   before_both i j k less (inl more) = inl (omega (arith, more))
   before_both i j k less (inr same) = inl (let equal : place_of xs j ≡ place_of xs k = same.0 in omega arith)

@@ -1,4 +1,4 @@
--- Keys are the same where they are equal; and the keys of rows looked through so far, with one more.
+-- `same_key` decides whether keys are equal; and the keys of the rows seen so far, with one more.
 use Rattle.std.proofs.Common.{◌≡◌, ℕ, ◌+◌, ◌<◌, Bool, true, false, List, length, get_or, take, sym, refl, ap, ◌∙◌}
 use Rattle.std.specs.Prelude.{◌||◌, ◌&&◌, ◌==◌}
 use Rattle.std.specs.List.{list_any}
@@ -12,7 +12,7 @@ use Rattle.sched_book.specs.Keys.{Key, same_key}
 equal_parts : (a b : Key) → a.0 ≡ b.0 → a.1 ≡ b.1 → a.2 ≡ b.2 → a ≡ b
 equal_parts a b n s t = λ i. (n i, s i, t i)
 
--- keys are the same where they are equal
+-- `same_key` decides whether keys are equal
 pub same_key-Decides : (a b : Key) → Decides (same_key a b) (a ≡ b)
 same_key-Decides a b =
     Decides-like (same_key a b) (λ h. equal_parts a b h.0.0 h.0.1 h.1) (λ e. ((ap (λ (k : Key). k.0) e, ap (λ (k : Key). k.1) e), ap (λ (k : Key). k.2) e))

@@ -1,4 +1,4 @@
--- The canonical result leads the least front that has a leader.
+-- The canonical result leads the shortest front that has a leader.
 use Rattle.std.proofs.Common.{◌≡◌, ℕ, zero, suc, ◌+◌, ◌-◌, ◌<◌, ◌≤◌, Bool, true, false, cond, List, length, take, drop, Option, Some, None, sym, refl, ap, ◌∙◌, subst, arith, MatchOption}
 use Rattle.std.specs.Prelude.{is_some, nat_le}
 use Rattle.std.proofs.Common.{inl, inr}
@@ -12,7 +12,7 @@ use Rattle.sched_book.specs.declared.rows.Agreement.{Agreement}
 use Rattle.sched_book.specs.declared.rows.Workunit.{Workunit}
 use Rattle.sched_book.proofs.Reports.{leader_from, leader_from-is, leader_from-here, leader_from-later, leader_from-last}
 
--- the same from a front of k reports on
+-- the same for fronts of at least k reports
 record IsLeaderFrom (a : Agreement) (u : Workunit) (xs : List Instance) (k i : ℕ) : Type 0 where
   front : ℕ
   after : k ≤ front
@@ -33,7 +33,7 @@ here a u xs k i within leads = record { front = k; after = omega arith; within =
 at_front : (a : Agreement) (u : Workunit) (xs : List Instance) (k j : ℕ) → leader_of_front a u xs k ≡ None → j ≡ k → leader_of_front a u xs j ≡ None
 at_front a u xs k j none same = ap (leader_of_front a u xs) same ∙ none
 
--- this front has none, and what the next one tells
+-- this front has none, and what follows for it from the next one
 later : (a : Agreement) (u : Workunit) (xs : List Instance) (k : ℕ) → leader_of_front a u xs k ≡ None
     → (o : Option ℕ) → Tells a u xs (k + 1) o → Tells a u xs k o
 later a u xs k none None next = λ j above within. elim (cases_lt k j) [ inl more ↦ next j (omega arith) within | inr same ↦ at_front a u xs k j none (omega arith) ]

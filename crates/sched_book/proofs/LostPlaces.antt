@@ -16,7 +16,7 @@ use Rattle.sched_book.proofs.Newest.{in_front, in_filter, none_in_nothing, passe
 use Rattle.sched_book.proofs.PlacesWhere.{each_passes, none_missed, they_rise}
 use Rattle.sched_book.proofs.Rising.{pairs_nil}
 
--- a name of a list is found in it, and what is found is of the list
+-- a name in a list is found, and a name that is found is in the list
 found : (name : List ℕ) (names : List (List ℕ)) → Contains names name → list_any (bytes_eq name) names ≡ true
 found name [] there = absurd (none_in_nothing name there)
 found name (n ∷ names) there = elim (in_front n names name there) [
@@ -32,7 +32,7 @@ of_list : (name : List ℕ) (names : List (List ℕ)) → list_any (bytes_eq nam
 of_list name names is = Contains-from_any (λ x y. (bytes_eq-Decides x y).0) name names is
 
 module _ (w : World) (host : ℕ) where
-  -- none are lost where none are sent again, or where the client sent no list
+  -- no job is lost if lost jobs are not sent again, or if the client sent no list
   none_lost : (names : Option (List (List ℕ))) → ((p : Place) → IsLost w host names p → ⊥) → AreLost w host names []
   none_lost names never = record {
     each = All-nil (IsLost w host names);

@@ -1,4 +1,4 @@
--- Names are split into what they were made of.
+-- Names are split into the parts that they were made of.
 use Rattle.std.proofs.Common.{◌≡◌, ◌≢◌, ℕ, suc, ◌+◌, ◌-◌, ◌*◌, ◌/◌, ◌%◌, ◌<◌, ◌≤◌, Bool, true, false, cond, eqb, not, List, [], ◌∷◌, ◌++◌, length, take, drop, get_or, sym, refl, ap, ◌∙◌, subst, arith, zero-add, add-one, length-append, Option, Some, None}
 use Rattle.std.specs.Prelude.{◌&&◌, decimal, option_map}
 use Rattle.std.specs.Prelude.{nat_le}
@@ -37,7 +37,7 @@ below p n k all within = cases (p k) refl
         let never : true ≡ false = sym all ∙ fails in
         absurd cc
 
--- a number is what a text is read as
+-- whether a text was read as this number
 is_number : Option ℕ → ℕ → Bool
 is_number None n = false
 is_number (Some m) n = eqb m n
@@ -61,7 +61,7 @@ read_back n small =
     let parts = and_parts (not (list_any is_underscore (decimal n))) (is_number (small_number (decimal n)) n) (below reads_back 100 n all_read_back small) in
     (not-true _ parts.0, number_is (small_number (decimal n)) n parts.1)
 
--- what stands before, at and behind the middle of a list
+-- the elements before, at and after the middle of a list
 at_middle : (xs : List ℕ) (y : ℕ) (zs : List ℕ) → get_or (xs ++ y ∷ zs) (length xs) 0 ≡ y
 at_middle [] y zs = refl
 at_middle (x ∷ xs) y zs = at_middle xs y zs
@@ -113,7 +113,7 @@ decimal-two a b low high small =
     let ones : (10 + k) % 10 ≡ b = omega arith in
     sym (ap decimal whole) ∙ told ∙ ap (λ n. (48 + n) ∷ (48 + (10 + k) % 10) ∷ []) tens ∙ ap (λ n. (48 + a) ∷ (48 + n) ∷ []) ones
 
--- a text that is read as a small number is the text of that number
+-- a text that is read as a small number is that number's text
 abbrev IsTextOf : List ℕ → ℕ → Type 0
 IsTextOf text n = (text ≡ decimal n) × (n < 100)
 
@@ -154,7 +154,7 @@ small_number_is (c ∷ []) n told = one_digit c n (is_ascii_digit c) refl told
 small_number_is (c ∷ d ∷ []) n told = two_read c d n (nat_le 49 c && is_ascii_digit c && is_ascii_digit d) refl told
 small_number_is (c ∷ d ∷ e ∷ more) n told = absurd cc
 
--- a name with an underscore is what stands before the last one, that one, and what stands behind it
+-- a name with an underscore is what comes before the last one, the underscore, and what comes after it
 split_by : (s : List ℕ) (r : ℕ) → r < length s → get_or s (length s - 1 - r) 0 ≡ 95 → s ≡ take (length s - r - 1) s ++ 95 ∷ drop (length s - r) s
 split_by s r within is =
     let k = length s - r - 1 in

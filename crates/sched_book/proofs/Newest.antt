@@ -1,4 +1,4 @@
--- The version for a host is the newest of the first platform that has any.
+-- The version for a host is the newest for the first platform that has any.
 use Rattle.std.proofs.Common.{◌≡◌, ℕ, zero, suc, ◌<◌, ◌≤◌, ◌⊎◌, inl, inr, Bool, true, false, cond, List, [], ◌∷◌, length, get_or, Option, Some, None, sym, refl, ap, ◌∙◌, subst, arith, MatchOption}
 use Rattle.std.specs.Prelude.{fold, filter, is_some, nat_le, Contains}
 use borrow.Author.Tests.{leb-true, leb-false}
@@ -43,7 +43,7 @@ in_filter q xs x h = All-contains (Contains xs) (filter q xs) x (All-filter q (C
 pub passed_filter : {X : Type 0} (q : X → Bool) (xs : List X) (x : X) → Contains (filter q xs) x → q x ≡ true
 passed_filter q xs x h = All-contains (λ y. q y ≡ true) (filter q xs) x (filter_passes q xs) h
 
--- the best of the best so far and these
+-- the best of these and the best so far
 record IsBest (o : Option Version) (vs : List Version) (v : Version) : Type 0 where
   stands : (o ≡ Some v) ⊎ Contains vs v
   before : (b : Version) → o ≡ Some b → b.version_num ≤ v.version_num
@@ -55,7 +55,7 @@ Best o vs r = MatchOption r ((o ≡ None) × (vs ≡ [])) (IsBest o vs)
 alone : (b c : Version) → Some b ≡ Some c → b.version_num ≤ c.version_num
 alone b c same = let equal : b ≡ c = cc in subst (λ z. b.version_num ≤ z.version_num) equal (omega arith)
 
--- one version more
+-- one more version
 first_one : (v : Version) (vs : List Version) (r : Option Version) → Best (Some v) vs r → Best None (v ∷ vs) r
 first_one v vs None h = let never : Some v ≡ None = h.0 in absurd cc
 first_one v vs (Some w) h = record {
@@ -100,7 +100,7 @@ best (Some b) (v ∷ vs) = cases (nat_le v.version_num b.version_num) refl (best
     cases true is kept gone = stays b v vs (fold newer (Some b) vs) (leb-true _ _ is) kept
     cases false is kept gone = replaced b v vs (fold newer (Some v) vs) (leb-false _ _ is) gone
 
--- there is none for a platform, or the newest for it
+-- a platform has no version, or this is the newest for it
 pub record IsNewestFor (versions : List Version) (app platform : List ℕ) (v : Version) : Type 0 where
   pub stands : Contains versions v
   pub matches : is_version_for app platform v ≡ true
@@ -127,7 +127,7 @@ for_platform versions app platform (Some v) h =
       newest = λ other stands pass. h.newest other (passes_filter q versions other stands pass);
     }
 
--- no version for the first platform, and what the further ones tell
+-- no version for the first platform, and what follows for the other platforms
 further : (versions : List Version) (app p : List ℕ) (ps : List (List ℕ)) → HasNone versions app p → (o : Option Version)
     → MatchOption o (HasNoVersion versions app ps) (IsVersionFor versions app ps)
     → MatchOption o (HasNoVersion versions app (p ∷ ps)) (IsVersionFor versions app (p ∷ ps))

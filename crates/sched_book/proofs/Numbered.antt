@@ -1,4 +1,4 @@
--- Lists made of other lists, each element by its number.
+-- Lists made from other lists: a function of each element and its number.
 use Rattle.std.proofs.Common.{◌≡◌, ◌≢◌, ℕ, zero, suc, ◌+◌, ◌<◌, Bool, cond, eqb, List, [], ◌∷◌, sym, refl, ap, ◌∙◌, arith}
 use Rattle.std.proofs.lemmas.Bool.{ne_eqb, eq-eqb}
 use Rattle.sched_book.specs.Reports.{modify_at, modify_nth}

@@ -1,4 +1,4 @@
--- What changes of instances leave, each place by place: that of all changed places, and that of the others.
+-- What changes of instances leave, place by place: at the changed places, and at the others.
 use Rattle.std.proofs.Common.{◌≡◌, ◌⊎◌, inl, inr, ℕ, zero, suc, ◌+◌, ◌-◌, Bool, true, false, cond, eqb, List, [], ◌∷◌, map, Option, Some, None, sym, refl, ap, ◌∙◌, subst}
 use Rattle.std.specs.Prelude.{fold, nat_le, Contains, option_map, unwrap_or, slice_get}
 use Rattle.std.proofs.lemmas.Option.{slice_get-map}
@@ -24,7 +24,7 @@ use Rattle.std.proofs.lemmas.List.Elements.{All-contains}
 
 -- ---- what stays
 
--- what is said of each element stays where one is changed and keeps it
+-- a value of each element stays the same if one element is changed and the change keeps its value
 pub map_changed_at : {X Y : Type 0} (g : X → Y) (f : X → X) → ((x : X) → g (f x) ≡ g x) → (xs : List X) (i : ℕ) → map g (modify_at f xs i) ≡ map g xs
 map_changed_at g f keeps [] i = refl
 map_changed_at g f keeps (x ∷ xs) zero = ap (λ y. y ∷ map g xs) (keeps x)
@@ -60,7 +60,7 @@ stays_changed f w p = record {
   units = map_changed_nth (λ (b : UnitBook). b.unit) (with_number f p.number) (λ b. refl) w.units p.unit;
 }
 
--- what is said of the row of a workunit stays with the rows
+-- a value of a workunit's row stays the same if the rows do
 row_stays : {Y : Type 0} (g : Option Workunit → Y) (xs ys : List UnitBook) → map (λ (b : UnitBook). b.unit) ys ≡ map (λ (b : UnitBook). b.unit) xs → (i : ℕ)
     → g (option_map (λ (b : UnitBook). b.unit) (slice_get ys i)) ≡ g (option_map (λ (b : UnitBook). b.unit) (slice_get xs i))
 row_stays g xs ys same i =
@@ -85,7 +85,7 @@ delay_stays u v same p = of_row v p.unit ∙ cases (eqb p.unit 0) ∙ sym (of_ro
     cases true = refl
     cases false = row_stays delay_of u.units v.units same.units (p.unit - 1)
 
--- ---- a change at each of some places, which a second one leaves as it is
+-- ---- a change at each of some places, which does nothing a second time
 
 module _ (f : Place → Instance → Instance) (again : (p : Place) (x : Instance) → f p (f p x) ≡ f p x) where
   abbrev change : World → Place → World
@@ -179,7 +179,7 @@ lapses_are_by_place w now = record {
   rest = stays late (λ p x. refl) (overdue w now) w;
 }
   where
-    -- a test of what stands at a place
+    -- a test of the instance at a place, if there is one
     over : Option Instance → Bool
     over o = unwrap_or (option_map (is_overdue now) o) false
 
@@ -214,7 +214,7 @@ grants_are_by_place w host now jobs = record {
   rest = subst (ChangesInstancesAlone w) (sym (as_first jobs w (stays_self w))) (stays given (λ p x. refl) jobs w);
 }
   where
-    -- with the delays of the world before
+    -- with the delay bounds of the world before
     given : Place → Instance → Instance
     given p = with_owner (record { host = host; sent = now; deadline = now + delay_at w p })
 
@@ -233,7 +233,7 @@ module _ (entry : World) (h : HostRow) (now : ℕ) where
   abbrev fated : Place → Instance → Instance
   fated p x = cond (is_resent entry h p) (with_deadline (moved p) x) (with_lapse Dropped x)
 
-  -- a deadline that was moved once stays
+  -- a deadline that was moved once does not move again
   moved_once : (seconds delay deadline : ℕ) → deadline_after now seconds delay (deadline_after now seconds delay deadline) ≡ deadline_after now seconds delay deadline
   moved_once seconds delay deadline = cases (nat_le (now + seconds) deadline) refl
     where

@@ -10,7 +10,7 @@ use Rattle.sched_book.specs.declared.instance.Place.{Place}
 use Rattle.sched_book.specs.declared.instance.UnitBook.{UnitBook}
 use Rattle.sched_book.specs.declared.world.World.{World}
 
--- one workunit more: what is done, then what is left, is still all
+-- one more workunit: what is done and what is left are still everything together
 pub places_more : (p : UnitBook → Instance → Bool) (done more all : List Place) (bs : List UnitBook) (i : ℕ) (b : UnitBook)
     → i < length bs → b ≡ get_or bs i b → more ≡ done ++ places_in (i + 1) 0 (p b) b.instances
     → done ++ places_among (i + 1) p (drop i bs) ≡ all → more ++ places_among (i + 1 + 1) p (drop (i + 1) bs) ≡ all
@@ -22,7 +22,7 @@ places_more p done more all bs i b within is here before =
     ∙ ap (λ xs. done ++ places_among (i + 1) p xs) (sym split)
     ∙ before
 
--- the same of the places of workunits
+-- the same for the places of workunits
 pub units_more : (p : UnitBook → Bool) (done more all : List ℕ) (bs : List UnitBook) (i : ℕ) (b : UnitBook)
     → i < length bs → b ≡ get_or bs i b → more ≡ cond (p b) (done ++ (i + 1) ∷ []) done
     → done ++ units_from (i + 1) p (drop i bs) ≡ all → more ++ units_from (i + 1 + 1) p (drop (i + 1) bs) ≡ all
@@ -42,7 +42,7 @@ units_more p done more all bs i b within is made before =
     cases true = append_assoc done ((i + 1) ∷ []) rest
     cases false = refl
 
--- as many as instances pass
+-- there are as many places as instances that pass
 counted_in : (p : Instance → Bool) (unit number : ℕ) (xs : List Instance) → length (places_in unit number p xs) ≡ count_by p xs
 counted_in p unit number [] = refl
 counted_in p unit number (x ∷ xs) = cases (p x) _ (counted_in p unit (number + 1) xs) ∙ sym (sum_by-cons (λ y. cond (p y) 1 0) x xs)

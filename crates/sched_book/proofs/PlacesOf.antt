@@ -1,4 +1,4 @@
--- Places of a list that grows by one, or of which one element is changed.
+-- Places of a list that gets one more element, or of which one element is changed.
 use Rattle.std.proofs.Common.{◌≡◌, ℕ, zero, suc, ◌+◌, ◌-◌, ◌<◌, ◌≤◌, Bool, true, false, cond, eqb, List, [], ◌∷◌, ◌++◌, length, Option, Some, None, sym, refl, ap, ◌∙◌, arith}
 use Rattle.std.proofs.Math.Dec.{eqb-suc-zero, eqb-zero-suc, eqb-suc-suc}
 use Rattle.std.proofs.Math.Numerals.{add-one}
@@ -9,7 +9,7 @@ use Rattle.std.specs.List.{position_from}
 use Rattle.sched_book.specs.Places.{nth, place_where}
 use Rattle.sched_book.specs.Reports.{modify_at, modify_nth}
 
--- what stands at a place after zero
+-- the element at a place after zero
 pub nth-suc : {X : Type 0} (xs : List X) (i : ℕ) → nth xs (suc i) ≡ slice_get xs i
 nth-suc xs i =
     ap (λ (b : Bool). cond b None (slice_get xs (suc i - 1))) (eqb-suc-zero i)
@@ -34,7 +34,7 @@ modify_nth-suc f xs i =
     ap (λ (b : Bool). cond b xs (modify_at f xs (suc i - 1))) (eqb-suc-zero i)
     ∙ ap (modify_at f xs) (let same : suc i - 1 ≡ i = omega arith in same)
 
--- what is in a list is in it with more after it
+-- an element of a list is at the same index in a longer list
 pub slice_get-front : {X : Type 0} (xs more : List X) (i : ℕ) (x : X) → slice_get xs i ≡ Some x → slice_get (xs ++ more) i ≡ Some x
 slice_get-front [] more i x is = absurd cc
 slice_get-front (y ∷ xs) more zero x is = is
@@ -44,7 +44,7 @@ pub nth-front : {X : Type 0} (xs more : List X) (n : ℕ) (x : X) → nth xs n �
 nth-front xs more zero x is = absurd cc
 nth-front xs more (suc i) x is = nth-suc (xs ++ more) i ∙ slice_get-front xs more i x (sym (nth-suc xs i) ∙ is)
 
--- one element more, after the others
+-- one more element, after the others
 slice_get-push : {X : Type 0} (xs : List X) (x : X) (i : ℕ) → slice_get (xs ++ x ∷ []) i ≡ cond (eqb (length xs) i) (Some x) (slice_get xs i)
 slice_get-push [] x zero = refl
 slice_get-push [] x (suc i) = sym (ap (λ (b : Bool). cond b (Some x) None) (eqb-zero-suc i))
@@ -131,7 +131,7 @@ place_where-push p xs x =
     ∙ position_from-push p 1 xs x
     ∙ ap (λ o. option_or o (cond (p x) (Some (length xs + 1)) None)) (sym (place_where-is p xs))
 
--- a change that the test does not see
+-- a change that does not affect the test
 position_from-modify_at : {X : Type 0} (p : X → Bool) (f : X → X) → ((x : X) → p (f x) ≡ p x) → (n : ℕ) (xs : List X) (i : ℕ)
     → position_from p n (modify_at f xs i) ≡ position_from p n xs
 position_from-modify_at p f same n [] i = refl
@@ -147,7 +147,7 @@ place_where-modify_nth p f same xs (suc i) =
     ∙ position_from-modify_at p f same 1 xs i
     ∙ sym (place_where-is p xs)
 
--- the first that passes stands at the first place that passes
+-- the first element that passes is at the first place that passes
 find_at : {X : Type 0} (p : X → Bool) (xs : List X) → find p xs ≡ option_and_then (slice_get xs) (position_from p 0 xs)
 find_at {X} p [] = refl
 find_at {X} p (x ∷ xs) = cases (p x) (position_from p 0 xs) _ (find_at p xs) ∙ ap (λ o. option_and_then (slice_get (x ∷ xs)) (cond (p x) (Some 0) o)) (sym (shift p 0 xs))
@@ -171,7 +171,7 @@ find-is p xs =
     at_places None = refl
     at_places (Some i) = sym (ap (nth xs) (add-one i) ∙ nth-suc xs i)
 
--- what passes is at the place that was found
+-- the element at the place that was found passes
 abbrev pub FoundFrom : {X : Type 0} → (X → Bool) → ℕ → List X → ℕ → Type 0
 FoundFrom {X} p m xs n = (i : ℕ) × (x : X) × (n ≡ m + i) × (slice_get xs i ≡ Some x) × (p x ≡ true)
 

@@ -1,4 +1,4 @@
--- The places of a world's instances that pass a test: just these, each once, in their order.
+-- The places of a world's instances that pass a test: exactly these, each once, in their order.
 use Rattle.std.proofs.Common.{◌≡◌, ℕ, zero, suc, ◌+◌, ◌<◌, Bool, true, false, cond, eqb, List, [], ◌∷◌, ◌++◌, Option, Some, None, sym, refl, ap, ◌∙◌, subst, arith}
 use Rattle.std.specs.Prelude.{◌&&◌, ◌||◌, nat_lt, All, AllPairs, Contains, option_map, option_and_then, unwrap_or, slice_get}
 use Rattle.std.proofs.lemmas.List.Elements.{All-nil, All-cons, All-append, Contains-append_left, Contains-append_right}
@@ -14,7 +14,7 @@ use Rattle.sched_book.proofs.Newest.{front_of, behind}
 use Rattle.sched_book.proofs.PlacesOf.{nth-suc}
 use Rattle.sched_book.proofs.Rising.{pairs_nil}
 
--- what is said of a place is said of an equal one
+-- what holds of a place holds of an equal one
 same_place : (P : Place → Type 0) (u v n m : ℕ) → u ≡ v → n ≡ m → P (record { unit = u; number = n }) → P (record { unit = v; number = m })
 same_place P u v n m same also holds =
     subst (λ z. P (record { unit = v; number = z })) also (subst (λ z. P (record { unit = z; number = n })) same holds)
@@ -22,7 +22,7 @@ same_place P u v n m same also holds =
 -- ---- each place passes
 
 module _ (test : UnitBook → Instance → Bool) (P : Place → Type 0) where
-  -- what is said of the place of each instance that passes: in a workunit, from a number on
+  -- a property of the place of each instance that passes: in a workunit, for numbers that begin at `from`
   each_in_unit : (b : UnitBook) (unit from : ℕ) (xs : List Instance)
       → ((n : ℕ) (x : Instance) → slice_get xs n ≡ Some x → test b x ≡ true → P (record { unit = unit; number = from + n }))
       → All P (places_in unit from (test b) xs)
@@ -41,7 +41,7 @@ module _ (test : UnitBook → Instance → Bool) (P : Place → Type 0) where
           All-cons P (record { unit = unit; number = from }) rest
           (same_place P unit unit (from + 0) from refl (omega arith) (each 0 x refl pass)) later
 
-  -- in workunits, from a place on
+  -- in workunits, for places that begin at `from`
   pub each_among : (from : ℕ) (bs : List UnitBook)
       → ((i n : ℕ) (b : UnitBook) (x : Instance) → slice_get bs i ≡ Some b → slice_get b.instances n ≡ Some x → test b x ≡ true
       → P (record { unit = from + i; number = n }))
@@ -54,7 +54,7 @@ module _ (test : UnitBook → Instance → Bool) (P : Place → Type 0) where
       (each_among (from + 1) bs
       (λ i n c x stands is pass. same_place P (from + suc i) (from + 1 + i) n n (omega arith) refl (each (suc i) n c x stands is pass)))
 
--- a test at a place is a test of what stands there
+-- a test at a place is a test of the instance there
 passes_at : (w : World) (test : UnitBook → Instance → Bool) (i n : ℕ) (b : UnitBook) (x : Instance) → slice_get w.units i ≡ Some b
     → slice_get b.instances n ≡ Some x → passes w test (record { unit = suc i; number = n }) ≡ test b x
 passes_at w test i n b x found stands =
@@ -112,7 +112,7 @@ module _ (test : UnitBook → Instance → Bool) where
       Contains-append_right (places_in from 0 (test c) c.instances) (places_among (from + 1) test cs) (record { unit = unit; number = number })
       (listed_among (from + 1) cs i b x unit number found stands pass (omega arith))
 
--- what passes stands
+-- an instance that passes exists
 stands_where : (w : World) (test : UnitBook → Instance → Bool) (unit number : ℕ) → passes w test (record { unit = unit; number = number }) ≡ true
     → Contains (places_where w test) (record { unit = unit; number = number })
 stands_where w test zero number pass = absurd cc
@@ -134,7 +134,7 @@ stands_where w test (suc i) number pass = in_book (slice_get w.units i) refl (sy
 pub none_missed : (w : World) (test : UnitBook → Instance → Bool) (p : Place) → passes w test p ≡ true → Contains (places_where w test) p
 none_missed w test p pass = stands_where w test p.unit p.number pass
 
--- ---- they rise
+-- ---- they are in order
 
 abbrev Before : Place → Place → Type 0
 Before p q = is_before p q ≡ true
@@ -153,7 +153,7 @@ of_later_number u n m less = either (nat_lt u u)
     either false = second
 
 module _ (test : UnitBook → Instance → Bool) where
-  -- those of a workunit and of later ones
+  -- the places of a workunit and of later ones
   rising_in_unit : (b : UnitBook) (unit from : ℕ) (xs : List Instance) (later : List Place)
       → ((n : ℕ) → All (Before (record { unit = unit; number = n })) later) → AllPairs Before later
       → AllPairs Before (places_in unit from (test b) xs ++ later)

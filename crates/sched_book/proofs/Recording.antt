@@ -1,4 +1,4 @@
--- What becomes of the instance at a place when reports are recorded.
+-- What happens to the instance at a place when reports are recorded.
 use Rattle.std.proofs.Common.{◌≡◌, ℕ, ◌⊎◌, inl, inr, Bool, true, false, cond, eqb, not, List, [], ◌∷◌, Option, Some, None, sym, refl, ap, ◌∙◌, subst}
 use Rattle.std.specs.Prelude.{◌&&◌, fold, option_map, option_and_then, unwrap_or, slice_get, is_some, Contains}
 use Rattle.std.proofs.lemmas.Bool.{eqb-true}
@@ -16,7 +16,7 @@ use Rattle.sched_book.specs.declared.world.World.{World}
 use Rattle.sched_book.proofs.PlacesOf.{nth-modify_nth, slice_get-modify_at, same_none}
 use Rattle.sched_book.proofs.Newest.{none_in_nothing, in_front, behind, front_of}
 
--- the instance at a place after a change at another or the same one
+-- the instance at a place after a change at the same place or another one
 in_unit : (f : Instance → Instance) (m n : ℕ) (b : Bool) (o : Option UnitBook)
     → option_and_then (λ (u : UnitBook). slice_get u.instances n) (cond b (option_map (with_number f m) o) o)
     ≡ cond (b && eqb m n) (option_map f (option_and_then (λ (u : UnitBook). slice_get u.instances n) o)) (option_and_then (λ (u : UnitBook). slice_get u.instances n) o)
@@ -30,7 +30,7 @@ instance_at-with_changed f w q p =
     ap (option_and_then (λ (u : UnitBook). slice_get u.instances p.number)) (nth-modify_nth (with_number f q.number) w.units q.unit p.unit)
     ∙ in_unit f q.number p.number (eqb q.unit p.unit) (unit_at w p.unit)
 
--- places that are the same are equal
+-- places that compare as the same are equal
 equal_fields : (a b c d : ℕ) (s t : Bool) → eqb a c ≡ s → eqb b d ≡ t → (s && t) ≡ true
     → ◌≡◌ {A = Place} (record { unit = a; number = b }) (record { unit = c; number = d })
 equal_fields a b c d true true is also pass =
@@ -45,7 +45,7 @@ pub is_same-self : (p : Place) → is_same p p ≡ true
 is_same-self p =
     ap (λ b. b && eqb p.number p.number) (eq-eqb p.unit p.unit refl) ∙ eq-eqb p.number p.number refl
 
--- a test at a place is a test of what stands there
+-- a test at a place is a test of the instance there
 passes_unit : (g : Instance → Bool) (n : ℕ) (o : Option UnitBook)
     → unwrap_or (option_and_then (λ (u : UnitBook). option_map g (slice_get u.instances n)) o) false
     ≡ unwrap_or (option_map g (option_and_then (λ (u : UnitBook). slice_get u.instances n) o)) false
@@ -55,9 +55,9 @@ passes_unit g n (Some u) = refl
 pub passes-is : (w : World) (g : Instance → Bool) (p : Place) → passes w (λ b x. g x) p ≡ unwrap_or (option_map g (instance_at w p)) false
 passes-is w g p = passes_unit g p.number (unit_at w p.unit)
 
--- One report more, and one place.
+-- One more report, and one place.
 module _ (entry : World) (host : ℕ) (p : Place) where
-  -- the report names no instance at the place that awaits it
+  -- the report does not name the place, or the instance there does not await it
   abbrev Misses : World → Report → Type 0
   Misses w r = (x : Instance) → place_named entry r.name ≡ Some p → instance_at w p ≡ Some x → awaits_report host x ≡ true → ⊥
 
@@ -99,7 +99,7 @@ module _ (entry : World) (host : ℕ) (p : Place) where
         ∙ ap (option_map f) stands;
   }
 
-  -- it stands at the place or at another
+  -- the report names this place or another one
   at_place : (w : World) (r : Report) (q : Place) → place_named entry r.name ≡ Some q → passes w (λ b x. awaits_report host x) q ≡ true
       → (s : Bool) → is_same q p ≡ s → Goes entry host p w r (Gone entry host p w r q)
   at_place w r q names pass false other =
@@ -138,7 +138,7 @@ module _ (entry : World) (host : ℕ) (p : Place) where
       at_name None names = inl (refl, λ x also stands awaits. absurd cc)
       at_name (Some q) names = passes_or_not w r q names (passes w (λ b x. awaits_report host x) q) refl
 
-  -- once reported, it stays as it is
+  -- once reported, the instance stays as it is
   touched : (rs : List Report) (w : World) (x : Instance) → instance_at w p ≡ Some x → awaits_report host x ≡ false
       → instance_at (fold (record_one entry host) w rs) p ≡ Some x
   touched [] w x stands told = stands

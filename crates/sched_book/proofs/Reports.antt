@@ -1,4 +1,4 @@
--- The good reports of a workunit, and the leader of their least front, by the steps of a loop.
+-- The good reports of a workunit, and the leader of their shortest front, by the steps of a loop.
 use Rattle.std.proofs.Common.{◌≡◌, ℕ, ◌+◌, ◌<◌, ◌≤◌, Bool, true, false, cond, List, [], ◌∷◌, length, take, drop, get_or, Option, sym, refl, ap, ◌∙◌}
 use Rattle.std.specs.Prelude.{fold, is_some}
 use Rattle.std.proofs.lemmas.List.{drop_all, drop_more, take_more, take_all}
@@ -6,7 +6,7 @@ use Rattle.sched_book.specs.Count.{tells_success, place_of, numbers_from, put_by
 use Rattle.sched_book.specs.declared.instance.Instance.{Instance}
 use Rattle.sched_book.specs.declared.rows.Agreement.{Agreement}
 
--- the good reports, where those below i were put already
+-- the good reports, if those below i were inserted already
 unfoldable pub put_from : List Instance → List ℕ → ℕ → List ℕ
 put_from xs reports i = fold (put_by (place_of xs)) reports (numbers_from i (λ x. tells_success x.report) (drop i xs))
 
@@ -43,7 +43,7 @@ unfolding put_from
 put_from-all xs reports i past =
     ap (λ ys. fold (put_by (place_of xs)) reports (numbers_from i (λ x. tells_success x.report) ys)) (drop_all i xs past)
 
--- the leader of the least front that has one, of the fronts no shorter than k
+-- the leader of the shortest front that has one, among fronts at least k long
 unfoldable pub leader_from : Agreement → List Instance → ℕ → List ℕ → ℕ → Option ℕ
 leader_from a xs enough reports k = first_leader a xs enough (take k reports) (drop k reports)
 

@@ -1,10 +1,10 @@
--- Lists of numbers that rise, and facts of each two elements of a list.
+-- Lists of numbers in rising order, and facts about each two elements of a list.
 use Rattle.std.proofs.Common.{◌≡◌, ℕ, zero, suc, ◌+◌, ◌<◌, ◌≤◌, List, [], ◌∷◌, map, subst, arith}
 use Rattle.std.specs.Prelude.{All, AllPairs}
 use Rattle.std.proofs.lemmas.List.Elements.{All-nil, All-cons, All-weaker}
 use Rattle.std.proofs.lemmas.List.Kept.{AllPairs-cons}
 
--- a fact of each two holds of the first and each later one, and of each two later ones
+-- a fact about each two elements holds of the first and each later one, and of each two later ones
 pub pairs_head : {X : Type 0} (R : X → X → Type 0) (x : X) (xs : List X) → AllPairs R (x ∷ xs) → All (R x) xs
 pairs_head R x xs all k d within = all zero (suc k) d (omega arith) (omega arith)
 
@@ -14,7 +14,7 @@ pairs_tail R x xs all i j d less within = all (suc i) (suc j) d (omega arith) (o
 pub pairs_nil : {X : Type 0} (R : X → X → Type 0) → AllPairs R []
 pairs_nil R i j d less within = absurd (omega arith)
 
--- a list that rises from a number on
+-- a list that rises, with numbers of at least `low`
 abbrev pub RisesFrom : ℕ → List ℕ → Type 0
 RisesFrom low [] = Unit {0}
 RisesFrom low (i ∷ is) = (low ≤ i) × RisesFrom (i + 1) is

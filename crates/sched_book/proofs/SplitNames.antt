@@ -26,7 +26,7 @@ name_parts-none s none =
     ap (λ (b : Bool). cond b (option_map (λ number. (before_last is_underscore s, number)) (small_number (after_last is_underscore s))) None)
     (no_underscore s (λ i within. NoCharPasses-char 95 s i none (lit< tt) within))
 
--- what stands behind index i, if an underscore stands there and none behind it
+-- what follows index i, if there is an underscore at i and none after it
 behind : (s : List ℕ) (i : ℕ) → i < length s → get_or s i 0 ≡ 95 → ((k : ℕ) → k < length (drop (i + 1) s) → get_or (drop (i + 1) s) k 0 ≢ 95)
     → suffix_len (λ c. not (is_underscore c)) s ≡ length s - (i + 1)
 behind s i within here none =

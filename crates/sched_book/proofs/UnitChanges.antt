@@ -10,7 +10,7 @@ use Rattle.sched_book.specs.declared.delta.Change.TheVariants as change
 use Rattle.sched_book.specs.declared.world.World.{World}
 use Rattle.sched_book.proofs.PlacesOf.{nth-push, nth-modify_nth, length-modify_nth}
 
--- how many workunits stand after one change
+-- how many workunits there are after one change
 count_one : (w : World) (c : Change) → length (applied_one w c).units ≡ count_after (length w.units) c
 count_one w (change.Account a) = refl
 count_one w (change.App a) = refl

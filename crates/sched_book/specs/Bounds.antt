@@ -9,7 +9,7 @@ use Rattle.sched_book.specs.declared.world.World.{World}
 abbrev pub SoundIsBounded : Type 0
 SoundIsBounded = (w : World) → Sound w → IsBounded w
 
--- No host holds more than all instances, and no more are overdue.
+-- How many instances there are at most: all, those that a host holds, and those that are overdue.
 pub record HasFewInstances (w : World) : Type 0 where
   pub all : length (places w) ≤ 20000000
   pub held : (host : ℕ) → length (held_by w host) ≤ 20000000
@@ -18,7 +18,7 @@ pub record HasFewInstances (w : World) : Type 0 where
 abbrev pub InstancesAreFew : Type 0
 InstancesAreFew = (w : World) → IsBounded w → HasFewInstances w
 
--- What counts against a host in one step, and for it.
+-- What counts against a host in one step, and what counts for it.
 pub record CountsFew (old new : World) (host : ℕ) : Type 0 where
   pub charges : charges old new host ≤ 60000000
   pub merits : merits old new host ≤ 20000000

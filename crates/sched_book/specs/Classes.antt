@@ -14,19 +14,19 @@ suits Any v = true
 suits OfFirst v = true
 suits (Only class) v = bytes_eq class v.class
 
--- the class that a workunit keeps to, where it has one
+-- the class that a workunit keeps to, if it has one
 abbrev pub class_of : ClassRule → Option (List ℕ)
 class_of Any = None
 class_of OfFirst = None
 class_of (Only class) = Some class
 
--- the rule once a version of a class was granted: with its first the workunit takes the class, and it keeps one that it has
+-- the rule after a version of a class was granted: with its first one a marked workunit takes the class, and then keeps it
 abbrev pub rule_after : ClassRule → List ℕ → ClassRule
 rule_after Any class = Any
 rule_after OfFirst class = Only class
 rule_after (Only own) class = Only own
 
--- a workunit of which a version of a class was granted
+-- a workunit after a version of a class was granted for it
 abbrev pub with_class : List ℕ → UnitBook → UnitBook
 with_class class b = record b { unit = record b.unit { class_rule = rule_after b.unit.class_rule class } }
 

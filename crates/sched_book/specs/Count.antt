@@ -1,7 +1,7 @@
--- Promise. What is counted of a workunit from scratch: agreement, the canonical result, how many instances it needs,
--- its status and the verdicts on its instances. The limits are those of BOINC's workunits; that they are
--- counted exactly, from all reports at each time, is this profile's.
--- The instances of a workunit are a list, and an instance's number is its index there.
+-- Promise. What is counted of a workunit from scratch: agreement, the canonical result, how many instances it needs, its
+-- status and the verdicts on its instances. The limits are those of BOINC's workunits. Counting them exactly, from all
+-- reports each time, is this profile's own. The instances of a workunit are a list, and an instance's number is its
+-- index there.
 use Rattle.std.specs.Prelude.{ℕ, ◌+◌, ◌-◌, ◌/◌, max, Bool, true, false, not, ◌&&◌, ◌||◌, nat_lt, nat_le, if◌then◌else◌, List, [], ◌∷◌, ◌++◌, length, take, drop, fold, find, count_by, insert, Option, Some, None, option_and_then, is_some, is_none, unwrap_or, slice_get}
 use Rattle.std.specs.List.{prefix_len}
 use Rattle.std.specs.Str.{bytes_eq}
@@ -21,17 +21,17 @@ abbrev pub agree : Agreement → List ℕ → List ℕ → Bool
 agree Exact x y = bytes_eq x y
 agree (Within n) x y = bytes_eq x y || are_within n (whole_number x) (whole_number y)
 
--- the report was judged, and told of a success
+-- the report was judged, and says that the job was a success
 abbrev pub tells_success : Option Outcome → Bool
 tells_success None = false
 tells_success (Some r) = r.success && is_some r.place
 
--- the report was judged, and told of a client error
+-- the report was judged, and says that the job was a client error
 abbrev pub tells_error : Option Outcome → Bool
 tells_error None = false
 tells_error (Some r) = not r.success && is_some r.place
 
--- the place of its report among the judged ones, where it was judged
+-- the place of its report among the judged ones, if it was judged
 abbrev pub report_place : Instance → Option ℕ
 report_place x = option_and_then (λ (r : Outcome). r.place) x.report
 
@@ -51,7 +51,7 @@ told_place (Some r) = unwrap_or r.place 0
 abbrev pub is_held : Instance → Bool
 is_held x = is_some x.owner && is_none x.report && is_none x.lapse
 
--- a result may yet come of it: not given to a host, or held by one
+-- it may still bring a result: it was not given to a host, or a host holds it
 abbrev pub is_live : Instance → Bool
 is_live x = is_none x.owner || is_held x
 
@@ -64,12 +64,12 @@ output_of xs i = told_output (report_of xs i)
 abbrev pub place_of : List Instance → ℕ → ℕ
 place_of xs i = told_place (report_of xs i)
 
--- the numbers, from n on, of those that pass
+-- the numbers of the instances that pass; the first instance has the number n
 abbrev pub numbers_from : ℕ → (Instance → Bool) → List Instance → List ℕ
 numbers_from n p [] = []
 numbers_from n p (x ∷ xs) = if p x then n ∷ numbers_from (n + 1) p xs else numbers_from (n + 1) p xs
 
--- i put behind the front whose keys are not greater
+-- inserts i after the longest front whose keys are all at most that of i
 abbrev pub put_by : (ℕ → ℕ) → List ℕ → ℕ → List ℕ
 put_by key is i = insert is (prefix_len (λ j. nat_le (key j) (key i)) is) i
 
@@ -83,7 +83,7 @@ errors xs = count_by (λ x. tells_error x.report) xs
 abbrev pub live : List Instance → ℕ
 live xs = count_by is_live xs
 
--- how many of these reports agree with report i, itself counted
+-- how many of these reports agree with report i; it counts itself
 abbrev pub votes : Agreement → List Instance → List ℕ → ℕ → ℕ
 votes a xs reports i = count_by (λ j. agree a (output_of xs i) (output_of xs j)) reports
 
@@ -91,7 +91,7 @@ votes a xs reports i = count_by (λ j. agree a (output_of xs i) (output_of xs j)
 abbrev pub leader : Agreement → List Instance → ℕ → List ℕ → Option ℕ
 leader a xs enough reports = find (λ i. nat_le enough (votes a xs reports i)) reports
 
--- the leader of the least front of the reports that has one, from this front on
+-- the leader of the shortest front of the reports that has one; this front is the first that counts
 abbrev pub first_leader : Agreement → List Instance → ℕ → List ℕ → List ℕ → Option ℕ
 first_leader a xs enough front [] = leader a xs enough front
 first_leader a xs enough front (i ∷ rest) =
@@ -103,15 +103,15 @@ first_leader a xs enough front (i ∷ rest) =
 abbrev pub majority : Workunit → ℕ
 majority u = u.min_quorum / 2 + 1
 
--- The number of the canonical result: of the least front of the good reports that is no shorter than the quorum
--- and in which some report agrees with a majority, the first such report.
+-- The number of the canonical result. Take the shortest front of the good reports that is at least a quorum long and in
+-- which some report agrees with a majority. It is the first such report.
 abbrev pub canonical : Agreement → Workunit → List Instance → Option ℕ
 canonical a u xs =
     if nat_le u.min_quorum (length (good xs))
     then first_leader a xs (majority u) (take u.min_quorum (good xs)) (drop u.min_quorum (good xs))
     else None
 
--- how many results the workunit wants by now, where that many are successes
+-- how many results the workunit wants by now, if it has so many successes
 abbrev pub want : Workunit → ℕ → ℕ
 want u successes = max u.target_nresults (if nat_le u.min_quorum successes then successes + 1 else 0)
 
@@ -149,7 +149,7 @@ verdict_by a xs (Some c) x =
     then Some (if agree a (told_output x.report) (output_of xs c) then Valid else Invalid)
     else None
 
--- none without a judged success, or while the workunit has no canonical result
+-- a verdict exists only for a judged success, once the workunit has a canonical result
 abbrev pub verdict : Agreement → Workunit → List Instance → Instance → Option Verdict
 verdict a u xs x = verdict_by a xs (canonical a u xs) x
 

@@ -13,11 +13,11 @@ use Rattle.sched_book.specs.declared.instance.UnitBook.{UnitBook}
 use Rattle.sched_book.specs.declared.world.World.{World}
 use Rattle.texts.specs.Words.{IsWord}
 
--- the list with x at an index: in the place of what stands there, or else behind the others
+-- the list with x at an index: it replaces the element there, or follows the others
 abbrev pub set_at : {X : Type 0} → List X → ℕ → X → List X
 set_at xs i x = if nat_lt i (length xs) then slice_set xs i x else xs ++ x ∷ []
 
--- the same where places count from 1; at place 0 nothing changes
+-- the same, with places that count from 1; at place 0 nothing changes
 abbrev pub set_nth : {X : Type 0} → List X → ℕ → X → List X
 set_nth xs n x = if n == 0 then xs else set_at xs (n - 1) x
 
@@ -35,12 +35,12 @@ applied_one w (change.Host number h) = record w { hosts = set_nth w.hosts number
 applied_one w (change.Instance p x) = record w { units = modify_nth (with_instance p.number x) w.units p.unit }
 applied_one w (change.Class unit class) = record w { units = modify_nth (with_class class) w.units unit }
 
--- the world after changes, of which later ones count over earlier ones
+-- the world after changes; later ones override earlier ones
 abbrev pub applied : World → List Change → World
 applied w changes = fold applied_one w changes
 
--- A change fits a world: it is at an old place or the next, what it refers to stands, its values are in range, and its
--- table has room. An instance without owner has neither lapse nor report.
+-- A change fits a world: its place is an existing one or the next, what it refers to exists, its values are in range, and
+-- its table has room. An instance without owner has neither lapse nor report.
 abbrev pub FitsOne : World → Change → Type 0
 FitsOne w (change.Account a) = (length w.accounts < most_accounts) × IsAccountInLimits a
 FitsOne w (change.App a) = (length w.apps < most_apps) × IsAppInLimits a
@@ -54,7 +54,7 @@ FitsOne w (change.Instance p x) =
     × HasOwnerAmong w.hosts x × IsBare x × IsInstanceInLimits x
 FitsOne w (change.Class unit class) = IsTrue (is_some (unit_at w unit)) × IsWord class
 
--- changes fit, each the world that those before it leave
+-- each change fits the world that the changes before it leave
 abbrev pub Fits : World → List Change → Type 0
 Fits w [] = Unit {0}
 Fits w (c ∷ cs) = FitsOne w c × Fits (applied_one w c) cs

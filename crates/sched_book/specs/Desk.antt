@@ -1,4 +1,4 @@
--- Rule. What a desk is asked, beside the words of places, counts and fits.
+-- Rule. What a desk is asked, in addition to the words of places, counts and fits.
 use Rattle.std.specs.Prelude.{ℕ, ◌+◌, Bool, if◌then◌else◌, List, [], ◌∷◌, length, find, Option, option_map, option_and_then, unwrap_or}
 use Rattle.std.specs.Str.{bytes_eq}
 use Rattle.sched_book.specs.Places.{nth, place_where, unit_at, user_had, agreement_of, status_of}
@@ -47,16 +47,16 @@ agreement_at w unit = option_map (agreement_of w) (unit_at w unit)
 abbrev pub unit_status : World → ℕ → Option Status
 unit_status w unit = option_map (status_of w) (unit_at w unit)
 
--- the instances of the workunit at a place, none where none stands
+-- the instances of the workunit at a place; none if there is no workunit
 abbrev pub instances_at : World → ℕ → List Instance
 instances_at w unit = unwrap_or (option_map (λ (b : UnitBook). b.instances) (unit_at w unit)) []
 
--- the places, from one on, of the workunits that pass
+-- the places of the workunits that pass; the first one's is `place`
 abbrev pub units_from : ℕ → (UnitBook → Bool) → List UnitBook → List ℕ
 units_from place p [] = []
 units_from place p (b ∷ bs) = if p b then place ∷ units_from (place + 1) p bs else units_from (place + 1) p bs
 
--- the workunits of which some instance was given to a host of the user
+-- the workunits with some instance that was given to a host of the user
 abbrev pub units_of_user : World → ℕ → List ℕ
 units_of_user w account = units_from 1 (user_had w account) w.units
 

@@ -1,4 +1,4 @@
--- Words. The first of each text, of elements whose texts did not come by yet.
+-- Words. The first element of each text, without the texts that were seen before.
 use Rattle.std.specs.Prelude.{ℕ, Bool, ◌||◌, if◌then◌else◌, List, [], ◌∷◌}
 use Rattle.std.specs.Str.{bytes_eq}
 

@@ -20,19 +20,19 @@ estimate fpops p_fpops = max 1 ((fpops + p_fpops - 1) / p_fpops)
 abbrev pub estimate_at : World → HostRow → Place → ℕ
 estimate_at w h p = unwrap_or (option_map (λ b. estimate b.unit.rsc_fpops_est h.p_fpops) (unit_at w p.unit)) 0
 
--- the newer of the best so far and one more version, the best so far where they are equal
+-- the newer of the best so far and one more version; the best so far if they are equal
 abbrev pub newer : Option Version → Version → Option Version
 newer None v = Some v
 newer (Some best) v = if nat_le v.version_num best.version_num then Some best else Some v
 
--- the version with the greatest number, the first of equal ones
+-- the version with the greatest number; of equal ones the first
 abbrev pub newest : List Version → Option Version
 newest vs = fold newer None vs
 
 abbrev pub is_version_for : List ℕ → List ℕ → Version → Bool
 is_version_for app platform v = bytes_eq v.app app && bytes_eq v.platform platform
 
--- the newest version at the first of the platforms that has any
+-- the newest version for the first of the platforms that has any
 abbrev pub version_among : List Version → List ℕ → List (List ℕ) → Option Version
 version_among versions app [] = None
 version_among versions app (p ∷ platforms) =
@@ -40,7 +40,7 @@ version_among versions app (p ∷ platforms) =
     then newest (filter (is_version_for app p) versions)
     else version_among versions app platforms
 
--- the version that the host runs of the application of a name; none where there is no such application
+-- the version that the host runs of the application of a name; none if there is no such application
 abbrev pub version_for : World → HostRow → List ℕ → Option Version
 version_for w h app = if list_any (λ a. bytes_eq a.name app) w.apps then version_among w.versions app h.platforms else None
 
@@ -52,7 +52,8 @@ version_at w h app = option_and_then (λ a. version_among w.versions a.name h.pl
 abbrev pub version_at_unit : World → HostRow → ℕ → Option Version
 version_at_unit w h unit = option_and_then (λ (b : UnitBook). version_for w h b.unit.app) (unit_at w unit)
 
--- the host has the memory, the disk, the speed and a version for the work, of the class that the workunit keeps to
+-- the host has the memory, disk, speed and a version for the work, and the version suits the class that the workunit
+-- keeps to
 abbrev pub fits : HostRow → Workunit → Option Version → Bool
 fits h u version =
     nat_le u.rsc_memory_bound h.m_nbytes && nat_le u.rsc_disk_bound h.d_free

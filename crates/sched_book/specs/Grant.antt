@@ -22,7 +22,7 @@ pub record Asking : Type 0 where
   pub asked : ℕ
   pub now : ℕ
 
--- the seconds of the jobs that are sent again and of these
+-- the seconds of the jobs that are sent again and of the jobs in the list
 abbrev pub seconds_of : World → Asking → List Place → ℕ
 seconds_of w q jobs = q.before + sum_by (estimate_at w q.host) jobs
 
@@ -36,7 +36,7 @@ has_unit unit jobs = list_any (λ p. p.unit == unit) jobs
 abbrev pub is_enough : World → Asking → List Place → Bool
 is_enough w q jobs = nat_le q.asked (seconds_of w q jobs)
 
--- n jobs are as many as one reply may have, as the host may have in progress, as it may get on this day
+-- n jobs are as many as one reply may have, as the host may have in progress, or as it may get on this day
 abbrev pub fills_reply : World → ℕ → Bool
 fills_reply w n = nat_le w.settings.max_wus_to_send n
 
@@ -46,17 +46,17 @@ fills_progress w q n = nat_le w.settings.max_wus_in_progress (q.held + n)
 abbrev pub fills_day : World → Asking → ℕ → Bool
 fills_day w q n = nat_le q.host.quota (sent_today w q + n)
 
--- no further job can be given: enough, a limit, or each eligible instance is of a workunit that has a job
+-- no further job can be given: it is enough, a limit is reached, or each eligible instance is of a workunit that has a job
 abbrev pub is_maximal : World → Asking → List Place → Bool
 is_maximal w q jobs =
     is_enough w q jobs || fills_reply w (length jobs) || fills_progress w q (length jobs) || fills_day w q (length jobs)
     || list_all (λ p. has_unit p.unit jobs) (filter (is_eligible w q.host) (places w))
 
 pub record IsGrant (w : World) (q : Asking) (jobs : List Place) : Type 0 where
-  -- the jobs stand in the order of their places, each of another workunit
+  -- the jobs are in the order of their places, each of another workunit
   pub rising : AllPairs (λ p r. p.unit < r.unit) jobs
   pub eligible : All (λ p. IsTrue (is_eligible w q.host p)) jobs
-  -- before each job the seconds are still fewer than were asked for
+  -- before each job the seconds were still fewer than those asked for
   pub wanted : EachIndex jobs (λ k. seconds_of w q (take k jobs) < q.asked)
   pub in_reply : length jobs ≤ w.settings.max_wus_to_send
   pub in_progress : 0 < length jobs → q.held + length jobs ≤ w.settings.max_wus_in_progress
@@ -66,7 +66,7 @@ pub record IsGrant (w : World) (q : Asking) (jobs : List Place) : Type 0 where
   pub by_place : All (λ p. All (λ r. IsTrue (is_eligible w q.host r) → IsTrue (is_before r p) →
       IsTrue (list_any (is_same r) jobs || has_unit r.unit (filter (λ s. is_before s p) jobs))) (places w)) jobs
 
--- why there are no more: the first of these that holds
+-- why there are no more jobs: the first of these reasons that holds
 abbrev pub end_word : World → Asking → List Place → EndWord
 end_word w q jobs =
     if is_enough w q jobs then Enough

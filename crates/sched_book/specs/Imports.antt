@@ -30,7 +30,7 @@ empty_shelf = record { accounts = []; apps = []; versions = []; units = [] }
 abbrev pub shelf_of : World → Shelf
 shelf_of w = record { accounts = w.accounts; apps = w.apps; versions = w.versions; units = map (λ (b : UnitBook). imported b.unit) w.units }
 
--- the shelf with more rows behind its own
+-- the shelf with more rows after its own
 abbrev pub shelved : Shelf → Rows → Shelf
 shelved s (rows.Accounts xs) = record s { accounts = s.accounts ++ xs }
 shelved s (rows.Apps xs) = record s { apps = s.apps ++ xs }
@@ -53,7 +53,7 @@ same_version a b = is_version b.app b.platform b.version_num a
 abbrev pub same_unit : Workunit → Workunit → Bool
 same_unit a b = bytes_eq a.name b.name
 
--- the place, the first row's being n, of the first row with the name of a known one or of a row before it
+-- the place of the first row that has the name of a known row or of a row before it; the first row's place is n
 abbrev pub first_known : {X : Type 0} → (X → X → Bool) → ℕ → List X → List X → Option ℕ
 first_known same n known [] = None
 first_known same n known (x ∷ xs) = if list_any (same x) known then Some n else first_known same (n + 1) (known ++ x ∷ []) xs
@@ -67,7 +67,7 @@ duplicate_at s (rows.Workunits xs) = first_known same_unit 1 s.units xs
 abbrev pub has_app : List App → List ℕ → Bool
 has_app apps name = list_any (λ (a : App). bytes_eq a.name name) apps
 
--- the place of the first row whose application does not stand
+-- the place of the first row whose application does not exist
 abbrev pub unknown_at : Shelf → Rows → Option ℕ
 unknown_at s (rows.Accounts xs) = None
 unknown_at s (rows.Apps xs) = None
@@ -80,23 +80,23 @@ has_room s =
     nat_le (length s.accounts) most_accounts && nat_le (length s.apps) most_apps
     && nat_le (length s.versions) most_versions && nat_le (length s.units) most_workunits
 
--- a duplicate name comes before an unknown reference, and that before a full table
+-- a duplicate name is reported before an unknown reference, and that before a full table
 abbrev pub first_fault : Option ℕ → Option ℕ → Bool → Option Fault
 first_fault (Some n) unknown room = Some (DuplicateName n)
 first_fault None (Some n) room = Some (UnknownReference n)
 first_fault None None false = Some TableFull
 first_fault None None true = None
 
--- why rows are refused, where they are
+-- why rows are refused, if they are
 abbrev pub fault_of_rows : Shelf → Rows → Option Fault
 fault_of_rows s new = first_fault (duplicate_at s new) (unknown_at s new) (has_room (shelved s new))
 
--- the rows are such as an import may add: their values in range, and nothing to refuse
+-- an import may add these rows: their values are in range, and there is no reason to refuse them
 pub record AreChecked (w : World) (new : Rows) : Type 0 where
   pub in_limits : AreRowsInLimits new
   pub unrefused : fault_of_rows (shelf_of w) new ≡ None
 
--- a new workunit, with the instances that it begins with
+-- a new workunit, with its first instances
 abbrev pub new_unit : Workunit → UnitBook
 new_unit u = record { unit = u; instances = replicate u.target_nresults fresh }
 

@@ -1,4 +1,4 @@
--- Rule. What distinguishes the rows of one kind, and which keys came by.
+-- Rule. What distinguishes the rows of one kind, and which keys were seen.
 use Rattle.std.specs.Prelude.{ℕ, Bool, ◌&&◌, ◌==◌, List, []}
 use Rattle.std.specs.Borrow.{Bor}
 use Rattle.std.specs.Str.{bytes_eq}
@@ -10,14 +10,14 @@ use Rattle.sched_book.specs.declared.rows.Workunit.{Workunit}
 use Rattle.texts.specs.SeenSet.{has_seen, lent}
 use Rattle.texts.specs.declared.seen_set.SeenSet.{SeenSet}
 
--- a number and two texts, 0 and empty where a row needs none
+-- a number and two texts; 0 and empty if a row does not need them
 abbrev pub Key : Type 0
 Key = ℕ × List ℕ × List ℕ
 
 abbrev pub same_key : Key → Key → Bool
 same_key a b = ((a.0 == b.0) && bytes_eq a.1 b.1) && bytes_eq a.2 b.2
 
--- a key as a set has it
+-- a key as it is stored in a set
 abbrev pub LentKey : Type 0
 LentKey = ℕ × Bor (List ℕ) × Bor (List ℕ)
 
@@ -46,6 +46,6 @@ version_key v = (v.version_num, v.platform, v.app)
 abbrev pub unit_key : Workunit → Key
 unit_key u = named u.name
 
--- of a host its account and its own name for itself
+-- of a host: its account, and its own name for itself
 abbrev pub host_key : HostRow → Key
 host_key h = (h.account, [], h.cpid)

@@ -1,4 +1,4 @@
--- Rule. What the definitions that compute come to, in the subject's own words.
+-- Rule. What the definitions that compute amount to, in the terms of the subject.
 use Rattle.std.specs.Prelude.{◌⊎◌, not, is_some, ◌≡◌, ℕ, ◌<◌, ◌≤◌, true, false, List, ◌∷◌, ◌++◌, length, take, Contains, Option, Some, None, option_map, MatchOption}
 use Rattle.sched_book.specs.Count.{good, leader, majority, canonical}
 use Rattle.sched_book.specs.Places.{unit_at, host_at}
@@ -24,7 +24,7 @@ use Rattle.sched_book.specs.declared.world.World.{World}
 abbrev pub leader_of_front : Agreement → Workunit → List Instance → ℕ → Option ℕ
 leader_of_front a u xs k = leader a xs (majority u) (take k (good xs))
 
--- Report i leads the least front of the good reports that is no shorter than the quorum and has a leader.
+-- Report i leads the shortest front of the good reports that is at least a quorum long and has a leader.
 pub record IsFirstLeader (a : Agreement) (u : Workunit) (xs : List Instance) (i : ℕ) : Type 0 where
   pub front : ℕ
   pub in_quorum : u.min_quorum ≤ front
@@ -32,11 +32,11 @@ pub record IsFirstLeader (a : Agreement) (u : Workunit) (xs : List Instance) (i 
   pub leads : leader_of_front a u xs front ≡ Some i
   pub least : (k : ℕ) → u.min_quorum ≤ k → k < front → leader_of_front a u xs k ≡ None
 
--- no front that is no shorter than the quorum has a leader
+-- no front that is at least a quorum long has a leader
 abbrev pub HasNoLeader : Agreement → Workunit → List Instance → Type 0
 HasNoLeader a u xs = (k : ℕ) → u.min_quorum ≤ k → k ≤ length (good xs) → leader_of_front a u xs k ≡ None
 
--- the canonical result is the leader of the least front that has one
+-- the canonical result is the leader of the shortest front that has one
 abbrev pub CanonicalIsFirstLeader : Type 0
 CanonicalIsFirstLeader = (a : Agreement) (u : Workunit) (xs : List Instance)
     → MatchOption (canonical a u xs) (HasNoLeader a u xs) (IsFirstLeader a u xs)
@@ -46,7 +46,7 @@ abbrev pub HasNoVersion : List Version → List ℕ → List (List ℕ) → Type
 HasNoVersion versions app platforms =
     (p : List ℕ) (v : Version) → Contains platforms p → Contains versions v → is_version_for app p v ≡ false
 
--- It is a version for a platform before which none has any, and none for that platform is newer.
+-- It is a version for one of the platforms. No earlier platform has a version, and no version for that platform is newer.
 pub record IsVersionFor (versions : List Version) (app : List ℕ) (platforms : List (List ℕ)) (v : Version) : Type 0 where
   pub earlier : List (List ℕ)
   pub platform : List ℕ
@@ -69,19 +69,19 @@ pub record IsSettled (old changed : World) : Type 0 where
 abbrev pub SettlementIsPointwise : Type 0
 SettlementIsPointwise = (old changed : World) → IsSettled old changed
 
--- Report r stands in the list, and none before it has its name.
+-- Report r is in the list, and no report before it has its name.
 pub record IsFirstOfName (reports : List Report) (r : Report) : Type 0 where
   pub earlier : List Report
   pub later : List Report
   pub split : reports ≡ earlier ++ r ∷ later
   pub new_name : (other : Report) → Contains earlier other → bytes_eq r.name other.name ≡ false
 
--- the first reports are those that are the first of their name
+-- each of the first reports is the first with its name
 abbrev pub FirstReportsAreFirst : Type 0
 FirstReportsAreFirst = (reports : List Report) (r : Report) → Contains (first_reports reports) r → IsFirstOfName reports r
 
--- What stands at a place after the reports: a first report names the place, its instance awaited it, and is as it
--- was but for what was reported; that is judged where the workunit had not failed at entry.
+-- What is recorded at a place after the reports: a first report names the place, and its instance awaited the report.
+-- The instance is as it was, except for the report, which is judged if the workunit had not failed at entry.
 pub record IsRecordedAt (entry : World) (host : ℕ) (reports : List Report) (p : Place) : Type 0 where
   pub report : Report
   pub first : Contains (first_reports reports) report
@@ -93,8 +93,8 @@ pub record IsRecordedAt (entry : World) (host : ℕ) (reports : List Report) (p 
   pub judged : is_some place ≡ not (has_failed (status_at entry p.unit))
   pub recorded : instance_at (recorded entry host reports) p ≡ Some (with_report report place before)
 
--- At each place the instance is as it was, or a first report is recorded at it; and where a first report names an
--- instance that awaits one, the latter.
+-- At each place the instance is as it was, or a first report is recorded at it. If a first report names an instance that
+-- awaits it, it is recorded.
 pub record IsRecordedByPlace (entry : World) (host : ℕ) (reports : List Report) (p : Place) : Type 0 where
   pub stays_or_recorded : (instance_at (recorded entry host reports) p ≡ instance_at entry p) ⊎ IsRecordedAt entry host reports p
   pub not_missed : (r : Report) (x : Instance) → Contains (first_reports reports) r → place_named entry r.name ≡ Some p
@@ -103,11 +103,11 @@ pub record IsRecordedByPlace (entry : World) (host : ℕ) (reports : List Report
 abbrev pub ReportsAreRecordedByPlace : Type 0
 ReportsAreRecordedByPlace = (entry : World) (host : ℕ) (reports : List Report) (p : Place) → IsRecordedByPlace entry host reports p
 
--- a name that was made of a workunit's name and a number below 100 is split into these
+-- a name made of a workunit's name and a number below 100 is split into these two
 abbrev pub MadeNamesAreSplit : Type 0
 MadeNamesAreSplit = (unit : List ℕ) (number : ℕ) → number < 100 → name_parts (instance_name unit number) ≡ Some (unit, number)
 
--- a name that is split was made of its parts, so different names have different parts
+-- a name that can be split was made of its parts, so different names have different parts
 abbrev pub SplitNamesAreMade : Type 0
 SplitNamesAreMade = (name unit : List ℕ) (number : ℕ) → name_parts name ≡ Some (unit, number)
     → (name ≡ instance_name unit number) × (number < 100)

@@ -1,5 +1,5 @@
--- Rule. The ranges of the values of a world. They are this profile's, and stand here alone: rows that are read, changes that
--- fit and worlds that are sound cite them.
+-- Rule. The ranges of the values of a world. They are this profile's, and are defined only here. Imported rows, changes
+-- that fit and sound worlds refer to them.
 use Rattle.std.specs.Prelude.{◌≡◌, ℕ, ◌^◌, ◌≤◌, Bool, ◌&&◌, nat_le, IsTrue, List, length, All, IfSome}
 use Rattle.rpc_records.specs.Members.{is_output}
 use Rattle.sched_book.specs.Classes.{class_of, imported}
@@ -45,7 +45,7 @@ last_moment = 250000000000
 abbrev pub last_deadline : ℕ
 last_deadline = 250100000000
 
--- the most of a workunit's and of a host's amounts: operations, bytes
+-- the greatest amount of a workunit or a host: operations, bytes
 abbrev pub most_amount : ℕ
 most_amount = 10 ^ 18
 
@@ -60,7 +60,7 @@ most_credit = 100000000
 abbrev pub most_version_num : ℕ
 most_version_num = 1000000
 
--- the most that two outputs may be apart and agree
+-- the greatest distance of two outputs that agree
 abbrev pub most_distance : ℕ
 most_distance = 1000000000
 
@@ -101,7 +101,7 @@ pub record IsAccountInLimits (a : Account) : Type 0 where
   pub authenticator : IsWord a.authenticator
   pub name : IsTrue (is_user_name a.name)
 
--- how far apart two outputs may be that agree
+-- how far apart two outputs that agree may be
 abbrev pub distance_of : Agreement → ℕ
 distance_of Exact = 0
 distance_of (Within n) = n
@@ -143,7 +143,7 @@ AreRowsInLimits (rows.Apps xs) = All IsAppInLimits xs
 AreRowsInLimits (rows.Versions xs) = All IsVersionInLimits xs
 AreRowsInLimits (rows.Workunits xs) = All IsNewUnit xs
 
--- a host, under a limit of its quota
+-- a host, whose quota has this limit
 pub record IsHostInLimits (limit : ℕ) (h : HostRow) : Type 0 where
   pub cpid : IsWord h.cpid
   pub speed : (1 ≤ h.p_fpops) × (h.p_fpops ≤ most_amount)
@@ -153,7 +153,7 @@ pub record IsHostInLimits (limit : ℕ) (h : HostRow) : Type 0 where
   pub words : All IsWord h.platforms
   pub quota : (1 ≤ h.quota) × (h.quota ≤ limit)
 
--- the moment of sending and the deadline, what was reported, and the place of a judged report
+-- the moment of sending and the deadline, the reported output, and the place of a judged report
 pub record IsInstanceInLimits (x : Instance) : Type 0 where
   pub sent : IfSome x.owner (λ o. o.sent ≤ last_moment)
   pub deadline : IfSome x.owner (λ o. o.deadline ≤ last_deadline)

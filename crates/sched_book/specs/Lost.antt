@@ -15,20 +15,20 @@ use Rattle.sched_book.specs.declared.instance.Owner.{Owner}
 use Rattle.sched_book.specs.declared.instance.Place.{Place}
 use Rattle.sched_book.specs.declared.world.World.{World}
 
--- the instance at a place stands in the client's list
+-- the name of the instance at a place is in the client's list
 abbrev pub is_listed : World → List (List ℕ) → Place → Bool
 is_listed w names p = list_any (bytes_eq (name_at w p)) names
 
--- what the host holds and its client does not list; nothing where the client sent no list
+-- what the host holds and its client does not list; nothing if the client sent no list
 abbrev pub unlisted : World → ℕ → Option (List (List ℕ)) → List Place
 unlisted w host None = []
 unlisted w host (Some names) = filter (λ p. not (is_listed w names p)) (held_by w host)
 
--- the lost jobs of a host: what it still holds after the reports and its client does not list
+-- the lost jobs of a host: what it still holds after the reports, and its client does not list
 abbrev pub lost : World → ℕ → Option (List (List ℕ)) → List Place
 lost w host names = if w.settings.resend_lost_results then unlisted w host names else []
 
--- a lost job goes to its host again where its workunit was open at entry and fits the host
+-- a lost job is sent to its host again if its workunit was open at entry and fits the host
 abbrev pub is_resent : World → HostRow → Place → Bool
 is_resent entry h p = option_any (λ b. is_open (status_at entry p.unit) && unit_fits entry h b) (unit_at entry p.unit)
 
@@ -36,7 +36,7 @@ is_resent entry h p = option_any (λ b. is_open (status_at entry p.unit) && unit
 abbrev pub delay_at : World → Place → ℕ
 delay_at w p = unwrap_or (option_map (λ b. b.unit.delay_bound) (unit_at w p.unit)) 0
 
--- the deadline of a job that is sent again: it stays where the host can still meet it
+-- the deadline of a job that is sent again: it stays if the host can still meet it
 abbrev pub deadline_after : ℕ → ℕ → ℕ → ℕ → ℕ
 deadline_after now seconds delay deadline = if nat_le (now + seconds) deadline then deadline else now + delay
 
@@ -53,12 +53,12 @@ resend_or_drop entry h now w p =
     then with_changed (with_deadline (deadline_after now (estimate_at entry h p) (delay_at entry p))) w p
     else with_changed (with_lapse Dropped) w p
 
--- the client may forget a name: of no instance of its host, of one that was reported, or of a failed workunit
+-- the client may forget a name: of no instance of its host, of one that was reported, or of one of a failed workunit
 abbrev pub is_aborted : World → ℕ → List ℕ → Bool
 is_aborted w host name =
     unwrap_or (option_map (λ p. not (passes w (λ b x. awaits_report host x) p) || has_failed (status_at w p.unit)) (place_named w name)) true
 
--- the names of the client's list that it may forget, each once, in their order
+-- the names in the client's list that it may forget, each once, in their order
 abbrev pub aborts : World → ℕ → Option (List (List ℕ)) → List (List ℕ)
 aborts w host None = []
 aborts w host (Some names) = filter (is_aborted w host) (first_of_each (λ name. name) [] names)

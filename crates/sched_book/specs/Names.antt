@@ -15,7 +15,7 @@ small_number (c ∷ d ∷ []) =
     if nat_le 49 c && is_ascii_digit c && is_ascii_digit d then Some (number_of (c ∷ d ∷ [])) else None
 small_number (c ∷ d ∷ e ∷ more) = None
 
--- the parts of a name, which is split at its last underscore
+-- the parts of a name, split at its last underscore
 abbrev pub name_parts : List ℕ → Option (List ℕ × ℕ)
 name_parts name =
     if list_any (λ c. c == 95) name

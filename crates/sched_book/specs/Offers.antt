@@ -11,7 +11,7 @@ use Rattle.sched_book.specs.declared.instance.UnitBook.{UnitBook}
 use Rattle.sched_book.specs.declared.rows.Workunit.{Workunit}
 use Rattle.sched_book.specs.declared.world.World.{World}
 
--- the candidates from a place on among a workunit's instances, the first of which has this number
+-- the candidates among a workunit's instances, from a place on; the first of these instances has the number `number`
 abbrev pub unsent_in : Place → ℕ → Workunit → ℕ → List Instance → List Candidate
 unsent_in from place unit number [] = []
 unsent_in from place unit number (x ∷ xs) =
@@ -26,11 +26,11 @@ unsent_among w from place (b ∷ bs) =
     then unsent_in from place b.unit 0 b.instances ++ unsent_among w from (place + 1) bs
     else unsent_among w from (place + 1) bs
 
--- the instances of open workunits that nobody was given, by place, from a place on
+-- the instances of open workunits that were given to nobody, by place, from a place on
 abbrev pub unsent : World → Place → List Candidate
 unsent w from = unsent_among w from 1 w.units
 
--- `takes` says what an offer may do: the taker before, the candidate, the answer, and the taker after.
+-- `takes` says what an offer may do, by the taker before, the candidate, the answer, and the taker after.
 module _ {T : Type 0} (takes : T → Candidate → Flow → T → Type 0) where
   -- each candidate is offered, none skipped, up to the one at which the taker stops
   abbrev pub OffersAll : T → List Candidate → T → Type 0
@@ -43,13 +43,13 @@ module _ {T : Type 0} (takes : T → Candidate → Flow → T → Type 0) where
   OffersSome old (c ∷ cs) new = (new ≡ old) ⊎ takes old c Stop new ⊎ ((mid : T) × takes old c GoOn mid × OffersSome mid cs new)
 
 module _ {T : Type 0} (takes : T → Candidate → Flow → T → Type 0) where
-  -- When the taker is `now` and these are left, what it makes of them is what `old` makes of all.
+  -- If the taker is `now` and these candidates are left, what it makes of them is what `old` makes of all.
   pub record Leads (old : T) (all : List Candidate) (now : T) (left : List Candidate) : Type 0 where
     pub to_all : (last : T) → OffersAll takes now left last → OffersAll takes old all last
     pub to_some : (last : T) → OffersSome takes now left last → OffersSome takes old all last
 
 module _ {T : Type 0} (takes : T → Candidate → Flow → T → Type 0) where
-  -- These were offered, and whatever else follows them: the taker goes on to it, or has stopped.
+  -- These were offered, regardless of the candidates that follow: the taker continues with those, or has stopped.
   abbrev pub Offered : T → List Candidate → T → Flow → Type 0
   Offered old these new GoOn = (more : List Candidate) → Leads takes old (these ++ more) new more
   Offered old these new Stop = (more : List Candidate) → OffersAll takes old (these ++ more) new

@@ -1,4 +1,5 @@
--- Rule. What lists of places and of reports hold, and what the parts of a step change: each place by place, and nothing else.
+-- Rule. What lists of places and of reports contain, and what the parts of a step change: each place by itself, and
+-- nothing else.
 use Rattle.std.specs.Prelude.{◌⊎◌, ◌≡◌, ◌≢◌, ℕ, ◌<◌, Bool, true, false, if◌then◌else◌, ◌+◌, List, [], map, fold, filter_map, All, AllPairs, Contains, Option, Some, option_map, slice_get}
 use Rattle.rpc_records.specs.declared.request.Report.{Report}
 use Rattle.sched_book.specs.Count.{tells_success, report_of, place_of, good}
@@ -16,13 +17,13 @@ use Rattle.sched_book.specs.declared.world.World.{World}
 
 -- ---- lists
 
--- The element at an index stands there, and none before it has its text.
+-- The list has an element at this index, and no element before it has its text.
 pub record IsFirstWithText {X : Type 0} (text : X → List ℕ) (xs : List X) (index : ℕ) : Type 0 where
   pub element : X
   pub stands : slice_get xs index ≡ Some element
   pub new_text : (before : ℕ) (other : X) → before < index → slice_get xs before ≡ Some other → text other ≢ text element
 
--- The elements of a list that are the first with their text, in their order: each text of the list has one of them.
+-- The elements of a list that are the first with their text, in their order. Each text of the list has one of them.
 pub record AreFirstOfEach {X : Type 0} (text : X → List ℕ) (xs firsts : List X) : Type 0 where
   pub indices : List ℕ
   pub rising : AllPairs (λ i j. i < j) indices
@@ -35,11 +36,11 @@ pub record AreFirstOfEach {X : Type 0} (text : X → List ℕ) (xs firsts : List
 abbrev pub FirstReportsAreOfEachName : Type 0
 FirstReportsAreOfEachName = (reports : List Report) → AreFirstOfEach (λ (r : Report). r.name) reports (first_reports reports)
 
--- names that a client lists count once each too
+-- the same of the names that a client lists: each counts once
 abbrev pub FirstNamesAreOfEachName : Type 0
 FirstNamesAreOfEachName = (names : List (List ℕ)) → AreFirstOfEach (λ name. name) names (first_of_each (λ name. name) [] names)
 
--- its report has the lesser place, or the same one and the instance the lesser number
+-- its report has the lesser place, or the same place and the instance the lesser number
 abbrev pub IsJudgedBefore : List Instance → ℕ → ℕ → Type 0
 IsJudgedBefore xs i j = (place_of xs i < place_of xs j) ⊎ ((place_of xs i ≡ place_of xs j) × (i < j))
 
@@ -62,8 +63,8 @@ pub record ArePlacesWhere (w : World) (test : UnitBook → Instance → Bool) (p
 abbrev pub PlacesAreThoseThatPass : Type 0
 PlacesAreThoseThatPass = (w : World) (test : UnitBook → Instance → Bool) → ArePlacesWhere w test (places_where w test)
 
--- Lost jobs are sent again, the client sent a list, the host holds the instance at the place, and the list has not its
--- name.
+-- Lost jobs are sent again, the client sent a list, the host holds the instance at the place, and its name is not in the
+-- list.
 pub record IsLost (w : World) (host : ℕ) (names : Option (List (List ℕ))) (p : Place) : Type 0 where
   pub resends : w.settings.resend_lost_results ≡ true
   pub listed : List (List ℕ)
@@ -91,15 +92,15 @@ pub record ChangesInstancesAlone (old new : World) : Type 0 where
   pub hosts : new.hosts ≡ old.hosts
   pub units : map (λ (b : UnitBook). b.unit) new.units ≡ map (λ (b : UnitBook). b.unit) old.units
 
--- what reports change is said by place in `ReportsAreRecordedByPlace`
+-- `ReportsAreRecordedByPlace` says, by place, what reports change
 abbrev pub ReportsChangeInstancesAlone : Type 0
 ReportsChangeInstancesAlone = (entry : World) (host : ℕ) (reports : List Report) → ChangesInstancesAlone entry (recorded entry host reports)
 
--- it lapses where it is held and its deadline is past
+-- it lapses if it is held and its deadline is past
 abbrev pub lapsed_if_overdue : ℕ → Instance → Instance
 lapsed_if_overdue now x = if is_overdue now x then with_lapse Late x else x
 
--- What a tick's lapses leave.
+-- What the lapses of a tick leave.
 pub record HasLapsed (w : World) (now : ℕ) (after : World) : Type 0 where
   pub instance : (p : Place) → instance_at after p ≡ option_map (lapsed_if_overdue now) (instance_at w p)
   pub rest : ChangesInstancesAlone w after
@@ -107,7 +108,7 @@ pub record HasLapsed (w : World) (now : ℕ) (after : World) : Type 0 where
 abbrev pub LapsesAreByPlace : Type 0
 LapsesAreByPlace = (w : World) (now : ℕ) → HasLapsed w now (lapsed w now)
 
--- What a grant of jobs leaves: the host has each of them from this moment, for the seconds of its workunit's delay.
+-- What a grant leaves: the host has each of the jobs from this moment on, for the seconds of its workunit's delay bound.
 pub record HasGranted (w : World) (host now : ℕ) (jobs : List Place) (after : World) : Type 0 where
   pub job : (p : Place) → Contains jobs p
       → instance_at after p ≡ option_map (with_owner (record { host = host; sent = now; deadline = now + delay_at w p })) (instance_at w p)
@@ -117,7 +118,7 @@ pub record HasGranted (w : World) (host now : ℕ) (jobs : List Place) (after : 
 abbrev pub GrantsAreByPlace : Type 0
 GrantsAreByPlace = (w : World) (host now : ℕ) (jobs : List Place) → HasGranted w host now jobs (granted w host now jobs)
 
--- What lost jobs leave: each is sent again, with a deadline that its host can meet, or dropped.
+-- What lost jobs leave: each is sent again, with a deadline that its host can meet, or is dropped.
 pub record HasResentOrDropped (entry : World) (h : HostRow) (now : ℕ) (w : World) (jobs : List Place) (after : World) : Type 0 where
   pub resent : (p : Place) → Contains jobs p → is_resent entry h p ≡ true
       → instance_at after p ≡ option_map (with_deadline (deadline_after now (estimate_at entry h p) (delay_at entry p))) (instance_at w p)

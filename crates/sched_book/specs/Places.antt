@@ -1,5 +1,5 @@
 -- Rule. Workunits, hosts and instances of a world by their places, and what is counted over all of them.
--- Places of rows and numbers of hosts count from 1, the numbers of a workunit's instances from 0.
+-- Places of rows and numbers of hosts count from 1. The numbers of a workunit's instances count from 0.
 use Rattle.std.specs.Prelude.{true, ℕ, ◌+◌, ◌-◌, ◌*◌, ◌/◌, Bool, false, ◌&&◌, ◌||◌, ◌==◌, nat_lt, if◌then◌else◌, List, [], ◌∷◌, ◌++◌, find, position, count_by, sum_by, Option, Some, None, option_and_then, option_map, unwrap_or, slice_get}
 use Rattle.std.specs.List.{enumerate_from, list_any}
 use Rattle.std.specs.Str.{bytes_eq}
@@ -19,11 +19,11 @@ use Rattle.sched_book.specs.declared.instance.UnitBook.{UnitBook}
 use Rattle.sched_book.specs.declared.instance.Verdict.{Verdict}
 use Rattle.sched_book.specs.declared.world.World.{World}
 
--- something is there, and passes
+-- there is a value, and it passes
 abbrev pub option_any : {X : Type 0} → (X → Bool) → Option X → Bool
 option_any p o = unwrap_or (option_map p o) false
 
--- what stands at a place that counts from 1
+-- the element at a place that counts from 1
 abbrev pub nth : {X : Type 0} → List X → ℕ → Option X
 nth xs n = if n == 0 then None else slice_get xs (n - 1)
 
@@ -40,11 +40,11 @@ instance_at w p = option_and_then (λ b. slice_get b.instances p.number) (unit_a
 abbrev pub host_at : World → ℕ → Option HostRow
 host_at w host = nth w.hosts host
 
--- how the outputs of the application of this name are compared; of an unknown one, exactly
+-- how the outputs of the application of this name are compared; if there is none, exactly
 abbrev pub agreement_by : List App → List ℕ → Agreement
 agreement_by apps name = unwrap_or (option_map (λ a. a.agreement) (find (λ a. bytes_eq a.name name) apps)) Exact
 
--- the status of a workunit, and the verdict on one of its instances, where these are the applications
+-- the status of a workunit, and the verdict on one of its instances, if these are the applications
 abbrev pub book_status : List App → UnitBook → Status
 book_status apps b = status (agreement_by apps b.unit.app) b.unit b.instances
 
@@ -60,11 +60,11 @@ status_of w b = book_status w.apps b
 abbrev pub verdict_of : World → UnitBook → Instance → Option Verdict
 verdict_of w b x = book_verdict w.apps b x
 
--- the status of the workunit at a place; one that does not stand counts as failed
+-- the status of the workunit at a place; if there is no workunit, it counts as failed
 abbrev pub status_at : World → ℕ → Status
 status_at w unit = unwrap_or (option_map (status_of w) (unit_at w unit)) FailedTotal
 
--- the places of a workunit's instances that pass, from a number on
+-- the places of a workunit's instances that pass; the first instance has the number `number`
 abbrev pub places_in : ℕ → ℕ → (Instance → Bool) → List Instance → List Place
 places_in unit number p [] = []
 places_in unit number p (x ∷ xs) =
@@ -72,7 +72,7 @@ places_in unit number p (x ∷ xs) =
     then record { unit = unit; number = number } ∷ places_in unit (number + 1) p xs
     else places_in unit (number + 1) p xs
 
--- the places of the instances that pass, of workunits from a place on
+-- the places of the instances that pass; the first workunit has the place `unit`
 abbrev pub places_among : ℕ → (UnitBook → Instance → Bool) → List UnitBook → List Place
 places_among unit p [] = []
 places_among unit p (b ∷ bs) = places_in unit 0 (p b) b.instances ++ places_among (unit + 1) p bs
@@ -84,7 +84,7 @@ places_where w p = places_among 1 p w.units
 abbrev pub places : World → List Place
 places w = places_where w (λ b x. true)
 
--- a test of the instance that stands at a place; where none does it fails
+-- whether the instance at a place passes a test; false if there is no instance
 abbrev pub passes : World → (UnitBook → Instance → Bool) → Place → Bool
 passes w p at = unwrap_or (option_and_then (λ b. option_map (p b) (slice_get b.instances at.number)) (unit_at w at.unit)) false
 
@@ -105,11 +105,11 @@ owned_by w host = places_where w (λ b x. is_owned_by host x)
 abbrev pub held_by : World → ℕ → List Place
 held_by w host = places_where w (λ b x. is_held_by host x)
 
--- it was given to the host on a day, which has 86,400 seconds
+-- it was given to the host on a day of 86,400 seconds
 abbrev pub was_sent : ℕ → ℕ → Instance → Bool
 was_sent host day x = option_any (λ (o : Owner). (o.host == host) && (o.sent / 86400 == day)) x.owner
 
--- how many of the host's instances were sent on a day, whatever became of them
+-- how many of the host's instances were sent on a day, held or not
 abbrev pub sent_on_day : World → ℕ → ℕ → ℕ
 sent_on_day w host day = sum_by (λ b. count_by (was_sent host day) b.instances) w.units
 
@@ -136,12 +136,12 @@ is_of_user hosts account x = option_any (λ n. n == account) (user_of hosts x)
 abbrev pub user_had : World → ℕ → UnitBook → Bool
 user_had w account b = list_any (is_of_user w.hosts account) b.instances
 
--- the deadline of what was given to a host, and 0 of anything else
+-- the deadline of what was given to a host, else 0
 abbrev pub deadline_of : Option Owner → ℕ
 deadline_of None = 0
 deadline_of (Some o) = o.deadline
 
--- the credit that a host has from one workunit: the workunit's for each valid instance of the host
+-- the credit that a host has from one workunit: the workunit's credit for each valid instance of the host
 abbrev pub credit_in : List App → ℕ → UnitBook → ℕ
 credit_in apps host b = b.unit.credit * count_by (λ x. is_owned_by host x && is_valid (book_verdict apps b x)) b.instances
 
@@ -160,11 +160,11 @@ name_at w p = unwrap_or (option_map (λ b. instance_name b.unit.name p.number) (
 abbrev pub unit_named : World → List ℕ → Option ℕ
 unit_named w name = place_where (λ b. bytes_eq b.unit.name name) w.units
 
--- a place, if an instance stands there
+-- a place, if there is an instance
 abbrev pub standing : World → Place → Option Place
 standing w p = option_map (λ x. p) (instance_at w p)
 
--- the place of the instance that a name means
+-- the place of the instance that a name denotes
 abbrev pub place_of_parts : World → List ℕ × ℕ → Option Place
 place_of_parts w parts = option_and_then (λ unit. standing w (record { unit = unit; number = parts.1 })) (unit_named w parts.0)
 

@@ -13,11 +13,11 @@ use Rattle.sched_book.specs.declared.rows.App.{App}
 use Rattle.sched_book.specs.declared.world.World.{World}
 use Rattle.std.specs.Prelude.{List}
 
--- an instance that nobody was given
+-- an instance that was given to nobody
 abbrev pub fresh : Instance
 fresh = record { owner = None; lapse = None; report = None }
 
--- a workunit with the instances that it needs, where it is open
+-- a workunit with the instances that it needs, if it is open
 abbrev pub grown : List App → UnitBook → UnitBook
 grown apps b =
     if is_open (book_status apps b) then record b { instances = b.instances ++ replicate (need b.unit b.instances) fresh } else b
@@ -30,30 +30,30 @@ is_late None = false
 is_late (Some Late) = true
 is_late (Some Dropped) = false
 
--- how many of the host's instances pass a test in the new world that they did not pass in the old one
+-- how many of the host's instances pass a test in the new world, and did not pass it in the old one
 abbrev pub newly : (World → UnitBook → Instance → Bool) → World → World → ℕ → ℕ
 newly test old new host =
     count_by (λ p. passes new (λ b x. is_owned_by host x && test new b x) p && not (passes old (test old) p)) (places new)
 
--- what counts against a host: client errors, late jobs and invalid results that are new; a dropped job does not
+-- what counts against a host: new client errors, late jobs and invalid results; a dropped job does not count
 abbrev pub charges : World → World → ℕ → ℕ
 charges old new host =
     newly (λ w b x. tells_error x.report) old new host + newly (λ w b x. is_late x.lapse) old new host
     + newly (λ w b x. is_invalid (verdict_of w b x)) old new host
 
--- what counts for it: valid results that are new
+-- what counts for it: new valid results
 abbrev pub merits : World → World → ℕ → ℕ
 merits old new host = newly (λ w b x. is_valid (verdict_of w b x)) old new host
 
--- a quota less e, at least one, then doubled v times, at most the limit
+-- a quota minus e, but at least one; then doubled v times, but at most the limit
 abbrev pub next_quota : ℕ → ℕ → ℕ → ℕ → ℕ
 next_quota q e v limit = min limit (max 1 (q - e) * 2 ^ v)
 
--- a host, with its number, and its new quota
+-- the host of a number, with its new quota
 abbrev pub with_quota : World → World → ℕ × HostRow → HostRow
 with_quota old new host =
     record host.1 { quota = next_quota host.1.quota (charges old new host.0) (merits old new host.0) old.settings.daily_result_quota }
 
--- The world after settlement, where `old` is the world before the changes, and `changed` has them put in.
+-- The world after settlement. `old` is the world before the changes, and `changed` is the world with them.
 abbrev pub settled : World → World → World
 settled old changed = record (with_grown changed) { hosts = map (with_quota old (with_grown changed)) (enumerate_from 1 changed.hosts) }

@@ -13,19 +13,19 @@ use Rattle.sched_book.specs.declared.rows.HostRow.{HostRow}
 use Rattle.sched_book.specs.declared.rows.Version.{Version}
 use Rattle.sched_book.specs.declared.world.World.{World}
 
--- the two were not given to hosts of one user
+-- the two were not given to hosts of the same user
 abbrev pub AreOfOtherUsers : List HostRow → Instance → Instance → Type 0
 AreOfOtherUsers hosts x y = IsTrue (is_some (host_of x)) → IsTrue (is_some (host_of y)) → user_of hosts x ≢ user_of hosts y
 
--- an instance that nobody was given has neither lapse nor report
+-- an instance that was given to nobody has neither lapse nor report
 abbrev pub IsBare : Instance → Type 0
 IsBare x = x.owner ≡ None → (x.lapse ≡ None) × (x.report ≡ None)
 
--- the host that it was given to stands
+-- the host that it was given to exists
 abbrev pub HasOwnerAmong : List HostRow → Instance → Type 0
 HasOwnerAmong hosts x = IfSome (host_of x) (λ host. IsTrue (is_some (nth hosts host)))
 
--- a workunit that is still to take a class has no instance that was given out
+-- a workunit that has not yet taken its class has no instance that was given out
 abbrev pub HasClassOnceGiven : UnitBook → Type 0
 HasClassOnceGiven b = b.unit.class_rule ≡ OfFirst → All (λ x. x.owner ≡ None) b.instances
 
@@ -33,8 +33,8 @@ HasClassOnceGiven b = b.unit.class_rule ≡ OfFirst → All (λ x. x.owner ≡ N
 abbrev pub has_place : List Instance → ℕ → Bool
 has_place xs n = list_any (λ x. option_any (λ place. place == n) (report_place x)) xs
 
--- A workunit with its instances, where these are the hosts and applications: all but that it has the instances that it
--- needs, which holds between two steps and not within one.
+-- A workunit with its instances, if these are the hosts and applications. Left out are the instances that it needs and
+-- its class: these it has between two steps, but not always within one.
 pub record IsWellUnit (hosts : List HostRow) (apps : List App) (b : UnitBook) : Type 0 where
   pub one_for_each_user : AllPairs (AreOfOtherUsers hosts) b.instances
   -- the places of the judged reports are 1 up to their count
@@ -47,7 +47,7 @@ pub record IsWellUnit (hosts : List HostRow) (apps : List App) (b : UnitBook) : 
   pub limits : IsUnitInLimits b.unit
   pub instances : All IsInstanceInLimits b.instances
 
--- A settled workunit is a well one that has all instances that it needs while it is open.
+-- A settled workunit is a well one that, if it is open, has all instances that it needs.
 pub record IsSettledUnit (hosts : List HostRow) (apps : List App) (b : UnitBook) : Type 0 where
   pub well : IsWellUnit hosts apps b
   pub satisfied : IsTrue (is_open (book_status apps b)) → need b.unit b.instances ≡ 0
@@ -58,7 +58,7 @@ pub record IsSoundUnit (hosts : List HostRow) (apps : List App) (b : UnitBook) :
   pub satisfied : IsTrue (is_open (book_status apps b)) → need b.unit b.instances ≡ 0
   pub classed : HasClassOnceGiven b
 
--- A host, where there are so many accounts, and its quota has this limit.
+-- A host, if there are so many accounts and its quota has this limit.
 pub record IsSoundHost (accounts limit : ℕ) (h : HostRow) : Type 0 where
   pub account : (1 ≤ h.account) × (h.account ≤ accounts)
   pub limits : IsHostInLimits limit h
@@ -71,14 +71,14 @@ pub record IsSoundVersion (apps : List App) (v : Version) : Type 0 where
 abbrev pub HaveOtherKeys : HostRow → HostRow → Type 0
 HaveOtherKeys h k = h.account ≡ k.account → h.cpid ≢ k.cpid
 
--- all of soundness that speaks of no instance
+-- all of soundness that concerns no instance
 pub record AreRowsSound (w : World) : Type 0 where
   pub settings : AreSettingsInLimits w.settings
   pub accounts : All IsAccountInLimits w.accounts
   pub apps : All IsAppInLimits w.apps
   pub versions : All (IsSoundVersion w.apps) w.versions
   pub hosts : All (IsSoundHost (length w.accounts) w.settings.daily_result_quota) w.hosts
-  -- names, authenticators and keys stand once
+  -- names, authenticators and keys occur once
   pub account_names : AllPairs (λ a b. a.authenticator ≢ b.authenticator) w.accounts
   pub app_names : AllPairs (λ a b. a.name ≢ b.name) w.apps
   pub version_names : AllPairs (λ a b. IsTrue (same_version a b) → ⊥) w.versions
@@ -96,7 +96,7 @@ pub record IsWell (w : World) : Type 0 where
   pub rows : AreRowsSound w
   pub units : All (IsWellUnit w.hosts w.apps) w.units
 
--- what holds within a step once all is settled
+-- what holds within a step after settlement
 pub record IsSettled (w : World) : Type 0 where
   pub rows : AreRowsSound w
   pub units : All (IsSettledUnit w.hosts w.apps) w.units

@@ -1,5 +1,5 @@
 -- Promise. One step of the job machine, and runs of it. The machine hears each call once: no sequence number decides
--- anything here. A step is: the host renewed or made, reports, lost jobs, settlement, grant, reply.
+-- anything here. The parts of a step: the host is renewed or made; then reports, lost jobs, settlement, grant and reply.
 use Rattle.std.specs.Prelude.{◌≡◌, ℕ, ◌+◌, ◌<◌, Bool, true, false, List, [], ◌∷◌, ◌++◌, length, map, filter, fold, sum_by, filter_map, Option, Some, None, option_map, option_and_then, unwrap_or}
 use Rattle.rpc_records.specs.declared.reply.Job.{Job}
 use Rattle.rpc_records.specs.declared.reply.Reply.{Reply}
@@ -43,7 +43,7 @@ pub record IsCaller (w : World) (c : Caller) (r : Request) : Type 0 where
 abbrev pub host_number : World → Caller → ℕ
 host_number w c = unwrap_or c.host (length w.hosts + 1)
 
--- a host's row as its call tells it
+-- a host's row as its call gives it
 abbrev pub row_of_call : Caller → Request → ℕ → HostRow
 row_of_call c r quota = record {
   account = c.account;
@@ -55,12 +55,12 @@ row_of_call c r quota = record {
   quota = quota;
 }
 
--- the hosts with the caller's renewed, or made behind the others
+-- the hosts, with the caller's row renewed, or made after the others
 abbrev pub hosts_at_entry : World → Caller → Request → Option ℕ → List HostRow
 hosts_at_entry w c r (Some host) = modify_nth (λ (h : HostRow). row_of_call c r h.quota) w.hosts host
 hosts_at_entry w c r None = w.hosts ++ row_of_call c r w.settings.daily_result_quota ∷ []
 
--- The worlds on the way of a call.
+-- The worlds that a call goes through.
 abbrev pub at_entry : World → Caller → Request → World
 at_entry w c r = record w { hosts = hosts_at_entry w c r c.host }
 
@@ -75,7 +75,7 @@ lost_of w c r = lost (after_reports w c r) (host_number w c) r.other_results
 abbrev pub quota_of : World → Option ℕ → ℕ
 quota_of w host = unwrap_or (option_map (λ (h : HostRow). h.quota) (option_and_then (host_at w) host)) w.settings.daily_result_quota
 
--- the caller's host as told now
+-- the caller's host as this call describes it
 abbrev pub host_at_entry : World → Caller → Request → HostRow
 host_at_entry w c r = row_of_call c r (quota_of w c.host)
 
@@ -102,7 +102,7 @@ asking_of w c r now =
       now = now;
     }
 
--- a granted instance goes to the host, with the workunit's delay for its deadline
+-- a granted instance goes to the host; its deadline is the moment plus the workunit's delay bound
 abbrev pub with_owner : Owner → Instance → Instance
 with_owner o x = record x { owner = Some o }
 
@@ -112,8 +112,8 @@ grant_one host now w p = with_changed (with_owner (record { host = host; sent = 
 abbrev pub granted : World → ℕ → ℕ → List Place → World
 granted w host now jobs = fold (grant_one host now) w jobs
 
--- after a grant each workunit of which a job was granted keeps to the class of the version granted, if it is its first; a
--- version is the one that the host, as it is told now, runs in the world that the call found
+-- after a grant each workunit of a granted job keeps to the class of the granted version, if this is its first one. The
+-- version is the one that the host, as this call describes it, runs in the world that the call found
 abbrev pub class_granted : World → ℕ → List ℕ → World
 class_granted w unit class = record w { units = modify_nth (with_class class) w.units unit }
 
@@ -123,7 +123,7 @@ class_one entry h w p = unwrap_or (option_map (λ (v : Version). class_granted w
 abbrev pub classed : World → HostRow → World → List Place → World
 classed entry h w jobs = fold (class_one entry h) w jobs
 
--- the world that a call leaves which is granted these jobs
+-- the world that a call leaves if it is granted these jobs
 abbrev pub after_grant : World → Caller → Request → ℕ → List Place → World
 after_grant w c r now jobs = classed w (host_at_entry w c r) (granted (after_settlement w c r now) (host_number w c) now jobs) jobs
 
@@ -151,7 +151,7 @@ job_at w h resent p =
 abbrev pub user_name : World → ℕ → List ℕ
 user_name w account = unwrap_or (option_map (λ (a : Account). a.name) (nth w.accounts account)) []
 
--- a new host has room
+-- if the host is new, there is room for it
 abbrev pub HasRoom : World → Caller → Type 0
 HasRoom w c = c.host ≡ None → length w.hosts < w.settings.max_hosts
 
@@ -201,7 +201,7 @@ Step w call.Tick now after (answered.Lapsed n) = TickStep w now after n
 Step w call.Tick now after (answered.Rpc reply) = ⊥
 Step w call.Tick now after (answered.Imported n) = ⊥
 
--- a run: to each call with its moment an answer and the world after it, each a step from the world before
+-- a run: each call with its moment has an answer and the world after it, by a step from the world before
 abbrev pub Trace : World → List (Call × ℕ) → List (Answered × World) → Type 0
 Trace w [] [] = Unit {0}
 Trace w [] (t ∷ ts) = ⊥

@@ -7,7 +7,7 @@ use Rattle.sched_book.specs.declared.delta.Change.{Change}
 use Rattle.sched_book.specs.declared.delta.Change.TheVariants as change
 use Rattle.sched_book.specs.declared.instance.UnitBook.{UnitBook}
 
--- how many workunits stand after a change, where `count` do before
+-- how many workunits there are after a change, if there were `count` before
 abbrev pub count_after : ℕ → Change → ℕ
 count_after count (change.Account a) = count
 count_after count (change.App a) = count
@@ -17,7 +17,7 @@ count_after count (change.Host number h) = count
 count_after count (change.Instance p x) = count
 count_after count (change.Class unit class) = count
 
--- the workunit at a place after a change, where `count` workunits stand and `b` is the one at the place
+-- the workunit at a place after a change, if there were `count` workunits and `b` was the one at the place
 abbrev pub book_by : ℕ → ℕ → Option UnitBook → Change → Option UnitBook
 book_by unit count b (change.Account a) = b
 book_by unit count b (change.App a) = b

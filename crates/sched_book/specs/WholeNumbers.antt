@@ -1,10 +1,10 @@
--- Rule. Texts that say whole numbers, by which an application may compare its outputs. The form is this profile's.
+-- Rule. Texts of whole numbers, by which an application may compare its outputs. The form is this profile's.
 use Rattle.std.specs.Prelude.{ℕ, ◌+◌, ◌*◌, ◌-◌, Bool, false, ◌&&◌, ◌==◌, nat_le, if◌then◌else◌, List, [], ◌∷◌, length, fold, Option, Some, None, option_map, ℤ, pos, neg_ℤ, ◌-ℤ◌, nat_abs}
 use Rattle.std.specs.Char.{is_ascii_digit}
 use Rattle.std.specs.Str.{bytes_eq}
 use Rattle.std.specs.List.{list_all}
 
--- what a row of digits says
+-- the number that digits denote
 abbrev pub number_of : List ℕ → ℕ
 number_of digits = fold (λ n c. 10 * n + (c - 48)) 0 digits
 

@@ -1,4 +1,4 @@
-//! Changes made of a world.
+//! Making changes to a world.
 
 ghost use Rattle.std.specs.Prelude.{◌≡◌, IfOk, OnOk};
 ghost use Rattle.sched_book.specs.Delta.{set_at, set_nth, with_instance, applied_one, applied};
@@ -13,7 +13,7 @@ use crate::world::World;
 use std::alloc::Global;
 use texts::{Listed, Memory, Text};
 
-/// Puts a row at an index: in the place of what stands there, or else behind the others.
+/// Puts a row at an index: it replaces the row there, or follows the others.
 pub(crate) fn put<T: Drop>(rows: &mut Listed<T>, index: usize, row: T) -> Result<(), Memory>
     ensures { OnOk result (rows.new ≡ set_at rows.old index row) }
 {
@@ -24,7 +24,7 @@ pub(crate) fn put<T: Drop>(rows: &mut Listed<T>, index: usize, row: T) -> Result
     rows.push(row)
 }
 
-/// The same where places count from 1; at place 0 nothing changes.
+/// The same, with places that count from 1; at place 0 nothing changes.
 fn set_nth<T: Drop>(rows: &mut Listed<T>, place: u32, row: T) -> Result<(), Memory>
     ensures { OnOk result (rows.new ≡ set_nth rows.old place row) }
 {
@@ -34,7 +34,7 @@ fn set_nth<T: Drop>(rows: &mut Listed<T>, place: u32, row: T) -> Result<(), Memo
     put(rows, place as usize - 1, row)
 }
 
-/// Puts an instance at a place; where no workunit stands there nothing changes.
+/// Puts an instance at a place. If there is no such workunit, nothing changes.
 #[tactic(auto, using(crate::proofs::Changes::changed_nth_steps))]
 fn put_instance(books: &mut Listed<UnitBook>, place: Place, row: Instance) -> Result<(), Memory>
     ensures { OnOk result (books.new ≡ modify_nth (with_instance place.number row) books.old place.unit) }
@@ -51,7 +51,7 @@ fn put_instance(books: &mut Listed<UnitBook>, place: Place, row: Instance) -> Re
     Ok(())
 }
 
-/// Has a version of a class granted for the workunit at a place; where none stands there nothing changes.
+/// Grants a version of a class for the workunit at a place. If there is no workunit, nothing changes.
 #[tactic(auto, using(crate::proofs::Changes::changed_nth_steps))]
 fn put_class(books: &mut Listed<UnitBook>, unit: u32, class: &Text) -> Result<(), Memory>
     ensures { OnOk result (books.new ≡ modify_nth (with_class class.now) books.old unit) }
@@ -84,7 +84,7 @@ fn make(alloc: Global, world: &mut World, change: &Change) -> Result<(), Unavail
     Ok(())
 }
 
-/// A copy of a world with these changes made.
+/// Returns a copy of a world with these changes made.
 pub(crate) fn changed(alloc: Global, world: &World, delta: &Delta) -> Result<World, Unavailable>
     ensures { IfOk result (λ changed. changed ≡ applied world.now delta.now) }
 {

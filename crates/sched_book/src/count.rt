@@ -31,7 +31,7 @@ pub fn agree(agreement: &Agreement, left: &str, right: &str) -> bool
     }
 }
 
-/// The output that was reported of an instance, empty where none was.
+/// The output that was reported of an instance; empty if it has no report.
 fn output_at(instances: &[Instance], number: usize) -> &str
     ensures { result.now ≡ output_of instances.now number }
 {
@@ -44,7 +44,7 @@ fn output_at(instances: &[Instance], number: usize) -> &str
     }
 }
 
-/// The place of an instance's judged report, 0 where there is none.
+/// The place of an instance's judged report; 0 if it has none.
 fn place_at(instances: &[Instance], number: usize) -> u32
     ensures { result ≡ place_of instances.now number }
 {
@@ -57,7 +57,7 @@ fn place_at(instances: &[Instance], number: usize) -> u32
     }
 }
 
-/// Where among these reports one belongs: behind those whose places are not greater than its own.
+/// The index at which a report belongs among these: after those whose places are not greater than its own.
 fn spot_among(instances: &[Instance], reports: &[usize], number: usize) -> usize
     ensures value { result ≡ prefix_len (λ j. nat_le (place_of instances.now j) (place_of instances.now number)) reports.now }
     ensures within { result ≤ length reports.now }
@@ -68,7 +68,7 @@ fn spot_among(instances: &[Instance], reports: &[usize], number: usize) -> usize
         .count()
 }
 
-/// Puts a report where it belongs.
+/// Inserts a report where it belongs.
 fn put_report(instances: &[Instance], reports: &mut ArrayVec<usize, MOST_INSTANCES>, number: usize)
     requires { array_vec_len reports.old < MOST_INSTANCES }
     ensures items { reports.new.items ≡ put_by (place_of instances.now) reports.old.items number }
@@ -93,7 +93,7 @@ fn good_reports(instances: &[Instance]) -> ArrayVec<usize, MOST_INSTANCES>
     reports
 }
 
-/// How many of these reports agree with the one of this number.
+/// How many of these reports agree with the report of this number.
 fn votes_for(
     agreement: &Agreement,
     instances: &[Instance],
@@ -122,7 +122,7 @@ fn leader_among(
         <= votes_for(agreement, instances, reports, *number))
 }
 
-/// The leader of the least front that has one, of fronts no shorter than a quorum.
+/// The leader of the shortest front that has one, among fronts at least a quorum long.
 #[tactic(auto, using(crate::proofs::Reports::leader_steps))]
 fn first_leader_among(
     agreement: &Agreement,
@@ -143,7 +143,7 @@ fn first_leader_among(
     leader_among(agreement, instances, enough, reports)
 }
 
-/// The number of the canonical result, where there is one.
+/// The number of the canonical result, if there is one.
 pub fn canonical(agreement: &Agreement, unit: &Workunit, instances: &[Instance]) -> Option<usize>
     requires { length instances.now ≤ MOST_INSTANCES }
     ensures { result ≡ canonical agreement.now unit.now instances.now }
@@ -183,7 +183,7 @@ pub fn error_count(instances: &[Instance]) -> usize
         .count()
 }
 
-/// Of how many instances a result may yet come.
+/// How many instances may still bring a result.
 pub fn live_count(instances: &[Instance]) -> usize
     ensures value { result ≡ live instances.now }
     ensures few { result ≤ length instances.now }
@@ -194,7 +194,7 @@ pub fn live_count(instances: &[Instance]) -> usize
         .count()
 }
 
-/// How many results a workunit wants by now, where that many are successes.
+/// How many results a workunit wants by now, if it has so many successes.
 fn wanted(unit: &Workunit, successes: usize) -> usize
     requires { successes ≤ MOST_INSTANCES }
     ensures value { result ≡ want unit.now successes }
@@ -220,7 +220,7 @@ pub fn need(unit: &Workunit, instances: &[Instance]) -> usize
         .saturating_sub(successes)
 }
 
-/// Where a workunit stands.
+/// The status of a workunit.
 pub fn status(agreement: &Agreement, unit: &Workunit, instances: &[Instance]) -> Status
     requires { length instances.now ≤ MOST_INSTANCES }
     ensures { result ≡ status agreement.now unit.now instances.now }
@@ -269,8 +269,8 @@ pub fn verdict_by(
     }
 }
 
-/// The verdict on one of the workunit's instances: none without a judged success, or while the workunit has
-/// no canonical result.
+/// The verdict on one of the workunit's instances. There is none without a judged success, or while the workunit has no
+/// canonical result.
 pub fn verdict(
     agreement: &Agreement,
     unit: &Workunit,
@@ -288,7 +288,7 @@ pub fn verdict(
     )
 }
 
-/// How the outputs of the application of this name are compared; of an unknown one, exactly.
+/// How the outputs of the application of this name are compared; if there is none, exactly.
 pub fn agreement_by(apps: &[App], name: &str) -> Agreement
     ensures { result ≡ agreement_by apps.now name.now }
 {
@@ -298,7 +298,7 @@ pub fn agreement_by(apps: &[App], name: &str) -> Agreement
     }
 }
 
-/// Where a workunit stands, with its instances and where these are the applications.
+/// The status of a workunit with its instances, if these are the applications.
 pub fn book_status(apps: &[App], book: &UnitBook) -> Status
     requires { length book.now.instances ≤ MOST_INSTANCES }
     ensures { result ≡ book_status apps.now book.now }

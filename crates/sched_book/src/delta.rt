@@ -23,26 +23,27 @@ use texts::{Listed, Memory, Text};
 /// One change of a world.
 #[derive(Drop)]
 pub enum Change {
-    /// An account more, behind the others.
+    /// A further account, after the others.
     Account(Account),
-    /// An application more.
+    /// A further application.
     App(App),
-    /// A version more.
+    /// A further version.
     Version(Version),
-    /// A workunit more, with the instances that it begins with.
+    /// A further workunit, with its first instances.
     Workunit(Workunit),
-    /// A host put at a number: over the one that has it, or as the next.
+    /// A host put at a number: it replaces the host there, or is the next one.
     Host { number: u32, row: HostRow },
-    /// An instance put at a place: over the one that stands there, or as the next of its workunit.
+    /// An instance put at a place: it replaces the instance there, or is the next one of its workunit.
     Instance { place: Place, row: Instance },
-    /// A version of this class granted for the workunit at a place: with its first it takes the class, if it is marked.
+    /// A version of this class was granted for the workunit at a place. If the workunit is marked, it takes the class
+    /// with its first one.
     Class { unit: u32, class: Text },
 }
 
-/// Changes in their order, of which later ones count over earlier ones.
+/// Changes in their order; later ones override earlier ones.
 pub type Delta = Listed<Change>;
 
-/// So many instances that nobody was given yet.
+/// So many instances that were given to nobody.
 pub fn fresh_instances(alloc: Global, count: usize) -> Result<Listed<Instance>, Memory>
     ensures { IfOk result (λ instances. instances ≡ replicate count fresh) }
 {
@@ -57,7 +58,7 @@ pub fn fresh_instances(alloc: Global, count: usize) -> Result<Listed<Instance>, 
     Ok(instances)
 }
 
-/// A new workunit with its instances; it is refused where they are too many.
+/// A new workunit with its instances. Refused if these are too many.
 pub(crate) fn new_book(alloc: Global, unit: &Workunit) -> Result<UnitBook, Unavailable>
     ensures { IfOk result (λ book. book ≡ new_unit unit.now) }
 {
@@ -80,7 +81,7 @@ pub(crate) fn changed_book(book: &UnitBook, number: u32, row: Instance) -> Resul
     Ok(changed)
 }
 
-/// A copy of the workunit, of which a version of this class was granted.
+/// A copy of the workunit after a version of this class was granted for it.
 pub(crate) fn classed_book(book: &UnitBook, class: &Text) -> Result<UnitBook, Memory>
     ensures { IfOk result (λ classed. classed ≡ with_class class.now book.now) }
 {

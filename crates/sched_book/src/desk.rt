@@ -1,4 +1,4 @@
-//! What a desk is: who stands for a world, and answers what that world says.
+//! What a desk is: it represents a world, and answers what that world says.
 
 ghost use Rattle.std.specs.Prelude.{◌≡◌, ◌≤◌, length, IsTrue, IfOk, OnOk, OnErr};
 ghost use Rattle.sched_book.specs.Limits.{most_instances};
@@ -33,7 +33,7 @@ pub struct Placed<T> {
     pub row: T,
 }
 
-/// An instance that nobody was given, of an open workunit.
+/// An instance of an open workunit that was given to nobody.
 #[derive(Drop)]
 pub struct Candidate {
     pub place: Place,
@@ -47,7 +47,7 @@ pub enum Flow {
     Stop,
 }
 
-/// Memory, size or disk is wanting.
+/// Out of memory, over a size limit, or the disk failed.
 #[derive(Clone, Copy, Debug, PartialEq, Eq)]
 pub struct Unavailable;
 
@@ -74,11 +74,11 @@ pub trait Taker {
     /// What an offer may do: the taker before, the candidate, the answer, and the taker after.
     ghost takes: { Self → Candidate → Flow → Self → Type 0 };
 
-    /// Takes the candidate or leaves it, and says whether to be offered more.
+    /// Takes the candidate or leaves it, and returns whether to be offered more.
     fn offer(&mut self, candidate: &Candidate) -> Flow
         ensures { takes self.old candidate.now result self.new };
 
-    /// Whether it leaves a candidate at this place, whatever workunit stands there, and goes on: then the workunit need not be
+    /// Whether it would leave each candidate at this place, of any workunit, and go on. Then the workunit need not be
     /// read, and the offer need not be made.
     fn passes_over(&self, place: Place) -> bool
         ensures { IsTrue result → (c : Candidate) → c.place ≡ place → takes self.now c GoOn self.now };
@@ -86,17 +86,17 @@ pub trait Taker {
 
 /// Who can be asked about workunits and their instances.
 ///
-/// A look-up of what does not stand answers `None` or an empty list. Each call changes nothing that a later
-/// call or a stop of the program could show, also where it is unavailable: that is `reads`. Its answer is that of
-/// the world where the storage below was honest to the end and the desk was well kept before.
+/// If a look-up finds nothing, it returns `None` or an empty list. No call changes anything that a later call or a stop
+/// of the program could show, even if it is unavailable: that is `reads`. The answer is that of the world if the storage
+/// was honest to the end and the desk was well kept before.
 pub trait Units {
-    /// The world that it stands for.
+    /// The world that it represents.
     ghost world: { Self → World };
 
-    /// What lies below it has not failed.
+    /// What it uses has not failed.
     ghost honest: { Self → Type 0 };
 
-    /// Whatever it keeps in two ways agrees.
+    /// What it keeps in two ways agrees.
     ghost well_kept: { Self → Type 0 };
 
     /// What reading may do to it.
@@ -134,12 +134,12 @@ pub trait Units {
         ensures few { IfOk result (λ r. length r ≤ most_instances) }
         ensures answer { honest self.new → well_kept self.old → IfOk result (λ r. r ≡ instances_at (world self.old) unit) };
 
-    // No call at all reads nothing, and reading may go on.
+    // No call at all is a read, and two reads together are one.
     ghost reads_none: { (d : Self) → reads d d };
 
     ghost reads_on: { (a b c : Self) → reads a b → reads b c → reads a c };
 
-    // What was honest to the end was honest before; reading keeps a desk well, and its world as it is.
+    // What is honest after a read was honest before. A read keeps a desk well kept, and its world as it is.
     ghost stays_honest: { (a b : Self) → reads a b → honest b → honest a };
 
     ghost stays_kept: { (a b : Self) → reads a b → honest b → well_kept a → well_kept b };
@@ -147,7 +147,7 @@ pub trait Units {
     ghost stays_same: { (a b : Self) → reads a b → honest b → well_kept a → world b ≡ world a };
 }
 
-/// Who stands for a whole world.
+/// Who represents a whole world.
 pub trait Desk: Units {
     ghost use Rattle.sched_book.specs.Trusted.{Trusted};
 
@@ -209,7 +209,7 @@ pub trait Desk: Units {
         ensures reads { Self.reads self.old self.new }
         ensures answer { Trusted Self.Units self.old self.new (IfOk result (λ r. r ≡ sent_on_day (Self.world self.old) host day)) };
 
-    /// The places of the workunits of which some instance was given to a host of the user, in order.
+    /// The places of the workunits with some instance that was given to a host of the user, in order.
     fn units_of_user(&mut self, alloc: Global, account: u32) -> Result<Listed<u32>, Unavailable>
         ensures reads { Self.reads self.old self.new }
         ensures answer { Trusted Self.Units self.old self.new (IfOk result (λ r. r ≡ units_of_user (Self.world self.old) account)) };
@@ -219,7 +219,7 @@ pub trait Desk: Units {
         ensures reads { Self.reads self.old self.new }
         ensures answer { Trusted Self.Units self.old self.new (IfOk result (λ r. r ≡ host_credit (Self.world self.old) host)) };
 
-    /// The millicredits of the user: those of the user's hosts together.
+    /// The millicredits of the user: the sum over the user's hosts.
     fn credit_of_user(&mut self, account: u32) -> Result<u64, Unavailable>
         ensures reads { Self.reads self.old self.new }
         ensures answer { Trusted Self.Units self.old self.new (IfOk result (λ r. r ≡ user_credit (Self.world self.old) account)) };
@@ -252,8 +252,8 @@ pub trait Desk: Units {
         ensures reads { Self.reads self.old self.new }
         ensures answer { Trusted Self.Units self.old self.new (IfOk result (λ r. r ≡ overdue (Self.world self.old) now)) };
 
-    /// Offers the instances of open workunits that nobody was given, in the order of their places and from this
-    /// place on, until the taker says stop. None is skipped; where the desk is unavailable the offers end early.
+    /// Offers the instances of open workunits that were given to nobody, in the order of their places, from this place
+    /// on, until the taker says stop. None is skipped. If the desk is unavailable, the offers end early.
     fn unsent_from<T: Taker>(&mut self, from: Place, taker: &mut T) -> Result<(), Unavailable>
         ensures reads { Self.reads self.old self.new }
         ensures all { Trusted Self.Units self.old self.new (

@@ -9,7 +9,7 @@ use rpc_records::Report;
 use std::alloc::Global;
 use texts::{Memory, SeenSet, Text};
 
-/// What has a name.
+/// An item with a name.
 pub trait Named {
     /// Its name.
     ghost name_of: { Self → List ℕ };
@@ -35,7 +35,7 @@ impl Named for Text {
     }
 }
 
-/// Puts an item behind the first ones, unless its name came by; `seen` knows which did.
+/// Adds an item to the first ones, unless its name was seen before; `seen` has the names that were seen.
 fn add_first<'a, T: Named>(
     firsts: &mut Vec<&'a T>,
     seen: &mut SeenSet<&'a str>,
@@ -51,7 +51,7 @@ fn add_first<'a, T: Named>(
     Ok(())
 }
 
-/// The first of these items of each name, in their order.
+/// The first item of each name, in the order of the items.
 pub fn first_of_each<'a, T: Named>(alloc: Global, items: &'a [T]) -> Result<Vec<&'a T>, Memory>
     ensures { IfOk result (λ firsts. map (λ x. x.now) firsts.items ≡ first_of_each T.name_of [] items.now) }
 {

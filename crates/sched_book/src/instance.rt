@@ -1,4 +1,4 @@
-//! Instances of workunits, and what became of them.
+//! Instances of workunits, and what happened to them.
 
 ghost use Rattle.std.specs.Prelude.{◌≡◌, Some};
 ghost use Rattle.sched_book.specs.Count.{tells_success, tells_error, is_judged, is_held, is_live, is_open, has_failed};
@@ -17,7 +17,7 @@ pub struct Place {
     pub number: u32,
 }
 
-/// To which host an instance was given.
+/// The host to which an instance was given.
 #[derive(Clone, Copy)]
 pub struct Owner {
     /// The host's number.
@@ -27,10 +27,10 @@ pub struct Owner {
     pub deadline: u64,
 }
 
-/// Why an instance that its host held came to nothing.
+/// Why an instance that its host held ended without a report.
 #[derive(Clone, Copy, Debug, PartialEq, Eq)]
 pub enum Lapse {
-    /// Its deadline went by.
+    /// Its deadline passed.
     Late,
     /// Its host lost it, and it was not sent again.
     Dropped,
@@ -42,11 +42,11 @@ pub struct Outcome {
     /// A success, or else a client error.
     pub success: bool,
     pub output: Text,
-    /// Its place among the judged reports of its workunit, from 1, where it was judged.
+    /// Its place among the judged reports of its workunit, from 1, if it was judged.
     pub place: Option<u32>,
 }
 
-/// An instance of a workunit: one result that a host is to give, is giving or gave.
+/// An instance of a workunit: one result that a host is to compute, computes or computed.
 #[derive(Clone, Drop)]
 pub struct Instance {
     pub owner: Option<Owner>,
@@ -61,7 +61,7 @@ pub struct UnitBook {
     pub instances: Listed<Instance>,
 }
 
-/// Where a workunit stands.
+/// The status of a workunit.
 #[derive(Clone, Copy, Debug, PartialEq, Eq)]
 pub enum Status {
     Open,
@@ -69,13 +69,13 @@ pub enum Status {
     Done,
     /// It had more errors than it may have.
     FailedErrors,
-    /// It had more successes than it may have, and no decision.
+    /// It had more successes than it may have, without a decision.
     FailedSuccess,
     /// It would need more instances than it may have.
     FailedTotal,
 }
 
-/// What became of a judged success of a workunit that is done.
+/// The verdict on a judged success of a workunit that is done.
 #[derive(Clone, Copy, Debug, PartialEq, Eq)]
 pub enum Verdict {
     /// Its output agrees with that of the canonical result.
@@ -110,14 +110,14 @@ impl Instance {
         }
     }
 
-    /// Whether a host has it: it was given to one, and has neither report nor lapse.
+    /// Whether a host holds it: it was given to a host, and has neither report nor lapse.
     pub fn is_held(&self) -> bool
         ensures { result ≡ is_held self.now }
     {
         self.owner.is_some() && self.report.is_none() && self.lapse.is_none()
     }
 
-    /// Whether the host of this number has it.
+    /// Whether the host of this number holds it.
     pub fn is_held_by(&self, host: u32) -> bool
         ensures { result ≡ is_held_by host self.now }
     {
@@ -144,21 +144,21 @@ impl Instance {
         }
     }
 
-    /// Whether a result may yet come of it: it was not given to a host, or one holds it.
+    /// Whether it may still bring a result: it was not given to a host, or a host holds it.
     pub fn is_live(&self) -> bool
         ensures { result ≡ is_live self.now }
     {
         self.owner.is_none() || self.is_held()
     }
 
-    /// Whether the host of this number was given it, and did not report it yet.
+    /// Whether it was given to the host of this number, which has not reported it yet.
     pub fn awaits_report_of(&self, host: u32) -> bool
         ensures { result ≡ awaits_report host self.now }
     {
         self.is_owned_by(host) && self.report.is_none()
     }
 
-    /// Whether a success was reported of it, and judged.
+    /// Whether it has a judged report of a success.
     pub fn is_judged_success(&self) -> bool
         ensures { result ≡ tells_success self.now.report }
     {
@@ -168,7 +168,7 @@ impl Instance {
         }
     }
 
-    /// Whether a client error was reported of it, and judged.
+    /// Whether it has a judged report of a client error.
     pub fn is_judged_error(&self) -> bool
         ensures { result ≡ tells_error self.now.report }
     {

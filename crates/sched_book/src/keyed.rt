@@ -11,7 +11,7 @@ pub trait Keyed {
     /// What distinguishes it.
     ghost key_of: { Self → Key };
 
-    /// A number and two texts, 0 and empty if the row needs none.
+    /// A number and two texts; 0 and empty if the row does not need them.
     fn key(&self) -> (u32, &str, &str)
         ensures { (result.0, result.1.now, result.2.now) ≡ key_of self.now };
 }

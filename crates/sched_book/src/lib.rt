@@ -1,9 +1,9 @@
-//! The world of the job machine, what is counted of it from scratch, and the desks that answer for it.
+//! The world of the job machine, what is counted of it from scratch, and the desks that represent it.
 //!
 //! The rows are BOINC's: accounts, applications, their versions, workunits with their instances, and hosts.
 //! `specs/` says what the machine does with them: counts of a workunit, the grant of jobs, reports, lost
 //! jobs, settlement, imports, and one step of it. [`count`] is the plain slow program of the counts.
-//! A [`Desk`] stands for a [`World`] and answers what that world says.
+//! A [`Desk`] represents a [`World`] and answers what that world says.
 #![tactic(auto)]
 
 mod changing;

@@ -1,5 +1,5 @@
-//! The limits of a world's values, of settings, and of what a call or an import brings. `specs/Limits.antt` has the ranges
-//! of a world's values and of settings.
+//! The limits of a world's values, of settings, and of what a call or an import brings. `specs/Limits.antt` defines the
+//! ranges of a world's values and of settings.
 
 pub use rpc_records::MOST_NUMBER;
 
@@ -33,7 +33,7 @@ pub const MOST_CREDIT: u32 = 100_000_000;
 /// The greatest number of a version.
 pub const MOST_VERSION_NUM: u32 = 1_000_000;
 
-/// How far apart two outputs may be that still agree.
+/// The greatest distance of two outputs that agree.
 pub const MOST_DISTANCE: u64 = 1_000_000_000;
 
 /// The most jobs on one day that settings may allow a host.

@@ -1,4 +1,4 @@
-//! The plain desk, which keeps a world as lists and looks through them.
+//! The plain desk, which keeps a world as lists and searches them.
 
 ghost use Rattle.std.specs.Prelude.{◌≡◌, ⊤, length, IfOk, OnOk, OnErr};
 ghost use Rattle.sched_book.specs.Delta.{applied};
@@ -26,9 +26,9 @@ use std::alloc::Global;
 use std::marker::Model;
 use texts::{Listed, Memory};
 
-/// A desk over lists in memory, which answers by going through the rows, and changes a copy of its world. So each call takes
-/// time in proportion to what stands; of a host or a user it goes through all instances. A call that answers no row and no
-/// list takes no memory, and always succeeds.
+/// A desk over lists in memory. It answers by searching the rows, and changes a copy of its world. So the time of a call
+/// grows with the number of rows; for a host or a user it goes through all instances. A call that returns neither a row
+/// nor a list takes no memory, and always succeeds.
 #[derive(Drop)]
 pub struct ListDesk {
     alloc: Global,
@@ -62,7 +62,7 @@ impl ListDesk {
         Ok(ListDesk { alloc, world })
     }
 
-    /// The desk of a world, where no list of it is longer than its table may be.
+    /// The desk of a world. Refused if a list is longer than its table may be.
     pub fn of(alloc: Global, world: World) -> Result<ListDesk, Unavailable>
         ensures { IfOk result (λ d. d ≡ world) }
     {
@@ -72,21 +72,21 @@ impl ListDesk {
         Ok(ListDesk { alloc, world })
     }
 
-    /// The world that it stands for.
+    /// The world that it represents.
     pub fn as_world(&self) -> &World
         ensures { result.now ≡ self.now }
     {
         &self.world
     }
 
-    /// The desk of the world with these changes made, beside this one.
+    /// Returns the desk of the world with these changes made; this desk stays as it is.
     pub fn with(&self, delta: &Delta) -> Result<ListDesk, Unavailable>
         ensures { IfOk result (λ d. d ≡ applied self.now delta.now) }
     {
         ListDesk::of(self.alloc, changed(self.alloc, &self.world, delta)?)
     }
 
-    /// Makes all changes, or none. Changes that would make a list longer than its table may be are refused.
+    /// Makes all changes, or none. Refused if the changes would make a list longer than its table may be.
     pub fn apply(&mut self, delta: &Delta) -> Result<(), Unavailable>
         ensures ok { OnOk result (self.new ≡ applied self.old delta.now) }
         ensures err { OnErr result (self.new ≡ self.old) }

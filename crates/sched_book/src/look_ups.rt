@@ -57,7 +57,7 @@ fn copy_placed<T: Same>(rows: &[T], place: u32) -> Result<Option<Placed<T>>, Mem
     }
 }
 
-/// The same where there is a place.
+/// The same for a place, if there is one.
 pub(crate) fn copy_at<T: Same>(rows: &[T], place: Option<u32>) -> Result<Option<Placed<T>>, Memory>
     ensures { IfOk result (λ row. row ≡ option_and_then (placed_at rows.now) place) }
 {

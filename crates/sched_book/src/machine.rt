@@ -1,24 +1,24 @@
-//! The calls of the job machine and its answers. The machine itself is a crate above this one; its words
-//! stand here so that the definitions of one step of it can name them.
+//! The calls of the job machine and its answers. The machine itself is in another crate, which depends on this one. Its
+//! words are defined here, so the definitions of one step can use them.
 
 use crate::rows::Rows;
 use rpc_records::{Reply, Request};
 
-/// Who calls: the account's place, and the host's number where it is known already.
+/// Who calls: the account's place, and the host's number if the host is already known.
 #[derive(Clone, Copy, Debug, PartialEq, Eq)]
 pub struct Caller {
     pub account: u32,
     pub host: Option<u32>,
 }
 
-/// What the machine is told.
+/// What the machine hears.
 #[derive(Drop)]
 pub enum Call {
     /// A scheduler call of a host.
     Rpc(Caller, Request),
     /// New rows.
     Import(Rows),
-    /// Time goes by.
+    /// Time passes.
     Tick,
 }
 

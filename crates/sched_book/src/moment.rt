@@ -1,4 +1,4 @@
-//! The moments at which messages come.
+//! The moments at which messages arrive.
 
 ghost use Rattle.std.specs.Prelude.{◌≡◌, ◌≤◌, ◌/◌, ℕ};
 ghost use Rattle.std.specs.Option.{SomeIff};
@@ -11,7 +11,7 @@ pub const LAST_MOMENT: u64 = 250_000_000_000;
 /// The seconds of a day.
 pub const DAY: u64 = 86_400;
 
-/// The moment at which a message came, in whole seconds since 1970-01-01T00:00:00Z, up to [`LAST_MOMENT`].
+/// The moment at which a message arrived, in whole seconds since 1970-01-01T00:00:00Z, up to [`LAST_MOMENT`].
 #[derive(Clone, Copy)]
 pub struct Moment {
     seconds: u64,
@@ -28,7 +28,7 @@ impl Model for Moment {
 }
 
 impl Moment {
-    /// The moment that many seconds after the beginning of 1970, unless it is past [`LAST_MOMENT`].
+    /// The moment so many seconds after the beginning of 1970; none if it is past [`LAST_MOMENT`].
     pub fn new(seconds: u64) -> Option<Moment>
         ensures { SomeIff result (seconds ≤ LAST_MOMENT) seconds }
     {
@@ -47,7 +47,7 @@ impl Moment {
         self.seconds
     }
 
-    /// The day that it is of, the first of 1970 being day 0.
+    /// The day of this moment; the first day of 1970 is day 0.
     pub fn day(self) -> u64
         ensures { result ≡ self / DAY }
     {

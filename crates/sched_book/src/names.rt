@@ -26,8 +26,8 @@ fn small_number_of(text: &[u8]) -> Option<u32>
     }
 }
 
-/// The parts of an instance's name: that of its workunit, and its number. The name is split at its last
-/// underscore; what stands behind it is a number from 0 to 99, with no leading zero.
+/// The parts of an instance's name: that of its workunit, and its number. The name is split at its last underscore.
+/// After it is a number from 0 to 99, with no leading zero.
 #[tactic(auto, using(crate::proofs::SplitNames::splits))]
 pub fn split_name(name: &str) -> Option<(&str, u32)>
     ensures { option_map (λ parts. (parts.0.now, parts.1)) result ≡ name_parts name.now }

@@ -12,21 +12,21 @@ use crate::instance::{Instance, Place, UnitBook};
 use crate::world::World;
 use texts::Memory;
 
-/// Whether one place stands before another.
+/// Whether one place is before another.
 pub(crate) fn is_place_before(place: Place, other: Place) -> bool
     ensures { result ≡ is_before place other }
 {
     place.unit < other.unit || (place.unit == other.unit && place.number < other.number)
 }
 
-/// Whether an instance is to be offered, where the offers begin at `from`.
+/// Whether an instance is to be offered, if the offers begin at `from`.
 fn is_offered(from: Place, place: Place, instance: &Instance) -> bool
     ensures { result ≡ (is_none instance.now.owner && not (is_before place from)) }
 {
     instance.owner.is_none() && !is_place_before(place, from)
 }
 
-/// Offers the candidates of one workunit, and says whether the taker wants more.
+/// Offers the candidates of one workunit, and returns whether the taker wants more.
 fn offer_unit<T: Taker>(
     taker: &mut T,
     from: Place,

@@ -18,7 +18,7 @@ pub enum Agreement {
 /// A volunteer's account.
 #[derive(Clone, Drop)]
 pub struct Account {
-    /// Its secret word, by which a host says whose it is.
+    /// Its secret word, by which a host shows that it belongs to the account.
     pub authenticator: Text,
     /// The volunteer's name, 1 to 64 bytes.
     pub name: Text,
@@ -39,12 +39,12 @@ pub struct Version {
     pub platform: Text,
     /// 1 to 1,000,000.
     pub version_num: u32,
-    /// The class that it is of, a word. A workunit may keep to the versions of one class.
+    /// The class of the version, a word. A workunit may keep to the versions of one class.
     pub class: Text,
 }
 
-/// Which versions may do a workunit. This is this profile's own rule: BOINC's homogeneous redundancy has classes of hosts, and
-/// its homogeneous app version keeps to one version.
+/// Which versions may do a workunit. This is this profile's own rule. BOINC's homogeneous redundancy has classes of
+/// hosts, and its homogeneous app version keeps to one version.
 #[derive(Clone, Drop)]
 pub enum ClassRule {
     /// Versions of any class: the workunit is not marked.
@@ -56,8 +56,8 @@ pub enum ClassRule {
 }
 
 impl ClassRule {
-    /// The rule once a version of this class was granted: with its first the workunit takes the class, and it keeps one that
-    /// it has.
+    /// The rule after a version of this class was granted. If the workunit is marked, it takes the class with its first
+    /// one, and then keeps it.
     pub fn after(&self, class: &Text) -> Result<ClassRule, Memory>
         ensures { IfOk result (λ after. after ≡ rule_after self.now class.now) }
     {
@@ -75,15 +75,15 @@ pub struct Workunit {
     pub name: Text,
     /// The application's name.
     pub app: Text,
-    /// How many successes a decision takes: 1 to 100.
+    /// How many successes a decision needs: 1 to 100.
     pub min_quorum: u32,
     /// How many instances it begins with: `min_quorum` to 100.
     pub target_nresults: u32,
-    /// More errors than this and it fails: up to 100.
+    /// It fails with more errors than this: up to 100.
     pub max_error_results: u32,
-    /// More instances than this and it fails: `target_nresults` to 100.
+    /// It fails if it would have more instances than this: `target_nresults` to 100.
     pub max_total_results: u32,
-    /// More successes than this with no decision and it fails: up to 100.
+    /// It fails with more successes than this and no decision: up to 100.
     pub max_success_results: u32,
     /// Seconds from the sending of a job to its deadline: 1 to 100,000,000.
     pub delay_bound: u32,
@@ -99,7 +99,7 @@ pub struct Workunit {
     pub class_rule: ClassRule,
 }
 
-/// A host, with what it last told of itself.
+/// A host, with what it last said of itself.
 #[derive(Clone, Drop)]
 pub struct HostRow {
     /// The place of the account that it belongs to.

@@ -1,4 +1,4 @@
-//! Which of a world's instances are meant, and their places, number and credit, by going through all instances.
+//! Selections of a world's instances: their places, their number and their credit, found by going through all instances.
 
 ghost use Rattle.std.specs.Prelude.{◌≡◌, ◌≤◌, ◌++◌, ◌&&◌, length, count_by, sum_by, IfOk, OnOk};
 ghost use Rattle.std.specs.List.{list_any};
@@ -18,7 +18,7 @@ use crate::world::World;
 use std::alloc::Global;
 use texts::{Listed, Memory};
 
-/// Which of a world's instances are meant.
+/// Which of a world's instances are selected.
 #[derive(Clone, Copy)]
 pub enum Selection {
     /// Those that were given to the host of this number.
@@ -47,7 +47,7 @@ fn is_of_user(hosts: &[HostRow], account: u32, instance: &Instance) -> bool
 }
 
 impl Selection {
-    /// Whether an instance is meant, where these are the hosts.
+    /// Whether an instance is selected, if these are the hosts.
     fn includes(&self, hosts: &[HostRow], instance: &Instance) -> bool
         ensures { result ≡ includes hosts.now self.now instance.now }
     {
@@ -60,7 +60,7 @@ impl Selection {
         }
     }
 
-    /// How many of these instances are meant.
+    /// How many of these instances are selected.
     fn count_in(&self, hosts: &[HostRow], instances: &[Instance]) -> usize
         ensures value { result ≡ count_by (includes hosts.now self.now) instances.now }
         ensures few { result ≤ length instances.now }
@@ -71,7 +71,7 @@ impl Selection {
             .count()
     }
 
-    /// Whether any of these instances is meant.
+    /// Whether any of these instances is selected.
     fn is_in(&self, hosts: &[HostRow], instances: &[Instance]) -> bool
         ensures { result ≡ list_any (includes hosts.now self.now) instances.now }
     {
@@ -80,7 +80,7 @@ impl Selection {
             .any(|instance| self.includes(hosts, instance))
     }
 
-    /// How many of a workunit's instances are meant and have a valid result.
+    /// How many of a workunit's instances are selected and have a valid result.
     fn valid_count(&self, hosts: &[HostRow], apps: &[App], book: &UnitBook) -> usize
         requires { length book.now.instances ≤ most_instances }
         ensures value { result ≡ count_by (λ x. includes hosts.now self.now x && is_valid (book_verdict apps.now book.now x)) book.now.instances }
@@ -96,7 +96,7 @@ impl Selection {
             .count()
     }
 
-    /// Puts the places of a workunit's instances that are meant behind the others.
+    /// Adds the places of a workunit's selected instances after the others.
     fn add_places(
         &self,
         places: &mut Listed<Place>,
@@ -118,7 +118,7 @@ impl Selection {
         Ok(())
     }
 
-    /// The places of the instances that are meant, in order.
+    /// The places of the selected instances, in order.
     pub(crate) fn places(&self, alloc: Global, world: &World) -> Result<Listed<Place>, Memory>
         requires { IsBounded world.now }
         ensures { IfOk result (λ places. places ≡ places_where world.now (λ b x. includes world.now.hosts self.now x)) }
@@ -135,7 +135,7 @@ impl Selection {
         Ok(places)
     }
 
-    /// How many instances are meant.
+    /// How many instances are selected.
     pub(crate) fn count(&self, world: &World) -> u32
         requires { IsBounded world.now }
         ensures { result ≡ sum_by (λ (b : UnitBook). count_by (includes world.now.hosts self.now) b.instances) world.now.units }
@@ -147,7 +147,7 @@ impl Selection {
         count as u32
     }
 
-    /// The places of the workunits of which an instance is meant, in order.
+    /// The places of the workunits with a selected instance, in order.
     pub(crate) fn units(&self, alloc: Global, world: &World) -> Result<Listed<u32>, Memory>
         requires { IsBounded world.now }
         ensures { IfOk result (λ units. units ≡ units_from 1 (λ (b : UnitBook). list_any (includes world.now.hosts self.now) b.instances) world.now.units) }
@@ -161,7 +161,7 @@ impl Selection {
         Ok(units)
     }
 
-    /// The millicredits of the instances that are meant, together.
+    /// The millicredits of the selected instances together.
     pub(crate) fn credit(&self, world: &World) -> u64
         requires { IsBounded world.now }
         ensures { result ≡ sum_by (credit_of world.now.hosts world.now.apps self.now) world.now.units }

@@ -2,10 +2,10 @@
 
 use texts::{Same, Text};
 
-/// What the operator chose when the project's tables were made, for good.
+/// What the operator chose when the project's tables were created. It never changes.
 #[derive(Clone, Drop)]
 pub struct Settings {
-    /// The most jobs that a host may get on one day, where it does well: 1 to 1,000,000.
+    /// The most jobs that a host may get on one day, if it does well: 1 to 1,000,000.
     pub daily_result_quota: u32,
     /// The most hosts: 1 to 100,000.
     pub max_hosts: u32,
@@ -15,7 +15,7 @@ pub struct Settings {
     pub max_wus_to_send: u32,
     /// The operator's secret word, of at least 8 bytes.
     pub operator_key: Text,
-    /// Seconds that a client has to wait before its next call: up to 2,592,000.
+    /// Seconds that a client must wait before its next call: up to 2,592,000.
     pub request_delay: u32,
     /// Whether jobs that a client lost are sent to it again.
     pub resend_lost_results: bool,

@@ -1,4 +1,4 @@
-//! What stands under a name or at a place, asked of a desk or of whoever else knows the workunits.
+//! What has a name or is at a place: asked of a desk, or of anything else that knows the workunits.
 
 ghost use Rattle.std.specs.Prelude.{◌≡◌, IfOk};
 ghost use Rattle.sched_book.specs.Places.{status_at, place_named, place_of_parts};
@@ -10,7 +10,7 @@ use crate::instance::{Place, Status};
 use crate::names::split_name;
 use std::alloc::Global;
 
-/// The status of the workunit at a place; one that does not stand counts as failed.
+/// The status of the workunit at a place; if there is no workunit, it counts as failed.
 pub fn status_at<U: Units>(alloc: Global, units: &mut U, unit: u32) -> Result<Status, Unavailable>
     ensures reads { U.reads units.old units.new }
     ensures answer { Trusted U.Units units.old units.new (IfOk result (λ status. status ≡ status_at (U.world units.old) unit)) }
@@ -25,7 +25,7 @@ pub fn status_at<U: Units>(alloc: Global, units: &mut U, unit: u32) -> Result<St
     Ok(count::status(&agreement, &row, instances.as_slice()))
 }
 
-/// The place of the instance of this number of the workunit of this name, where it stands.
+/// The place of the instance of this number of the workunit of this name, if it exists.
 fn place_of_parts<U: Units>(
     alloc: Global,
     units: &mut U,
@@ -45,7 +45,7 @@ fn place_of_parts<U: Units>(
     }
 }
 
-/// The place of the instance that a name means.
+/// The place of the instance that a name denotes.
 pub fn place_named<U: Units>(
     alloc: Global,
     units: &mut U,

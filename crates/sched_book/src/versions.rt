@@ -13,7 +13,7 @@ fn is_for_platform(version: &Version, app: &str, platform: &str) -> bool
     version.app.is(app) && version.platform.is(platform)
 }
 
-/// The newest version of the application for a platform, the first of those with the greatest number.
+/// The newest version of the application for a platform; of those with the greatest number the first.
 fn newest_for<'a>(versions: &'a [Version], app: &str, platform: &str) -> Option<&'a Version>
     ensures { option_copied result ≡ newest (filter (is_version_for app.now platform.now) versions.now) }
 {

@@ -1,11 +1,11 @@
-//! Texts that say whole numbers, by which an application may compare its outputs.
+//! Texts of whole numbers, by which an application may compare its outputs.
 
 ghost use Rattle.std.specs.Prelude.{◌≡◌, ◌<◌, ◌≤◌, ◌^◌, IsTrue, IfSome, length};
 ghost use Rattle.std.specs.Char.{is_ascii_digit};
 ghost use Rattle.std.specs.List.{list_all};
 ghost use Rattle.sched_book.specs.WholeNumbers.{number_of, magnitude, whole_number, are_within};
 
-/// What a row of digits says.
+/// The number that digits denote.
 fn number_of_digits(digits: &[u8]) -> u64
     requires digits { IsTrue (list_all is_ascii_digit digits.now) }
     requires few { length digits.now ≤ 18 }

@@ -7,9 +7,8 @@ use texts::{Listed, Same};
 
 /// The state of the job machine.
 ///
-/// The place of an account, an application, a version or a workunit, and the number of a host, is its index
-/// plus one. No sequence number, kept reply, total or status is part of it: what follows from the rows is
-/// counted from them.
+/// The place of an account, an application, a version or a workunit, and the number of a host, is its index plus one.
+/// The world has no sequence number, kept reply, total or status: what follows from the rows is counted from them.
 #[derive(Clone, Drop)]
 pub struct World {
     pub settings: Settings,

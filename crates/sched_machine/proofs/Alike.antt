@@ -1,4 +1,4 @@
--- What a grant sees before a call is what it sees after settlement.
+-- A grant depends on nothing that the call changes before it, up to settlement.
 pub mod Lists
 pub mod Units
 pub mod Hosts

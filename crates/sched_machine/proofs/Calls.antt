@@ -1,4 +1,4 @@
--- A call is a step of the machine, from what its parts promise.
+-- A call is a step of the machine: this follows from the contracts of its parts.
 pub mod Entry
 pub mod Asked
 pub mod Granted

@@ -1,4 +1,4 @@
--- What a call adds to the credit of a host and of a user, and bounds of it.
+-- What a call adds to the credit of a host and of a user, and upper bounds of credit.
 pub mod Scored
 pub mod Bounds
 pub mod Resent

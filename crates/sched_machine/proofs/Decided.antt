@@ -1,4 +1,4 @@
--- What is decided of a workunit stays: its canonical result, its verdicts, its status, its credit.
+-- What is decided about a workunit stays: its canonical result, its verdicts, its status, its credit.
 pub mod Good
 pub mod Units
 pub mod Changes

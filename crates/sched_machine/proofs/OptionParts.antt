@@ -1,4 +1,4 @@
--- What stands in an option of which something was made, or that passes a test.
+-- The value of an option that has one, passes a test, or was mapped.
 use Rattle.std.proofs.Common.{◌≡◌, Bool, true, Option, Some, None, refl}
 use Rattle.std.specs.Prelude.{is_some, option_map, option_and_then}
 use Rattle.sched_book.specs.Places.{option_any}

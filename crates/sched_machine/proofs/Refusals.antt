@@ -1,4 +1,4 @@
--- The error that an outer call was given, by the refusal that it gives.
+-- Which error the refusal of an outer call was made from.
 use Rattle.std.proofs.Common.{◌≡◌, Result, Ok, Err, IsErrAnd, IsErrOf, refl, sym, ◌∙◌}
 use Rattle.sched_machine.specs.Refusals.{admission_refusal, step_refusal}
 use Rattle.sched_machine.specs.declared.admission.AdmissionError.{AdmissionError}
@@ -10,7 +10,7 @@ use Rattle.sched_machine.specs.declared.step_error.StepError.TheVariants as step
 same_error : {A E : Type 0} (x y : E) → ◌≡◌ {A = Result A E} (Err x) (Err y) → x ≡ y
 same_error x y is = cc
 
--- the refusal that was made of an error is the one that is given
+-- the refusal made from an error is the one that is returned
 pub made_is : {A E : Type 0} (r : Result A E) (made given : E) → IsErrAnd r (λ e. e ≡ made) → IsErrOf r given → made ≡ given
 made_is (Ok x) made given is_made is = absurd is_made
 made_is (Err e) made given is_made is = sym is_made ∙ same_error e given is

@@ -10,15 +10,15 @@ use Rattle.call_sheet.specs.declared.leaf.Leaf.{Leaf}
 abbrev pub holds : World → ℕ → Place → Bool
 holds w host p = passes w (λ b x. is_held_by host x) p
 
--- the host still holds the instance of a number that it held when the call came, by the leaf of its workunit
+-- by the leaf of its workunit, the host still holds an instance that it held when the call came
 abbrev pub still_holds : Option Leaf → ℕ → ℕ → Bool
 still_holds None host number = true
 still_holds (Some k) host number = unwrap_or (option_map (is_held_by host) (slice_get k.present number)) false
 
--- the place of a lost job that is sent again
+-- the place of a lost job, if it is sent again
 abbrev pub place_resent : Option ℕ → Place → Option Place
 place_resent deadline p = if is_some deadline then Some p else None
 
--- those of all of them
+-- the places of all lost jobs that are sent again
 abbrev pub resent_places : List Fate → List Place
 resent_places fates = filter_map (λ (f : Fate). place_resent f.resent f.place) fates

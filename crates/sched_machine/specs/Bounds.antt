@@ -9,7 +9,7 @@ use Rattle.sched_book.specs.declared.machine.Caller.{Caller}
 use Rattle.sched_book.specs.declared.world.World.{World}
 use Rattle.sched_machine.specs.Decisions.{results_credit}
 
--- The credit of all valid results together, so that of each host and of each user.
+-- The credit of all valid results together, and so that of each host and of each user.
 pub record IsCreditBounded (w : World) : Type 0 where
   pub results : results_credit w ≤ 2 * 10 ^ 15
   pub host : (number : ℕ) → host_credit w number ≤ 2 * 10 ^ 15
@@ -18,7 +18,7 @@ pub record IsCreditBounded (w : World) : Type 0 where
 abbrev pub CreditIsBounded : Type 0
 CreditIsBounded = (w : World) → Sound w → IsCreditBounded w
 
--- the seconds of the jobs that a call sends again: each is no longer than its workunit's delay
+-- the seconds of the jobs that a call sends again: each takes at most its workunit's delay bound
 abbrev pub ResentSecondsAreBounded : Type 0
 ResentSecondsAreBounded = (w : World) (c : Caller) (r : Request) → Sound w
     → sum_by (estimate_at (at_entry w c r) (host_at_entry w c r)) (resent_of w c r) ≤ 2 * 10 ^ 15

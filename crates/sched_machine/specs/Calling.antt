@@ -1,4 +1,4 @@
--- Words. A call that is acted on.
+-- Words. A call that the machine acts on.
 use Rattle.std.specs.Prelude.{◌≡◌, ◌≤◌, List, length, None}
 use Rattle.rpc_records.specs.Ranges.{IsInRange}
 use Rattle.rpc_records.specs.declared.request.Request.{Request}
@@ -13,22 +13,22 @@ use Rattle.sched_book.specs.declared.machine.Caller.{Caller}
 use Rattle.sched_book.specs.declared.world.World.{World}
 use Rattle.sched_machine.specs.declared.caller.Calling.{Calling}
 
--- the caller is the one that the request names, and what it tells is within limits
+-- the caller is the one that the request names, and the values of the request are in range
 pub record IsAdmitted (w : World) (c : Caller) (r : Request) : Type 0 where
   pub caller : IsCaller w c r
   pub limits : IsInRange r
 
--- What the machine may hear: an admitted call, rows that were checked, or that time goes by.
+-- What the machine may hear: an admitted call, rows that were checked, or that time passes.
 abbrev pub MayBeHeard : World → Call → Type 0
 MayBeHeard w (call.Rpc c r) = IsAdmitted w c r
 MayBeHeard w (call.Import new) = AreChecked w new
 MayBeHeard w call.Tick = Unit {0}
 
--- the host is new, and no more may stand
+-- the host is new, and there may be no more hosts
 abbrev pub LacksRoom : World → Caller → Type 0
 LacksRoom w c = (c.host ≡ None) × (w.settings.max_hosts ≤ length w.hosts)
 
--- An admitted call with room in a sound world, and its host: the number, and its row as the call tells it.
+-- An admitted call with room in a sound world, and its host: the number, and the row as the call gives it.
 pub record IsCalling (w : World) (r : Request) (k : Calling) : Type 0 where
   pub sound : Sound w
   pub admitted : IsAdmitted w k.caller r
@@ -36,7 +36,7 @@ pub record IsCalling (w : World) (r : Request) (k : Calling) : Type 0 where
   pub number : k.number ≡ host_number w k.caller
   pub host : k.host ≡ host_at_entry w k.caller r
 
--- Its host's row was put: the world is that at entry, and what was put fits.
+-- The row of its host was put: the world is the one at entry, and what was put fits.
 pub record IsEntered (w : World) (r : Request) (k : Calling) (v : World) (changes : List Change) : Type 0 where
   pub calling : IsCalling w r k
   pub left : v ≡ at_entry w k.caller r

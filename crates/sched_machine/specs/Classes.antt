@@ -1,4 +1,4 @@
--- Rule. What holds of the classes of workunits through every run: a class stays, and every owner got its instance with a version
+-- Rule. What holds of the classes of workunits in every run: a class stays, and every owner got its instance with a version
 -- of it.
 use Rattle.std.specs.Prelude.{◌≡◌, ◌⊎◌, ℕ, ◌<◌, ◌≤◌, false, List, length, Option, Some, option_map, slice_get}
 use Rattle.rpc_records.specs.declared.request.Request.{Request}
@@ -21,22 +21,22 @@ use Rattle.sched_book.specs.declared.world.World.{World}
 use Rattle.sched_machine.specs.Laws.{AreCallsInLimits}
 use Rattle.sched_machine.specs.Runs.{owner_at, world_after}
 
--- which versions may do the workunit at a place, where one stands
+-- which versions may do the workunit at a place, if it exists
 abbrev pub rule_at : World → ℕ → Option ClassRule
 rule_at w unit = option_map (λ (b : UnitBook). b.unit.class_rule) (unit_at w unit)
 
--- each workunit's rule stays, but of one that is still to take its class: so a class stays, and no workunit comes to be marked
+-- each workunit's rule stays, unless its class is still to be taken: so a class stays, and no workunit becomes marked
 abbrev pub ClassesStay : World → World → Type 0
 ClassesStay old new = (unit : ℕ) (rule : ClassRule) → is_of_first rule ≡ false → rule_at old unit ≡ Some rule → rule_at new unit ≡ Some rule
 
--- a workunit of this rule keeps to the version's class, or to none at all
+-- a workunit of this rule keeps to the version's class, or to no class at all
 abbrev pub Follows : ClassRule → Version → Type 0
 Follows Any v = Unit {0}
 Follows OfFirst v = ⊥
 Follows (Only class) v = class ≡ v.class
 
--- The call, in the world w and at a moment, gives the instance at a place to its owner, which calls, with the version that it
--- runs; and in a later world the workunit keeps to that version's class, or to none at all.
+-- In the world w and at a moment, the call gives the instance at a place to its owner, the host that calls, with the
+-- version that this host runs. In a later world the workunit keeps to that version's class, or to no class at all.
 pub record IsGivenBy (w later : World) (c : Caller) (r : Request) (now : ℕ) (p : Place) (o : Owner) : Type 0 where
   pub host : o.host ≡ host_number w c
   pub sent : o.sent ≡ now
@@ -51,20 +51,20 @@ IsGiven w later (call.Rpc c r) now p o = IsGivenBy w later c r now p o
 IsGiven w later (call.Import new) now p o = ⊥
 IsGiven w later call.Tick now p o = ⊥
 
--- the instance at a place was that host's already, from that moment
+-- the instance at a place already belonged to that host, from the same moment on
 abbrev pub HadOwner : World → Place → Owner → Type 0
 HadOwner w p o = (m : Owner) × (owner_at w p ≡ Some m) × (m.host ≡ o.host) × (m.sent ≡ o.sent)
 
--- who owns an instance after a step owned it before, or the step gives it
+-- the owner of an instance after a step owned it before, or the step gives it to the owner
 abbrev pub OwnersAreOfClasses : Type 0
 OwnersAreOfClasses = (w after : World) (c : Call) (now : ℕ) (answer : Answered) → Sound w → Step w c now after answer → (p : Place) (o : Owner)
     → owner_at after p ≡ Some o → HadOwner w p o ⊎ IsGiven w after c now p o
 
--- the call that follows on so many turns of a run gives the instance, by what stands in a later world
+-- the call after so many turns of a run gives the instance; the workunit's rule is the one in a later world
 abbrev pub IsGivenAfter : World → List (Call × ℕ) → List (Answered × World) → ℕ → World → Place → Owner → Type 0
 IsGivenAfter w calls turns n later p o = (e : Call × ℕ) × (slice_get calls n ≡ Some e) × IsGiven (world_after w turns n) later e.0 e.1 p o
 
--- who owns an instance in a world of a run owned it at its beginning, or some call before gives it
+-- the owner of an instance in a world of a run owned it at the beginning, or an earlier call gave it to the owner
 abbrev pub OwnersAreOfClassesInRuns : Type 0
 OwnersAreOfClassesInRuns = (w : World) (calls : List (Call × ℕ)) (turns : List (Answered × World)) → Sound w → AreCallsInLimits calls → Trace w calls turns
     → (j : ℕ) → j ≤ length turns → (p : Place) (o : Owner) → owner_at (world_after w turns j) p ≡ Some o

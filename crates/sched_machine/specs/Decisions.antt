@@ -1,4 +1,4 @@
--- Rule. What no run undoes: canonical results, verdicts, statuses that are not open, and credit.
+-- Rule. What no run reverses: canonical results, verdicts, statuses other than open, and credit.
 use Rattle.std.specs.Prelude.{◌≡◌, ℕ, ◌*◌, ◌≤◌, false, IsTrue, sum_by, count_by, Option, Some, is_some, option_and_then, slice_get}
 use Rattle.std.specs.List.{enumerate_from}
 use Rattle.sched_book.specs.Count.{canonical, is_open, is_valid}
@@ -24,11 +24,11 @@ verdict_at w p = option_and_then (λ (b : UnitBook). option_and_then (verdict_of
 abbrev pub VerdictsStay : World → World → Type 0
 VerdictsStay old new = (p : Place) (v : Verdict) → verdict_at old p ≡ Some v → verdict_at new p ≡ Some v
 
--- what is done stays done, and what failed stays failed, for the same reason
+-- what is done stays done, and what failed stays failed for the same reason
 abbrev pub StatusesStay : World → World → Type 0
 StatusesStay old new = (unit : ℕ) → IsTrue (is_some (unit_at old unit)) → is_open (status_at old unit) ≡ false → status_at new unit ≡ status_at old unit
 
--- the credit of no host and no user falls
+-- the credit of a host or a user never falls
 pub record CreditsStay (old new : World) : Type 0 where
   pub host : (number : ℕ) → host_credit old number ≤ host_credit new number
   pub user : (account : ℕ) → user_credit old account ≤ user_credit new account
@@ -43,7 +43,7 @@ users_credit w = sum_by (λ e. user_credit w e.0) (enumerate_from 1 w.accounts)
 abbrev pub results_credit : World → ℕ
 results_credit w = sum_by (λ b. b.unit.credit * count_by (λ x. is_valid (verdict_of w b x)) b.instances) w.units
 
--- the hosts together, and the users together, have what all valid results are worth
+-- the hosts together, and the users together, have the credit of all valid results
 pub record CreditsAddUp (w : World) : Type 0 where
   pub hosts : hosts_credit w ≡ results_credit w
   pub users : users_credit w ≡ results_credit w

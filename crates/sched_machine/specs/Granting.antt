@@ -21,22 +21,22 @@ use Rattle.quorum_credit.specs.Settling.{AreUnitsInLimits}
 use Rattle.sched_machine.specs.declared.jobs.Sending.{Sending}
 use Rattle.sched_machine.specs.declared.jobs.Sending.TheVariants.{First, Again}
 
--- the owner that a host becomes at a moment, with a delay for its deadline
+-- the owner that a host becomes at a moment; the deadline is a delay later
 abbrev pub owner_for : ℕ → ℕ → ℕ → Owner
 owner_for host now delay = record { host = host; sent = now; deadline = now + delay }
 
--- the instance of a number on a leaf, given to a host; none where none stands
+-- the instance of a number on a leaf, given to a host; none if there is no instance
 abbrev pub given_on : Option Leaf → ℕ → ℕ → ℕ → Option Instance
 given_on None number host now = None
 given_on (Some k) number host now = option_map (with_owner (owner_for host now k.unit.delay_bound)) (slice_get k.present number)
 
--- The changes fit a world whose workunits are within limits, and leave one that has the host.
+-- The changes fit a world whose workunits are within limits, and leave a world that has the host.
 pub record FitWithHost (w : World) (host : ℕ) (changes : List Change) : Type 0 where
   pub units : AreUnitsInLimits w
   pub within : FitWithin w changes
   pub stands : IsTrue (is_some (host_at (applied w changes) host))
 
--- a job is one that was lost and is sent again
+-- a job was lost and is sent again
 abbrev pub is_again : Sending → Bool
 is_again First = false
 is_again Again = true
@@ -53,10 +53,10 @@ job_on (Some k) number h resent v =
 abbrev pub AreRunBy : World → HostRow → List Granted → Type 0
 AreRunBy w h jobs = All (λ (j : Granted). Some j.version ≡ version_at_unit w h j.place.unit) jobs
 
--- the workunits of these jobs with the classes of their versions granted, one after another
+-- the workunits of these jobs after the classes of their versions were granted, one after another
 abbrev pub with_classes : World → List Granted → World
 with_classes w jobs = fold (λ (v : World) (j : Granted). class_granted v j.place.unit j.version.class) w jobs
 
--- each job's workunit stands, and the class of its version is a word
+-- each job's workunit exists, and the class of its version is a word
 abbrev pub CanTake : World → List Granted → Type 0
 CanTake w jobs = All (λ (j : Granted). FitsOne w (change.Class j.place.unit j.version.class)) jobs

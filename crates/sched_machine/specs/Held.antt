@@ -1,4 +1,4 @@
--- Rule. What a host holds after its call: what it held, its client lists and did not report, and what the reply names.
+-- Rule. What a host holds after its call: what it held, did not report and its client lists, and what the reply names.
 use Rattle.std.specs.Prelude.{◌≡◌, ◌⊎◌, ℕ, true, List, Contains, Some, is_some}
 use Rattle.rpc_records.specs.declared.reply.Job.{Job}
 use Rattle.rpc_records.specs.declared.reply.Reply.{Reply}
@@ -17,24 +17,24 @@ use Rattle.sched_machine.specs.Asked.{holds}
 abbrev pub IsReported : World → Request → Place → Type 0
 IsReported w r p = (t : Report) × Contains r.results t × (place_named w t.name ≡ Some p)
 
--- The call's host held it, and the call does not report it.
+-- The call's host held the instance, and the call does not report it.
 pub record IsUnreported (w : World) (c : Caller) (r : Request) (p : Place) : Type 0 where
   pub held : holds w (host_number w c) p ≡ true
   pub unreported : IsReported w r p → ⊥
 
--- after the reports of a call its host holds just what it held and did not report
+-- after the reports of a call its host holds exactly what it held and did not report
 abbrev pub ReportsEndHolding : Type 0
 ReportsEndHolding = (w : World) (c : Caller) (r : Request) (p : Place)
     → (holds (after_reports w c r) (host_number w c) p ≡ true → IsUnreported w c r p)
     × (IsUnreported w c r p → holds (after_reports w c r) (host_number w c) p ≡ true)
 
--- The call's host held it, the call does not report it, and its client lists it.
+-- The call's host held the instance, the call does not report it, and its client lists it.
 pub record IsRetained (w : World) (c : Caller) (r : Request) (names : List (List ℕ)) (p : Place) : Type 0 where
   pub kept : IsUnreported w c r p
   pub listed : is_listed w names p ≡ true
 
--- After a call that lists these names and is granted these jobs, its host holds the instance at a place just where it
--- is retained, sent again, or granted.
+-- After a call that lists these names and is granted these jobs, its host holds the instance at a place if and only if the
+-- instance is retained, sent again, or granted.
 pub record IsHeldByPlace (w after : World) (c : Caller) (r : Request) (names : List (List ℕ)) (jobs : List Place) (p : Place) : Type 0 where
   pub from : holds after (host_number w c) p ≡ true → IsRetained w c r names p ⊎ (Contains (resent_of w c r) p ⊎ Contains jobs p)
   pub retained : IsRetained w c r names p → holds after (host_number w c) p ≡ true
@@ -50,8 +50,8 @@ HeldByPlaces = (w after : World) (c : Caller) (r : Request) (now : ℕ) (reply :
 abbrev pub IsNamed : World → Reply → Place → Type 0
 IsNamed w reply p = (j : Job) × Contains reply.results j × (j.name ≡ name_at w p)
 
--- After a call that lists these names and gets this reply, its host holds, of the instances that stood before the
--- call and of no others, just what is retained and what the reply names; and each job of the reply is one of them.
+-- After a call that lists these names and gets this reply, its host holds exactly what is retained and what the reply
+-- names. All these instances existed before the call. Each job of the reply is one of them.
 pub record IsHeldByName (w after : World) (c : Caller) (r : Request) (names : List (List ℕ)) (reply : Reply) : Type 0 where
   pub from : (p : Place) → holds after (host_number w c) p ≡ true → IsRetained w c r names p ⊎ IsNamed w reply p
   pub stood : (p : Place) → holds after (host_number w c) p ≡ true → is_some (instance_at w p) ≡ true

@@ -1,4 +1,4 @@
--- Rule. How soundness is kept by the parts of a step.
+-- Rule. How the parts of a step keep a world sound.
 use Rattle.std.specs.Prelude.{◌≡◌, All, ℕ, ◌≤◌, List, [], ◌∷◌, fold, Option, Some}
 use Rattle.rpc_records.specs.Ranges.{IsInRange, IsReport}
 use Rattle.rpc_records.specs.declared.request.Report.{Report}
@@ -21,12 +21,12 @@ use Rattle.sched_book.specs.declared.rows.Rows.{Rows}
 use Rattle.sched_book.specs.declared.settings.Settings.{Settings}
 use Rattle.sched_book.specs.declared.world.World.{World}
 
--- the host of a call is renewed, or made where there is room
+-- the host of a call is renewed, or made if there is room
 abbrev pub EntryKeepsSound : Type 0
 EntryKeepsSound = (w : World) (c : Caller) (r : Request) → Sound w → IsCaller w c r → HasRoom w c
     → IsInRange r → Sound (at_entry w c r)
 
--- reports, lapses and lost jobs leave all but the need of open workunits
+-- reports, lapses and lost jobs keep a world well: open workunits may lack instances, and marked ones their class
 abbrev pub ReportsKeepWell : Type 0
 ReportsKeepWell = (w : World) (host : ℕ) (reports : List Report) → All IsReport reports → IsWell w → IsWell (recorded w host reports)
 
@@ -41,7 +41,7 @@ LostJobsKeepWell = (entry w : World) (h : HostRow) (now host : ℕ) (names : Opt
 abbrev pub SettlementSettles : Type 0
 SettlementSettles = (old changed : World) → old.settings ≡ changed.settings → IsWell changed → IsSettled (settled old changed)
 
--- a grant to a host that stands keeps it so
+-- a grant to a host that exists keeps the world settled
 abbrev pub GrantKeepsSettled : Type 0
 GrantKeepsSettled = (w : World) (q : Asking) (jobs : List Place) → IsSettled w → host_at w q.number ≡ Some q.host → q.now ≤ last_moment → IsGrant w q jobs
     → IsSettled (granted w q.number q.now jobs)
@@ -59,7 +59,7 @@ abbrev pub AreCallsInLimits : List (Call × ℕ) → Type 0
 AreCallsInLimits [] = Unit {0}
 AreCallsInLimits (e ∷ es) = IsCallInLimits e.0 × (e.1 ≤ last_moment) × AreCallsInLimits es
 
--- so does each run, at each of its worlds
+-- each run keeps all its worlds sound
 abbrev pub AllSound : List (Answered × World) → Type 0
 AllSound [] = Unit {0}
 AllSound (t ∷ ts) = Sound t.1 × AllSound ts
@@ -68,6 +68,6 @@ abbrev pub RunsKeepSound : Type 0
 RunsKeepSound = (w : World) (calls : List (Call × ℕ)) (turns : List (Answered × World)) → Sound w → AreCallsInLimits calls → Trace w calls turns
     → AllSound turns
 
--- and it begins with a sound one
+-- a run may begin with the empty world, which is sound
 abbrev pub EmptyIsSound : Type 0
 EmptyIsSound = (settings : Settings) → AreSettingsInLimits settings → Sound (empty_world settings)

@@ -1,4 +1,4 @@
--- Words. What a call comes to before new jobs are chosen.
+-- Words. The result of a call before new jobs are chosen.
 use Rattle.std.specs.Prelude.{◌≡◌, ℕ, List, length, map, sum_by, unwrap_or}
 use Rattle.rpc_records.specs.declared.request.Report.{Report}
 use Rattle.rpc_records.specs.declared.request.Request.{Request}
@@ -17,8 +17,8 @@ use Rattle.sched_machine.specs.declared.caller.Calling.{Calling}
 use Rattle.sched_machine.specs.declared.preparing.Ready.{Ready}
 use Rattle.sched_machine.specs.declared.settlement.SettledCall.{SettledCall}
 
--- The reports of a call were taken, its lost jobs were sent again or dropped, and all this was settled: the world v is left
--- by changes that fit.
+-- The reports of a call were taken, its lost jobs were sent again or dropped, and all this was settled. The changes fit
+-- and leave the world v.
 pub record IsSettledCall (w : World) (r : Request) (k : Calling) (now : ℕ) (done : SettledCall) (v : World) (changes : List Change) : Type 0 where
   pub left : v ≡ after_settlement w k.caller r now
   pub fits : Fits w changes
@@ -26,7 +26,7 @@ pub record IsSettledCall (w : World) (r : Request) (k : Calling) (now : ℕ) (do
   pub resent : done.resent ≡ resent_of w k.caller r
   pub scores : AreScores w v done.scores
 
--- A call is settled, with the names that its client may forget, and what its host asks for.
+-- A settled call, with the names that its client may forget, and what its host asks for.
 pub record IsReady (w : World) (r : Request) (now : ℕ) (ready : Ready) (v : World) (changes : List Change) : Type 0 where
   pub calling : IsCalling w r ready.call
   pub settled : IsSettledCall w r ready.call now ready.settled v changes

@@ -1,4 +1,4 @@
--- Words. The refusal of an outer call, for the error of the call that it makes.
+-- Words. The refusal of an outer call, by the error of the call that it makes.
 use Rattle.sched_machine.specs.declared.admission.AdmissionError.{AdmissionError}
 use Rattle.sched_machine.specs.declared.admission.AdmissionError.TheVariants as admission
 use Rattle.sched_machine.specs.declared.outer_calls.Refused.{Refused}

@@ -1,4 +1,4 @@
--- Words. What a reply says once new jobs are given.
+-- Words. What a reply says after new jobs were given.
 use Rattle.std.specs.Prelude.{◌≡◌, ℕ, ◌+◌, ◌++◌, true, false, List, filter_map}
 use Rattle.rpc_records.specs.declared.reply.EndWord.{EndWord}
 use Rattle.rpc_records.specs.declared.reply.Reply.{Reply}
@@ -15,7 +15,8 @@ use Rattle.sched_machine.specs.Totals.{user_credits_in}
 use Rattle.sched_machine.specs.declared.preparing.Ready.{Ready}
 use Rattle.sched_machine.specs.declared.reply.Told.{Told}
 
--- What is told of the jobs and the user of a call that found the world w, in the world v where these jobs are its host's.
+-- What a reply says of the jobs and the user of a call. The call found the world w; in the world v these jobs are its
+-- host's.
 pub record IsTold (w v : World) (ready : Ready) (jobs : List Place) (told : Told) : Type 0 where
   pub results : told.results ≡
       filter_map (job_at v ready.call.host true) ready.settled.resent ++ filter_map (job_at v ready.call.host false) jobs
@@ -24,7 +25,7 @@ pub record IsTold (w v : World) (ready : Ready) (jobs : List Place) (told : Told
       user_credit w ready.call.caller.account + user_credits_in v.hosts ready.call.caller.account ready.settled.scores
   pub user_name : told.user_name ≡ user_name w ready.call.caller.account
 
--- New jobs were chosen for a call's host and given to it: that is told, and why there are no more.
+-- New jobs were chosen and given to the host of a call. The reply says so, and why there are no more.
 pub record IsGranted (w : World) (r : Request) (now : ℕ) (ready : Ready) (v : World) (changes : List Change) (told : Told) (word : EndWord) : Type 0 where
   pub jobs : List Place
   pub grant : IsGrant (after_settlement w ready.call.caller r now) (asking_of w ready.call.caller r now) jobs
@@ -33,7 +34,7 @@ pub record IsGranted (w : World) (r : Request) (now : ℕ) (ready : Ready) (v : 
   pub fits : Fits w changes
   pub tells : IsTold w v ready jobs told
 
--- the reply, by its parts
+-- the reply, made of its parts
 abbrev pub reply_of : Ready → Told → EndWord → Request → ℕ → Reply
 reply_of ready told word r delay = record {
   end_word = word;

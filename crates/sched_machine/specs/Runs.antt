@@ -1,4 +1,4 @@
--- Rule. What holds through each run of the machine from a sound world: of what stands at a place, and of what a step leaves.
+-- Rule. What holds in each run of the machine from a sound world: of the rows at a place, and of what a step leaves.
 use Rattle.std.specs.Prelude.{◌≡◌, ◌⊎◌, ℕ, zero, suc, ◌<◌, ◌≤◌, List, [], ◌∷◌, length, All, AllPairs, Contains, Option, Some, option_and_then}
 use Rattle.sched_book.specs.Places.{instance_at}
 use Rattle.sched_book.specs.Sound.{AreOfOtherUsers, Sound}
@@ -15,23 +15,23 @@ use Rattle.sched_book.specs.declared.machine.Call.TheVariants as call
 use Rattle.sched_book.specs.declared.world.World.{World}
 use Rattle.sched_machine.specs.Laws.{AreCallsInLimits}
 
--- something holds of each world of these turns
+-- a property holds of each world of these turns
 abbrev pub AllAfter : (World → Type 0) → List (Answered × World) → Type 0
 AllAfter P [] = Unit {0}
 AllAfter P (t ∷ ts) = P t.1 × AllAfter P ts
 
--- the world of a run after so many of its turns: the first after none, the last after all of them
+-- the world of a run after so many of its turns: the first world after none, the last one after all
 abbrev pub world_after : World → List (Answered × World) → ℕ → World
 world_after w turns zero = w
 world_after w [] (suc n) = w
 world_after w (t ∷ ts) (suc n) = world_after t.1 ts n
 
--- R holds between any two worlds of each run from a sound world, the earlier first
+-- R holds between any two worlds of each run from a sound world, the earlier one first
 abbrev pub HoldsInRuns : (World → World → Type 0) → Type 0
 HoldsInRuns R = (w : World) (calls : List (Call × ℕ)) (turns : List (Answered × World)) → Sound w → AreCallsInLimits calls → Trace w calls turns
     → (i j : ℕ) → i < j → j ≤ length turns → R (world_after w turns i) (world_after w turns j)
 
--- to whom the instance at a place was given, what was reported of it, and how it lapsed, where it stands
+-- the owner, the report and the lapse of the instance at a place, if it exists
 abbrev pub owner_at : World → Place → Option Owner
 owner_at w p = option_and_then (λ (x : Instance). x.owner) (instance_at w p)
 
@@ -41,7 +41,7 @@ report_at w p = option_and_then (λ (x : Instance). x.report) (instance_at w p)
 abbrev pub lapse_at : World → Place → Option Lapse
 lapse_at w p = option_and_then (λ (x : Instance). x.lapse) (instance_at w p)
 
--- an instance that was given to a host stays that host's, with its moment of sending
+-- an instance that was given to a host stays with that host, with its moment of sending
 abbrev pub OwnersStay : World → World → Type 0
 OwnersStay old new = (p : Place) (o : Owner) → owner_at old p ≡ Some o
     → (n : Owner) × (owner_at new p ≡ Some n) × (n.host ≡ o.host) × (n.sent ≡ o.sent)
@@ -50,7 +50,7 @@ OwnersStay old new = (p : Place) (o : Owner) → owner_at old p ≡ Some o
 abbrev pub ReportsStay : World → World → Type 0
 ReportsStay old new = (p : Place) (t : Outcome) → report_at old p ≡ Some t → report_at new p ≡ Some t
 
--- an instance that lapsed has the same lapse
+-- an instance that lapsed keeps its lapse
 abbrev pub LapsesStay : World → World → Type 0
 LapsesStay old new = (p : Place) (l : Lapse) → lapse_at old p ≡ Some l → lapse_at new p ≡ Some l
 
@@ -67,18 +67,18 @@ RunIsDetermined = (w : World) (calls : List (Call × ℕ)) (turns others : List 
 abbrev pub OneForEachUser : World → Type 0
 OneForEachUser w = All (λ (b : UnitBook). AllPairs (AreOfOtherUsers w.hosts) b.instances) w.units
 
--- something holds of each world of each run from a sound world, the first one too
+-- a property holds of each world of each run from a sound world, including the first
 abbrev pub HoldsAlways : (World → Type 0) → Type 0
 HoldsAlways P = (w : World) (calls : List (Call × ℕ)) (turns : List (Answered × World)) → Sound w → AreCallsInLimits calls → Trace w calls turns
     → P w × AllAfter P turns
 
--- the call sends the instance at a place again to its owner, which calls
+-- the call sends the instance at a place again to its owner, the host that calls
 abbrev pub IsSentAgain : World → Call → Place → Owner → Type 0
 IsSentAgain w (call.Rpc c r) p o = (o.host ≡ host_number w c) × Contains (resent_of w c r) p
 IsSentAgain w (call.Import new) p o = ⊥
 IsSentAgain w call.Tick p o = ⊥
 
--- through a step the deadline of an instance that was given to a host stays, or the step sends it again
+-- a step keeps the deadline of an instance that was given to a host, or sends it again
 abbrev pub DeadlinesMoveByResends : Type 0
 DeadlinesMoveByResends = (w after : World) (c : Call) (now : ℕ) (answer : Answered) → Step w c now after answer → (p : Place) (o : Owner)
     → owner_at w p ≡ Some o → (deadline_at after p ≡ deadline_at w p) ⊎ IsSentAgain w c p o

@@ -1,4 +1,4 @@
--- Rule. What holds of stretches of a run: of the calls between two of its worlds.
+-- Rule. What holds of parts of a run: of the calls between two of its worlds.
 use Rattle.std.specs.Prelude.{◌≡◌, ◌⊎◌, ℕ, suc, ◌<◌, ◌≤◌, true, List, length, Some, slice_get}
 use Rattle.rpc_records.specs.declared.reply.Reply.{Reply}
 use Rattle.rpc_records.specs.declared.request.Request.{Request}
@@ -16,7 +16,7 @@ use Rattle.sched_machine.specs.Held.{IsHeldByName}
 use Rattle.sched_machine.specs.Laws.{AreCallsInLimits}
 use Rattle.sched_machine.specs.Runs.{owner_at, world_after, IsSentAgain}
 
--- the call that follows on so many turns of a run sends the instance at a place again to its owner, which calls
+-- the call after so many turns of a run sends the instance at a place again to its owner, the host that calls
 abbrev pub IsSentAgainAfter : World → List (Call × ℕ) → List (Answered × World) → ℕ → Place → Owner → Type 0
 IsSentAgainAfter w calls turns n p o = (e : Call × ℕ) × (slice_get calls n ≡ Some e) × IsSentAgain (world_after w turns n) e.0 p o
 
@@ -28,13 +28,13 @@ DeadlinesMoveByResendsInRuns = (w : World) (calls : List (Call × ℕ)) (turns :
     → (deadline_at (world_after w turns j) p ≡ deadline_at (world_after w turns i) p)
     ⊎ ((n : ℕ) × (i ≤ n) × (n < j) × IsSentAgainAfter w calls turns n p o)
 
--- The call that follows on so many turns of a run got a reply, and after it its host holds just what is listed or named.
+-- The call after so many turns of a run got a reply. After it its host holds exactly what is listed or named.
 pub record IsInSightAfter (w : World) (turns : List (Answered × World)) (n : ℕ) (c : Caller) (r : Request) (names : List (List ℕ)) : Type 0 where
   pub reply : Reply
   pub turn : slice_get turns n ≡ Some (answered.Rpc reply, world_after w turns (suc n))
   pub held : IsHeldByName (world_after w turns n) (world_after w turns (suc n)) c r names reply
 
--- each call of a run that lists names is followed by such a world, where lost jobs are sent again
+-- if lost jobs are sent again, this holds after each call of a run that lists names
 abbrev pub HoldsWhatIsListedOrNamedInRuns : Type 0
 HoldsWhatIsListedOrNamedInRuns = (w : World) (calls : List (Call × ℕ)) (turns : List (Answered × World)) → Sound w → AreCallsInLimits calls
     → Trace w calls turns → w.settings.resend_lost_results ≡ true → (n now : ℕ) (c : Caller) (r : Request) (names : List (List ℕ))

@@ -1,4 +1,4 @@
-//! Who makes a call, and why a call is refused before it is acted on.
+//! Who makes a call, and why a call is refused before the machine acts on it.
 
 ghost use Rattle.std.specs.Prelude.{◌≡◌, true, Some, None, IfOk, IsErrOf};
 ghost use Rattle.sched_book.specs.Places.{account_place};
@@ -44,14 +44,14 @@ impl From<Unavailable> for AdmissionError {
     }
 }
 
-/// Whether a call tells no number, or that of its host.
+/// Whether a call names no number, or that of its host.
 fn names_host(hostid: u32, number: Option<u32>) -> bool
     ensures { result ≡ names_host hostid number }
 {
     hostid == 0 || number.is_some_and(|number| hostid == number)
 }
 
-/// Who makes a call: the account that it names, and the number of its host, where the host is known.
+/// Returns who makes a call: the account that it names, and the number of its host, if the host is known.
 #[tactic(auto, using(crate::proofs::Rows::Admitted::account_is))]
 pub fn caller_of<D: Desk>(
     alloc: Global,

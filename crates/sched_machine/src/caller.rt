@@ -1,4 +1,4 @@
-//! The caller's host: its number, and its row as the call tells it.
+//! The caller's host: its number, and its row as the call gives it.
 
 ghost use Rattle.std.specs.Prelude.{◌≡◌, [], None, Some, IfOk, IsErrOf};
 ghost use Rattle.sched_book.specs.Sound.{Sound};
@@ -13,17 +13,17 @@ use rpc_records::Request;
 use sched_book::{Caller, HostRow, Unavailable};
 use std::alloc::Global;
 
-/// A call that is acted on.
+/// A call that the machine acts on.
 #[derive(Drop)]
 pub(crate) struct Calling {
     pub(crate) caller: Caller,
     /// The number of its host.
     pub(crate) number: u32,
-    /// Its host's row, as the call tells it, with the quota from before.
+    /// Its host's row as the call gives it, with the quota from before.
     pub(crate) host: HostRow,
 }
 
-/// A host's row as its call tells it.
+/// A host's row as its call gives it.
 fn row_of_call(caller: &Caller, request: &Request, quota: u32) -> Result<HostRow, Unavailable>
     ensures { IfOk result (λ row. row ≡ row_of_call caller.now request.now quota) }
 {
@@ -64,7 +64,7 @@ fn renew_host<S: Draft>(
     })
 }
 
-/// Makes a host behind the others, with the quota that the settings give; it is refused where no more may stand.
+/// Makes a host after the others, with the quota from the settings. Refused if there may be no more hosts.
 fn make_host<S: Draft>(
     sheet: &mut S,
     caller: &Caller,
@@ -92,8 +92,8 @@ fn make_host<S: Draft>(
     }
 }
 
-/// Puts the row of a caller's host, as the call tells it, onto the sheet of the call, before any other change. A new host
-/// where no more may stand is refused.
+/// Puts the row of a caller's host, as the call gives it, onto the sheet of the call, before any other change. Refused
+/// if the host is new and there may be no more hosts.
 pub(crate) fn enter<S: Draft>(
     alloc: Global,
     sheet: &mut S,

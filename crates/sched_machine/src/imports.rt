@@ -9,7 +9,7 @@ use sched_book::{Change, Delta, Rows, Unavailable};
 use std::alloc::Global;
 use texts::{Listed, Memory, Same};
 
-/// The changes that add copies of these rows, each by what makes a change of a row.
+/// The changes that add copies of these rows; `F` makes a change of a row.
 fn added_rows<R: Same + Drop, F: Fn(R) -> Change>(
     alloc: Global,
     rows: &[R],
@@ -37,7 +37,7 @@ pub(crate) fn changes_of(alloc: Global, rows: &Rows) -> Result<Delta, Memory>
     }
 }
 
-/// How many rows there are. More than 32 bits tell are refused.
+/// How many rows there are. Refused if the count exceeds 32 bits.
 pub(crate) fn row_count(rows: &Rows) -> Result<u32, Unavailable>
     ensures { IfOk result (λ count. count ≡ row_count rows.now) }
 {
@@ -49,7 +49,7 @@ pub(crate) fn row_count(rows: &Rows) -> Result<u32, Unavailable>
     };
     match u32::try_from(count) {
         Ok(count) => Ok(count),
-        // Not met by rows that were checked: no table has more than 200,000.
+        // Does not happen for rows that were checked: no table has more than 200,000.
         Err(_) => Err(Unavailable),
     }
 }

@@ -21,7 +21,7 @@ use sched_book::{HostRow, Place, Unavailable, Version, instance_name};
 use std::alloc::Global;
 use texts::{Listed, Memory};
 
-/// Whether a reply gives a job for the first time, or one that was lost again.
+/// Whether a reply gives a job for the first time, or sends a lost one again.
 #[derive(Clone, Copy, Debug, PartialEq, Eq)]
 enum Sending {
     First,
@@ -39,7 +39,7 @@ impl Sending {
     }
 }
 
-/// The deadline of the instance of a number on a leaf, 0 where there is none or nobody was given it.
+/// The deadline of the instance of a number on a leaf; 0 if there is no instance or it was given to nobody.
 fn deadline_on(leaf: &Leaf, number: u32) -> u64
     ensures { result ≡ unwrap_or (option_map (λ (x : Instance). deadline_of x.owner) (instance_now (Some leaf.now) number)) 0 }
 {
@@ -52,8 +52,8 @@ fn deadline_on(leaf: &Leaf, number: u32) -> u64
     }
 }
 
-/// What a reply says of the instance of a number on a leaf to a host that runs this version; nothing where the workunit does
-/// not stand or the host runs none.
+/// What a reply says of the instance of a number on a leaf, to a host that runs this version. Nothing if the workunit
+/// does not exist or the host runs no version.
 fn job_on(
     alloc: Global,
     leaf: Option<&Leaf>,
@@ -83,7 +83,7 @@ fn job_on(
     }))
 }
 
-/// Puts what a reply says of the instance at a place behind the others, to a host that runs this version.
+/// Adds what a reply says of the instance at a place, to a host that runs this version, after the others.
 fn add_job<S: Draft>(
     alloc: Global,
     sheet: &mut S,
@@ -128,7 +128,7 @@ fn version_at_unit<S: Draft>(
     }
 }
 
-/// Puts what a reply says of a job that is sent again behind the others.
+/// Adds what a reply says of a job that is sent again after the others.
 fn add_resent<S: Draft>(
     alloc: Global,
     sheet: &mut S,
@@ -170,7 +170,7 @@ pub(crate) fn resent_jobs<S: Draft>(
     Ok(jobs)
 }
 
-/// Puts what a reply says of new jobs behind the others, in their order.
+/// Adds what a reply says of new jobs after the others, in their order.
 pub(crate) fn add_granted<S: Draft>(
     alloc: Global,
     sheet: &mut S,

@@ -9,12 +9,12 @@ ghost use Rattle.sched_machine.specs.Laws.{EntryKeepsSound, ReportsKeepWell, Lap
 ghost use Rattle.sched_machine.specs.Runs.{HoldsInRuns, OwnersStay, ReportsStay, LapsesStay, StepIsDetermined, RunIsDetermined, HoldsAlways, OneForEachUser, DeadlinesMoveByResends};
 ghost use Rattle.sched_machine.specs.Stretches.{DeadlinesMoveByResendsInRuns, HoldsWhatIsListedOrNamedInRuns};
 
-/// A sound world stays sound where a call's host is renewed, or made where there is room.
+/// If a call's host is renewed, or made with room for it, a sound world stays sound.
 pub fn entry_keeps_sound()
     ensures { EntryKeepsSound }
 {}
 
-/// Reports leave a world in which all is sound but that open workunits may lack instances.
+/// Reports keep a world well: sound, except that open workunits may lack instances, and marked ones their class.
 pub fn reports_keep_well()
     ensures { ReportsKeepWell }
 {}
@@ -29,12 +29,12 @@ pub fn lost_jobs_keep_well()
     ensures { LostJobsKeepWell }
 {}
 
-/// Settlement makes such a world settled: sound, but that a marked workunit may have owners before it has its class.
+/// Settlement makes a well world settled: sound, except that a marked workunit may have owners before it has its class.
 pub fn settlement_settles()
     ensures { SettlementSettles }
 {}
 
-/// A grant to a host that stands leaves a settled world settled.
+/// A grant to a host that exists leaves a settled world settled.
 pub fn grant_keeps_settled()
     ensures { GrantKeepsSettled }
 {}
@@ -44,12 +44,12 @@ pub fn import_keeps_sound()
     ensures { ImportKeepsSound }
 {}
 
-/// Each step of the machine leaves a sound world sound, where what the call tells is within limits.
+/// Each step of the machine leaves a sound world sound, if the values of the call are in range.
 pub fn step_keeps_sound()
     ensures { StepKeepsSound }
 {}
 
-/// So does each run, at each of its worlds.
+/// Each run keeps all its worlds sound.
 pub fn runs_keep_sound()
     ensures { RunsKeepSound }
 {}
@@ -59,14 +59,13 @@ pub fn the_empty_world_is_sound()
     ensures { EmptyIsSound }
 {}
 
-/// For the host that calls, the settled world is like the one before the call: a grant of one is a grant of the
-/// other.
+/// For the host that calls, the settled world is like the world before the call: a grant of one is a grant of the other.
 pub fn the_settled_world_is_like_the_first()
     ensures { SettledIsLike }
 {}
 
-/// Between any two worlds of a run from a sound world an instance that was given to a host stays that host's, with its
-/// moment of sending.
+/// Between any two worlds of a run from a sound world, an instance that was given to a host stays with that host, with
+/// its moment of sending.
 pub fn owners_stay()
     ensures { HoldsInRuns OwnersStay }
 {}
@@ -91,28 +90,29 @@ pub fn a_run_is_determined()
     ensures { RunIsDetermined }
 {}
 
-/// In no world of a run from a sound world has a workunit two instances that were given to hosts of one user.
+/// In a run from a sound world no workunit ever has two instances that were given to hosts of one user.
 pub fn one_for_each_user()
     ensures { HoldsAlways OneForEachUser }
 {}
 
-/// A step leaves the deadline of an instance that was given to a host, or sends it again to that host, which calls.
+/// A step keeps the deadline of an instance that was given to a host, or sends it again to that host, which is the one
+/// that calls.
 pub fn deadlines_move_by_resends_alone()
     ensures { DeadlinesMoveByResends }
 {}
 
-/// After the reports of a call its host holds just what it held and did not report.
+/// After the reports of a call its host holds exactly what it held and did not report.
 pub fn reports_end_holding()
     ensures { ReportsEndHolding }
 {}
 
-/// After a call that lists what its client has, where lost jobs are sent again, its host holds just what it held, lists
-/// and did not report, what is sent again, and what is granted.
+/// Suppose lost jobs are sent again, and a call lists what its client has. After it the host holds exactly what it held,
+/// lists and did not report, what is sent again, and what is granted.
 pub fn held_jobs_by_place()
     ensures { HeldByPlaces }
 {}
 
-/// So it holds just what it held, lists and did not report, and what the reply names.
+/// So it holds exactly what it held, lists and did not report, and what the reply names.
 pub fn a_host_holds_what_is_listed_or_named()
     ensures { HoldsWhatIsListedOrNamed }
 {}
@@ -122,28 +122,28 @@ pub fn canonicals_stay()
     ensures { HoldsInRuns CanonicalsStay }
 {}
 
-/// So does each verdict.
+/// A verdict stays too.
 pub fn verdicts_stay()
     ensures { HoldsInRuns VerdictsStay }
 {}
 
-/// What is done stays done, and what failed stays failed, for the same reason.
+/// What is done stays done, and what failed stays failed for the same reason.
 pub fn statuses_stay()
     ensures { HoldsInRuns StatusesStay }
 {}
 
-/// The credit of no host and no user falls.
+/// The credit of a host or a user never falls.
 pub fn credits_never_fall()
     ensures { HoldsInRuns CreditsStay }
 {}
 
-/// In each world of a run from a sound world the hosts together, and the users together, have the credit of all valid
+/// In each world of a run from a sound world, the hosts together, and the users together, have the credit of all valid
 /// results.
 pub fn credits_add_up()
     ensures { HoldsAlways CreditsAddUp }
 {}
 
-/// In a sound world the credit of all valid results is at most 2 * 10^15 millicredits, and so is that of each host and of
+/// In a sound world the credit of all valid results is at most 2 * 10^15 millicredits. So is that of each host and of
 /// each user.
 pub fn credit_is_bounded()
     ensures { CreditIsBounded }
@@ -154,31 +154,31 @@ pub fn resent_seconds_are_bounded()
     ensures { ResentSecondsAreBounded }
 {}
 
-/// Between any two worlds of a run the deadline of an instance that was given to a host stays, or some call between them
-/// sends it again to that host, which calls.
+/// Between any two worlds of a run, the deadline of an instance that was given to a host stays, or some call between
+/// them sends it again to that host, which is the one that calls.
 pub fn deadlines_move_by_resends_in_runs()
     ensures { DeadlinesMoveByResendsInRuns }
 {}
 
-/// After each call of a run that lists what its client has, where lost jobs are sent again, its host holds just what it
-/// held, lists and did not report, and what the reply names.
+/// Suppose lost jobs are sent again, and a call of a run lists what its client has. After it the host holds exactly what
+/// it held, lists and did not report, and what the reply names.
 pub fn a_host_holds_what_is_listed_or_named_in_runs()
     ensures { HoldsWhatIsListedOrNamedInRuns }
 {}
 
-/// In every run a workunit that keeps to a class keeps to it for ever, and one that is not marked is never marked.
+/// In every run a workunit that keeps to a class always keeps to it, and one that is not marked is never marked.
 pub fn classes_stay()
     ensures { HoldsInRuns ClassesStay }
 {}
 
-/// From a sound world, who owns an instance after a step owned it before, or the step gives it to its caller, with a version
-/// of the class that the workunit then keeps to, if it is marked.
+/// From a sound world: after a step the owner of an instance owned it before, or is the caller and got it by this step.
+/// If the workunit is marked, it then keeps to the class of the version with which the owner got the instance.
 pub fn owners_are_of_classes()
     ensures { OwnersAreOfClasses }
 {}
 
-/// So in each world of a run who owns an instance owned it at its beginning, or some call before gave it, with a version of
-/// the class that the workunit keeps to in that world.
+/// So in a world of a run the owner of an instance owned it at the beginning, or got it by an earlier call, with a
+/// version of the class that the workunit keeps to in that world.
 pub fn owners_are_of_classes_in_runs()
     ensures { OwnersAreOfClassesInRuns }
 {}

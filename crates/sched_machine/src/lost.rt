@@ -1,4 +1,4 @@
-//! What becomes of the jobs that a call's client lost, and those of them that are sent again.
+//! What happens to the jobs that a call's client lost, and which of them are sent again.
 
 ghost use Rattle.std.specs.Prelude.{◌≡◌, IfOk, OnOk};
 ghost use Rattle.sched_book.specs.Delta.{Fits};
@@ -29,8 +29,8 @@ fn resent_places(alloc: Global, fates: &[Fate]) -> Result<Listed<Place>, Memory>
     Ok(places)
 }
 
-/// Sends again or drops the jobs that a call's client lost, of those that its host held when the call came, and gives the
-/// places of those that are sent again.
+/// Sends again or drops the jobs that a call's client lost, among those that its host held when the call came. Returns
+/// the places of those that are sent again.
 pub(crate) fn lose<S: Draft>(
     alloc: Global,
     sheet: &mut S,

@@ -1,6 +1,6 @@
-//! Calls that the program does not make, for tests and other schedulers. [`admit`] and [`step`] give one error for all
-//! refusals, [`Refused`]. They call [`caller_of`], [`step_call`], [`step_import`] and [`step_tick`], as the program does, and
-//! convert the error.
+//! Calls that the program does not make, for tests and other schedulers. [`admit`] and [`step`] have one error for all
+//! refusals, [`Refused`]. They call [`caller_of`], [`step_call`], [`step_import`] and [`step_tick`], as the program
+//! does, and convert the error.
 
 ghost use Rattle.std.specs.Prelude.{◌≡◌, true, None, IfOk, IsErrOf};
 ghost use Rattle.sched_book.specs.Delta.{applied, Fits};
@@ -79,7 +79,7 @@ impl From<StepError> for Refused {
     }
 }
 
-/// Who makes a call: [`caller_of`].
+/// Returns who makes a call: [`caller_of`].
 pub fn admit<D: Desk>(alloc: Global, desk: &mut D, request: &Request) -> Result<Caller, Refused>
     ensures reads { D.reads desk.old desk.new }
     ensures caller { Trusted D.Units desk.old desk.new (IfOk result (λ caller.
@@ -93,8 +93,8 @@ pub fn admit<D: Desk>(alloc: Global, desk: &mut D, request: &Request) -> Result<
     Ok(caller_of(alloc, desk, request)?)
 }
 
-/// One step of the job machine, of whichever kind: [`step_call`], [`step_import`] or [`step_tick`]. It is what the laws of a
-/// step are said of; the program calls these three.
+/// One step of the job machine of any kind: [`step_call`], [`step_import`] or [`step_tick`]. The laws of a step are
+/// stated for it; the program calls these three.
 pub fn step<D: Desk>(
     alloc: Global,
     desk: &mut D,

@@ -1,4 +1,4 @@
-//! The host that is given jobs becomes their owner, and their workunits take the classes of their versions.
+//! A host that is given jobs becomes their owner, and their workunits take the classes of their versions.
 
 ghost use Rattle.std.specs.Prelude.{◌≡◌, ℕ, IfOk, OnOk};
 ghost use Rattle.std.specs.Option.{option_copied};
@@ -13,7 +13,7 @@ use sched_book::{Instance, Moment, Owner, Place, Unavailable, copy_of};
 use std::alloc::Global;
 use texts::Memory;
 
-/// The instance of this number on a leaf, given to a host at a moment; none where none stands.
+/// The instance of this number on a leaf, given to a host at a moment; none if there is no instance.
 fn given_on(
     leaf: Option<&Leaf>,
     number: u32,
@@ -37,7 +37,7 @@ fn given_on(
     Ok(Some(row))
 }
 
-/// Gives the instance at a place to a host. A place where none stands is refused.
+/// Gives the instance at a place to a host. Refused if there is no instance.
 fn give_one<S: Draft>(
     alloc: Global,
     sheet: &mut S,
@@ -61,7 +61,7 @@ fn give_one<S: Draft>(
     }
 }
 
-/// Makes a host the owner of these jobs, in their order. A place where no instance stands is refused.
+/// Makes a host the owner of these jobs, in their order. Refused if there is no instance at a place.
 fn own_all<S: Draft>(
     alloc: Global,
     sheet: &mut S,
@@ -81,8 +81,8 @@ fn own_all<S: Draft>(
     Ok(())
 }
 
-/// Has the versions of these jobs granted for their workunits, which were read, in their order: one that is marked and has
-/// no class takes that of the first.
+/// Grants the versions of these jobs for their workunits, in their order. The workunits must have been read. One that is
+/// marked and has no class takes that of the first version.
 fn take_classes<S: Draft>(sheet: &mut S, jobs: &[Granted]) -> Result<(), Unavailable>
     ensures works { S.works sheet.old sheet.new }
     ensures left { Trusted S.Units sheet.old sheet.new (
@@ -96,8 +96,8 @@ fn take_classes<S: Draft>(sheet: &mut S, jobs: &[Granted]) -> Result<(), Unavail
     Ok(())
 }
 
-/// Gives these jobs to a host on the sheet of its call: it becomes their owner, and then their workunits take the classes of
-/// their versions. A place where no instance stands is refused.
+/// Gives these jobs to a host on the sheet of its call. The host becomes their owner, and then their workunits take the
+/// classes of their versions. Refused if there is no instance at a place.
 pub(crate) fn give<S: Draft>(
     alloc: Global,
     sheet: &mut S,

@@ -1,4 +1,4 @@
-//! What a call comes to before new jobs are chosen, and what is asked of their choice.
+//! The result of a call before new jobs are chosen, and what is asked of their choice.
 
 ghost use Rattle.std.specs.Prelude.{◌≡◌, [], length, sum_by, unwrap_or, count_by, IfOk, IsErrOf};
 ghost use Rattle.std.specs.Option.{option_copied};
@@ -25,8 +25,8 @@ use sched_book::{Caller, HostRow, Moment, Place, Unavailable};
 use std::alloc::Global;
 use texts::{Listed, Text};
 
-/// Whether the host still holds an instance that it held when the call came, by the leaf of its workunit. Of a workunit
-/// that was not read nothing was changed.
+/// Whether the host still holds an instance that it held when the call came, by the leaf of its workunit. A workunit
+/// that was not read was not changed.
 fn still_holds(leaf: Option<&Leaf>, host: u32, number: u32) -> bool
     ensures { result ≡ still_holds (option_copied leaf.entry) host number }
 {
@@ -39,7 +39,7 @@ fn still_holds(leaf: Option<&Leaf>, host: u32, number: u32) -> bool
     }
 }
 
-/// How many of the instances that the host held when the call came it still holds.
+/// How many instances the host still holds, of those that it held when the call came.
 fn held_now<S: Draft>(sheet: &S, host: u32, held: &[Place]) -> Result<u32, Unavailable>
     ensures { IfOk result (λ count. count ≡ count_by (λ (p : Place). still_holds (S.kept sheet.now p.unit) host p.number) held.now) }
 {
@@ -47,7 +47,8 @@ fn held_now<S: Draft>(sheet: &S, host: u32, held: &[Place]) -> Result<u32, Unava
     for place in held {
         if still_holds(sheet.leaf(place.unit), host, place.number) {
             let Some(sum) = count.checked_add(1) else {
-                // Not met in a sound world, where no host holds more than 20,000,000: `sched_book::laws::instances_are_few`.
+                // Does not happen in a sound world, where no host holds more than 20,000,000:
+                // `sched_book::laws::instances_are_few`.
                 return Err(Unavailable);
             };
             count = sum;
@@ -56,7 +57,8 @@ fn held_now<S: Draft>(sheet: &S, host: u32, held: &[Place]) -> Result<u32, Unava
     Ok(count)
 }
 
-/// The seconds that the jobs at these places take the host; none where no workunit stands. A sum past 64 bits is refused.
+/// The seconds that the jobs at these places take the host; a place without a workunit counts 0. Refused if the sum
+/// exceeds 64 bits.
 #[tactic(auto, using(crate::proofs::Calls::Asked::estimate_none, crate::proofs::Calls::Asked::estimate_some))]
 fn seconds_of<S: Draft>(
     alloc: Global,
@@ -75,7 +77,7 @@ fn seconds_of<S: Draft>(
         };
         let more = seconds_at(unit.rsc_fpops_est, host.p_fpops);
         let Some(sum) = seconds.checked_add(more) else {
-            // Not met in a sound world, where these are at most 2 * 10^15: `laws::resent_seconds_are_bounded`.
+            // Does not happen in a sound world, where these are at most 2 * 10^15: `laws::resent_seconds_are_bounded`.
             return Err(Unavailable);
         };
         seconds = sum;
@@ -94,7 +96,7 @@ pub(crate) struct Wish {
     pub(crate) before: u64,
 }
 
-/// What a call's host asks for: `held` is what it held when the call came, `resent` what is sent to it again.
+/// What a call's host asks for. `held` is what it held when the call came, `resent` what is sent to it again.
 fn wish_of<S: Draft>(
     alloc: Global,
     sheet: &mut S,
@@ -120,7 +122,7 @@ fn wish_of<S: Draft>(
     Ok(Wish { row, held, before })
 }
 
-/// A call that is acted on, up to where new jobs are chosen.
+/// A call that the machine acts on, up to the choice of new jobs.
 #[derive(Drop)]
 pub(crate) struct Ready {
     pub(crate) call: Calling,
@@ -131,8 +133,9 @@ pub(crate) struct Ready {
     pub(crate) wish: Wish,
 }
 
-/// Puts the host of a call, takes its reports, sends its lost jobs again or drops them, settles what all this touches, and
-/// looks what its client may forget and its host asks for. A new host where no more may stand is refused.
+/// Puts the host of a call, takes its reports, sends its lost jobs again or drops them, and settles what all this
+/// touches. Then finds what its client may forget and what its host asks for. Refused if the host is new and there may
+/// be no more hosts.
 pub(crate) fn prepare<S: Draft>(
     alloc: Global,
     sheet: &mut S,

@@ -1,4 +1,4 @@
-//! The reply to a call: new jobs are given to its host, and what it says of them and of credit.
+//! The reply to a call: gives new jobs to its host, and says what the reply says of them and of credit.
 
 ghost use Rattle.std.specs.Prelude.{◌≡◌, IfOk, OnOk};
 ghost use Rattle.sched_book.specs.Step.{IsCaller, granted, user_name};
@@ -18,7 +18,7 @@ use sched_book::{Caller, Moment, Unavailable};
 use std::alloc::Global;
 use texts::{Listed, Text};
 
-/// What a reply says of jobs and of its user once new jobs are given.
+/// What a reply says of jobs and of its user after new jobs were given.
 #[derive(Drop)]
 pub(crate) struct Told {
     /// The jobs that are sent again, and then the new ones.
@@ -45,7 +45,7 @@ fn user_name<S: Draft>(
     }
 }
 
-/// Gives new jobs to the host of a call, and tells what the reply says of its jobs and its user then.
+/// Gives new jobs to the host of a call, and returns what the reply then says of its jobs and its user.
 pub(crate) fn conclude<S: Draft>(
     alloc: Global,
     sheet: &mut S,
@@ -80,7 +80,7 @@ pub(crate) fn conclude<S: Draft>(
     })
 }
 
-/// The reply to a call, from what it comes to.
+/// The reply to a call, made of its parts.
 pub(crate) fn reply_of(
     ready: Ready,
     told: Told,

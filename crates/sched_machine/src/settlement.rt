@@ -1,4 +1,4 @@
-//! What a call comes to up to settlement.
+//! The result of a call up to settlement.
 
 ghost use Rattle.std.specs.Prelude.{◌≡◌, IfOk};
 ghost use Rattle.sched_book.specs.Places.{held_by};
@@ -15,7 +15,7 @@ use sched_book::{Moment, Place, Unavailable};
 use std::alloc::Global;
 use texts::{Listed, Text};
 
-/// What a call comes to up to settlement.
+/// The result of a call up to settlement.
 #[derive(Drop)]
 pub(crate) struct SettledCall {
     /// The names that are acknowledged, in their order.

@@ -24,8 +24,8 @@ use rpc_records::{EndWord, Reply, Request};
 use sched_book::{Caller, Delta, Desk, Moment, Rows, Unavailable};
 use std::alloc::Global;
 
-/// Chooses new jobs for the host of a call and gives them to it: what the reply says of them, and why there are no more. The
-/// candidates are read as they were before the call: for its host they are the same.
+/// Chooses new jobs for the host of a call and gives them to it. Returns what the reply says of them, and why there are
+/// no more. The candidates are read as they were before the call: for its host they are the same.
 fn grant_jobs<D: Desk>(
     alloc: Global,
     desk: &mut D,
@@ -62,7 +62,7 @@ fn grant_jobs<D: Desk>(
     Ok((told, grant.end_word))
 }
 
-/// Acts on a call with a page that has nothing on it yet: its changes are on the page then, and its reply.
+/// Acts on a call with an empty page. Afterwards the page has the changes of the call; returns the reply.
 fn act<D: Desk>(
     alloc: Global,
     desk: &mut D,
@@ -89,13 +89,13 @@ fn act<D: Desk>(
     Ok(reply_of(ready, told, end_word, request, request_delay))
 }
 
-/// The step of a first-heard call, of the caller that [`caller_of`](crate::caller_of) names: its changes and its reply. The desk
-/// is only read. The machine knows nothing of sequence numbers, nor of calls before.
+/// The step of a first-heard call, whose caller [`caller_of`](crate::caller_of) returns: its changes and its reply. The
+/// desk is only read. The machine knows nothing of sequence numbers, nor of earlier calls.
 ///
 /// # Errors
 ///
 /// [`StepError::HostsFull`] if the host is new and the project has as many hosts as its settings allow;
-/// [`StepError::Unavailable`] if memory ran out or the desk is unavailable.
+/// [`StepError::Unavailable`] if there is no memory or the desk is unavailable.
 pub fn step_call<D: Desk>(
     alloc: Global,
     desk: &mut D,
@@ -119,12 +119,12 @@ pub fn step_call<D: Desk>(
     Ok((page.delta, reply))
 }
 
-/// The step of an import of rows that were checked beside a world: the changes that add them, and how many there are. They
-/// are the same beside every world.
+/// The step of an import of checked rows: the changes that add them, and how many there are. They are the same for every
+/// world.
 ///
 /// # Errors
 ///
-/// Want of memory.
+/// [`Unavailable`] if there is no memory.
 #[tactic(auto, using(crate::proofs::Rows::Added::import_steps))]
 pub fn step_import(alloc: Global, rows: &Rows) -> Result<(Delta, u32), Unavailable>
     ensures step { IfOk result (λ done. (w : World) → Sound w → AreChecked w rows.now → ImportStep w rows.now (applied w done.0) done.1) }
@@ -139,7 +139,7 @@ pub fn step_import(alloc: Global, rows: &Rows) -> Result<(Delta, u32), Unavailab
 ///
 /// # Errors
 ///
-/// Want of memory, or a desk that is unavailable.
+/// [`Unavailable`] if there is no memory or the desk is unavailable.
 pub fn step_tick<D: Desk>(
     alloc: Global,
     desk: &mut D,
@@ -153,7 +153,8 @@ pub fn step_tick<D: Desk>(
 {
     let places = desk.due_before(alloc, now)?;
     let Ok(count) = u32::try_from(places.len()) else {
-        // Not met in a sound world, where no more than 20,000,000 are overdue: `sched_book::laws::instances_are_few`.
+        // Does not happen in a sound world, where no more than 20,000,000 are overdue:
+        // `sched_book::laws::instances_are_few`.
         return Err(Unavailable);
     };
     let delta = lapse_places(alloc, desk, places.as_slice())?;

@@ -11,7 +11,7 @@ use quorum_credit::Score;
 use sched_book::Unavailable;
 use std::alloc::Global;
 
-/// The credit of a host: what it had when the call came, and what these scores bring it.
+/// The credit of a host: what it had when the call came, and what these scores bring.
 pub(crate) fn host_total<S: Draft>(
     sheet: &mut S,
     host: u32,
@@ -25,7 +25,7 @@ pub(crate) fn host_total<S: Draft>(
     for score in scores {
         let more = if score.host == host { score.credit } else { 0 };
         let Some(sum) = credit.checked_add(u64::from(more)) else {
-            // Not met in a sound world, where all credit is at most 2 * 10^15: `laws::credit_is_bounded`.
+            // Does not happen in a sound world, where all credit is at most 2 * 10^15: `laws::credit_is_bounded`.
             return Err(Unavailable);
         };
         credit = sum;
@@ -33,7 +33,7 @@ pub(crate) fn host_total<S: Draft>(
     Ok(credit)
 }
 
-/// What a score brings the user of an account.
+/// What a score brings to the user of an account.
 fn user_gain<S: Draft>(
     alloc: Global,
     sheet: &mut S,
@@ -53,7 +53,8 @@ fn user_gain<S: Draft>(
     }
 }
 
-/// The credit of the user of an account: what the user had when the call came, and what these scores bring the user's hosts.
+/// The credit of the user of an account: what the user had when the call came, and what these scores bring to the user's
+/// hosts.
 pub(crate) fn user_total<S: Draft>(
     alloc: Global,
     sheet: &mut S,
@@ -68,7 +69,7 @@ pub(crate) fn user_total<S: Draft>(
     for score in scores {
         let more = user_gain(alloc, sheet, account, score)?;
         let Some(sum) = credit.checked_add(u64::from(more)) else {
-            // Not met in a sound world, as above.
+            // Does not happen in a sound world, as above.
             return Err(Unavailable);
         };
         credit = sum;

@@ -1,4 +1,4 @@
--- Words. Rows are apart where their keys are.
+-- Words. Two rows may be in one world if and only if their keys differ.
 use Rattle.std.specs.Prelude.{◌≡◌, ◌≢◌, ◌↔◌, ℕ, ◌&&◌, ◌==◌, IsTrue, List, []}
 use Rattle.std.specs.Bool.{Decides}
 use Rattle.std.specs.Str.{bytes_eq}

@@ -1,4 +1,4 @@
--- Words. The parts of a sound world, each of which one function decides.
+-- Words. The parts of a sound world; for each of them there is one function that decides it.
 use Rattle.std.specs.Prelude.{◌≢◌, ℕ, ◌+◌, ◌<◌, ◌≤◌, IsTrue, List, length, count_by, All, AllPairs, IfSome}
 use Rattle.sched_book.specs.Count.{is_judged, report_place}
 use Rattle.sched_book.specs.Imports.{has_app, same_version}
@@ -18,7 +18,7 @@ pub record FitsItsTables (w : World) : Type 0 where
   pub units : length w.units ≤ most_workunits
   pub hosts : length w.hosts ≤ w.settings.max_hosts
 
--- the settings and each row but the workunits are in range, and what a row refers to stands
+-- the settings and each row are in range, and what a row refers to exists; workunits are left out
 pub record AreRowsWell (w : World) : Type 0 where
   pub settings : AreSettingsInLimits w.settings
   pub accounts : All IsAccountInLimits w.accounts
@@ -26,7 +26,7 @@ pub record AreRowsWell (w : World) : Type 0 where
   pub versions : All (IsSoundVersion w.apps) w.versions
   pub hosts : All (IsSoundHost (length w.accounts) w.settings.daily_result_quota) w.hosts
 
--- names, authenticators and keys stand once
+-- names, authenticators and keys occur once
 pub record StandKeysOnce (w : World) : Type 0 where
   pub accounts : AllPairs (λ a b. a.authenticator ≢ b.authenticator) w.accounts
   pub apps : AllPairs (λ a b. a.name ≢ b.name) w.apps
@@ -34,7 +34,7 @@ pub record StandKeysOnce (w : World) : Type 0 where
   pub units : AllPairs (λ a b. a.unit.name ≢ b.unit.name) w.units
   pub hosts : AllPairs HaveOtherKeys w.hosts
 
--- a workunit's row is in range, its application stands, and it has no more instances than it may
+-- a workunit's row is in range, its application exists, and it has no more instances than it may
 pub record IsUnitRowWell (apps : List App) (b : UnitBook) : Type 0 where
   pub few : length b.instances ≤ most_instances
   pub app : IsTrue (has_app apps b.unit.app)
@@ -45,7 +45,7 @@ pub record ArePlacedInTurn (xs : List Instance) : Type 0 where
   pub places : (n : ℕ) → n < count_by is_judged xs → IsTrue (has_place xs (n + 1))
   pub in_range : All (λ x. IfSome (report_place x) (λ place. place ≤ count_by is_judged xs)) xs
 
--- each instance is in range, was given to a host that stands, and is bare where nobody was given it
+-- each instance is in range, its host exists, and it is bare if it was given to nobody
 pub record AreWellEach (hosts : List HostRow) (xs : List Instance) : Type 0 where
   pub bare : All IsBare xs
   pub owners : All (HasOwnerAmong hosts) xs

@@ -1,5 +1,5 @@
-//! Whether values are in the ranges that a world's values have, each kind by itself: of a whole world, and of a row that is
-//! decoded alone.
+//! Whether values are in the ranges that a world's values have, each kind by itself. For a whole world, and for a row
+//! that is decoded alone.
 
 ghost use Rattle.std.specs.Prelude.{◌≤◌, ◌↔◌, IsTrue, IfSome};
 ghost use Rattle.sched_book.specs.Classes.{class_of};
@@ -29,7 +29,7 @@ const MOST_PLATFORMS: usize = 8;
 /// The last deadline, in seconds since 1970-01-01T00:00:00Z.
 const LAST_DEADLINE: u64 = 250_100_000_000;
 
-/// The most instances of a workunit, as the counts of a workunit are held.
+/// The most instances of a workunit, in the type of its counts.
 const MOST_IN_UNIT: u32 = MOST_INSTANCES as u32;
 
 /// Whether a text is a word: 1 to 64 ASCII letters, digits, `_`, `-` or `.`.
@@ -39,7 +39,7 @@ fn is_word_text(text: &Text) -> bool
     is_word(text.as_str().as_bytes())
 }
 
-/// Whether each setting is in range, the operator's key too.
+/// Whether each setting is in range, including the operator's key.
 pub fn are_settings_in_limits(settings: &Settings) -> bool
     ensures { IsTrue result ↔ AreSettingsInLimits settings.now }
 {
@@ -65,7 +65,7 @@ pub fn is_account_in_limits(account: &Account) -> bool
         && account.name.len() <= MOST_NAME_BYTES
 }
 
-/// Whether outputs that agree may be no further apart than they may be.
+/// Whether the distance that outputs may have and still agree is in range.
 fn is_agreement_in_limits(agreement: Agreement) -> bool
     ensures { IsTrue result ↔ (distance_of agreement ≤ MOST_DISTANCE) }
 {
@@ -93,7 +93,7 @@ pub fn is_version_in_limits(version: &Version) -> bool
         && is_word_text(&version.class)
 }
 
-/// Whether the class that a workunit keeps to, where it has one, is a word.
+/// Whether the class that a workunit keeps to, if it has one, is a word.
 fn is_rule_in_limits(rule: &ClassRule) -> bool
     ensures { IsTrue result ↔ IfSome (class_of rule.now) IsWord }
 {
@@ -103,7 +103,7 @@ fn is_rule_in_limits(rule: &ClassRule) -> bool
     }
 }
 
-/// Whether the names, the counts and the amounts of a workunit and its class are in range.
+/// Whether the names, the counts, the amounts and the class of a workunit are in range.
 pub fn is_unit_in_limits(unit: &Workunit) -> bool
     ensures { IsTrue result ↔ IsUnitInLimits unit.now }
 {
@@ -125,7 +125,7 @@ pub fn is_unit_in_limits(unit: &Workunit) -> bool
         && is_rule_in_limits(&unit.class_rule)
 }
 
-/// Whether what a host told of itself is in range, and its quota is 1 to `most_quota`.
+/// Whether what a host said of itself is in range, and its quota is 1 to `most_quota`.
 pub fn is_host_in_limits(most_quota: u32, host: &HostRow) -> bool
     ensures { IsTrue result ↔ IsHostInLimits most_quota host.now }
 {

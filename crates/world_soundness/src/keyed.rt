@@ -14,7 +14,7 @@ pub(crate) trait Unique: Keyed {
     /// Two rows may be in one world.
     ghost apart: { Self → Self → Type 0 };
 
-    // Rows are apart where their keys are.
+    // Two rows may be in one world if and only if their keys differ.
     ghost apart_by_key: { (x y : Self) → apart x y ↔ (Self.key_of x ≢ Self.key_of y) };
 }
 

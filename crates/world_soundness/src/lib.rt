@@ -1,4 +1,4 @@
-//! Whether a world is sound, tried on the whole of it: its values, names, references and workunits.
+//! Whether a world is sound, tested on the whole of it: its values, names, references and workunits.
 #![tactic(auto)]
 
 pub mod in_limits;

@@ -11,7 +11,7 @@ use crate::in_limits::{is_instance_in_limits, is_unit_in_limits};
 use sched_book::limits::MOST_INSTANCES;
 use sched_book::{App, ClassRule, HostRow, Instance, UnitBook, count, nth};
 
-/// Whether an application of this name stands.
+/// Whether there is an application of this name.
 pub(crate) fn has_app(apps: &[App], name: &str) -> bool
     ensures { result ≡ has_app apps.now name.now }
 {
@@ -59,21 +59,21 @@ fn are_places_without_gap(instances: &[Instance], judged: usize) -> bool
     (0..judged).all(|number| has_place(instances, number + 1))
 }
 
-/// Whether the place of a judged report is at most their count.
+/// Whether the place of its judged report, if it has one, is at most `judged`.
 fn is_place_within(judged: usize, instance: &Instance) -> bool
     ensures { IsTrue result ↔ IfSome (report_place instance.now) (λ place. place ≤ judged) }
 {
     report_place(instance).is_none_or(|place| place as usize <= judged)
 }
 
-/// Whether an instance that nobody was given has neither lapse nor report.
+/// Whether the instance, if it was given to nobody, has neither lapse nor report.
 fn is_bare(instance: &Instance) -> bool
     ensures { IsTrue result ↔ IsBare instance.now }
 {
     instance.owner.is_some() || instance.lapse.is_none() && instance.report.is_none()
 }
 
-/// Whether the host that it was given to stands.
+/// Whether the host that it was given to, if any, exists.
 fn has_owner_among(hosts: &[HostRow], instance: &Instance) -> bool
     ensures { IsTrue result ↔ HasOwnerAmong hosts.now instance.now }
 {
@@ -91,14 +91,14 @@ fn user_of(hosts: &[HostRow], instance: &Instance) -> Option<u32>
     Some(host.account)
 }
 
-/// Whether two instances were not given to hosts of one user.
+/// Whether two instances were not given to hosts of the same user.
 fn are_of_other_users(hosts: &[HostRow], left: &Instance, right: &Instance) -> bool
     ensures { IsTrue result ↔ AreOfOtherUsers hosts.now left.now right.now }
 {
     left.owner.is_none() || right.owner.is_none() || user_of(hosts, left) != user_of(hosts, right)
 }
 
-/// Whether none of these instances was given to a host of the user who has that one.
+/// Whether none of these instances was given to a host of the same user as `instance`.
 fn are_all_of_other_users(hosts: &[HostRow], instances: &[Instance], instance: &Instance) -> bool
     ensures { IsTrue result ↔ All (λ x. AreOfOtherUsers hosts.now x instance.now) instances.now }
 {
@@ -107,7 +107,7 @@ fn are_all_of_other_users(hosts: &[HostRow], instances: &[Instance], instance: &
         .all(|other| are_of_other_users(hosts, other, instance))
 }
 
-/// Whether no two instances were given to hosts of one user.
+/// Whether no two instances were given to hosts of the same user.
 fn is_one_for_each_user(hosts: &[HostRow], instances: &[Instance]) -> bool
     ensures { IsTrue result ↔ AllPairs (AreOfOtherUsers hosts.now) instances.now }
 {
@@ -130,7 +130,7 @@ fn are_placed_in_turn(instances: &[Instance]) -> bool
             .all(|instance| is_place_within(judged, instance))
 }
 
-/// Whether each instance is in range, was given to a host that stands, and is bare where nobody was given it.
+/// Whether each instance is in range, its host exists, and it is bare if it was given to nobody.
 fn are_well_each(hosts: &[HostRow], instances: &[Instance]) -> bool
     ensures { IsTrue result ↔ AreWellEach hosts.now instances.now }
 {
@@ -141,7 +141,7 @@ fn are_well_each(hosts: &[HostRow], instances: &[Instance]) -> bool
             .all(|instance| has_owner_among(hosts, instance))
 }
 
-/// Whether the row of a workunit is in range, its application stands, and it has no more instances than it may.
+/// Whether the row of a workunit is in range, its application exists, and it has no more instances than it may.
 fn is_unit_row_well(apps: &[App], book: &UnitBook) -> bool
     ensures { IsTrue result ↔ IsUnitRowWell apps.now book.now }
 {
@@ -150,7 +150,7 @@ fn is_unit_row_well(apps: &[App], book: &UnitBook) -> bool
         && is_unit_in_limits(&book.unit)
 }
 
-/// Whether a workunit is sound, but that it may lack its class and, while it is open, instances.
+/// Whether a workunit is sound, except that it may lack its class and, if it is open, instances.
 fn is_well_unit(hosts: &[HostRow], apps: &[App], book: &UnitBook) -> bool
     ensures { IsTrue result ↔ IsWellUnit hosts.now apps.now book.now }
 {
@@ -161,14 +161,14 @@ fn is_well_unit(hosts: &[HostRow], apps: &[App], book: &UnitBook) -> bool
         && is_one_for_each_user(hosts, instances)
 }
 
-/// Whether nobody was given it.
+/// Whether it was given to nobody.
 fn is_unowned(instance: &Instance) -> bool
     ensures { IsTrue result ↔ (instance.now.owner ≡ None) }
 {
     instance.owner.is_none()
 }
 
-/// Whether a workunit that is still to take a class has no instance that was given out.
+/// Whether a workunit that has not yet taken its class has no instance that was given out.
 fn has_class_once_given(book: &UnitBook) -> bool
     ensures { IsTrue result ↔ HasClassOnceGiven book.now }
 {
@@ -178,7 +178,7 @@ fn has_class_once_given(book: &UnitBook) -> bool
     }
 }
 
-/// Whether a workunit is sound, where these are the hosts and applications.
+/// Whether a workunit is sound, if these are the hosts and applications.
 pub fn is_sound_unit(hosts: &[HostRow], apps: &[App], book: &UnitBook) -> bool
     ensures { IsTrue result ↔ IsSoundUnit hosts.now apps.now book.now }
 {

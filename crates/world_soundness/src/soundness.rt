@@ -26,21 +26,21 @@ fn fits_its_tables(world: &World) -> bool
         && world.hosts.len() <= world.settings.max_hosts as usize
 }
 
-/// Whether a version is in range, and its application stands.
+/// Whether a version is in range, and its application exists.
 fn is_sound_version(apps: &[App], version: &Version) -> bool
     ensures { IsTrue result ↔ IsSoundVersion apps.now version.now }
 {
     has_app(apps, version.app.as_str()) && is_version_in_limits(version)
 }
 
-/// Whether a host is sound where there are so many accounts and its quota has this limit.
+/// Whether a host is sound, if there are so many accounts and its quota has this limit.
 fn is_sound_host(accounts: usize, most_quota: u32, host: &HostRow) -> bool
     ensures { IsTrue result ↔ IsSoundHost accounts most_quota host.now }
 {
     1 <= host.account && host.account as usize <= accounts && is_host_in_limits(most_quota, host)
 }
 
-/// Whether each version is in range, and its application stands.
+/// Whether each version is in range, and its application exists.
 fn are_versions_sound(apps: &[App], versions: &[Version]) -> bool
     ensures { IsTrue result ↔ All (IsSoundVersion apps.now) versions.now }
 {
@@ -49,7 +49,7 @@ fn are_versions_sound(apps: &[App], versions: &[Version]) -> bool
         .all(|version| is_sound_version(apps, version))
 }
 
-/// Whether each host is in range under these limits, and its account stands.
+/// Whether each host is in range under these limits, and its account exists.
 fn are_hosts_sound(accounts: usize, most_quota: u32, hosts: &[HostRow]) -> bool
     ensures { IsTrue result ↔ All (IsSoundHost accounts most_quota) hosts.now }
 {
@@ -58,7 +58,7 @@ fn are_hosts_sound(accounts: usize, most_quota: u32, hosts: &[HostRow]) -> bool
         .all(|host| is_sound_host(accounts, most_quota, host))
 }
 
-/// Whether the settings and each row but the workunits are in range, and what a row refers to stands.
+/// Whether the settings and each row are in range, and what a row refers to exists. Workunits are left out.
 fn are_rows_well(world: &World) -> bool
     ensures { IsTrue result ↔ AreRowsWell world.now }
 {
@@ -76,7 +76,7 @@ fn are_rows_well(world: &World) -> bool
         )
 }
 
-/// Whether names, authenticators and keys stand once.
+/// Whether names, authenticators and keys occur once.
 fn stand_keys_once(alloc: Global, world: &World) -> Result<bool, Memory>
     ensures { IfOk result (λ once. IsTrue once ↔ StandKeysOnce world.now) }
 {
@@ -101,14 +101,13 @@ fn are_units_sound(world: &World) -> bool
         .all(|book| is_sound_unit(hosts, apps, book))
 }
 
-/// Whether a world is sound: settings, rows and instances are in range, no table is too long, names,
-/// authenticators and keys stand once, what rows refer to stands, and each workunit has its instances given to
-/// hosts of different users, its judged reports at places without a gap, what it needs while it is open, and its
-/// class, if it is marked and any of its instances was given out.
+/// Whether a world is sound. Settings, rows and instances are in range, and no table is too long. Names, authenticators
+/// and keys occur once, and what rows refer to exists. The instances of each workunit were given to hosts of different
+/// users, and its judged reports are at places without a gap. If the workunit is open, it has the instances that it
+/// needs. If it is marked and any of its instances was given out, it has its class.
 ///
-/// Its time grows with the rows, for names and keys also with the logarithm of their number, and with the
-/// instances: those of one workunit, 100 at most, are set beside one another. It is unavailable where memory is
-/// wanting.
+/// The time grows with the number of rows and of instances; for names and keys also with the logarithm of their number.
+/// The instances of one workunit, at most 100, are compared in pairs. Unavailable if there is no memory.
 pub fn is_sound(alloc: Global, world: &World) -> Result<bool, Unavailable>
     ensures { IfOk result (λ sound. IsTrue sound ↔ Sound world.now) }
 {

@@ -1,4 +1,4 @@
--- Whose hosts they are: the same at the call's entry, and after settlement.
+-- Which user a host belongs to: the same at the call's entry, and after settlement.
 use Rattle.std.proofs.Common.{◌≡◌, ℕ, ◌+◌, Bool, true, cond, List, length, Option, Some, None, refl, ap, ◌∙◌, sym}
 use Rattle.std.specs.Prelude.{◌==◌, All, is_some, map, option_map, option_and_then, unwrap_or, IsTrue, IfSome}
 use Rattle.std.specs.List.{list_any, enumerate_from}
@@ -26,7 +26,7 @@ use Rattle.sched_machine.proofs.Moves.Moves.{left_alone}
 abbrev pub account_by : Option HostRow → Option ℕ
 account_by o = option_map (λ (h : HostRow). h.account) o
 
--- the hosts as the call tells them
+-- the hosts as the call gives them
 module _ (w : World) (c : Caller) (r : Request) (caller : IsCaller w c r) where
   pub row_at_entry : host_at (at_entry w c r) (host_number w c) ≡ Some (host_at_entry w c r)
   row_at_entry = cases c.host caller.host
@@ -60,7 +60,7 @@ module _ (w : World) (c : Caller) (r : Request) (caller : IsCaller w c r) where
   pub account_stays : (n : ℕ) → is_some (nth w.hosts n) ≡ true → account_at (hosts_at_entry w c r c.host) n ≡ account_at w.hosts n
   account_stays n stands = (same_account w.hosts (hosts_at_entry w c r c.host) (accounts_at_entry w c r caller) n stands).0
 
--- a new quota leaves them
+-- a new quota changes no account
 pub account_settled : (old new : World) (hosts : List HostRow) (n : ℕ)
     → account_at (map (with_quota old new) (enumerate_from 1 hosts)) n ≡ account_at hosts n
 account_settled old new hosts n = ap account_by (nth-map_places (with_quota old new) hosts n) ∙ cases (nth hosts n)
@@ -81,7 +81,7 @@ same_user hosts others account xs same owners =
     cases None among = refl
     cases (Some host) among = ap (option_any (λ n. n == account)) (same host among)
 
--- what the host was given, its user was
+-- if the host was given an instance, its user was
 pub user_has_one : (hosts : List HostRow) (host account : ℕ) (b : UnitBook) → account_at hosts host ≡ Some account → HasOne host b
     → list_any (is_of_user hosts account) b.instances ≡ true
 user_has_one hosts host account b is has =

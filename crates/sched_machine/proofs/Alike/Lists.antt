@@ -1,4 +1,4 @@
--- Two lists, each element of one related to the one at its place in the other.
+-- Two lists, in which each element has a relation to the element at its place in the other.
 use Rattle.std.proofs.Common.{◌≡◌, ℕ, zero, suc, ◌+◌, ◌-◌, Bool, true, false, cond, eqb, List, [], ◌∷◌, Option, Some, None, sym, refl, ap, ◌∙◌, subst}
 use Rattle.std.specs.Prelude.{◌||◌, All, map, sum_by, slice_get}
 use Rattle.std.specs.List.{list_any}
@@ -13,7 +13,7 @@ Along R [] (y ∷ ys) = ⊥
 Along R (x ∷ xs) [] = ⊥
 Along R (x ∷ xs) (y ∷ ys) = R x y × Along R xs ys
 
--- what stands at a place of each, or nothing in both
+-- the elements at a place of each list are related, or there is none in both
 abbrev pub Both : {X : Type 0} → (X → X → Type 0) → Option X → Option X → Type 0
 Both R None None = Unit {0}
 Both R None (Some y) = ⊥
@@ -30,7 +30,7 @@ pub along_places : {X : Type 0} (R : X → X → Type 0) (xs ys : List X) → ((
 along_places R xs ys both =
     along_from R xs ys (λ i. subst (λ o. Both R o (slice_get ys i)) (nth-suc xs i) (subst (Both R (nth xs (suc i))) (nth-suc ys i) (both (suc i))))
 
--- each element of the second made into another
+-- a function of each element of the second list
 pub along_map : {X : Type 0} (P : X → Type 0) (R Q : X → X → Type 0) (g : X → X) → ((x y : X) → P x → R x y → Q x (g y))
     → (xs ys : List X) → All P xs → Along R xs ys → Along Q xs (map g ys)
 along_map P R Q g makes [] [] all along = tt
@@ -39,7 +39,7 @@ along_map P R Q g makes (x ∷ xs) [] all along = absurd along
 along_map P R Q g makes (x ∷ xs) (y ∷ ys) all along =
     (makes x y (All-head P x xs all) along.0, along_map P R Q g makes xs ys (All-tail P x xs all) along.1)
 
--- what is said alike of what stands at a place in each
+-- a function of the elements at a place that agrees on related ones
 along_get : {X Y : Type 0} (R : X → X → Type 0) (F G : Option X → Y) → G None ≡ F None → ((x y : X) → R x y → G (Some y) ≡ F (Some x))
     → (xs ys : List X) (i : ℕ) → Along R xs ys → G (slice_get ys i) ≡ F (slice_get xs i)
 along_get R F G none some [] [] i along = none
@@ -56,7 +56,7 @@ along_nth R F G none some xs ys n along = cases (eqb n 0)
     cases true = none
     cases false = along_get R F G none some xs ys (n - 1) along
 
--- what is the same of each pair sums up to the same
+-- the sums are the same if each pair has the same value
 pub along_sum : {X : Type 0} (R : X → X → Type 0) (f : X → ℕ) → ((x y : X) → R x y → f y ≡ f x)
     → (xs ys : List X) → Along R xs ys → sum_by f ys ≡ sum_by f xs
 along_sum R f same [] [] along = refl
@@ -68,7 +68,7 @@ along_sum R f same (x ∷ xs) (y ∷ ys) along =
     ∙ ap (λ n. f x + n) (along_sum R f same xs ys along.1)
     ∙ sym (sum_by-cons f x xs)
 
--- two tests that say the same of each element, or of which one implies the other
+-- two tests that agree on each element, or one of which implies the other
 pub any_same : {X : Type 0} (P : X → Type 0) (p q : X → Bool) → ((x : X) → P x → p x ≡ q x) → (xs : List X) → All P xs
     → list_any p xs ≡ list_any q xs
 any_same P p q same [] all = refl

@@ -1,4 +1,4 @@
--- A world after settlement grants the call's host what the world before the call does.
+-- A world after settlement grants the call's host the same as the world before the call.
 use Rattle.std.proofs.Common.{◌≡◌, ℕ, suc, ◌/◌, inl, inr, Bool, true, false, not, List, get_or, Option, Some, None, sym, refl, ap, ◌∙◌, subst}
 use Rattle.std.proofs.Math.Bool.{and-false}
 use Rattle.std.proofs.lemmas.Option.{slice_get-get_or}
@@ -32,7 +32,7 @@ all_whole : (w : World) → Sound w → All (IsWhole w) w.units
 all_whole w sound k d within =
     (sound.units k d within, grown_sound w (suc k) (get_or w.units k d) sound (nth-suc w.units k ∙ slice_get-get_or w.units k d within))
 
--- an instance of the workunit that is given to nobody, where the workunit is for the host
+-- the workunit has an instance of this number without owner, and is for the host
 abbrev may_get : Bool → ℕ → UnitBook → Bool
 may_get is number b = unwrap_or (option_map (λ (x : Instance). is_none x.owner && is) (slice_get b.instances number)) false
 
@@ -43,13 +43,13 @@ none_may is number b never = ap (λ t. may_get t number b) never ∙ cases (slic
     cases None = refl
     cases (Some x) = and-false (is_none x.owner)
 
--- the same grants come of two workunits
+-- two workunits lead to the same grants
 record IsAlike (w v : World) (q : Asking) (b d : UnitBook) : Type 0 where
   row : d.unit ≡ b.unit
   sent : (day : ℕ) → count_by (was_sent q.number day) d.instances ≡ count_by (was_sent q.number day) b.instances
   for : (number : ℕ) → may_get (is_for v q.host d) number d ≡ may_get (is_for w q.host b) number b
 
--- worlds that differ in their hosts and workunits alone
+-- worlds that differ only in their hosts and workunits
 abbrev with_both : World → List HostRow → List UnitBook → World
 with_both w hosts units = record w { hosts = hosts; units = units }
 
@@ -62,7 +62,7 @@ module _ (w : World) (hosts : List HostRow) (units : List UnitBook) (q : Asking)
       ap (λ t. is_open (status_of v b) && unit_fits v q.host b && not t) had
       ∙ and-false (is_open (status_of v b) && unit_fits v q.host b)
 
-  -- settlement makes such of such
+  -- after settlement, workunits like these are alike
   module _ (same : (n : ℕ) → is_some (nth w.hosts n) ≡ true → account_at hosts n ≡ account_at w.hosts n)
       (account : account_at hosts q.number ≡ Some q.host.account) where
     alike_unit : (b d : UnitBook) → IsWhole w b → IsKept q.number b d → IsAlike w after q b (grown w.apps d)
@@ -113,7 +113,7 @@ module _ (w : World) (c : Caller) (r : Request) (now : ℕ) (sound : Sound w) (c
   abbrev left : World
   left = after_lost w c r now
 
-  -- what is left, but that all beside workunits is as at entry
+  -- the world that is left, with everything except workunits as at entry
   abbrev changed : World
   changed = record entry { units = left.units }
 

@@ -1,4 +1,4 @@
--- What the changes of a call leave of a workunit: one that no instance of the call's host stands in stays as it is.
+-- What the changes of a call leave of a workunit: if no instance of it belongs to the call's host, it stays as it is.
 use Rattle.std.proofs.Common.{◌≡◌, ℕ, suc, ◌+◌, ◌-◌, ◌/◌, ◌⊎◌, inl, inr, Bool, true, false, cond, eqb, List, [], ◌∷◌, ◌++◌, Option, Some, None, sym, refl, ap, ap₂, ◌∙◌}
 use Rattle.std.specs.Prelude.{◌&&◌, ◌||◌, ◌==◌, count_by, map, replicate, option_map, option_and_then, slice_get}
 use Rattle.std.specs.List.{list_any}
@@ -27,23 +27,23 @@ use Rattle.sched_machine.proofs.Moves.Moves.{Lasts, left_alone, left_lasts}
 use Rattle.sched_machine.proofs.Units.Alike.{count_cons}
 use Rattle.sched_machine.proofs.Units.Grown.{count_none}
 
--- the host was given some instance of the workunit
+-- some instance of the workunit was given to the host
 abbrev pub HasOne : ℕ → UnitBook → Type 0
 HasOne host b = list_any (is_owned_by host) b.instances ≡ true
 
--- A workunit and what became of it: the same, or one that the host had an instance of, and has.
+-- A workunit and what it became: it is the same, or the host had an instance of it before and has one now.
 pub record IsKept (host : ℕ) (b d : UnitBook) : Type 0 where
   pub row : d.unit ≡ b.unit
   pub sent : (day : ℕ) → count_by (was_sent host day) d.instances ≡ count_by (was_sent host day) b.instances
   pub held : (d ≡ b) ⊎ (HasOne host b × HasOne host d)
 
--- what stands at a place, and what became of it: the same, or the host's
+-- the instance at a place and what it became: the same, or the host's before and now
 abbrev StaysOwn : ℕ → Option Instance → Option Instance → Type 0
 StaysOwn host o q =
     ((day : ℕ) → option_map (was_sent host day) q ≡ option_map (was_sent host day) o)
     × ((q ≡ o) ⊎ ((option_any (is_owned_by host) o ≡ true) × (option_any (is_owned_by host) q ≡ true)))
 
--- so through the reports and the lost jobs of its call
+-- this holds through the reports and the lost jobs of its call
 stays_own : (w : World) (c : Caller) (r : Request) (p : Place) → Lasts w (call.Rpc c r) p (StaysOwn (host_number w c))
 stays_own w c r p = record {
   same = λ o. (λ day. refl, inl refl);
@@ -62,7 +62,7 @@ stays_own w c r p = record {
   );
 }
 
--- as many pass where each passes as the one at its index
+-- as many elements pass if each passes whenever the one at its index does
 count_alike : (t : Instance → Bool) (xs ys : List Instance) → ((i : ℕ) → option_map t (slice_get ys i) ≡ option_map t (slice_get xs i))
     → count_by t ys ≡ count_by t xs
 count_alike t [] [] same = refl
@@ -75,7 +75,7 @@ count_alike t (x ∷ xs) (y ∷ ys) same =
     ∙ ap (λ n. cond {A = ℕ} (t x) 1 0 + n) (count_alike t xs ys (λ i. same (suc i)))
     ∙ sym (count_cons t x xs (t x) refl)
 
--- a workunit whose instances stay so
+-- a workunit whose instances stay in this way
 kept_by : (host : ℕ) (b d : UnitBook) → d.unit ≡ b.unit → ((i : ℕ) → StaysOwn host (slice_get b.instances i) (slice_get d.instances i)) → IsKept host b d
 kept_by host b d row stays = record {
   row = row;
@@ -94,7 +94,7 @@ kept_by host b d row stays = record {
     at_place none n true = refl
     at_place none n false = same none (n - 1)
 
-    -- one that is the host's is so later
+    -- an instance that belongs to the host still does later
     still : (i : ℕ) (o q : Option Instance) → slice_get d.instances i ≡ q → StaysOwn host o q → option_any (is_owned_by host) o ≡ true → HasOne host d
     still i None q there goes own = absurd cc
     still i (Some x) None there goes own = absurd (let never : None ≡ Some (was_sent host 0 x) = goes.0 0 in cc)
@@ -115,7 +115,7 @@ kept_by host b d row stays = record {
         let instances : d.instances ≡ b.instances = same_by_place d.instances b.instances (λ n. at_place is n (eqb n 0)) in
         inl (λ i. record { unit = row i; instances = instances i })
 
--- what it needs of new instances
+-- with the new instances that it needs
 pub row_grown : (apps : List App) (d : UnitBook) → (grown apps d).unit ≡ d.unit
 row_grown apps d = cases (is_open (book_status apps d))
   where
@@ -127,7 +127,7 @@ pub rows_grown : (apps : List App) (bs : List UnitBook) → map (λ (b : UnitBoo
 rows_grown apps [] = refl
 rows_grown apps (b ∷ bs) = ap₂ (λ u us. u ∷ us) (row_grown apps b) (rows_grown apps bs)
 
--- the row at a place, by all rows
+-- the row at a place, if all rows are the same
 pub row_at : (w v : World) → map (λ (b : UnitBook). b.unit) v.units ≡ map (λ (b : UnitBook). b.unit) w.units → (n : ℕ) → workunit_at v n ≡ workunit_at w n
 row_at w v rows n = sym (nth-map (λ (b : UnitBook). b.unit) v.units n) ∙ ap (λ us. nth us n) rows ∙ nth-map (λ (b : UnitBook). b.unit) w.units n
 
@@ -149,7 +149,7 @@ has_grown host apps d has = cases (is_open (book_status apps d))
         list_any-append (is_owned_by host) d.instances (replicate (need d.unit d.instances) fresh)
         ∙ ap (λ t. t || list_any (is_owned_by host) (replicate (need d.unit d.instances) fresh)) has
 
--- A world and what became of it: but for its workunits the same.
+-- A world and what it became: the same except for its workunits.
 pub record IsFrom (host : ℕ) (w v : World) : Type 0 where
   pub units : Along (IsKept host) w.units v.units
   pub rest : v ≡ record w { units = v.units }

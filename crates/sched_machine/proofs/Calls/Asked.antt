@@ -15,7 +15,7 @@ use Rattle.sched_book.specs.declared.world.World.{World}
 use Rattle.lost_jobs.specs.Fates.{fate}
 use Rattle.sched_machine.specs.Asked.{place_resent, resent_places}
 
--- the seconds by the workunit alone
+-- the seconds, by the workunit alone
 by_unit : (h : HostRow) (o : Option UnitBook)
     → unwrap_or (option_map (λ (b : UnitBook). estimate b.unit.rsc_fpops_est h.p_fpops) o) 0
     ≡ unwrap_or (option_map (λ (u : Workunit). estimate u.rsc_fpops_est h.p_fpops) (option_map (λ (b : UnitBook). b.unit) o)) 0
@@ -31,7 +31,7 @@ pub estimate_some : (w : World) (h : HostRow) (p : Place) (u : Workunit) → wor
 estimate_some w h p u stands =
     by_unit h (unit_at w p.unit) ∙ ap (λ o. unwrap_or (option_map (λ (u : Workunit). estimate u.rsc_fpops_est h.p_fpops) o) 0) stands
 
--- of the fates of lost jobs these are the jobs that are sent again
+-- the lost jobs whose fates send them again are those that are sent again
 pub resent_are : (w : World) (h : HostRow) (now : ℕ) (places : List Place) → resent_places (map (fate w h now) places) ≡ filter (is_resent w h) places
 resent_are w h now [] = refl
 resent_are w h now (p ∷ places) = cases (is_resent w h p) (resent_are w h now places)

@@ -1,4 +1,4 @@
--- What a call asks of the choice of new jobs, and what is chosen: the candidates are read before the call.
+-- What a call asks of the choice of new jobs, and what is chosen. The candidates are read before the call's changes.
 use Rattle.std.proofs.Common.{◌≡◌, ℕ, cond, List, [], get_or, length, Option, None, sym, ap, ◌∙◌, subst}
 use Rattle.std.specs.Prelude.{bytes_eq, sum_by, option_and_then, unwrap_or}
 use Rattle.std.specs.List.{list_any}
@@ -24,7 +24,7 @@ use Rattle.sched_machine.specs.declared.preparing.Ready.{Ready}
 use Rattle.sched_machine.proofs.Alike.Settled.{the_settled_world_is_like_the_first}
 use Rattle.sched_machine.proofs.Held.Said.{platforms_stay}
 
--- A call that is ready for its grant, and the world that it leaves behind settlement.
+-- A call that is ready for its grant, and the world after its settlement.
 module _ (w v : World) (r : Request) (now : ℕ) (ready : Ready) (changes : List Change) (is : IsReady w r now ready v changes) where
   abbrev caller : Caller
   caller = ready.call.caller
@@ -35,7 +35,7 @@ module _ (w v : World) (r : Request) (now : ℕ) (ready : Ready) (changes : List
   left : v ≡ settlement
   left = is.settled.left
 
-  -- what is asked for by these parts
+  -- what is asked for, made of these parts
   abbrev parts : ℕ → World → HostRow → List Place → Asking
   parts number after host resent = record {
     number = number;
@@ -49,7 +49,7 @@ module _ (w v : World) (r : Request) (now : ℕ) (ready : Ready) (changes : List
   abbrev asked_with : HostRow → ℕ → ℕ → Asking
   asked_with row before held = record { number = ready.call.number; host = row; before = before; held = held; asked = r.asked; now = now }
 
-  -- it is what is asked for behind settlement
+  -- it is what is asked for after settlement
   asking_is : asking_by ready r now ≡ asking_of w caller r now
   asking_is =
       ap (λ row. asked_with row ready.wish.before ready.wish.held) is.row
@@ -60,7 +60,7 @@ module _ (w v : World) (r : Request) (now : ℕ) (ready : Ready) (changes : List
       ∙ ap (λ h. parts (host_number w caller) settlement h ready.settled.resent) is.calling.host
       ∙ ap (parts (host_number w caller) settlement (host_at_entry w caller r)) is.settled.resent
 
-  -- what is chosen before is a grant behind it, and ends for the same reason
+  -- the choice made in the world before is a grant after settlement, and ends for the same reason
   module _ (g : Grant) (chosen : IsChoice w (asking_by ready r now) g) where
     choice : IsChoice w (asking_of w caller r now) g
     choice = subst (λ q. IsChoice w q g) asking_is chosen
@@ -77,7 +77,7 @@ module _ (w v : World) (r : Request) (now : ℕ) (ready : Ready) (changes : List
     pub choice_ends : g.end_word ≡ end_word settlement (asking_of w caller r now) (places_of g.jobs)
     choice_ends = choice.end_word_is ∙ sym carried.1
 
-    -- the host runs the version of each job, since settlement leaves its platforms
+    -- the host runs the version of each job, because settlement keeps its platforms
     same_version : (app : List ℕ) → version_for w (asking_of w caller r now).host app ≡ version_for w ready.call.host app
     same_version app =
         ap (λ platforms. cond (list_any (λ (a : App). bytes_eq a.name app) w.apps) (version_among w.versions app platforms) None)

@@ -1,4 +1,4 @@
--- A call is a step of the machine, from what its parts tell.
+-- A call is a step of the machine, by what its parts say.
 use Rattle.std.proofs.Common.{◌≡◌, ℕ, ◌+◌, ◌≤◌, ◌++◌, true, false, List, [], map, is_some, refl, sym, ap, ap₂, ◌∙◌, subst}
 use Rattle.std.specs.Prelude.{IsTrue, filter_map}
 use Rattle.rpc_records.specs.declared.reply.EndWord.{EndWord}
@@ -51,7 +51,7 @@ module _ (w v : World) (r : Request) (now : ℕ) (ready : Ready) (changes : List
       ap₂ (λ (z : World) n. is_some (host_at z n)) is.settled.left is.calling.number
       ∙ ap is_some (host_stands w ready.call.caller r now is.calling.sound is.calling.admitted.caller is.calling.room is.calling.admitted.limits soon)
 
-  -- the grant, and what is told of it
+  -- the grant, and what the reply says of it
   pub granted_is : (u : World) (after : List Change) (chosen : List Granted) (jobs : List Place) (told : Told) (word : EndWord)
       → AreRunBy w ready.call.host chosen → places_of chosen ≡ jobs
       → IsGrant (after_settlement w ready.call.caller r now) (asking_of w ready.call.caller r now) jobs
@@ -86,7 +86,7 @@ module _ (w v : World) (r : Request) (now : ℕ) (ready : Ready) (changes : List
     abbrev number : ℕ
     number = host_number w caller
 
-    -- the classes that are taken leave credit and hosts
+    -- the classes that are taken change neither credit nor hosts
     abbrev given : World
     given = granted (after_settlement w caller r now) number now done.jobs
 

@@ -25,7 +25,7 @@ use Rattle.sched_machine.specs.declared.caller.Calling.{Calling}
 use Rattle.sched_machine.proofs.Rows.Entry.{entry_is_sound}
 use Rattle.sched_machine.proofs.Rows.Listed.{place_found}
 
--- a row put at the number of one that stands is that one changed
+-- a row put at the number of an existing one is that row changed
 put_changed : {X : Type 0} (f : X → X) (xs : List X) (n : ℕ) (x : X) → nth xs n ≡ Some x → set_nth xs n (f x) ≡ modify_nth f xs n
 put_changed {X} f xs n x stands =
     same_by_place (set_nth xs n (f x)) (modify_nth f xs n) (λ m. before m ∙ cases m (eqb n m) refl ∙ sym (nth-modify_nth f xs n m))
@@ -42,7 +42,7 @@ put_changed {X} f xs n x stands =
     cases m true is = sym (ap (option_map f) (ap (nth xs) (sym (eqb-true n m is)) ∙ stands))
     cases m false is = refl
 
--- a row put at the next number stands behind the others
+-- a row put at the next number comes after the others
 put_next : {X : Type 0} (xs : List X) (x : X) → set_nth xs (length xs + 1) x ≡ xs ++ x ∷ []
 put_next xs x =
     ap (λ (b : Bool). cond b xs (set_at xs (length xs + 1 - 1) x)) (let some : eqb (length xs + 1) 0 ≡ false = grind arith in some)
@@ -93,7 +93,7 @@ module _ (w : World) (c : Caller) (r : Request) (sound : Sound w) (caller : IsCa
             (entry_is_sound w c r sound caller limits (quota_of w (Some host)) (subst (λ q. (1 ≤ q) × (q ≤ w.settings.daily_result_quota)) (sym quota) before)).limits,
           )
 
--- the call of a caller whose host stands, and has this row
+-- the call of a caller whose host exists and has this row
 pub renews : (w : World) (c : Caller) (r : Request) (number : ℕ) (before row : HostRow) → Sound w → IsAdmitted w c r → c.host ≡ Some number
     → host_at w number ≡ Some before → row ≡ row_of_call c r before.quota → IsCalling w r (record { caller = c; number = number; host = row })
 renews w c r number before row sound admitted known stands is = record {
@@ -104,7 +104,7 @@ renews w c r number before row sound admitted known stands is = record {
   host = is ∙ ap (row_of_call c r) (sym (ap (quota_of w) known ∙ quota_at w c r admitted.caller number before stands));
 }
 
--- and of one whose host is new
+-- the call of a caller whose host is new
 pub makes : (w : World) (c : Caller) (r : Request) (number most quota : ℕ) (row : HostRow) → Sound w → IsAdmitted w c r → c.host ≡ None
     → number ≡ length w.hosts + 1 → number ≤ most → most ≡ w.settings.max_hosts → quota ≡ w.settings.daily_result_quota
     → row ≡ row_of_call c r quota → IsCalling w r (record { caller = c; number = number; host = row })
@@ -116,7 +116,7 @@ makes w c r number most quota row sound admitted new next low limit given is = r
   host = is ∙ ap (row_of_call c r) (given ∙ sym (ap (quota_of w) new));
 }
 
--- what the row of a call's host leaves, put before any other change
+-- what is left after the row of a call's host was put, before any other change
 pub enters : (w v : World) (r : Request) (k : Calling) (changes : List Change) → IsCalling w r k → v ≡ applied_one w (change.Host k.number k.host)
     → changes ≡ change.Host k.number k.host ∷ [] → IsEntered w r k v changes
 enters w v r k changes calling put are = record {

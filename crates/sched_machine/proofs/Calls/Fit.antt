@@ -1,4 +1,4 @@
--- What a call's lost jobs change fits behind what its reports change.
+-- What a call's lost jobs change fits after what its reports change.
 use Rattle.std.proofs.Common.{◌≡◌, ℕ, ◌≤◌, Bool, true, false, cond, List, [], ◌∷◌, ◌++◌, map, Option, Some, None, sym, refl, subst, arith}
 use Rattle.std.specs.Prelude.{All, filter_map, is_some, option_map, unwrap_or, slice_get, IfSome}
 use Rattle.std.specs.List.{cons_option}
@@ -51,7 +51,7 @@ limited_from_well w well = record {
       ));
 }
 
--- a fate leaves an instance within limits, where its deadline is
+-- a fate keeps an instance within limits if its deadline is
 fated_good : (hosts : List HostRow) (o : Option ℕ) (x : Instance) → ((d : ℕ) → o ≡ Some d → d ≤ last_deadline)
     → is_some x.owner ≡ true → HasOwnerAmong hosts x × IsBare x × IsInstanceInLimits x
     → HasOwnerAmong hosts (fated o x) × IsBare (fated o x) × IsInstanceInLimits (fated o x)
@@ -63,21 +63,21 @@ fated_good hosts o x low given good =
     fated_keeps None low = lapse_keeps Dropped x given
     fated_keeps (Some d) low = deadline_keeps (λ before. d) (λ before was. low d refl) x
 
--- it takes no owner away
+-- a fate removes no owner
 fated_given : (o : Option ℕ) (x : Instance) → is_some (fated o x).owner ≡ is_some x.owner
 fated_given None x = refl
 fated_given (Some d) x = is_some-option_map _ x.owner
 
 -- fates that follow from the places, with deadlines within limits
 module _ (r : Place → Option ℕ) (before : World) (low : (p : Place) (d : ℕ) → r p ≡ Some d → d ≤ last_deadline) where
-  -- one of them fits where an instance stands
+  -- one of them fits if there is an instance
   one_fits : (v : World) (p : Place) (y : Instance) → IsLimited v → is_some y.owner ≡ true → instance_at v p ≡ Some y
       → FitsOne v (change.Instance p (fated (r p) y)) × IsLimited (applied_one v (change.Instance p (fated (r p) y)))
   one_fits v p y limited given is =
       let b = then_by (λ (b : UnitBook). slice_get b.instances p.number) (unit_at v p.unit) y is in
       done_fits (fated (r p)) v p b.0 y limited b.1 b.2 (fated_good v.hosts (r p) y (low p) given (limited.each p y is))
 
-  -- its change, before others
+  -- the change of one fate, before the others
   step_fits : (v : World) (p : Place) (rest : List Change) (o now : Option Instance) → IsLimited v → IsGiven v p → instance_at v p ≡ now
       → option_map (fated (r p)) now ≡ option_map (fated (r p)) o
       → Fits v rest → (IsLimited (with_fate v (by_place r before p)) → Fits (with_fate v (by_place r before p)) rest)
@@ -123,7 +123,7 @@ resent_low w h now well early p d is = cases (is_resent w h p) is
         (deadline_was_low w p (limited_from_well w well)))
     cases false is = absurd cc
 
--- what the fates of a call's lost jobs change fits behind the changes of its reports
+-- what the fates of a call's lost jobs change fits after the changes of its reports
 pub lost_fit : (w : World) (k : Calling) (r : Request) (now : ℕ) (before after : List Change) (fates : List Fate) → now ≤ last_moment
     → IsCalling w r k → applied w before ≡ after_reports w k.caller r → fates ≡ fates_known w k.caller r now
     → after ≡ before ++ filter_map (fate_change (applied w before)) fates → Fits w before → Fits w after

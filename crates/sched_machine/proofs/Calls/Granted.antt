@@ -22,7 +22,7 @@ use Rattle.quorum_credit.proofs.Recorded.{with_changed-is}
 use Rattle.sched_machine.specs.Granting.{owner_for, given_on, FitWithHost}
 
 module _ (entry present : World) (p : Place) (host now : ℕ) (y : Instance) where
-  -- what stands at a place, and is given
+  -- the instance at a place, which is given
   record Stands : Type 0 where
     book : UnitBook
     x : Instance
@@ -58,7 +58,7 @@ module _ (entry present : World) (p : Place) (host now : ℕ) (y : Instance) whe
       ap (λ z. applied_one present (change.Instance p z)) (sym at.given)
       ∙ sym (with_changed-is (with_owner (owner_for host now (delay_at present p))) present p at.book at.x at.unit at.number)
 
-  -- which fits where the host stands and nothing is too late
+  -- the change fits if the host exists and the moment is not too late
   one_fits : Stands → now ≤ last_moment → AreUnitsInLimits entry → IsTrue (is_some (host_at present host)) → IsLimited present
       → FitsOne present (change.Instance p y) × IsLimited (applied_one present (change.Instance p y))
   one_fits at soon units stands limited =

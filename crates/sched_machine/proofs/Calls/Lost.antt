@@ -1,4 +1,4 @@
--- What a call's lost jobs change, behind what its reports change.
+-- What a call's lost jobs change, after what its reports change.
 use Rattle.std.proofs.Common.{◌≡◌, ℕ, List, ◌++◌, map, sym, ap, ◌∙◌, subst}
 use Rattle.std.specs.Prelude.{filter_map}
 use Rattle.std.proofs.lemmas.List.Sums.{fold-append}
@@ -32,7 +32,7 @@ module _ (w : World) (c : Caller) (r : Request) where
   host_holds_no_more = reports_hold_no_more (at_entry w c r) (host_number w c) r.results
 
   module _ (now : ℕ) where
-    -- the changes of the fates, behind those of the reports, leave what the lost jobs leave
+    -- the changes of the fates, after those of the reports, leave what the lost jobs leave
     pub lost_left : (before after : List Change) (fates : List Fate) → applied w before ≡ after_reports w c r → fates ≡ fates_known w c r now
         → after ≡ before ++ filter_map (fate_change (applied w before)) fates → applied w after ≡ after_lost w c r now
     lost_left before after fates reported known pushed =
@@ -45,12 +45,12 @@ module _ (w : World) (c : Caller) (r : Request) where
         ∙ made_by_fates (after_reports w c r) (fates_known w c r now) law.0
         ∙ law.1
 
-    -- those of them that are sent again
+    -- the fates of these jobs that are sent again
     pub lost_resent : (fates : List Fate) → fates ≡ fates_known w c r now → resent_places fates ≡ resent_of w c r
     lost_resent fates known = ap resent_places known ∙ resent_are w (host_at_entry w c r) now (lost_of w c r)
 
--- What the steps told by which a call's lost jobs were found and their fates put: the call found the world w, its reports left
--- v, and the fates u.
+-- What the steps say that found a call's lost jobs and put their fates. The call found the world w, its reports left v,
+-- and the fates left u.
 pub record AreLost (w v u : World) (r : Request) (k : Calling) (now : ℕ) (places : List Place) (fates : List Fate) (before after : List Change) : Type 0 where
   pub found : HoldsNoMore w v k.number → places ≡ lost v k.number r.other_results
   pub told : fates ≡ map (fate w k.host now) places

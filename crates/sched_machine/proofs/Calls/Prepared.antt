@@ -1,4 +1,4 @@
--- A call up to where new jobs are chosen, from what its parts tell of the worlds that they read.
+-- A call up to the choice of new jobs, by what its parts say of the worlds that they read.
 use Rattle.std.proofs.Common.{◌≡◌, ℕ, List, length, sym, ap, ap₂, ◌∙◌, subst}
 use Rattle.std.specs.Prelude.{sum_by, unwrap_or}
 use Rattle.rpc_records.specs.declared.request.Request.{Request}
@@ -16,7 +16,7 @@ use Rattle.sched_machine.specs.declared.caller.Calling.{Calling}
 use Rattle.sched_machine.specs.declared.preparing.Ready.{Ready}
 use Rattle.sched_machine.proofs.Held.Settled.{after_settlement_holds}
 
--- v is the world that settlement left, u that in which the host was asked about, and t that after it
+-- v is the world that settlement left, u the one in which the host was asked about, and t the one after that
 pub ready_call : (w v u t : World) (r : Request) (now : ℕ) (ready : Ready) (before after : List Change) (resent : List Place) → u ≡ v → t ≡ u
     → after ≡ before → resent ≡ ready.settled.resent → IsCalling w r ready.call → IsSettledCall w r ready.call now ready.settled v before
     → ready.aborted ≡ aborts v ready.call.number r.other_results
@@ -39,7 +39,7 @@ ready_call w v u t r now ready before after resent asked last same slice calling
       before = seconds ∙ ap₂ (λ (z : World) ps. sum_by (estimate_at z k.host) ps) (sym last) slice;
     }
 
--- what was entered stands through a reading
+-- a read keeps what was entered
 pub still_entered : (w v u : World) (r : Request) (k : Calling) (before after : List Change) → u ≡ v → after ≡ before
     → IsEntered w r k v before → IsEntered w r k u after
 still_entered w v u r k before after same changes entered =

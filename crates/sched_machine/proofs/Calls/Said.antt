@@ -18,7 +18,7 @@ use Rattle.call_sheet.specs.declared.leaf.Leaf.{Leaf}
 use Rattle.lost_jobs.proofs.Standing.{name_none, name_some}
 use Rattle.sched_machine.proofs.OptionParts.{mapped_by}
 
--- of a workunit and a version that were found
+-- for a workunit and a version that were found
 pub job_at_some : (w : World) (h : HostRow) (resent : Bool) (p : Place) (u : Workunit) (v : Version) → workunit_at w p.unit ≡ Some u
     → version_for w h u.app ≡ Some v → job_at w h resent p ≡ Some (job_of (instance_name u.name p.number) (deadline_at w p) h resent u v)
 job_at_some w h resent p u v stands found =
@@ -29,7 +29,7 @@ job_at_some w h resent p u v stands found =
     ∙ ap (option_map (job (name_at w p) u)) found
     ∙ ap (λ name. Some (job name u v)) (name_some w p u stands)
 
--- names stay with the rows
+-- if the rows stay, the names stay
 pub name_by : (w v : World) (p : Place) → workunit_at v p.unit ≡ workunit_at w p.unit → name_at v p ≡ name_at w p
 name_by w v p same = cases (workunit_at w p.unit) refl
   where

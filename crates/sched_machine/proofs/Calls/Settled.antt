@@ -1,4 +1,4 @@
--- A call up to its settlement, from what its parts tell.
+-- A call up to its settlement, by what its parts say.
 use Rattle.std.proofs.Common.{◌≡◌, ℕ, List, map, sym, ap, ap₂, ◌∙◌, subst}
 use Rattle.std.specs.Prelude.{fold}
 use Rattle.rpc_records.specs.declared.request.Report.{Report}
@@ -28,12 +28,12 @@ module _ (w v : World) (r : Request) (k : Calling) (changes : List Change) (ente
         (entry_keeps_sound w k.caller r entered.calling.sound entered.calling.admitted.caller entered.calling.room entered.calling.admitted.limits));
   }
 
-  -- reports look at the workunits and the applications of the world before, which entry leaves
+  -- reports depend on the workunits and the applications of the world before, and entry keeps these
   pub reports_known : (u : World) → u ≡ fold (record_one w k.number) v (first_reports r.results) → u ≡ after_reports w k.caller r
   reports_known u is =
       is ∙ ap₂ (λ (n : ℕ) (z : World). fold (record_one w n) z (first_reports r.results)) entered.calling.number entered.left
 
--- so does settlement
+-- settlement depends on them too
 pub settled_call : (w v u : World) (r : Request) (k : Calling) (now : ℕ) (done : SettledCall) (changes : List Change)
     → v ≡ after_lost w k.caller r now → u ≡ settled w v → Fits w changes
     → done.acked ≡ map (λ (x : Report). x.name) (first_reports r.results) → done.resent ≡ resent_of w k.caller r → AreScores w u done.scores

@@ -31,7 +31,7 @@ use Rattle.sched_machine.proofs.OptionParts.{mapped_by, then_by}
 
 -- ---- changes that fit
 
--- a workunit that stands does so behind any changes
+-- a workunit that exists still exists after any change
 stands_by : (unit count : ℕ) (c : Change) (b : UnitBook) → is_some (book_by unit count (Some b) c) ≡ true
 stands_by unit count (change.Account a) b = refl
 stands_by unit count (change.App a) b = refl
@@ -61,7 +61,7 @@ still_stands unit (c ∷ cs) count (Some b) is = still_stands unit cs (count_aft
 stands_after : (w : World) (cs : List Change) (unit : ℕ) → is_some (unit_at w unit) ≡ true → is_some (unit_at (applied w cs) unit) ≡ true
 stands_after w cs unit is = ap is_some (unit_at-applied w unit cs) ∙ still_stands unit cs (length w.units) (unit_at w unit) is
 
--- a class leaves instances within limits
+-- a class keeps instances within limits
 class_limited : (w : World) (unit : ℕ) (class : List ℕ) → IsLimited w → IsLimited (class_granted w unit class)
 class_limited w unit class limited = record {
   few = λ n b stands.
@@ -83,14 +83,14 @@ class_fits w host cs more unit class can pushed before = record {
     after : applied w more ≡ applied_one (applied w cs) (change.Class unit class)
     after = ap (applied w) pushed ∙ fold-append applied_one w cs (change.Class unit class ∷ [])
 
--- so of one of these jobs
+-- so does that of one of these jobs
 pub job_fits : (w : World) (host : ℕ) (cs more : List Change) (jobs : List Granted) (i : ℕ) (j : Granted) → CanTake w jobs → i < length jobs
     → j ≡ get_or jobs i j → more ≡ cs ++ change.Class j.place.unit j.version.class ∷ [] → FitWithHost w host cs → FitWithHost w host more
 job_fits w host cs more jobs i j can within is pushed before =
     class_fits w host cs more j.place.unit j.version.class
     (subst (λ (k : Granted). FitsOne w (change.Class k.place.unit k.version.class)) (sym is) (can i j within)) pushed before
 
--- what is done, then what is left, is all
+-- what is done and what is left are together everything
 pub next_taken : (v u : World) (jobs : List Granted) (i : ℕ) (j : Granted) → i < length jobs → j ≡ get_or jobs i j
     → u ≡ applied_one v (change.Class j.place.unit j.version.class) → with_classes u (drop (i + 1) jobs) ≡ with_classes v (drop i jobs)
 next_taken v u jobs i j within is made =

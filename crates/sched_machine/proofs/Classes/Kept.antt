@@ -1,4 +1,4 @@
--- Which versions may do a workunit stays through a step, unless it is still to take its class.
+-- Which versions may do a workunit stays through a step, unless its class is still to be taken.
 use Rattle.std.proofs.Common.{◌≡◌, ℕ, Bool, true, false, cond, eqb, List, Option, Some, None, sym, refl, ap, ◌∙◌, subst}
 use Rattle.std.specs.Prelude.{map, option_map}
 use Rattle.sched_book.specs.Classes.{rule_after, with_class, is_of_first}
@@ -27,7 +27,7 @@ use Rattle.sched_machine.proofs.Held.Said.{row_stays}
 use Rattle.sched_machine.proofs.OptionParts.{mapped_by}
 use Rattle.sched_machine.proofs.Moves.Cases.{by_call}
 
--- a rule is read off the row
+-- a rule follows from the row
 pub same_rule : (w v : World) (n : ℕ) → workunit_at v n ≡ workunit_at w n → rule_at v n ≡ rule_at w n
 same_rule w v n same = read (unit_at v n) ∙ ap (option_map (λ (u : Workunit). u.class_rule)) same ∙ sym (read (unit_at w n))
   where
@@ -36,7 +36,7 @@ same_rule w v n same = read (unit_at v n) ∙ ap (option_map (λ (u : Workunit).
     read None = refl
     read (Some b) = refl
 
--- a class that is granted is taken by its workunit alone
+-- a class that is granted is taken only by its workunit
 pub rule_granted : (w : World) (unit : ℕ) (class : List ℕ) (n : ℕ)
     → rule_at (class_granted w unit class) n ≡ cond (eqb unit n) (option_map (λ rule. rule_after rule class) (rule_at w n)) (rule_at w n)
 rule_granted w unit class n =
@@ -49,7 +49,7 @@ rule_granted w unit class n =
     cases true (Some b) = refl
     cases false o = refl
 
--- only who is still to take a class does
+-- only a workunit whose class is still to be taken takes one
 rule_kept : (rule : ClassRule) (class : List ℕ) → is_of_first rule ≡ false → rule_after rule class ≡ rule
 rule_kept Any class known = refl
 rule_kept OfFirst class known = absurd cc
@@ -72,7 +72,7 @@ pub classed_stay : (entry : World) (h : HostRow) (jobs : List Place) (w : World)
 classed_stay entry h jobs w =
     classes_keep (ClassesStay w) entry h (λ u unit v is stay. stay_then w u (class_granted u unit v.class) stay (granted_stays u unit v.class)) jobs w (stay_self w)
 
--- an import leaves the rows
+-- an import keeps the rows
 rows_stay : (w : World) (new : Rows) → ClassesStay w (with_rows w new)
 rows_stay w (rows.Accounts xs) n rule known is = is
 rows_stay w (rows.Apps xs) n rule known is = is

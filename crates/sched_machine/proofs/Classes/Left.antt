@@ -1,4 +1,4 @@
--- What the classes that a grant has workunits take leave: all but the rules of these workunits.
+-- What is left after the workunits of a grant take their classes: everything except the rules of these workunits.
 use Rattle.std.proofs.Common.{◌≡◌, ℕ, ◌+◌, Bool, false, cond, List, [], ◌∷◌, Option, Some, None, sym, refl, ap, ap₂, ◌∙◌}
 use Rattle.std.specs.Prelude.{◌==◌, map, sum_by, option_map, option_and_then, unwrap_or, slice_get, IfSome}
 use Rattle.std.specs.List.{enumerate_from}
@@ -32,7 +32,7 @@ use Rattle.texts.specs.Words.{IsWord}
 abbrev pub plain : UnitBook → UnitBook
 plain b = record b { unit = imported b.unit }
 
--- The second world is the first but for the classes of its workunits.
+-- The second world is the first one except for the classes of its workunits.
 pub record IsLike (w v : World) : Type 0 where
   pub rest : v ≡ record w { units = v.units }
   pub units : map plain v.units ≡ map plain w.units
@@ -46,7 +46,7 @@ like_then u v w first second = record {
   units = second.units ∙ first.units;
 }
 
--- one class that is granted, and those of all jobs
+-- one class that is granted, and the classes of all jobs
 pub granted_like : (w : World) (unit : ℕ) (class : List ℕ) → IsLike w (class_granted w unit class)
 granted_like w unit class = record {
   rest = refl;
@@ -54,7 +54,7 @@ granted_like w unit class = record {
       (λ b. ap (λ (rule : ClassRule). record b { unit = record b.unit { class_rule = rule } }) (first_stays b.unit.class_rule class)) w.units unit;
 }
 
--- what each class that is granted keeps, those of all jobs keep
+-- what each granted class keeps, the classes of all jobs keep
 pub classes_keep : (P : World → Type 0) (entry : World) (h : HostRow)
     → ((w : World) (unit : ℕ) (v : Version) → version_at_unit entry h unit ≡ Some v → P w → P (class_granted w unit v.class))
     → (jobs : List Place) (w : World) → P w → P (classed entry h w jobs)
@@ -69,7 +69,7 @@ pub classed_like : (entry : World) (h : HostRow) (jobs : List Place) (w : World)
 classed_like entry h jobs w =
     classes_keep (IsLike w) entry h (λ u unit v is like. like_then w u (class_granted u unit v.class) like (granted_like u unit v.class)) jobs w (like_self w)
 
--- what is read of a list of which each element is made another, where it reads the same of both
+-- a value of a list stays the same if each element is replaced by one with the same value
 pub sum_mapped : {X : Type 0} (g : X → X) (f : X → ℕ) → ((x : X) → f (g x) ≡ f x) → (xs : List X) → sum_by f (map g xs) ≡ sum_by f xs
 sum_mapped g f same [] = refl
 sum_mapped g f same (x ∷ xs) =
@@ -78,12 +78,12 @@ sum_mapped g f same (x ∷ xs) =
     ∙ ap (λ n. f x + n) (sum_mapped g f same xs)
     ∙ sym (sum_by-cons f x xs)
 
--- What the two say alike.
+-- What the two worlds agree on.
 module _ (w v : World) (like : IsLike w v) where
   pub plain_same : (n : ℕ) → option_map plain (unit_at v n) ≡ option_map plain (unit_at w n)
   plain_same n = sym (nth-map plain v.units n) ∙ ap (λ us. nth us n) like.units ∙ nth-map plain w.units n
 
-  -- whatever is read of a workunit and is blind to its class
+  -- any value of a workunit that does not depend on its class
   pub read_same : {Y : Type 0} (f : Option UnitBook → Y) → ((b : UnitBook) → f (Some (plain b)) ≡ f (Some b)) → (n : ℕ)
       → f (unit_at v n) ≡ f (unit_at w n)
   read_same {Y} f blind n = sym (each (unit_at v n)) ∙ ap f (plain_same n) ∙ each (unit_at w n)
@@ -136,7 +136,7 @@ module _ (w v : World) (like : IsLike w v) where
       ap₂ (λ (f : ℕ → ℕ) (hosts : List HostRow). sum_by (λ (e : ℕ × HostRow). cond (e.1.account == account) (f e.0) 0) (enumerate_from 1 hosts)) credits_same
       (ap (λ (z : World). z.hosts) like.rest)
 
--- a settled world stays so, where the classes are words
+-- a settled world stays settled if the classes are words
 class_is_word : (rule : ClassRule) (class : List ℕ) → IsWord class → IfSome (class_of rule) IsWord → IfSome (class_of (rule_after rule class)) IsWord
 class_is_word Any class word own = tt
 class_is_word OfFirst class word own = word

@@ -1,4 +1,4 @@
--- Who owns an instance after a step owned it before, or got it with a version of the class that the workunit keeps to.
+-- The owner of an instance after a step owned it before, or got it with a version of the class that the workunit keeps to.
 use Rattle.std.proofs.Common.{◌≡◌, ◌⊎◌, inl, inr, ℕ, ◌+◌, Bool, true, false, cond, eqb, eqb-true, eq-eqb, List, [], ◌∷◌, Option, Some, None, sym, refl, ap, ◌∙◌, subst}
 use Rattle.std.specs.Prelude.{Contains, option_map, option_and_then, unwrap_or}
 use Rattle.std.proofs.lemmas.List.Elements.{All-contains}
@@ -40,7 +40,7 @@ use Rattle.sched_machine.proofs.OptionParts.{mapped_by}
 use Rattle.sched_machine.proofs.Moves.Cases.{by_call}
 use Rattle.sched_machine.proofs.Moves.Moves.{among, Lasts, settled_lasts, rows_last, lapses_last, settlement_lasts}
 
--- whose an instance is, and from which moment
+-- the host and the moment of an owner
 abbrev pub key : Owner → ℕ × ℕ
 key o = (o.host, o.sent)
 
@@ -69,13 +69,13 @@ pub tick_key : (w : World) (now : ℕ) (p : Place) → key_in (instance_at (sett
 tick_key w now p =
     settled_lasts HasSameKey (λ i. refl) refl w (lapsed w now) p ∙ lapses_last HasSameKey w now p (key_lasts w call.Tick p)
 
--- an import: of a new workunit nobody was given any
+-- an import: no instance of a new workunit was given out
 pub rows_key : (w : World) (new : Rows) (p : Place) → key_in (instance_at (with_rows w new) p) ≡ key_in (instance_at w p)
 rows_key w new p = rows_last HasSameKey (λ i. refl) refl w new p
 
--- ---- a rule through the classes that are granted
+-- ---- a rule after classes are granted
 
--- a version that may do a workunit may do it with its class taken, and then the workunit does not wait for one
+-- a version that may do a workunit may still do it after its class was taken, and the workunit then waits for no class
 suits_after : (rule : ClassRule) (v : Version) → suits rule v ≡ true → suits (rule_after rule v.class) v ≡ true
 suits_after Any v is = refl
 suits_after OfFirst v is = (bytes_eq-Decides v.class v.class).1 refl
@@ -86,7 +86,7 @@ taken Any class = refl
 taken OfFirst class = refl
 taken (Only own) class = refl
 
--- and a workunit that does not wait, and that the version may do, keeps to its class or to none
+-- a workunit that waits for no class, and that the version may do, keeps to the version's class or to none
 follows : (rule : ClassRule) (v : Version) → suits rule v ≡ true → is_of_first rule ≡ false → Follows rule v
 follows Any v suited known = tt
 follows OfFirst v suited known = absurd cc
@@ -103,7 +103,7 @@ record Suited (w : World) (n : ℕ) (version : Version) : Type 0 where
   stands : rule_at w n ≡ Some rule
   suited : suits rule version ≡ true
 
--- and the workunit waits for no class
+-- the version may do the workunit, which waits for no class
 abbrev Taken : World → ℕ → Version → Type 0
 Taken w n version = (at : Suited w n version) × (is_of_first at.rule ≡ false)
 
@@ -160,11 +160,11 @@ module _ (entry : World) (h : HostRow) (n : ℕ) (version : Version) (runs : ver
 
 -- ---- a step
 
--- the workunit whose rule it is
+-- the workunit that has the rule
 pub book_of : (w : World) (n : ℕ) (rule : ClassRule) → rule_at w n ≡ Some rule → (b : UnitBook) × (unit_at w n ≡ Some b) × (b.unit.class_rule ≡ rule)
 book_of w n rule is = mapped_by (λ (b : UnitBook). b.unit.class_rule) (unit_at w n) rule is
 
--- who owns an instance and did so before the step
+-- an owner that owned the instance before the step
 pub had : (w : World) (p : Place) (o : Owner) → option_map key (owner_at w p) ≡ Some (key o) → HadOwner w p o
 had w p o is =
     let at = mapped_by key (owner_at w p) (key o) is in (at.0, at.1, ap (λ (k : ℕ × ℕ). k.0) at.2, ap (λ (k : ℕ × ℕ). k.1) at.2)
@@ -190,12 +190,12 @@ module _ (w : World) (c : Caller) (r : Request) (now : ℕ) (sound : Sound w) (a
       (sym (ap (λ v. instance_at v p) step.left ∙ instance_same given (after_grant w c r now step.jobs) (classed_like w caller step.jobs given) p))
       ∙ is
 
-  -- what is no job of the call
+  -- an instance that is no job of the call
   elsewhere : (Contains step.jobs p → ⊥) → HadOwner w p o
   elsewhere nowhere = had w p o (sym (settlement_key w c r now p) ∙ sym (ap key_in (by_place.other p nowhere)) ∙ ap (option_map key) owned)
 
   module _ (there : Contains step.jobs p) where
-    -- the owner that a job gets
+    -- the owner that a job has
     abbrev gets : Owner
     gets = record { host = host_number w c; sent = now; deadline = now + delay_at settlement p }
 
@@ -206,7 +206,7 @@ module _ (w : World) (c : Caller) (r : Request) (now : ℕ) (sound : Sound w) (a
         cases None none = absurd cc
         cases (Some x) some = cc
 
-    -- the version that the host runs of it
+    -- the version of it that the host runs
     runs : Runs w c r now step.jobs caller p
     runs =
         eligible_runs w c r now step.jobs step.caller p

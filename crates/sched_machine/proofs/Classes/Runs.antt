@@ -1,4 +1,4 @@
--- Through every run a class stays, and every owner got its instance with a version of it.
+-- In every run a class stays, and every owner got its instance with a version of it.
 use Rattle.std.proofs.Common.{◌≡◌, inl, inr, ℕ, zero, suc, ◌<◌, [], ◌∷◌, refl, sym, ap, ◌∙◌, subst, arith}
 use Rattle.std.specs.Prelude.{option_map}
 use Rattle.sched_book.specs.Sound.{Sound}
@@ -23,7 +23,7 @@ in_step w after c now answer sound step = classes_stay_in_step w after c now ans
 pub classes_stay : HoldsInRuns ClassesStay
 classes_stay = holds_in_runs ClassesStay stay_self stay_then in_step
 
--- what was given stays of its class, and of one whose host and moment are the same
+-- what was given to an owner stays given with its class, also to an owner with the same host and moment
 pub still_given : (w later next : World) (c : Call) (now : ℕ) (p : Place) (m o : Owner) → ClassesStay later next → m.host ≡ o.host → m.sent ≡ o.sent
     → IsGiven w later c now p m → IsGiven w next c now p o
 still_given w later next (call.Rpc c r) now p m o stay host sent given =

@@ -1,4 +1,4 @@
--- After a step no workunit that is still to take a class has an owner, where that held before it.
+-- If before a step no instance of a workunit whose class is still to be taken had an owner, none has one after it.
 use Rattle.std.proofs.Common.{◌≡◌, inl, inr, ℕ, suc, [], Option, Some, None, sym, refl, ap, ◌∙◌, subst}
 use Rattle.std.specs.Prelude.{option_map, option_and_then, slice_get}
 use Rattle.rpc_records.specs.declared.request.Request.{Request}
@@ -26,11 +26,11 @@ use Rattle.sched_machine.proofs.Held.Said.{row_stays}
 use Rattle.sched_machine.proofs.OptionParts.{then_by}
 use Rattle.sched_machine.proofs.Rows.Listed.{all_from}
 
--- nobody owns an instance of a workunit that is still to take a class
+-- nobody owns an instance of a workunit whose class is still to be taken
 abbrev pub NoneOwnsTooSoon : World → Type 0
 NoneOwnsTooSoon w = (p : Place) (o : Owner) → owner_at w p ≡ Some o → rule_at w p.unit ≡ Some OfFirst → ⊥
 
--- so it is in a sound world
+-- this holds in a sound world
 pub none_too_soon : (w : World) → Sound w → NoneOwnsTooSoon w
 none_too_soon w sound p o owned waits =
     let x = then_by (λ (x : Instance). x.owner) (instance_at w p) o owned in
@@ -42,7 +42,7 @@ none_too_soon w sound p o owned waits =
     let never : None ≡ Some o = sym nobody ∙ x.2 in
     absurd cc
 
--- and a settled world is sound where it is so
+-- a settled world in which it holds is sound
 pub settled_is_sound : (w : World) → IsSettled w → NoneOwnsTooSoon w → Sound w
 settled_is_sound w settled none = record {
   rows = settled.rows;
@@ -67,7 +67,7 @@ settled_is_sound w settled none = record {
             (ap (option_and_then (λ (x : Instance). x.owner)) (ap (option_and_then (λ (b : UnitBook). slice_get b.instances k)) stands ∙ at) ∙ is)
             (ap (option_map (λ (b : UnitBook). b.unit.class_rule)) stands ∙ ap Some first))
 
--- who owned an instance before, in a sound world, does not own it too soon where classes stayed
+-- if classes stayed, the owner of an instance in a sound world does not own it too soon later
 owned_before : (w v : World) → Sound w → ClassesStay w v → (p : Place) (o : Owner) → HadOwner w p o → rule_at v p.unit ≡ Some OfFirst → ⊥
 owned_before w v sound stay p o before waits =
     let x = then_by (λ (x : Instance). x.owner) (instance_at w p) before.0 before.1 in
@@ -79,7 +79,7 @@ owned_before w v sound stay p o before waits =
     by_rule OfFirst is = none_too_soon w sound p before.0 before.1 is
     by_rule (Only class) is = let never : Some (Only class) ≡ Some OfFirst = sym (stay p.unit (Only class) refl is) ∙ waits in absurd cc
 
--- nor who was given it by a call
+-- the owner to whom a call gives it does not either
 given_now : (w v : World) (c : Call) (now : ℕ) (p : Place) (o : Owner) → IsGiven w v c now p o → rule_at v p.unit ≡ Some OfFirst → ⊥
 given_now w v (call.Rpc c r) now p o given waits =
     let both : Some given.book.unit.class_rule ≡ Some OfFirst = sym (ap (option_map (λ (b : UnitBook). b.unit.class_rule)) given.stands) ∙ waits in
@@ -95,7 +95,7 @@ settlement_not_too_soon w c r now sound p o owned =
     (λ n rule known is. same_rule w (after_settlement w c r now) n (row_stays w c r now [] n) ∙ is) p o
     (had w p o (sym (settlement_key w c r now p) ∙ ap (option_map key) owned))
 
--- and a step of a sound world that leaves a settled one leaves a sound one
+-- a step of a sound world that leaves a settled world leaves a sound one
 pub step_is_sound : (w after : World) (c : Call) (now : ℕ) (answer : Answered) → Sound w → Step w c now after answer → IsSettled after → Sound after
 step_is_sound w after c now answer sound step settled =
     settled_is_sound after settled (λ p o owned waits. elim (owners_are_of_classes w after c now answer sound step p o owned) [

@@ -17,7 +17,7 @@ use Rattle.sched_book.proofs.Newest.{version_is_newest_of_first}
 use Rattle.sched_machine.proofs.OptionParts.{then_by}
 use Rattle.texts.specs.Words.{IsWord}
 
--- since the version stands
+-- because the version exists
 for_app : (w : World) → Sound w → (h : HostRow) (app : List ℕ) (v : Version) → version_for w h app ≡ Some v → IsWord v.class
 for_app w sound h app v is = cases (list_any (λ (a : App). bytes_eq a.name app) w.apps) is
   where

@@ -1,4 +1,4 @@
--- What a sound world's results are worth at most, and how long the jobs that are sent again take.
+-- What the results of a sound world are worth at most, and how long the jobs that are sent again take.
 use Rattle.std.proofs.Common.{◌≡◌, ℕ, ◌*◌, ◌≤◌, Bool, true, false, cond, length, arith}
 use Rattle.std.specs.Prelude.{◌&&◌, ◌==◌, All, count_by, sum_by}
 use Rattle.std.specs.List.{enumerate_from}
@@ -20,7 +20,7 @@ module _ (w : World) (sound : Sound w) where
   few_units : length w.units ≤ 200000
   few_units = (sound_is_bounded w sound).units
 
-  -- what so many of a workunit's instances are worth
+  -- what the instances of a workunit that pass are worth
   abbrev worth : (Instance → Bool) → UnitBook → ℕ
   worth counts b = b.unit.credit * count_by counts b.instances
 
@@ -40,7 +40,7 @@ module _ (w : World) (sound : Sound w) where
       let few : length w.units ≤ 200000 = few_units in
       omega arith
 
-  -- a user has no more than all hosts
+  -- a user has at most as much as all hosts
   of_user : (account : ℕ) (e : ℕ × HostRow) → cond (e.1.account == account) (host_credit w e.0) 0 ≤ host_credit w e.0
   of_user account e = cases (e.1.account == account)
     where

@@ -46,7 +46,7 @@ module _ (w : World) (c : Caller) (r : Request) (sound : Sound w) where
   abbrev known : HostRow
   known = host_at_entry w c r
 
-  -- a job that is sent again fits its host, so it takes no longer than its workunit's delay
+  -- a job that is sent again fits its host, so it takes at most its workunit's delay bound
   one : (p : Place) → is_resent entry known p ≡ true → estimate_at entry known p ≤ 100000000
   one p resent =
       let b = any_by (λ (b : UnitBook). is_open (status_at entry p.unit) && unit_fits entry known b) (unit_at w p.unit) resent in
@@ -63,7 +63,7 @@ module _ (w : World) (c : Caller) (r : Request) (sound : Sound w) where
       ap (λ o. unwrap_or (option_map (λ (b : UnitBook). estimate b.unit.rsc_fpops_est known.p_fpops) o) 0) b.1 in
       omega arith
 
-  -- no more are lost than the host held
+  -- at most as many are lost as the host held
   few : length (lost_of w c r) ≤ 20000000
   few = cases reported.settings.resend_lost_results r.other_results
     where

@@ -1,5 +1,5 @@
--- The credit of a host and of a user after a call is what it was before, and what the scores of settlement bring: a grant
--- behind settlement brings nothing.
+-- The credit of a host and of a user after a call is what it was before, plus what the scores of settlement bring. A grant
+-- after settlement brings nothing.
 use Rattle.std.proofs.Common.{◌≡◌, ℕ, zero, suc, ◌+◌, ◌-◌, ◌*◌, ◌<◌, ◌≤◌, Bool, true, false, cond, eqb, eqb-true, eq-eqb, inl, List, [], ◌∷◌, length, get_or, All, AllPairs, Option, Some, None, sym, refl, ap, ap₂, ◌∙◌, subst, arith, ne_eqb}
 use Rattle.std.proofs.lemmas.Bool.{false_from_ne_true}
 use Rattle.std.specs.Prelude.{◌&&◌, ◌==◌, IsTrue, sum_by, count_by, is_some, option_map, option_and_then, unwrap_or, slice_get, IfSome}
@@ -62,9 +62,9 @@ valid_verdict None is = absurd cc
 valid_verdict (Some Valid) is = refl
 valid_verdict (Some Invalid) is = absurd cc
 
--- A sound world and what became of it: each valid result stays so, with its host.
+-- A sound world and what it became: each valid result stays valid, with its host.
 module _ (old new : World) (sound : Sound old) (became : WorldBecame old new) where
-  -- what a host has stays its own
+  -- an instance that belongs to a host still does
   host_stays : (x y : Instance) → is_some x.owner ≡ true → ((host : ℕ) → is_owned_by host x ≡ true → is_owned_by host y ≡ true) → host_of y ≡ host_of x
   host_stays x y given owned = cases x.owner y.owner given owned
     where
@@ -130,7 +130,7 @@ module _ (old new : World) (sound : Sound old) (became : WorldBecame old new) wh
       cases unit b stood None stands never = absurd never
       cases unit b stood (Some c) stands is = (c, stands, record { row = is.row; valid = valid_stays unit b c stood stands is })
 
--- each report's place is at most all of them together
+-- each report's place is at most the sum of all
 place_low : (xs : List Instance) (i : ℕ) (x : Instance) → slice_get xs i ≡ Some x → told_place x.report ≤ sum_by (λ (x : Instance). told_place x.report) xs
 place_low [] i x stands = absurd cc
 place_low (y ∷ ys) zero x stands =
@@ -144,7 +144,7 @@ place_low (y ∷ ys) (suc i) x stands =
     sum_by-cons (λ (x : Instance). told_place x.report) y ys in
     omega arith
 
--- One instance of a list, of which nobody told anything, goes to a host: the verdicts are the same.
+-- One instance of a list, which has no owner and no report, is given to a host: the verdicts stay the same.
 module _ (o : Owner) (xs : List Instance) (n : ℕ)
     (untold : (x : Instance) → slice_get xs n ≡ Some x → (x.owner ≡ None) × (x.report ≡ None)) where
   abbrev ys : List Instance
@@ -176,20 +176,20 @@ module _ (o : Owner) (xs : List Instance) (n : ℕ)
           ap (λ q. cond (tells_success x.report) (Some (cond (agree a (told_output x.report) (told_output q)) Valid Invalid)) None)
           (canonical_same a u true xs ys on c is)
 
--- what nobody was given, of which nothing was told
+-- an instance without owner and report
 abbrev IsUntold : Instance → Type 0
 IsUntold x = (x.owner ≡ None) × (x.report ≡ None)
 
 abbrev IsUntoldAt : World → Place → Type 0
 IsUntoldAt w p = (x : Instance) → instance_at w p ≡ Some x → IsUntold x
 
--- a change of another workunit leaves it so
+-- a change of another workunit keeps it so
 elsewhere : (f : Instance → Instance) (w : World) (p q : Place) → p.unit < q.unit → IsUntoldAt w q → IsUntoldAt (with_changed f w p) q
 elsewhere f w p q before untold y stands =
     untold y (sym (instance_at-with_changed f w p q
     ∙ ap (λ b. cond (b && eqb p.number q.number) (option_map f (instance_at w q)) (instance_at w q)) (ne_eqb p.unit q.unit (λ same. omega arith))) ∙ stands)
 
--- the credit of its workunit stays when it goes to a host
+-- the credit of its workunit stays when it is given to a host
 given_credit : (apps : List App) (host : ℕ) (o : Owner) (n : ℕ) (b : UnitBook) → ((x : Instance) → slice_get b.instances n ≡ Some x → IsUntold x)
     → credit_in apps host (with_number (with_owner o) n b) ≡ credit_in apps host b
 given_credit apps host o n b untold =
@@ -213,7 +213,7 @@ given_credit apps host o n b untold =
         none own (verdict a b.unit b.instances y) (no_verdict a b.instances (canonical a b.unit b.instances) y (same ∙ untold))
         ∙ sym (none was (verdict a b.unit b.instances x) (no_verdict a b.instances (canonical a b.unit b.instances) x untold))
 
--- so where the element at a place changes
+-- the same if the element at a place changes
 sum_changed_nth : {X : Type 0} (g : X → ℕ) (f : X → X) (xs : List X) (n : ℕ) → ((x : X) → nth xs n ≡ Some x → g (f x) ≡ g x)
     → sum_by g (modify_nth f xs n) ≡ sum_by g xs
 sum_changed_nth {X} g f xs n same = cases (eqb n 0) same
@@ -223,7 +223,7 @@ sum_changed_nth {X} g f xs n same = cases (eqb n 0) same
     cases true same = refl
     cases false same = sum_changed_at g f xs (n - 1) same
 
--- A grant of what nobody was given, and of which nothing was told, brings nobody anything.
+-- A grant of instances without owner and report brings nobody anything.
 module _ (host now : ℕ) where
   grant_one_brings : (w : World) (p : Place) → IsUntoldAt w p → host_credit (grant_one host now w p) ≡ host_credit w
   grant_one_brings w p untold i n =
@@ -247,13 +247,13 @@ module _ (host now : ℕ) where
       (All-tail (IsUntoldAt w) p jobs untold k d within)) in
       (rest.0 ∙ grant_one_brings w p (All-head (IsUntoldAt w) p jobs untold), rest.1)
 
--- what is eligible in a sound world was given to nobody, and nothing was told of it
+-- an eligible instance in a sound world has neither owner nor report
 eligible_untold : (w : World) (h : HostRow) (p : Place) → Sound w → is_eligible w h p ≡ true → IsUntoldAt w p
 eligible_untold w h p sound eligible y stands =
     let free = eligible_is_free w h p eligible y stands in
     (free, (((limited_from_sound w sound).each p y stands).1 free).1)
 
--- The credit of a user, where each host has what it had and what the scores bring.
+-- The credit of a user, if each host has what it had plus what the scores bring.
 module _ (w : World) (hosts : List HostRow) (scores : List Score) (account : ℕ) (stay : AccountsStay w.hosts hosts)
     (none : (n : ℕ) → nth w.hosts n ≡ None → host_credit w n ≡ 0) where
   abbrev is_own : HostRow → Bool
@@ -276,7 +276,7 @@ module _ (w : World) (hosts : List HostRow) (scores : List Score) (account : ℕ
       twice i None = refl
       twice i (Some h) = refl
 
-  -- a host that is new had nothing
+  -- a new host had nothing
   same_by : (n : ℕ) → had_by (nth hosts n) n ≡ had_by (nth w.hosts n) n
   same_by n = cases (nth w.hosts n) refl (nth hosts n) refl
     where
@@ -304,7 +304,7 @@ module _ (w : World) (hosts : List HostRow) (scores : List Score) (account : ℕ
       ∙ ap (sum_from (λ n. had_by (nth w.hosts n) n) 1) turned
       ∙ by_number w.hosts after
 
-  -- what the scores bring the user's hosts
+  -- what the scores bring to the user's hosts
   abbrev brings : ℕ × HostRow → ℕ
   brings e = cond (is_own e.1) (credits_in scores e.0) 0
 
@@ -337,7 +337,7 @@ module _ (w : World) (hosts : List HostRow) (scores : List Score) (account : ℕ
       two true m n = refl
       two false m n = refl
 
--- a host that does not stand in a sound world has no credit there
+-- a host that does not exist in a sound world has no credit there
 nothing_without : (w : World) → Sound w → (n : ℕ) → nth w.hosts n ≡ None → host_credit w n ≡ 0
 nothing_without w sound n none =
     host_credit-none w n (λ unit b number x stands there.
@@ -351,7 +351,7 @@ nothing_without w sound n none =
         false_from_ne_true (eqb host n)
         (λ is. (let never : true ≡ false = sym among ∙ ap (λ m. is_some (nth w.hosts m)) (eqb-true host n is) ∙ ap is_some none in absurd cc))
 
--- What a call leaves to hosts and to users.
+-- What hosts and users have after a call.
 pub totals_known : (w : World) (c : Caller) (r : Request) (now : ℕ) (scores : List Score) (jobs : List Place) → Sound w → IsCaller w c r → HasRoom w c
     → IsInRange r → now ≤ last_moment → AreScores w (after_settlement w c r now) scores → IsGrant (after_settlement w c r now) (asking_of w c r now) jobs
     → ((n : ℕ) → host_credit (granted (after_settlement w c r now) (host_number w c) now jobs) n ≡ host_credit w n + credits_in scores n)

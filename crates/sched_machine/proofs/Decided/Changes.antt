@@ -1,4 +1,4 @@
--- What the parts of a step make of the workunits: each report that is judged is late, and is of no failed workunit.
+-- What the parts of a step do to the workunits: each newly judged report has a later place, and is of no failed workunit.
 use Rattle.std.proofs.Common.{◌≡◌, ℕ, suc, ◌<◌, ◌≤◌, inl, inr, Bool, true, false, cond, List, [], ◌∷◌, ◌++◌, length, Option, Some, None, sym, refl, ap, ◌∙◌, subst}
 use Rattle.std.proofs.Math.Bool.{and-false}
 use Rattle.std.specs.Prelude.{◌&&◌, ◌||◌, ◌==◌, map, count_by, is_some, is_none, option_map, option_and_then, unwrap_or, replicate, slice_get}
@@ -26,7 +26,8 @@ use Rattle.sched_machine.proofs.Decided.Good.{IsLate, Became, BecameAt, AllBecam
 use Rattle.sched_machine.proofs.Decided.Units.{status_stays}
 use Rattle.sched_machine.proofs.Moves.Moves.{Lasts, judged_at, fresh_behind}
 
--- A workunit and what became of it: nothing but its instances and its class changes, and where it had failed they stay as many.
+-- A workunit and what it became: only its instances and its class change. If it had failed, there are as many instances
+-- as before.
 pub record UnitBecame (apps : List App) (b c : UnitBook) : Type 0 where
   pub row : imported c.unit ≡ imported b.unit
   pub became : AllBecame (count_by is_judged b.instances) (has_failed (book_status apps b)) b.instances c.instances
@@ -40,13 +41,13 @@ UnitBecameAt apps (Some b) (Some c) = UnitBecame apps b c
 abbrev pub UnitsBecame : List App → List UnitBook → List UnitBook → Type 0
 UnitsBecame apps bs cs = (k : ℕ) → UnitBecameAt apps (nth bs k) (nth cs k)
 
--- with the same report it is as late
+-- with the same report its place is as late
 late_kept : (n : ℕ) (failed : Bool) (y z : Instance) → z.report ≡ y.report → IsLate n failed y → IsLate n failed z
 late_kept n failed y z same late judged =
     let late_y = late (ap (λ r. is_some (option_and_then (λ (t : Outcome). t.place) r)) (sym same) ∙ judged) in
     (subst (λ r. n < told_place r) (sym same) late_y.0, late_y.1)
 
--- what nobody was given is live
+-- an instance without owner is live
 free_live : (y : Instance) → is_none y.owner ≡ true → is_live y ≡ true
 free_live y free = ap (λ t. t || is_held y) free
 
@@ -54,7 +55,7 @@ left_free : (o : Option Owner) (s t : Bool) → (s && t) ≡ false → (is_none 
 left_free None s t never is = refl
 left_free (Some o) s t never is = sym never ∙ is
 
--- What each change makes of an instance.
+-- What each change does to an instance.
 module _ (n : ℕ) (failed : Bool) where
   became_self : (o : Option Instance) → BecameAt n failed o o
   became_self None = tt
@@ -90,7 +91,7 @@ module _ (n : ℕ) (failed : Bool) where
     owned = λ host owned. sym (ap (λ q. option_any (λ n. n == host) (option_map (λ (o : Owner). o.host) q)) is) ∙ owned;
   }
 
-  -- one that nobody was given, given to a host
+  -- an instance without owner, given to a host
   pub owner_became : (o : Owner) (x : Instance) → x.owner ≡ None → Became n failed x (with_owner o x)
   owner_became o x free = record {
     report = inl refl;
@@ -98,7 +99,7 @@ module _ (n : ℕ) (failed : Bool) where
     owned = λ host is. (let never : false ≡ true = sym (ap (λ q. option_any (λ n. n == host) (option_map (λ (o : Owner). o.host) q)) free) ∙ is in absurd cc);
   }
 
-  -- a report that is later, or not judged
+  -- a report that has a later place, or is not judged
   report_became : (r : Report) (place : Option ℕ) (x : Instance) → x.report ≡ None → ((m : ℕ) → place ≡ Some m → (n < m) × (failed ≡ false))
       → Became n failed x (with_report r place x)
   report_became r place x none later = record {
@@ -111,7 +112,7 @@ module _ (n : ℕ) (failed : Bool) where
       late None later judged = absurd cc
       late (Some m) later judged = later m refl
 
-  -- what stands goes on to stand, and none is more
+  -- an instance that exists still exists, and there is no new one
   abbrev pub GoesOn : Option Instance → Option Instance → Type 0
   GoesOn o q = BecameAt n failed o q × (is_some q ≡ is_some o)
 
@@ -145,14 +146,14 @@ units_same apps bs k = cases (nth bs k)
       many = λ failed. refl;
     }
 
--- lists of which as much stands are as long
+-- lists with instances at the same indices are equally long
 same_length : (xs ys : List Instance) → ((i : ℕ) → is_some (slice_get ys i) ≡ is_some (slice_get xs i)) → length ys ≡ length xs
 same_length [] [] same = refl
 same_length [] (y ∷ ys) same = absurd (let never : true ≡ false = same 0 in cc)
 same_length (x ∷ xs) [] same = absurd (let never : false ≡ true = same 0 in cc)
 same_length (x ∷ xs) (y ∷ ys) same = ap suc (same_length xs ys (λ i. same (suc i)))
 
--- what becomes of the workunits of a world by what becomes of the instance at each place
+-- what happens to the workunits of a world, by what happens to the instance at each place
 pub units_on : (w v u : World) → UnitsBecame w.apps w.units v.units → map (λ (b : UnitBook). b.unit) u.units ≡ map (λ (b : UnitBook). b.unit) v.units
     → ((p : Place) → GoesOn (judged_at w p.unit) (has_failed (status_at w p.unit)) (instance_at v p) (instance_at u p)) → UnitsBecame w.apps w.units u.units
 units_on w v u was rows each k =
@@ -177,11 +178,11 @@ units_on w v u was rows each k =
       many = λ failed. same_length c.instances d.instances (λ i. (goes i).1) ∙ before.many failed;
     }
 
--- the judged successes of a workunit are in range
+-- the places of a workunit's judged successes are in range
 abbrev pub IsInRange : UnitBook → Type 0
 IsInRange b = (i : ℕ) (x : Instance) → slice_get b.instances i ≡ Some x → tells_success x.report ≡ true → told_place x.report ≤ count_by is_judged b.instances
 
--- what failed is not open
+-- a workunit that failed is not open
 not_open : (s : Status) → has_failed s ≡ true → is_open s ≡ false
 not_open Open is = absurd cc
 not_open Done is = refl
@@ -216,7 +217,7 @@ unit_grown apps b c low was = cases (is_open (book_status apps c)) refl
       many = λ failed. absurd (let never : true ≡ false = sym is ∙ stays failed in cc);
     }
 
--- and all workunits
+-- the same of all workunits
 pub units_grown : (apps : List App) (bs cs : List UnitBook) → ((k : ℕ) (b : UnitBook) → nth bs k ≡ Some b → IsInRange b) → UnitsBecame apps bs cs
     → UnitsBecame apps bs (map (grown apps) cs)
 units_grown apps bs cs low was k =

@@ -1,4 +1,4 @@
--- The good reports of a workunit stay in their order, and later ones come behind them.
+-- The good reports of a workunit stay in their order, and later ones come after them.
 use Rattle.std.proofs.Common.{◌≡◌, ℕ, suc, ◌+◌, ◌<◌, ◌≤◌, ◌⊎◌, inl, inr, Bool, true, false, cond, List, [], ◌∷◌, ◌++◌, Option, Some, None, sym, refl, ap, ◌∙◌, subst, zero-add, arith}
 use Rattle.std.proofs.lemmas.Bool.{and_parts}
 use Rattle.std.specs.Prelude.{not, fold, nat_le, is_some, slice_get, option_and_then}
@@ -9,7 +9,7 @@ use Rattle.sched_book.specs.declared.instance.Instance.{Instance}
 use Rattle.sched_book.specs.declared.instance.Outcome.{Outcome}
 use Rattle.sched_book.proofs.GoodReports.{put_step}
 
--- a report that tells of a judged success or client error is judged
+-- a report of a judged success or client error is judged
 pub success_is_judged : (o : Option Outcome) → tells_success o ≡ true → is_some (option_and_then (λ (t : Outcome). t.place) o) ≡ true
 success_is_judged None is = absurd cc
 success_is_judged (Some t) is = (and_parts t.success (is_some t.place) is).1
@@ -18,27 +18,27 @@ pub error_is_judged : (o : Option Outcome) → tells_error o ≡ true → is_som
 error_is_judged None is = absurd cc
 error_is_judged (Some t) is = (and_parts (not t.success) (is_some t.place) is).1
 
--- what was reported of the instance at a place
+-- the report of the instance at a number
 report_here : (zs : List Instance) (k : ℕ) (z : Instance) → slice_get zs (k + 0) ≡ Some z → report_of zs k ≡ z.report
 report_here zs k z there =
     ap (λ i. option_and_then (λ (y : Instance). y.report) (slice_get zs i)) (let same : k ≡ k + 0 = omega arith in same)
     ∙ ap (option_and_then (λ (y : Instance). y.report)) there
 
--- An instance and what became of it, where n reports were judged before and the workunit had failed or not: its
--- report stays; a new one that is judged has a later place, and is of no failed workunit.
+-- An instance and what it became, if n reports were judged before and the workunit had failed or not. Its report stays.
+-- A new report that is judged has a later place, and is of no failed workunit.
 abbrev pub IsLate : ℕ → Bool → Instance → Type 0
 IsLate n failed y = is_judged y ≡ true → (n < told_place y.report) × (failed ≡ false)
 
 abbrev pub IsReported : ℕ → Bool → Instance → Instance → Type 0
 IsReported n failed x y = (y.report ≡ x.report) ⊎ ((x.report ≡ None) × IsLate n failed y)
 
--- it is no more live than it was, and stays with its owner
+-- it is live only if it was live before, and stays with its owner
 pub record Became (n : ℕ) (failed : Bool) (x y : Instance) : Type 0 where
   pub report : IsReported n failed x y
   pub live : is_live y ≡ true → is_live x ≡ true
   pub owned : (host : ℕ) → is_owned_by host x ≡ true → is_owned_by host y ≡ true
 
--- what stands at a number and what stands there later
+-- the instance at a number, and the one there later
 abbrev pub BecameAt : ℕ → Bool → Option Instance → Option Instance → Type 0
 BecameAt n failed None None = Unit {0}
 BecameAt n failed None (Some y) = IsLate n failed y
@@ -48,12 +48,12 @@ BecameAt n failed (Some x) (Some y) = Became n failed x y
 abbrev pub AllBecame : ℕ → Bool → List Instance → List Instance → Type 0
 AllBecame n failed xs ys = (i : ℕ) → BecameAt n failed (slice_get xs i) (slice_get ys i)
 
--- what holds of each number of a list
+-- a property of each number of a list
 abbrev pub Each : (ℕ → Type 0) → List ℕ → Type 0
 Each P [] = Unit {0}
 Each P (i ∷ is) = P i × Each P is
 
--- what holds of each goes on to hold with one more
+-- a property of each number still holds of each with one more
 each_put : (P : ℕ → Type 0) (key : ℕ → ℕ) (js : List ℕ) (i : ℕ) → Each P js → P i → Each P (put_by key js i)
 each_put P key [] i each new = (new, tt)
 each_put P key (j ∷ js) i each new = cases (each_put P key js i each.1 new) (nat_le (key j) (key i)) refl
@@ -62,9 +62,9 @@ each_put P key (j ∷ js) i each new = cases (each_put P key js i each.1 new) (n
     cases rest true is = subst (Each P) (sym (put_step key j js i true is)) (each.0, rest)
     cases rest false is = subst (Each P) (sym (put_step key j js i false is)) (new, each)
 
--- These instances became those, where n reports were judged before.
+-- These instances became the others, after n reports were judged.
 module _ (xs ys : List Instance) (n : ℕ) where
-  -- the report of this number stands as it was, and has one of the places before
+  -- the report of this number is as it was, and has one of the earlier places
   abbrev pub IsOld : ℕ → Type 0
   IsOld j = (report_of ys j ≡ report_of xs j) × (place_of xs j ≤ n)
 
@@ -74,7 +74,7 @@ module _ (xs ys : List Instance) (n : ℕ) where
   same_place : (j : ℕ) → IsOld j → place_of ys j ≡ place_of xs j
   same_place j old = ap told_place old.0
 
-  -- one of the old ones goes among the old ones
+  -- an old report is inserted among the old ones
   put_old : (old late : List ℕ) (i : ℕ) → Each IsOld old → Each ComesLater late → IsOld i
       → put_by (place_of ys) (old ++ late) i ≡ put_by (place_of xs) old i ++ late
   put_old [] [] i each more is = refl
@@ -98,7 +98,7 @@ module _ (xs ys : List Instance) (n : ℕ) where
           put_step (place_of ys) j (js ++ late) i false (same ∙ high)
           ∙ ap (λ is. is ++ late) (sym (put_step (place_of xs) j js i false high))
 
-  -- a late one goes behind them
+  -- a late report is inserted after the old ones
   put_late : (old late : List ℕ) (i : ℕ) → Each IsOld old → ComesLater i
       → put_by (place_of ys) (old ++ late) i ≡ old ++ put_by (place_of ys) late i
   put_late [] late i each is = refl
@@ -109,7 +109,7 @@ module _ (xs ys : List Instance) (n : ℕ) where
       put_step (place_of ys) j (js ++ late) i true (le-leb (place_of ys j) (place_of ys i) (omega arith))
       ∙ ap (λ is. j ∷ is) (put_late js late i each.1 is)
 
-  -- What is put of some numbers later: what was put of these before, and more behind.
+  -- What is inserted of some numbers later: what was inserted of them before, and more after it.
   record Goes (failed : Bool) (old late was now : List ℕ) : Type 0 where
     more : List ℕ
     is : fold (put_by (place_of ys)) (old ++ late) now ≡ fold (put_by (place_of xs)) old was ++ more
@@ -119,7 +119,7 @@ module _ (xs ys : List Instance) (n : ℕ) where
   abbrev success : Instance → Bool
   success x = tells_success x.report
 
-  -- of none, and of one more that is old or late
+  -- no number, and one more that is old or late
   nothing : (failed : Bool) (old late : List ℕ) → Each IsOld old → Goes failed old late [] []
   nothing failed old late each = record { more = late; is = refl; each = each; none = λ is empty. empty }
 
@@ -141,7 +141,7 @@ module _ (xs ys : List Instance) (n : ℕ) where
     none = λ is. absurd cc;
   }
 
-  -- an instance that is new or without report before, where the others go so
+  -- an instance that is new or had no report, if the others continue in this way
   more_heads : (failed : Bool) (k : ℕ) (y : Instance) (us vs : List Instance) (old late : List ℕ)
       → slice_get ys (k + 0) ≡ Some y → IsLate n failed y → Each IsOld old → Each ComesLater late
       → ((later : List ℕ) → Each ComesLater later → Goes failed old later (numbers_from (k + 1) success us) (numbers_from (k + 1) success vs))
@@ -168,7 +168,7 @@ module _ (xs ys : List Instance) (n : ℕ) where
           (subst (λ (f : Bool). Goes f old (put_by (place_of ys) late k) was now) new.1
           (rest (put_by (place_of ys) late k) (each_put ComesLater (place_of ys) late k more here)))))
 
-  -- an instance and what became of it, where the others go so
+  -- an instance and what it became, if the others continue in this way
   heads : (failed : Bool) (k : ℕ) (x y : Instance) (us vs : List Instance) (old late : List ℕ)
       → slice_get xs (k + 0) ≡ Some x → slice_get ys (k + 0) ≡ Some y → (success x ≡ true → told_place x.report ≤ n)
       → IsReported n failed x y → Each IsOld old → Each ComesLater late
@@ -210,7 +210,7 @@ module _ (xs ys : List Instance) (n : ℕ) where
           subst (λ (d : Bool). Goes failed old late (cond d (k ∷ was) was) (numbers_from k success (y ∷ vs))) (sym (ap tells_success none))
           (more_heads failed k y us vs old late second judged each more (λ later. rest old later each))
 
-  -- the instances from number k on, of which those that were judged are in range
+  -- the instances from number k on; the places of the judged ones are in range
   go : (failed : Bool) (k : ℕ) (us vs : List Instance) (old late : List ℕ)
       → ((i : ℕ) → slice_get xs (k + i) ≡ slice_get us i) → ((i : ℕ) → slice_get ys (k + i) ≡ slice_get vs i)
       → ((i : ℕ) (x : Instance) → slice_get us i ≡ Some x → success x ≡ true → told_place x.report ≤ n)
@@ -233,19 +233,19 @@ module _ (xs ys : List Instance) (n : ℕ) where
       (λ i. ap (slice_get ys) (let same : k + 1 + i ≡ k + suc i = omega arith in same) ∙ second (suc i))
       (λ i. low (suc i)) (λ i. became (suc i)) first_each second_each)
 
--- The good reports: those before, each as it was, and more behind; none where the workunit had failed.
+-- The good reports: those from before, each as it was, and more after them; none more if the workunit had failed.
 pub record Continues (failed : Bool) (xs ys : List Instance) : Type 0 where
   pub more : List ℕ
   pub is : good ys ≡ good xs ++ more
   pub same : Each (λ j. report_of ys j ≡ report_of xs j) (good xs)
   pub none : failed ≡ true → more ≡ []
 
--- what follows of each
+-- what follows of each number
 pub each_more : (P Q : ℕ → Type 0) → ((i : ℕ) → P i → Q i) → (is : List ℕ) → Each P is → Each Q is
 each_more P Q makes [] each = tt
 each_more P Q makes (i ∷ is) each = (makes i each.0, each_more P Q makes is each.1)
 
--- they continue where each report that is new is late
+-- they continue if each new report has a later place
 pub good_continues : (n : ℕ) (failed : Bool) (xs ys : List Instance)
     → ((i : ℕ) (x : Instance) → slice_get xs i ≡ Some x → tells_success x.report ≡ true → told_place x.report ≤ n)
     → AllBecame n failed xs ys → Continues failed xs ys

@@ -1,4 +1,4 @@
--- What is decided stays so over every run.
+-- What is decided stays in every run.
 use Rattle.sched_machine.specs.Decisions.{CanonicalsStay, VerdictsStay, StatusesStay, CreditsStay, CreditsAddUp}
 use Rattle.sched_machine.specs.Runs.{HoldsInRuns, HoldsAlways}
 use Rattle.sched_machine.proofs.Decided.Steps.{step_became}
@@ -24,6 +24,6 @@ statuses_stay w calls turns sound limits trace i j less within = (runs_stay w ca
 pub credits_never_fall : HoldsInRuns CreditsStay
 credits_never_fall w calls turns sound limits trace i j less within = (runs_stay w calls turns sound limits trace i j less within).credits
 
--- and credits add up in each of its worlds
+-- credits add up in each of its worlds
 pub credits_add_up : HoldsAlways CreditsAddUp
 credits_add_up = always CreditsAddUp sound_credits_add_up

@@ -1,4 +1,4 @@
--- What a step makes of the workunits and the hosts of a sound world.
+-- What a step does to the workunits and the hosts of a sound world.
 use Rattle.std.proofs.Common.{◌≡◌, ℕ, ◌≤◌, Bool, List, ◌++◌, length, Option, Some, None, sym, refl, ap, ◌∙◌, subst, arith}
 use Rattle.std.specs.Prelude.{IsTrue, map, count_by, option_map, option_and_then, unwrap_or, IfSome}
 use Rattle.std.specs.List.{enumerate_from}
@@ -33,13 +33,13 @@ use Rattle.sched_machine.proofs.Moves.Cases.{by_call}
 use Rattle.sched_machine.proofs.Moves.Moves.{judged_at, granted_lasts, lapses_last, left_alone, left_lasts}
 use Rattle.sched_machine.proofs.Decided.Changes.{UnitBecameAt, UnitsBecame, GoesOn, IsInRange, goes_given, goes_on, goes_self, units_on, units_same, units_grown}
 
--- A world and what became of it: its workunits, whose hosts they are, and how outputs are compared.
+-- A world and what it became: its workunits, the accounts of its hosts, and how outputs are compared.
 pub record WorldBecame (w v : World) : Type 0 where
   pub units : UnitsBecame w.apps w.units v.units
   pub hosts : AccountsStay w.hosts v.hosts
   pub agreements : (name : List ℕ) → IsTrue (has_app w.apps name) → agreement_by v.apps name ≡ agreement_by w.apps name
 
--- in a sound world judged successes are in range
+-- in a sound world the places of judged successes are in range
 pub in_range : (w : World) → Sound w → (k : ℕ) (b : UnitBook) → nth w.units k ≡ Some b → IsInRange b
 in_range w sound k b stands i x there is =
     told x.report
@@ -69,7 +69,7 @@ pub accounts_settled : (old new : World) (hosts : List HostRow) → AccountsStay
 accounts_settled old new hosts n h stands =
     (with_quota old new (n, h), nth-map_places (with_quota old new) hosts n ∙ ap (option_map (λ k. with_quota old new (n, k))) stands, refl)
 
--- with classes that workunits take
+-- after workunits took classes
 became_like : (w v u : World) → IsLike v u → WorldBecame w v → WorldBecame w u
 became_like w v u like became = record {
   units = λ k. cases (nth w.units k) (nth v.units k) (nth u.units k) (plain_same v u like k) (became.units k);
@@ -150,7 +150,7 @@ units_more apps bs cs k = cases (nth bs k) refl (units_same apps bs k)
     cases None is same = tt
     cases (Some b) is same = subst (UnitBecameAt apps (Some b)) (sym (nth-front bs cs k b is)) same
 
--- rows that are added leave what stands
+-- adding rows keeps those that exist
 import_became : (w : World) (new : Rows) → WorldBecame w (with_rows w new)
 import_became w (rows.Accounts xs) = record { units = units_same w.apps w.units; hosts = accounts_same w.hosts; agreements = λ name known. refl }
 import_became w (rows.Apps xs) = record { units = units_same w.apps w.units; hosts = accounts_same w.hosts; agreements = agreement_stays w.apps xs }

@@ -22,7 +22,7 @@ use Rattle.sched_machine.specs.Decisions.{CreditsAddUp}
 use Rattle.sched_book.proofs.Credits.{exchange, times}
 use Rattle.sched_machine.proofs.OptionParts.{mapped_by}
 
--- sums that are the same at each element
+-- sums of functions that agree on each element
 sum_alike : {X : Type 0} (f g : X → ℕ) (xs : List X) → ((i : ℕ) (x : X) → slice_get xs i ≡ Some x → f x ≡ g x) → sum_by f xs ≡ sum_by g xs
 sum_alike f g [] same = refl
 sum_alike f g (x ∷ xs) same =
@@ -31,7 +31,7 @@ sum_alike f g (x ∷ xs) same =
     ∙ ap (λ n. g x + n) (sum_alike f g xs (λ i. same (suc i)))
     ∙ sym (sum_by-cons g x xs)
 
--- of the numbered elements one has the number of one that stands
+-- one of the numbered elements has the number of an existing one
 module _ {X : Type 0} (c : ℕ) where
   abbrev one_of : ℕ → ℕ × X → ℕ
   one_of h e = cond (eqb h e.0) c 0
@@ -63,7 +63,7 @@ module _ {X : Type 0} (c : ℕ) where
       ap (λ m. sum_by (one_of m) (enumerate_from 1 xs)) (let same : suc i ≡ 1 + i = omega arith in same)
       ∙ once xs 1 i (sym (ap is_some (nth-suc xs i)) ∙ stands)
 
--- there is no verdict on what was not reported, so a valid result was
+-- there is no verdict on an instance without report, so a valid result was reported
 pub no_verdict : (a : Agreement) (xs : List Instance) (o : Option ℕ) (x : Instance) → x.report ≡ None → verdict_by a xs o x ≡ None
 no_verdict a xs None x none = refl
 no_verdict a xs (Some c) x none =
@@ -76,7 +76,7 @@ valid_reported w b x valid none =
     absurd cc
 
 module _ (w : World) (sound : Sound w) where
-  -- a valid result has an owner, whose host stands
+  -- a valid result has an owner, whose host exists
   has_host : (b : UnitBook) → IsSoundUnit w.hosts w.apps b → (i : ℕ) (x : Instance) → slice_get b.instances i ≡ Some x
       → is_valid (verdict_of w b x) ≡ true
       → (host : ℕ) × (host_of x ≡ Some host) × IsTrue (is_some (nth w.hosts host))
@@ -122,7 +122,7 @@ module _ (w : World) (sound : Sound w) where
           also true = refl
           also false = refl
 
-  -- so a workunit's worth goes to the hosts
+  -- so what a workunit's results are worth goes to the hosts
   one_unit : (b : UnitBook) → IsSoundUnit w.hosts w.apps b
       → sum_by (λ (e : ℕ × HostRow). credit_in w.apps e.0 b) (enumerate_from 1 w.hosts)
       ≡ b.unit.credit * count_by (λ x. is_valid (verdict_of w b x)) b.instances
@@ -143,7 +143,7 @@ module _ (w : World) (sound : Sound w) where
       (λ b. b.unit.credit * count_by (λ x. is_valid (verdict_of w b x)) b.instances) w.units
       (λ i b there. one_unit b (all_get (IsSoundUnit w.hosts w.apps) w.units i b sound.units there))
 
-  -- a host's credit goes to one user, whose account stands
+  -- a host's credit goes to one user, whose account exists
   account_stands : (h : HostRow) → IsSoundHost (length w.accounts) w.settings.daily_result_quota h → is_some (nth w.accounts h.account) ≡ true
   account_stands h is = at h.account is.account.0 is.account.1
     where

@@ -1,4 +1,4 @@
--- What is decided of a workunit stays: its canonical result, the verdicts on its instances, and its status.
+-- What is decided about a workunit stays: its canonical result, the verdicts on its instances, and its status.
 use Rattle.std.proofs.Common.{◌≡◌, ℕ, zero, suc, ◌+◌, ◌-◌, ◌<◌, ◌≤◌, inl, inr, Bool, true, false, cond, List, [], ◌∷◌, ◌++◌, length, take, drop, Option, Some, None, sym, refl, ap, ◌∙◌, subst, arith}
 use Rattle.std.specs.Prelude.{find, is_some, nat_le, nat_lt, slice_get}
 use borrow.Author.Tests.{leb-true, le-leb, ltb-true, lt-ltb}
@@ -15,7 +15,7 @@ use Rattle.sched_book.specs.declared.rows.Agreement.{Agreement}
 use Rattle.sched_book.specs.declared.rows.Workunit.{Workunit}
 use Rattle.sched_machine.proofs.Decided.Good.{error_is_judged, IsLate, IsReported, AllBecame, Each, Continues, good_continues}
 
--- what holds of each of two lists, of a front and of what is behind it
+-- a property of each of two lists holds of each of both together
 each_append : (P : ℕ → Type 0) (is js : List ℕ) → Each P is → Each P js → Each P (is ++ js)
 each_append P [] js first second = second
 each_append P (i ∷ is) js first second = (first.0, each_append P is js first.1 second)
@@ -30,7 +30,7 @@ each_drop P zero is each = each
 each_drop P (suc n) [] each = tt
 each_drop P (suc n) (i ∷ is) each = each_drop P n is each.1
 
--- Reports that stand in two lists of instances alike.
+-- Reports that are the same in two lists of instances.
 module _ (a : Agreement) (xs ys : List Instance) where
   abbrev pub IsSame : ℕ → Type 0
   IsSame j = report_of ys j ≡ report_of xs j
@@ -63,7 +63,7 @@ module _ (a : Agreement) (xs ys : List Instance) where
       ∙ ap (λ o. cond (is_some (leader a xs enough front)) (leader a xs enough front) o)
       (first_same enough (front ++ i ∷ []) rest (each_append IsSame front (i ∷ []) first (each.0, tt)) each.1)
 
-  -- a first leader stays the first where more reports come behind
+  -- a first leader stays the first if more reports come after it
   first_found : (enough : ℕ) (front more : List ℕ) (c : ℕ) → leader a ys enough front ≡ Some c → first_leader a ys enough front more ≡ Some c
   first_found enough front [] c is = is
   first_found enough front (i ∷ more) c is =
@@ -81,7 +81,7 @@ module _ (a : Agreement) (xs ys : List Instance) where
       cases None is later = later is
       cases (Some d) is later = is
 
--- what is found is one of those that were looked at
+-- what is found is one of the numbers that were searched
 found_holds : (P : ℕ → Type 0) (p : ℕ → Bool) (js : List ℕ) (c : ℕ) → Each P js → find p js ≡ Some c → P c
 found_holds P p [] c each is = absurd cc
 found_holds P p (j ∷ js) c each is = cases (p j) is (found_holds P p js c each.1)
@@ -90,7 +90,7 @@ found_holds P p (j ∷ js) c each is = cases (p j) is (found_holds P p js c each
     cases true is later = let same : j ≡ c = cc in subst P same each.0
     cases false is later = later is
 
--- so is a first leader
+-- the same of a first leader
 first_holds : (P : ℕ → Type 0) (a : Agreement) (xs : List Instance) (enough : ℕ) (front rest : List ℕ) (c : ℕ) → Each P front → Each P rest
     → first_leader a xs enough front rest ≡ Some c → P c
 first_holds P a xs enough front [] c first each is = found_holds P (λ i. nat_le enough (votes a xs front i)) front c first is
@@ -139,7 +139,7 @@ module _ (a : Agreement) (u : Workunit) (failed : Bool) (xs ys : List Instance) 
           ∙ ap (first_leader a ys (majority u) front) (drop-append-le quorum (good xs) on.more low)
           ∙ first_stays a xs ys (majority u) front rest on.more c (first_same a xs ys (majority u) front rest same_front same_rest ∙ is)
 
-  -- it is a report that stands as it was
+  -- the canonical result is a report that is as it was
   pub canonical_same : (c : ℕ) → canonical a u xs ≡ Some c → report_of ys c ≡ report_of xs c
   canonical_same c is = cases (nat_le quorum (length (good xs))) is
     where
@@ -147,7 +147,7 @@ module _ (a : Agreement) (u : Workunit) (failed : Bool) (xs ys : List Instance) 
       cases false is = absurd cc
       cases true is = first_holds (IsSame a xs ys) a xs (majority u) front rest c same_front same_rest is
 
-  -- a verdict is by the same canonical result
+  -- a verdict depends on the same canonical result
   pub verdict_stays : (x y : Instance) (n : ℕ) (v : Verdict) → IsReported n failed x y → verdict a u xs x ≡ Some v → verdict a u ys y ≡ Some v
   verdict_stays x y n v reported is = cases (canonical a u xs) refl is
     where
@@ -166,7 +166,7 @@ module _ (a : Agreement) (u : Workunit) (failed : Bool) (xs ys : List Instance) 
                 sym (ap (λ r. cond (tells_success r) (Some (cond (agree a (told_output r) (output_of xs c)) Valid Invalid)) None) new.0) ∙ is in absurd cc)
           ]
 
-  -- where the workunit had failed, none is more
+  -- if the workunit had failed, there is no more
   module _ (is_failed : failed ≡ true) where
     pub good_same : good ys ≡ good xs
     good_same = on.is ∙ ap (λ js. good xs ++ js) (on.none is_failed) ∙ append-nil (good xs)
@@ -176,12 +176,12 @@ module _ (a : Agreement) (u : Workunit) (failed : Bool) (xs ys : List Instance) 
         ap (canonical_of ys) good_same
         ∙ ap (λ o. cond (nat_le quorum (length (good xs))) o None) (first_same a xs ys (majority u) front rest same_front same_rest)
 
--- no new error is of a failed workunit
+-- a failed workunit has no new error
 not_new : (n : ℕ) (y : Instance) (b : Bool) → tells_error y.report ≡ b → IsLate n true y → tells_error y.report ≡ false
 not_new n y false is judged = is
 not_new n y true is judged = absurd (let never : true ≡ false = (judged (error_is_judged y.report is)).1 in cc)
 
--- there are as many errors
+-- there are as many errors as before
 errors_became : (n : ℕ) (xs ys : List Instance) → AllBecame n true xs ys → errors ys ≡ errors xs
 errors_became n [] [] became = refl
 errors_became n (x ∷ xs) [] became = absurd (became 0)
@@ -202,7 +202,7 @@ errors_became n (x ∷ xs) (y ∷ ys) became =
       | inr new ↦ not_new n y (tells_error y.report) refl new.1 ∙ sym (ap tells_error new.0)
     ]
 
--- one where it passes, and at most as much where that implies it
+-- 1 if it passes; at most as much as another if it implies that one
 abbrev pub one : Bool → ℕ
 one b = cond {A = ℕ} b 1 0
 
@@ -211,7 +211,7 @@ at_most false c implies = let low : 0 ≤ one c = omega arith in low
 at_most true false implies = let never : false ≡ true = implies refl in absurd cc
 at_most true true implies = omega arith
 
--- where none is added, as few are live
+-- if no instance is added, at most as many are live
 live_became : (n : ℕ) (failed : Bool) (xs ys : List Instance) → length ys ≡ length xs → AllBecame n failed xs ys → live ys ≤ live xs
 live_became n failed [] [] same became = omega arith
 live_became n failed (x ∷ xs) [] same became = absurd (became 0)
@@ -227,7 +227,7 @@ live_became n failed (x ∷ xs) (y ∷ ys) same became =
 abbrev by_tests : Bool → Bool → Bool → Status
 by_tests wrong many long = cond wrong FailedErrors (cond many FailedSuccess (cond long FailedTotal Open))
 
--- one that is not open has failed, and stays so where it needs as many in total or more
+-- a status by these tests that is not open is a failure, and it stays if the test of the total does
 tests_fail : (wrong many long : Bool) → is_open (by_tests wrong many long) ≡ false → has_failed (by_tests wrong many long) ≡ true
 tests_fail true many long shut = refl
 tests_fail false true long shut = refl
@@ -251,7 +251,7 @@ module _ (a : Agreement) (u : Workunit) (n : ℕ) (xs ys : List Instance)
   abbrev own : List Instance → Status
   own zs = tests zs (errors zs) (good zs) (length zs + need u zs)
 
-  -- a failed one keeps its status
+  -- a workunit that failed keeps its status
   failed_stays : AllBecame n true xs ys → length ys ≡ length xs → canonical a u xs ≡ None → is_open (own xs) ≡ false → status a u ys ≡ status a u xs
   failed_stays became same none shut =
       let on : Continues true xs ys = good_continues n true xs ys low became in
@@ -271,7 +271,7 @@ module _ (a : Agreement) (u : Workunit) (n : ℕ) (xs ys : List Instance)
       lt-ltb u.max_total_results (length ys + need u ys) (omega arith)))
       ∙ sym (ap (λ o. cond (is_some o) Done (own xs)) none)
 
-  -- one that is not open keeps its status
+  -- a workunit that is not open keeps its status
   pub status_stays : AllBecame n (has_failed (status a u xs)) xs ys → (has_failed (status a u xs) ≡ true → length ys ≡ length xs)
       → is_open (status a u xs) ≡ false → status a u ys ≡ status a u xs
   status_stays became same shut = cases (canonical a u xs) refl

@@ -1,4 +1,4 @@
--- What is decided in a sound world stays so in what becomes of it, and no credit falls.
+-- What is decided in a sound world stays in what it becomes, and no credit falls.
 use Rattle.std.proofs.Common.{◌≡◌, ℕ, suc, ◌+◌, ◌*◌, ◌≤◌, Bool, true, false, cond, eqb, List, [], ◌∷◌, Option, Some, None, sym, refl, ap, ◌∙◌, subst, arith}
 use Rattle.std.specs.Prelude.{◌&&◌, count_by, sum_by, is_some, option_map, option_and_then, unwrap_or, slice_get}
 use Rattle.std.specs.List.{enumerate_from}
@@ -24,7 +24,7 @@ use Rattle.sched_machine.proofs.Decided.Changes.{UnitBecame, UnitBecameAt}
 use Rattle.sched_machine.proofs.Decided.Steps.{WorldBecame, in_range}
 use Rattle.sched_machine.proofs.OptionParts.{mapped_by, some_by, then_by}
 
--- All that stays. A workunit that stands goes on to stand.
+-- Everything that stays. A workunit that exists still exists.
 pub record Stays (old new : World) : Type 0 where
   pub stands : (unit : ℕ) → is_some (unit_at old unit) ≡ true → is_some (unit_at new unit) ≡ true
   pub canonicals : CanonicalsStay old new
@@ -41,7 +41,7 @@ stays_self w = record {
   credits = record { host = λ number. omega arith; user = λ account. omega arith };
 }
 
--- it stays over one after the other
+-- it stays through two changes in turn
 pub stays_then : (w v u : World) → Stays w v → Stays v u → Stays w u
 stays_then w v u first second = record {
   stands = λ unit is. second.stands unit (first.stands unit is);
@@ -55,7 +55,7 @@ stays_then w v u first second = record {
   };
 }
 
--- a sum where each item has one at its place that counts as much or more
+-- a sum that does not fall: each item has one at its place that counts at least as much
 sum_grows : {X Y : Type 0} (f : X → ℕ) (g : Y → ℕ) (xs : List X) (ys : List Y)
     → ((i : ℕ) (x : X) → slice_get xs i ≡ Some x → (y : Y) × (slice_get ys i ≡ Some y) × (f x ≤ g y)) → sum_by f xs ≤ sum_by g ys
 sum_grows f g [] ys each = let none : sum_by f [] ≡ 0 = refl in omega arith
@@ -69,16 +69,16 @@ sum_grows f g (x ∷ xs) (y ∷ ys) each =
     let after : sum_by g (y ∷ ys) ≡ g y + sum_by g ys = sum_by-cons g y ys in
     omega arith
 
--- as many pass, or more
+-- at least as many pass
 count_grows : {X : Type 0} (p q : X → Bool) (xs ys : List X)
     → ((i : ℕ) (x : X) → slice_get xs i ≡ Some x → (y : X) × (slice_get ys i ≡ Some y) × (p x ≡ true → q y ≡ true)) → count_by p xs ≤ count_by q ys
 count_grows {X} p q xs ys each =
     sum_grows (λ x. cond {A = ℕ} (p x) 1 0) (λ y. cond {A = ℕ} (q y) 1 0) xs ys
     (λ i x stands. (let there = each i x stands in (there.0, there.1, at_most (p x) (q there.0) there.2)))
 
--- A sound world and what became of it.
+-- A sound world and what it became.
 module _ (old new : World) (sound : Sound old) (became : WorldBecame old new) where
-  -- a workunit, and what became of it
+  -- a workunit, and what it became
   record At (unit : ℕ) (b : UnitBook) : Type 0 where
     c : UnitBook
     stands : unit_at new unit ≡ Some c
@@ -112,7 +112,7 @@ module _ (old new : World) (sound : Sound old) (became : WorldBecame old new) wh
   still_stands : (unit : ℕ) → is_some (unit_at old unit) ≡ true → is_some (unit_at new unit) ≡ true
   still_stands unit is = let b = some_by (unit_at old unit) is in ap is_some (at unit b.0 b.1).stands
 
-  -- the laws, from this world to that
+  -- the laws, from the first world to the second
   canonicals : CanonicalsStay old new
   canonicals unit number is =
       let b = then_by (λ (b : UnitBook). canonical (agreement b) b.unit b.instances) (unit_at old unit) number is in
@@ -134,7 +134,7 @@ module _ (old new : World) (sound : Sound old) (became : WorldBecame old new) wh
       there.is.became there.is.many (sym (ap is_open was) ∙ shut)
       ∙ sym was
 
-  -- an instance, and what became of it
+  -- an instance, and what it became
   record AtNumber (unit number : ℕ) (b : UnitBook) (x : Instance) (c : UnitBook) : Type 0 where
     y : Instance
     stands : slice_get c.instances number ≡ Some y
@@ -199,7 +199,7 @@ module _ (old new : World) (sound : Sound old) (became : WorldBecame old new) wh
       both true t None e owned known is = absurd cc
       both true t (Some v) e owned known is = ap (λ r. r && is_valid e) (owned refl) ∙ ap is_valid (known v refl) ∙ is
 
-  -- and from all
+  -- the credit of a host from all workunits
   host_grows : (host : ℕ) → host_credit old host ≤ host_credit new host
   host_grows host =
       sum_grows (credit_in old.apps host) (credit_in new.apps host) old.units new.units

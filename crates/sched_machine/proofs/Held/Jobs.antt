@@ -33,7 +33,7 @@ use Rattle.sched_machine.proofs.Calls.Said.{name_by}
 use Rattle.sched_machine.proofs.Held.Settled.{is_held_in, lost_held, lost_hold_no_more, lost_resent, reports_end_holding, settled_same, IsUnspoiled, grant_gives, grant_keeps, granted_is_held}
 use Rattle.sched_machine.proofs.Moves.Moves.{free_first, lost_is_held, Lasts, settlement_lasts}
 
--- nobody owns what was given to nobody
+-- nobody owns an instance that was given to nobody
 free_not_owned : (host : ℕ) (x : Instance) → x.owner ≡ None → is_owned_by host x ≡ false
 free_not_owned host x free = ap (λ (o : Option Owner). option_any (λ n. n == host) (option_map (λ (o : Owner). o.host) o)) free
 
@@ -49,28 +49,28 @@ module _ (w : World) (c : Caller) (r : Request) where
   name_stays : (p : Place) → name_at reported p ≡ name_at w p
   name_stays p = name_by w reported p (row_at w reported (reports_change_instances_alone (at_entry w c r) host r.results).units p.unit)
 
-  -- and what is listed
+  -- the same of what is listed
   listed_stays : (names : List (List ℕ)) (p : Place) → is_listed reported names p ≡ is_listed w names p
   listed_stays names p = ap (λ name. list_any (bytes_eq name) names) (name_stays p)
 
-  -- the settings too
+  -- the settings stay too
   settings_stay : reported.settings ≡ w.settings
   settings_stay = (reports_change_instances_alone (at_entry w c r) host r.results).settings
 
-  -- what is lost, where lost jobs are sent again and the client lists what it has
+  -- what is lost, if lost jobs are sent again and the client lists what it has
   module _ (names : List (List ℕ)) (resends : w.settings.resend_lost_results ≡ true) (lists : r.other_results ≡ Some names) where
-    -- it is what is held after the reports and not listed
+    -- it is what the host holds after the reports and does not list
     lost_are : lost_of w c r ≡ filter (λ p. not (is_listed reported names p)) (held_by reported host)
     lost_are =
         ap (λ (s : Settings). cond s.resend_lost_results (unlisted reported host r.other_results) []) settings_stay
         ∙ ap (λ (b : Bool). cond b (unlisted reported host r.other_results) []) resends
         ∙ ap (unlisted reported host) lists
 
-    -- so it was held
+    -- so the host held it
     lost_was_held : (p : Place) → Contains (lost_of w c r) p → holds reported host p ≡ true
     lost_was_held p there = lost_is_held reported host r.other_results p there
 
-    -- and not listed
+    -- it is not listed
     lost_not_listed : (p : Place) → Contains (lost_of w c r) p → is_listed reported names p ≡ true → ⊥
     lost_not_listed p there listed =
         let fails : not (is_listed reported names p) ≡ true =
@@ -78,7 +78,7 @@ module _ (w : World) (c : Caller) (r : Request) where
         let never : false ≡ true = sym (ap not listed) ∙ fails in
         absurd cc
 
-    -- and what is held and not listed is lost
+    -- what is held and not listed is lost
     held_and_unlisted : (p : Place) → holds reported host p ≡ true → is_listed reported names p ≡ false → Contains (lost_of w c r) p
     held_and_unlisted p held unlisted =
         subst (λ ps. Contains ps p) (sym lost_are)
@@ -110,7 +110,7 @@ module _ (w : World) (c : Caller) (r : Request) where
               inr (passes_filter (is_resent (at_entry w c r) (host_at_entry w c r)) (lost_of w c r) p there
               (lost_held (at_entry w c r) (host_at_entry w c r) now host p (lost_of w c r) reported there then))
 
-      -- what is retained is held
+      -- a retained instance is held
       settled_retained : (p : Place) → IsRetained w c r names p → holds settlement host p ≡ true
       settled_retained p kept =
           settled_same (at_entry w c r) left host p
@@ -122,7 +122,7 @@ module _ (w : World) (c : Caller) (r : Request) where
           nowhere : Contains (lost_of w c r) p → ⊥
           nowhere there = lost_not_listed p there (listed_stays names p ∙ kept.listed)
 
-      -- so is what is sent again
+      -- so is an instance that is sent again
       settled_resent : (p : Place) → Contains (resent_of w c r) p → holds settlement host p ≡ true
       settled_resent p there =
           settled_same (at_entry w c r) left host p
@@ -130,7 +130,7 @@ module _ (w : World) (c : Caller) (r : Request) where
           (passed_filter (is_resent (at_entry w c r) (host_at_entry w c r)) (lost_of w c r) p there)
           ∙ lost_was_held p (in_filter (is_resent (at_entry w c r) (host_at_entry w c r)) (lost_of w c r) p there)
 
-      -- what is eligible is neither reported nor lapsed
+      -- an eligible instance is neither reported nor lapsed
       eligible_is_unspoiled : Sound w → (p : Place) → is_eligible w (asking_of w c r now).host p ≡ true → IsUnspoiled settlement p
       eligible_is_unspoiled sound p eligible =
           record { x = at.x; stands = settlement_lasts Stays w c r p stays now (λ never. absurd cc) stands; report = bare.1; lapse = bare.0 }
@@ -167,7 +167,7 @@ module _ (w : World) (c : Caller) (r : Request) where
             moved = λ f o x owned own again is. absurd (mine x own is);
           }
 
--- the law: a grant adds its jobs, and takes away nothing, and the classes that workunits take leave what is held
+-- the law: a grant adds its jobs and removes nothing, and the classes that workunits take keep what is held
 pub held_jobs_by_place : HeldByPlaces
 held_jobs_by_place w after c r now reply names step sound resends lists p = record {
   from = λ held. elim (grant_gives (host_number w c) now p step.jobs settlement (same ∙ held)) [

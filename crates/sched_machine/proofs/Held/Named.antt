@@ -1,4 +1,4 @@
--- What a host holds after its call, in the words of the request and of the reply.
+-- What a host holds after its call, in the terms of the request and of the reply.
 use Rattle.std.proofs.Common.{◌≡◌, ◌≢◌, ◌⊎◌, inl, inr, ℕ, ◌+◌, ◌<◌, ◌≤◌, Bool, true, false, List, [], ◌++◌, length, Option, Some, sym, ap, ◌∙◌, subst, arith}
 use Rattle.std.proofs.lemmas.Bool.{cases_lt}
 use Rattle.std.specs.Prelude.{◌&&◌, AllPairs, Contains, filter_map, is_none, is_some, option_map, option_and_then, slice_get, unwrap_or}
@@ -36,7 +36,7 @@ use Rattle.sched_machine.proofs.OptionParts.{any_by, some_by, then_by}
 use Rattle.sched_machine.proofs.Rows.Listed.{pairs_get}
 use Rattle.sched_machine.proofs.Moves.Moves.{lost_is_held}
 
--- workunits of one name are one workunit
+-- workunits with the same name are the same
 one_unit : (bs : List UnitBook) (i j : ℕ) (b d : UnitBook) → AllPairs (λ a b. a.unit.name ≢ b.unit.name) bs → slice_get bs i ≡ Some b
     → slice_get bs j ≡ Some d → b.unit.name ≡ d.unit.name → i ≡ j
 one_unit bs i j b d apart first second same = elim (cases_lt i j) [
@@ -47,14 +47,14 @@ one_unit bs i j b d apart first second same = elim (cases_lt i j) [
   ]
 ]
 
--- what stands at a place, with its workunit
+-- the instance at a place, with its workunit
 record Standing (w : World) (p : Place) : Type 0 where
   book : UnitBook
   x : Instance
   unit : unit_at w p.unit ≡ Some book
   number : slice_get book.instances p.number ≡ Some x
 
--- an instance that stands has its workunit
+-- an instance that exists has a workunit
 standing : (w : World) (p : Place) → is_some (instance_at w p) ≡ true → Standing w p
 standing w p is =
     let x = some_by (instance_at w p) is in
@@ -70,7 +70,7 @@ parts_are w sound p at =
     let within : p.number < length at.book.instances = slice_get_within at.book.instances p.number at.x at.number in
     omega arith)
 
--- instances of one name stand at one place
+-- instances with the same name are at the same place
 one_place : (w : World) → Sound w → (p q : Place) → is_some (instance_at w p) ≡ true → is_some (instance_at w q) ≡ true → name_at w p ≡ name_at w q → p ≡ q
 one_place w sound p q first second same =
     ap (λ n. record { unit = n; number = p.number }) units ∙ ap (λ n. record { unit = q.unit; number = n }) numbers
@@ -96,11 +96,11 @@ one_place w sound p q first second same =
         let j = nth_found w.units q.unit there.book there.unit in
         i.1 ∙ ap (λ n. 1 + n) (one_unit w.units i.0 j.0 here.book there.book sound.rows.unit_names i.2 j.2 named) ∙ sym j.1
 
--- what is held stands
+-- an instance that is held exists
 held_stands : (w : World) (host : ℕ) (p : Place) → holds w host p ≡ true → is_some (instance_at w p) ≡ true
 held_stands w host p held = ap is_some (any_by (is_held_by host) (instance_at w p) (sym (passes-is w (is_held_by host) p) ∙ held)).1
 
--- so does what may be given
+-- an eligible instance exists
 eligible_stands : (w : World) (h : HostRow) (p : Place) → is_eligible w h p ≡ true → is_some (instance_at w p) ≡ true
 eligible_stands w h p eligible =
     let at : Stood w (λ b x. is_none x.owner && is_for w h b) p = stood w (λ b x. is_none x.owner && is_for w h b) p eligible in
@@ -119,7 +119,7 @@ module _ (w : World) (c : Caller) (r : Request) (now : ℕ) (reply : Reply) (nam
   module _ (after : World) (results : reply.results ≡ sent ++ given) (sound : Sound w) (caller : IsCaller w c r)
       (eligible : (p : Place) → Contains jobs p → is_eligible w (asking_of w c r now).host p ≡ true)
       (by_place : (p : Place) → IsHeldByPlace w after c r names jobs p) where
-    -- what is sent again is named
+    -- an instance that is sent again is named
     resent_named : (p : Place) → Contains (resent_of w c r) p → IsNamed w reply p
     resent_named p there =
         let known = said_of w c r now jobs (host_at_entry w c r) true p
@@ -130,7 +130,7 @@ module _ (w : World) (c : Caller) (r : Request) (now : ℕ) (reply : Reply) (nam
           known.2,
         )
 
-    -- so is what is granted
+    -- so is an instance that is granted
     granted_named : (p : Place) → Contains jobs p → IsNamed w reply p
     granted_named p there =
         let known = said_of w c r now jobs (host_at_entry w c r) false p (eligible_runs w c r now jobs caller p (eligible p there)) in (
@@ -148,7 +148,7 @@ module _ (w : World) (c : Caller) (r : Request) (now : ℕ) (reply : Reply) (nam
       | inr (inr there) ↦ inr (granted_named p there)
     ]
 
-    -- and stood before the call
+    -- it existed before the call
     stood_before : (p : Place) → holds after (host_number w c) p ≡ true → is_some (instance_at w p) ≡ true
     stood_before p held = elim ((by_place p).from held) [
       | inl kept ↦ held_stands w (host_number w c) p kept.kept.held
@@ -171,7 +171,7 @@ module _ (w : World) (c : Caller) (r : Request) (now : ℕ) (reply : Reply) (nam
           (found.0, sym (said_name w c r now jobs (host_at_entry w c r) false found.0 j found.2), (by_place found.0).granted found.1))
     ]
 
-    -- so that each instance of such a name is held, since names are distinct
+    -- so each instance of such a name is held, because names are distinct
     named_held : (p : Place) → is_some (instance_at w p) ≡ true → IsNamed w reply p → holds after (host_number w c) p ≡ true
     named_held p stands named =
         let job = job_held named.0 named.1 in
@@ -195,7 +195,7 @@ a_host_holds_what_is_listed_or_named w after c r now reply names step sound rese
     left : World
     left = granted (after_settlement w c r now) (host_number w c) now step.jobs
 
-    -- what is said of jobs is blind to classes
+    -- what is said of jobs does not depend on classes
     said : (resent : Bool) → job_at (after_grant w c r now step.jobs) (host_at_entry w c r) resent ≡ job_at left (host_at_entry w c r) resent
     said resent = λ i p. job_same left (after_grant w c r now step.jobs) (classed_like w (host_at_entry w c r) step.jobs left) (host_at_entry w c r) resent p i
 

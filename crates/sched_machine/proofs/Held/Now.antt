@@ -12,7 +12,7 @@ use Rattle.lost_jobs.specs.Holding.{HoldsNoMore}
 use Rattle.lost_jobs.proofs.Holding as holding
 use Rattle.sched_machine.specs.Asked.{holds, still_holds}
 
--- two tests that agree on what passes a third
+-- two tests that agree on what passes a third one
 same_among : (t u g : Place → Bool) (ps : List Place) → ((p : Place) → g p ≡ true → t p ≡ u p) → filter t (filter g ps) ≡ filter u (filter g ps)
 same_among t u g [] agree = refl
 same_among t u g (p ∷ ps) agree = cases (g p) refl (same_among t u g ps agree)
@@ -27,7 +27,7 @@ module _ (entry present : World) (host : ℕ) (kept : ℕ → Option Leaf) (leav
   abbrev held_in : ℕ → Option UnitBook → Bool
   held_in number o = unwrap_or (option_and_then (λ (b : UnitBook). option_map (is_held_by host) (slice_get b.instances number)) o) false
 
-  -- the leaf tells it of what the host held
+  -- the leaf says so of what the host held
   still_is : (p : Place) → holds entry host p ≡ true → still_holds (kept p.unit) host p.number ≡ holds present host p
   still_is p held = cases (kept p.unit) (leaves p.unit)
     where

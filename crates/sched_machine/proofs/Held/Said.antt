@@ -1,4 +1,4 @@
--- What a reply tells of the jobs that a call sends again and grants: each has the name of its instance.
+-- What a reply says of the jobs that a call sends again and grants: each has the name of its instance.
 use Rattle.std.proofs.Common.{◌≡◌, ◌⊎◌, inl, inr, ℕ, Bool, true, cond, List, [], ◌∷◌, Option, Some, None, sym, refl, ap, ◌∙◌, subst}
 use Rattle.std.proofs.lemmas.Bool.{and_parts}
 use Rattle.std.specs.Prelude.{◌&&◌, Contains, filter_map, is_none, nat_le, not, option_map, unwrap_or}
@@ -33,7 +33,7 @@ use Rattle.sched_machine.proofs.Calls.Said.{job_at_some, name_by}
 use Rattle.sched_machine.proofs.OptionParts.{any_by, mapped_by, then_by}
 use Rattle.sched_machine.proofs.Moves.Moves.{left_alone}
 
--- what a list holds, of which some elements give something
+-- the values of a list whose elements may have one
 pub given_by : {X Y : Type 0} (f : X → Option Y) (xs : List X) (x : X) (y : Y) → Contains xs x → f x ≡ Some y → Contains (filter_map f xs) y
 given_by f [] x y there is = absurd (none_in_nothing x there)
 given_by f (z ∷ xs) x y there is = cases (f z) refl (in_front z xs x there) (given_by f xs x y)
@@ -47,7 +47,7 @@ given_by f (z ∷ xs) x y there is = cases (f z) refl (in_front z xs x there) (g
         subst (Contains (u ∷ filter_map f xs)) value (front_of u (filter_map f xs))
     cases (Some u) gives (inr further) more = behind u (filter_map f xs) y (more further is)
 
--- and of what it comes
+-- the element that such a value comes from
 pub gave : {X Y : Type 0} (f : X → Option Y) (xs : List X) (y : Y) → Contains (filter_map f xs) y → (x : X) × Contains xs x × (f x ≡ Some y)
 gave f [] y there = absurd (none_in_nothing y there)
 gave {X} {Y} f (z ∷ xs) y there = cases (f z) refl there (gave f xs y)
@@ -68,7 +68,7 @@ module _ (w : World) (c : Caller) (r : Request) (now : ℕ) (jobs : List Place) 
   abbrev after : World
   after = granted (after_settlement w c r now) (host_number w c) now jobs
 
-  -- a grant leaves the rows of workunits, the applications and the versions
+  -- a grant keeps the rows of workunits, the applications and the versions
   rest : ChangesInstancesAlone (after_settlement w c r now) after
   rest = (grants_are_by_place (after_settlement w c r now) (host_number w c) now jobs).rest
 
@@ -90,7 +90,7 @@ module _ (w : World) (c : Caller) (r : Request) (now : ℕ) (jobs : List Place) 
   name_stays : (p : Place) → name_at after p ≡ name_at w p
   name_stays p = name_by w after p (row_stays p.unit)
 
-  -- the workunit at a place stands, and the host runs a version of its application that may do it
+  -- the workunit at a place exists, and the host runs a version of its application that may do it
   pub record Runs (h : HostRow) (p : Place) : Type 0 where
     pub unit : Workunit
     pub version : Version
@@ -98,7 +98,7 @@ module _ (w : World) (c : Caller) (r : Request) (now : ℕ) (jobs : List Place) 
     pub found : version_for w h unit.app ≡ Some version
     pub suited : suits unit.class_rule version ≡ true
 
-  -- so a reply tells of it, with its name
+  -- so a reply has a job for it, with its name
   pub said_of : (h : HostRow) (resent : Bool) (p : Place) → Runs h p
       → (j : Job) × (job_at after h resent p ≡ Some j) × (j.name ≡ name_at w p)
   said_of h resent p runs = (
@@ -107,7 +107,7 @@ module _ (w : World) (c : Caller) (r : Request) (now : ℕ) (jobs : List Place) 
     sym (name_some w p runs.unit runs.stands),
   )
 
-  -- and what it tells of has that name
+  -- a reply's job for a place has the name of the instance there
   pub said_name : (h : HostRow) (resent : Bool) (p : Place) (j : Job) → job_at after h resent p ≡ Some j → j.name ≡ name_at w p
   said_name h resent p j is =
       let b = then_by (λ (b : UnitBook). option_map (job_of (name_at after p) (deadline_at after p) h resent b.unit) (version_for after h b.unit.app))
@@ -115,7 +115,7 @@ module _ (w : World) (c : Caller) (r : Request) (now : ℕ) (jobs : List Place) 
       let v = mapped_by (job_of (name_at after p) (deadline_at after p) h resent b.0.unit) (version_for after h b.0.unit.app) j b.2 in
       sym (ap (λ (z : Job). z.name) v.2) ∙ name_stays p
 
-  -- the host runs what fits it
+  -- the host runs a version for what fits it
   fits_runs : (h : HostRow) (p : Place) (b : UnitBook) → unit_at w p.unit ≡ Some b → unit_fits w h b ≡ true → Runs h p
   fits_runs h p b stands fits =
       let found = any_by (suits b.unit.class_rule) (version_for w h b.unit.app)
@@ -124,7 +124,7 @@ module _ (w : World) (c : Caller) (r : Request) (now : ℕ) (jobs : List Place) 
       (option_any (suits b.unit.class_rule) (version_for w h b.unit.app)) fits).1 in
       record { unit = b.unit; version = found.0; stands = ap (option_map (λ (b : UnitBook). b.unit)) stands; found = found.1; suited = found.2 }
 
-  -- what is sent again to it
+  -- and for what is sent to it again
   pub resent_runs : (p : Place) → is_resent (at_entry w c r) (host_at_entry w c r) p ≡ true → Runs (host_at_entry w c r) p
   resent_runs p is =
       let fits : UnitBook → Bool = unit_fits (at_entry w c r) (host_at_entry w c r) in
@@ -135,7 +135,7 @@ module _ (w : World) (c : Caller) (r : Request) (now : ℕ) (jobs : List Place) 
   pub platforms_stay : IsCaller w c r → (asking_of w c r now).host.platforms ≡ (host_at_entry w c r).platforms
   platforms_stay caller = ap (λ o. (unwrap_or o (host_at_entry w c r)).platforms) (host_settled w c r caller now)
 
-  -- and what is eligible
+  -- and for what is eligible
   pub eligible_runs : IsCaller w c r → (p : Place) → is_eligible w (asking_of w c r now).host p ≡ true → Runs (host_at_entry w c r) p
   eligible_runs caller p eligible = record {
     unit = runs.unit;

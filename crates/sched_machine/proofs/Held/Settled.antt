@@ -28,7 +28,7 @@ use Rattle.sched_machine.specs.Held.{ReportsEndHolding}
 use Rattle.sched_machine.proofs.OptionParts.{any_by}
 use Rattle.sched_machine.proofs.Moves.Moves.{among, settled_lasts, none_of}
 
--- after the reports it holds what it held and did not report
+-- after the reports the host holds what it held and did not report
 pub reports_end_holding : ReportsEndHolding
 reports_end_holding w c r p = (
   λ held. record {
@@ -44,11 +44,11 @@ reports_end_holding w c r p = (
     host : ℕ
     host = host_number w c
 
--- an instance that the host holds stands
+-- there is an instance, and the host holds it
 abbrev pub is_held_in : ℕ → Option Instance → Bool
 is_held_in host o = unwrap_or (option_map (is_held_by host) o) false
 
--- who lost an instance for good does not hold it
+-- a host does not hold a job that was dropped
 pub dropped_not_held : (host : ℕ) (x : Instance) → is_held_by host (with_lapse Dropped x) ≡ false
 dropped_not_held host x = both (is_owned_by host x) (is_some x.owner) (is_none x.report)
   where
@@ -58,7 +58,7 @@ dropped_not_held host x = both (is_owned_by host x) (is_some x.owner) (is_none x
     both true false c = refl
     both false b c = refl
 
--- a new deadline changes nothing in who holds it
+-- a new deadline does not change who holds the job
 pub deadline_holds : (host : ℕ) (f : ℕ → ℕ) (x : Instance) → is_held_by host (with_deadline f x) ≡ is_held_by host x
 deadline_holds host f x = cases x.owner
   where
@@ -68,7 +68,7 @@ deadline_holds host f x = cases x.owner
     cases None = refl
     cases (Some o) = refl
 
--- settlement changes nothing in who holds what
+-- settlement does not change who holds what
 pub settled_same : (old v : World) (host : ℕ) (p : Place) → holds (settled old v) host p ≡ holds v host p
 settled_same old v host p =
     passes-is (settled old v) (is_held_by host) p
@@ -83,11 +83,11 @@ module _ (entry : World) (h : HostRow) (now host : ℕ) (p : Place) (places : Li
   left : HasResentOrDropped entry h now v places after
   left = lost_jobs_are_by_place entry h now v places
 
-  -- what the host holds after them, by what stands there
+  -- whether the host holds the instance at a place after them
   holds_by : (o : Option Instance) → instance_at after p ≡ o → is_held_in host o ≡ is_held_in host (instance_at v p) → holds after host p ≡ holds v host p
   holds_by o is same = passes-is after (is_held_by host) p ∙ ap (is_held_in host) is ∙ same ∙ sym (passes-is v (is_held_by host) p)
 
-  -- what is sent again is held as before
+  -- a job that is sent again is held as before
   pub lost_resent : is_resent entry h p ≡ true → holds after host p ≡ holds v host p
   lost_resent sent = elim (among p places) [
     | inl there ↦ holds_by _ (left.resent p there sent) (moved _ (instance_at v p))
@@ -98,7 +98,7 @@ module _ (entry : World) (h : HostRow) (now host : ℕ) (p : Place) (places : Li
       moved f None = refl
       moved f (Some x) = deadline_holds host f x
 
-  -- what is lost and is still held is sent again
+  -- a lost job that is still held was sent again
   pub lost_held : Contains places p → holds after host p ≡ true → is_resent entry h p ≡ true
   lost_held there held = cases (is_resent entry h p) refl
     where
@@ -119,21 +119,21 @@ module _ (entry : World) (h : HostRow) (now host : ℕ) (p : Place) (places : Li
     | inr nowhere ↦ sym (holds_by _ (left.other p nowhere) refl) ∙ held
   ]
 
--- all of it
+-- all parts up to settlement
 pub after_settlement_holds : (w : World) (c : Caller) (r : Request) (now : ℕ) → HoldsNoMore w (after_settlement w c r now) (host_number w c)
 after_settlement_holds w c r now p holds =
     reports_hold_no_more (at_entry w c r) (host_number w c) r.results p
     (lost_hold_no_more (at_entry w c r) (host_at_entry w c r) now (host_number w c) p (lost_of w c r) (after_reports w c r)
     (sym (settled_same (at_entry w c r) (after_lost w c r now) (host_number w c) p) ∙ holds))
 
--- an instance that was neither reported nor lapsed stands at the place
+-- the place has an instance that was neither reported nor lapsed
 pub record IsUnspoiled (v : World) (p : Place) : Type 0 where
   pub x : Instance
   pub stands : instance_at v p ≡ Some x
   pub report : x.report ≡ None
   pub lapse : x.lapse ≡ None
 
--- who is given what was neither reported nor lapsed holds it
+-- a host that is given an instance, neither reported nor lapsed, holds it
 given_is_held : (host now deadline : ℕ) (x : Instance) → x.report ≡ None → x.lapse ≡ None
     → is_held_by host (with_owner (record { host = host; sent = now; deadline = deadline }) x) ≡ true
 given_is_held host now deadline x report lapse =
@@ -141,7 +141,7 @@ given_is_held host now deadline x report lapse =
     ∙ ap (λ (o : Option Outcome). (true && true) && ((true && is_none o) && is_none x.lapse)) report
     ∙ ap (λ (o : Option Lapse). (true && true) && ((true && true) && is_none o)) lapse
 
--- who holds it is given what was neither
+-- an instance that a host holds is neither reported nor lapsed
 unspoiled : (host : ℕ) (x : Instance) → is_held_by host x ≡ true → (x.report ≡ None) × (x.lapse ≡ None)
 unspoiled host x held =
     let last = and_parts (is_some x.owner && is_none x.report) (is_none x.lapse) (and_parts (is_owned_by host x) (is_held x) held).1 in
@@ -154,18 +154,18 @@ module _ (host now : ℕ) (p : Place) (jobs : List Place) (v : World) where
   by_jobs : HasGranted v host now jobs with_jobs
   by_jobs = grants_are_by_place v host now jobs
 
-  -- what is a job stands there with its owner
+  -- a job at the place belongs to its owner
   job_holds : Contains jobs p → (x : Instance) → instance_at v p ≡ Some x → x.report ≡ None → x.lapse ≡ None → holds with_jobs host p ≡ true
   job_holds there x stands report lapse =
       passes-is with_jobs (is_held_by host) p
       ∙ ap (is_held_in host) (by_jobs.job p there ∙ ap (option_map (with_owner _)) stands)
       ∙ given_is_held host now (now + delay_at v p) x report lapse
 
-  -- and what is none is held as before
+  -- what is no job is held as before
   elsewhere : (Contains jobs p → ⊥) → holds with_jobs host p ≡ holds v host p
   elsewhere nowhere = passes-is with_jobs (is_held_by host) p ∙ ap (is_held_in host) (by_jobs.other p nowhere) ∙ sym (passes-is v (is_held_by host) p)
 
-  -- a grant takes away nothing that the host holds
+  -- a grant removes nothing that the host holds
   pub grant_keeps : holds v host p ≡ true → holds with_jobs host p ≡ true
   grant_keeps held = elim (among p jobs) [
     | inl there ↦ (
@@ -175,13 +175,13 @@ module _ (host now : ℕ) (p : Place) (jobs : List Place) (v : World) where
     | inr nowhere ↦ elsewhere nowhere ∙ held
   ]
 
-  -- what it holds after it held before, or was given
+  -- what the host holds afterwards it held before, or it was granted
   pub grant_gives : holds with_jobs host p ≡ true → holds v host p ≡ true ⊎ Contains jobs p
   grant_gives held = elim (among p jobs) [
     | inl there ↦ inr there
     | inr nowhere ↦ inl (sym (elsewhere nowhere) ∙ held)
   ]
 
-  -- what is given is held, where it was neither reported nor lapsed
+  -- a granted instance is held if it was neither reported nor lapsed
   pub granted_is_held : Contains jobs p → IsUnspoiled v p → holds with_jobs host p ≡ true
   granted_is_held there good = job_holds there good.x good.stands good.report good.lapse

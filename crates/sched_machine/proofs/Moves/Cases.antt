@@ -1,4 +1,4 @@
--- An answer fits a call in three ways.
+-- There are three kinds of calls, each with its kind of answer.
 use Rattle.std.proofs.Common.{ℕ}
 use Rattle.rpc_records.specs.declared.reply.Reply.{Reply}
 use Rattle.rpc_records.specs.declared.request.Request.{Request}

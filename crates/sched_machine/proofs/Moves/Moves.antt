@@ -1,4 +1,5 @@
--- What a step makes of the instance at each place: it is reported, lapses, has its deadline moved, is given, or stays; and new ones are made.
+-- What a step does to the instance at each place: it is reported, lapses, gets a new deadline, is given out, or stays.
+-- New ones are made.
 use Rattle.std.proofs.Common.{◌≡◌, ◌⊎◌, inl, inr, ℕ, zero, suc, ◌+◌, ◌-◌, ◌<◌, ◌≤◌, Bool, true, false, cond, eqb, List, [], ◌∷◌, ◌++◌, Option, Some, None, sym, refl, ap, ◌∙◌, subst, arith}
 use Rattle.std.specs.Prelude.{◌&&◌, Contains, fold, map, count_by, is_none, is_some, replicate, option_map, option_and_then, unwrap_or, slice_get, ◌==◌}
 use Rattle.std.proofs.lemmas.Bool.{and_parts, eqb-true}
@@ -45,7 +46,7 @@ use Rattle.sched_machine.proofs.Units.Alike.{count_same, count_more}
 
 -- ---- the moves
 
--- before its grant a scheduler call changes instances of its host alone, a tick any
+-- before its grant a scheduler call changes only instances of its host; a tick may change any
 abbrev pub IsOf : World → Call → Instance → Type 0
 IsOf w (call.Rpc c r) x = is_owned_by (host_number w c) x ≡ true
 IsOf w (call.Import new) x = ⊥
@@ -61,12 +62,12 @@ IsResentBy w call.Tick p = ⊥
 abbrev pub judged_at : World → ℕ → ℕ
 judged_at w unit = unwrap_or (option_map (λ (b : UnitBook). count_by is_judged b.instances) (unit_at w unit)) 0
 
--- what is judged now comes behind those before, and its workunit had not failed
+-- a newly judged report has a later place, and its workunit had not failed
 abbrev pub IsLater : World → ℕ → Option ℕ → Type 0
 IsLater w unit place = (n : ℕ) → place ≡ Some n → (judged_at w unit < n) × (has_failed (status_at w unit) ≡ false)
 
--- A relation between what stands at a place and what stands there later, which lasts through each of these changes: a report, a
--- lapse, and a deadline that is moved, with what is known of the instance where a step of the call makes it.
+-- A relation between the instance at a place and the one there later. It lasts through each of these changes: a report,
+-- a lapse, and a new deadline, under what is known of the instance when a step makes the change.
 pub record Lasts (w : World) (c : Call) (p : Place) (R : Option Instance → Option Instance → Type 0) : Type 0 where
   pub same : (o : Option Instance) → R o o
   pub chain : (o q s : Option Instance) → R o q → R q s → R o s
@@ -76,21 +77,21 @@ pub record Lasts (w : World) (c : Call) (p : Place) (R : Option Instance → Opt
   pub moved : (f : ℕ → ℕ) (o : Owner) (x : Instance) → x.owner ≡ Some o → IsOf w c x → IsResentBy w c p
       → R (Some x) (Some (with_owner (record o { deadline = f o.deadline }) x))
 
--- and through one more: what nobody was given is given to a host
+-- it also lasts if an instance without owner is given to a host
 abbrev pub Gives : (Option Instance → Option Instance → Type 0) → Type 0
 Gives R = (o : Owner) (x : Instance) → x.owner ≡ None → R (Some x) (Some (with_owner o x))
 
--- ---- what guards them
+-- ---- conditions of the moves
 
 pub none_of : {X : Type 0} (o : Option X) → is_none o ≡ true → o ≡ None
 none_of None is = refl
 none_of (Some x) is = absurd cc
 
--- what is held did not lapse
+-- an instance that is held has not lapsed
 no_lapse : (x : Instance) → is_held x ≡ true → x.lapse ≡ None
 no_lapse x held = none_of x.lapse (and_parts (is_some x.owner && is_none x.report) (is_none x.lapse) held).1
 
--- nobody was given what is eligible
+-- an eligible instance has no owner
 pub free_first : (o : Option Owner) (b : Bool) → (is_none o && b) ≡ true → o ≡ None
 free_first o b is = none_of o (and_parts (is_none o) b is).0
 
@@ -101,13 +102,13 @@ eligible_is_free w h p eligible x stands =
     let same : at.x ≡ x = (let both : Some at.x ≡ Some x = sym also ∙ stands in cc) in
     ap (λ (z : Instance). z.owner) (sym same) ∙ free_first at.x.owner (is_for w h at.book) at.passed
 
--- a host holds what it lost
+-- a host holds the jobs that it lost
 pub lost_is_held : (w : World) (host : ℕ) (names : Option (List (List ℕ))) (p : Place) → Contains (lost w host names) p
     → passes w (λ b x. is_held_by host x) p ≡ true
 lost_is_held w host names p there =
     (All-contains (IsLost w host names) (lost w host names) p (lost_are_held_and_unlisted w host names).each there).held
 
--- a place stands in a list, or does not
+-- a place is in a list, or is not
 pub among : (p : Place) (qs : List Place) → Contains qs p ⊎ (Contains qs p → ⊥)
 among p [] = inr (none_in_nothing p)
 among p (q ∷ qs) = cases (is_same q p) refl (among p qs)
@@ -123,7 +124,7 @@ among p (q ∷ qs) = cases (is_same q p) refl (among p qs)
 
 -- ---- reports, one after the other
 
--- what each of them keeps where its instance awaits it, all of them keep
+-- what each report keeps if its instance awaits it, all reports keep
 pub reports_keep : (P : World → Type 0) (entry : World) (host : ℕ) (rs : List Report)
     → ((r : Report) → Contains rs r → (v : World) (q : Place) (x : Instance) → instance_at v q ≡ Some x → awaits_report host x ≡ true → P v
     → P (with_changed (with_report r (judged_place entry v q.unit)) v q))
@@ -145,7 +146,7 @@ reports_keep P entry host (r ∷ rs) one v was =
     named (Some q) =
         at_place q (instance_at v q) refl (passes v (λ b x. awaits_report host x) q) (sym (passes-is v (awaits_report host) q))
 
--- as many are judged after a report on what had none, or more
+-- after a report on an instance that had none, at least as many are judged
 judged_more : (f : Instance → Instance) (v : World) (q : Place) (x : Instance) → instance_at v q ≡ Some x → x.report ≡ None → (unit : ℕ)
     → judged_at v unit ≤ judged_at (with_changed f v q) unit
 judged_more f v q x stands none unit =
@@ -195,13 +196,13 @@ is_later w v unit more n is = cases (has_failed (status_at w unit)) refl is
 
 -- ---- the parts of a step
 
--- what a workunit has at the number of a place
+-- the instance of a workunit at the number of a place
 abbrev in_unit : Place → Option UnitBook → Option Instance
 in_unit p o = option_and_then (λ (b : UnitBook). slice_get b.instances p.number) o
 
--- a change, a grant, and what is made
+-- a change, a grant, and new instances
 module _ (R : Option Instance → Option Instance → Type 0) (same : (o : Option Instance) → R o o) where
-  -- a change of what stands
+  -- a change of an instance, if there is one
   pub mapped : (f : Instance → Instance) (o : Option Instance) → ((x : Instance) → o ≡ Some x → R (Some x) (Some (f x))) → R o (option_map f o)
   mapped f None one = same None
   mapped f (Some x) one = one x refl
@@ -222,7 +223,7 @@ module _ (R : Option Instance → Option Instance → Type 0) (same : (o : Optio
       given = grants_are_by_place w a.number a.now jobs
 
   module _ (made : R None (Some fresh)) where
-    -- fresh ones behind the others
+    -- fresh instances after the others
     pub fresh_behind : (many : ℕ) (xs : List Instance) (i : ℕ) → R (slice_get xs i) (slice_get (xs ++ replicate many fresh) i)
     fresh_behind zero [] i = same None
     fresh_behind (suc many) [] zero = made
@@ -277,7 +278,7 @@ lapses_last R w now p lasts =
     cases x true is = lasts.lapses Late x (no_lapse x (and_parts (is_held x) _ is).0) tt
     cases x false is = lasts.same (Some x)
 
--- reports and lost jobs change instances alone
+-- reports and lost jobs change only instances
 pub left_alone : (w : World) (c : Caller) (r : Request) (now : ℕ) → ChangesInstancesAlone (at_entry w c r) (after_lost w c r now)
 left_alone w c r now = record {
   settings = lost.settings ∙ reported.settings;
@@ -393,7 +394,7 @@ module _ (R : Option Instance → Option Instance → Type 0) (w : World) (c : C
         (lasts.chain (instance_at w p) (instance_at settlement p) (instance_at given p) (settlement_lasts made)
         (granted_lasts R lasts.same gives settlement (asking_of w c r now) jobs grant p))
 
--- Each step: one walk.
+-- Each step, in one walk through its parts.
 pub step_lasts : (R : Option Instance → Option Instance → Type 0) → R None (Some fresh) → Gives R → (w after : World) (c : Call) (now : ℕ)
     (answer : Answered) (p : Place) → Lasts w c p R → Step w c now after answer → R (instance_at w p) (instance_at after p)
 step_lasts R made gives w after c now answer p lasts step =

@@ -1,4 +1,4 @@
--- Each step leaves a sound world sound: its parts, one after the other.
+-- Each step keeps a sound world sound: its parts in turn.
 use Rattle.std.proofs.Common.{◌≡◌, ℕ, ◌≤◌, [], ◌∷◌, Some, sym, ap, ◌∙◌, subst, arith}
 use Rattle.std.proofs.lemmas.List.Elements.{All-nil}
 use Rattle.std.specs.Prelude.{◌≢◌, IsTrue, unwrap_or}
@@ -35,7 +35,7 @@ use Rattle.sched_machine.proofs.Units.Lost.{lost_jobs_keep_well}
 use Rattle.sched_machine.proofs.Units.Reported.{reports_keep_well}
 use Rattle.sched_machine.proofs.Units.Settled.{settlement_settles}
 
--- a sound world is sound but for what open workunits may lack
+-- a sound world is well
 pub sound_is_well : (w : World) → Sound w → IsWell w
 sound_is_well w sound = record { rows = sound.rows; units = λ k d within. (sound.units k d within).well }
 

@@ -49,12 +49,12 @@ added w (rows.Apps xs) = apps w xs
 added w (rows.Versions xs) = versions w xs
 added w (rows.Workunits xs) = workunits w xs
 
--- all behind others
+-- what holds of two lists together holds of the second
 behind : {X : Type 0} (P : X → Type 0) (xs ys : List X) → All P (xs ++ ys) → All P ys
 behind P [] ys all = all
 behind P (x ∷ xs) ys all = behind P xs ys (All-tail P x (xs ++ ys) all)
 
--- Rows fit a world where it is sound with them.
+-- Rows fit a world if the world with them is sound.
 accounts_fit : (w : World) (xs : List Account) → length (w.accounts ++ xs) ≤ most_accounts → All IsAccountInLimits xs → Fits w (map change.Account xs)
 accounts_fit w [] few limits = tt
 accounts_fit w (x ∷ xs) few limits =
@@ -103,7 +103,7 @@ fit_beside w (rows.Versions xs) sound =
 fit_beside w (rows.Workunits xs) sound =
     workunits_fit w xs sound.rows.unit_count (behind (IsSoundUnit w.hosts w.apps) w.units (map new_unit xs) sound.units)
 
--- Changes that are the rows of an import make the world with these, and fit where these were checked.
+-- The changes of an import add its rows to the world, and fit if the rows were checked.
 pub changes_add : (new : Rows) (delta : List Change) → delta ≡ changes_of new → (w : World) → applied w delta ≡ with_rows w new
 changes_add new delta are w = ap (applied w) are ∙ added w new
 

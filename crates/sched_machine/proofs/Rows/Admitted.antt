@@ -18,13 +18,13 @@ placed-place {X} p xs = cases (place_where p xs) refl
     cases (Some n) is =
         ap (λ q. option_map (λ (r : Placed X). r.place) (option_map (λ x. record { place = n; row = x }) q)) (place_found p xs n is).1
 
--- of what is found, by its value
+-- the place of what was found
 pub account_is : (w : World) (authenticator : List ℕ) (found : Option (Placed Account)) → found ≡ account_by_key w authenticator
     → option_map (λ (r : Placed Account). r.place) found ≡ account_place w authenticator
 account_is w authenticator found is =
     ap (option_map (λ (r : Placed Account). r.place)) is ∙ placed-place (λ (a : Account). bytes_eq a.authenticator authenticator) w.accounts
 
--- the name of the account that a desk found, and of the one that stands at the caller's place
+-- the name of the account that a desk found is that of the account at the caller's place
 pub name_is : (w : World) (c : Caller) (r : Request) → account_place w r.authenticator ≡ Some c.account
     → unwrap_or (option_map (λ (account : Placed Account). account.row.name) (account_by_key w r.authenticator)) [] ≡ user_name w c.account
 name_is w c r stands = ap named stands ∙ cases (nth w.accounts c.account)

@@ -1,4 +1,4 @@
--- What is counted of a workunit's instances, after one without a report was given to a host.
+-- What is counted of a workunit's instances after one without report was given to a host.
 use Rattle.std.proofs.Common.{◌≡◌, ℕ, zero, suc, ◌+◌, ◌-◌, Bool, true, false, cond, eqb, eqb-true, List, [], ◌∷◌, ◌++◌, length, take, drop, Option, Some, None, slice_get, option_map, option_and_then, refl, ap, ◌∙◌}
 use Rattle.std.specs.Prelude.{nat_le, nat_lt, fold, find, count_by, is_some}
 use Rattle.std.proofs.Math.Path.{fun_ext}
@@ -12,7 +12,7 @@ use Rattle.sched_book.specs.declared.rows.Workunit.{Workunit}
 use Rattle.sched_book.proofs.PlacesOf.{slice_get-modify_at, length-modify_at}
 use Rattle.sched_machine.proofs.Rows.Listed.{count_changed}
 
--- the first leader, where the outputs are given by a function
+-- the first leader, if a function gives the outputs
 abbrev leader_by : Agreement → (ℕ → List ℕ) → ℕ → List ℕ → Option ℕ
 leader_by a known enough reports = find (λ i. nat_le enough (count_by (λ j. agree a (known i) (known j)) reports)) reports
 
@@ -23,7 +23,7 @@ same_first_leader a xs ys enough front (i ∷ rest) same =
     ap (λ known. cond (is_some (leader_by a known enough front)) (leader_by a known enough front) (first_leader a ys enough (front ++ i ∷ []) rest)) same
     ∙ ap (λ o. cond (is_some (leader a xs enough front)) (leader a xs enough front) o) (same_first_leader a xs ys enough (front ++ i ∷ []) rest same)
 
--- the status, by what it is made of
+-- the status, made of its parts
 abbrev status_by : Workunit → Option ℕ → ℕ → ℕ → ℕ → Status
 status_by u result wrong successes total =
     cond (is_some result) Done
@@ -31,7 +31,7 @@ status_by u result wrong successes total =
     (cond (nat_lt u.max_success_results successes) FailedSuccess
     (cond (nat_lt u.max_total_results total) FailedTotal Open)))
 
--- the numbers of those that pass
+-- the numbers of the instances that pass
 numbers_changed : (p : Instance → Bool) (f : Instance → Instance) (m : ℕ) (xs : List Instance) (n : ℕ)
     → ((x : Instance) → slice_get xs n ≡ Some x → p (f x) ≡ p x) → numbers_from m p (modify_at f xs n) ≡ numbers_from m p xs
 numbers_changed p f m [] n same = refl
@@ -39,7 +39,7 @@ numbers_changed p f m (x ∷ xs) zero same = ap (λ (b : Bool). cond b (m ∷ nu
 numbers_changed p f m (x ∷ xs) (suc n) same =
     ap (λ is. cond (p x) (m ∷ is) is) (numbers_changed p f (m + 1) xs n same)
 
--- one instance changed, and not in its report nor in whether it is live
+-- one instance changed, but neither its report nor whether it is live
 module _ (f : Instance → Instance) (xs : List Instance) (n : ℕ)
     (same_report : (x : Instance) → slice_get xs n ≡ Some x → (f x).report ≡ x.report)
     (same_live : (x : Instance) → slice_get xs n ≡ Some x → is_live (f x) ≡ is_live x) where

@@ -1,4 +1,4 @@
--- The row of a call's host, renewed or made, leaves a sound world sound.
+-- The row of a call's host, renewed or made, keeps a sound world sound.
 use Rattle.std.proofs.Common.{◌≡◌, ℕ, ◌+◌, ◌<◌, ◌≤◌, Bool, true, false, cond, eqb, eq-eqb, ne_eqb, eqb-true, List, [], ◌∷◌, ◌++◌, length, get_or, All, AllPairs, Option, Some, None, option_map, sym, refl, ap, ◌∙◌, subst, arith, length-append}
 use Rattle.std.specs.Prelude.{◌&&◌, IsTrue, is_some, option_and_then, bytes_eq, IfSome}
 use Rattle.std.proofs.lemmas.List.Elements.{All-push}
@@ -26,11 +26,11 @@ use Rattle.sched_machine.specs.Laws.{EntryKeepsSound}
 use Rattle.sched_machine.proofs.OptionParts.{some_by}
 use Rattle.sched_machine.proofs.Rows.Listed.{pairs_from, pairs_get, all_changed_nth, pairs_changed_nth, place_found, place_missing}
 
--- each host that stands keeps its account
+-- each existing host keeps its account
 abbrev pub AccountsStay : List HostRow → List HostRow → Type 0
 AccountsStay old new = (n : ℕ) (h : HostRow) → nth old n ≡ Some h → (k : HostRow) × (nth new n ≡ Some k) × (k.account ≡ h.account)
 
--- then a sound workunit stays so
+-- then a sound workunit stays sound
 module _ (old new : List HostRow) (stay : AccountsStay old new) where
   pub same_account : (host : ℕ) → IsTrue (is_some (nth old host)) → (account_at new host ≡ account_at old host) × IsTrue (is_some (nth new host))
   same_account host stands =
@@ -40,7 +40,7 @@ module _ (old new : List HostRow) (stay : AccountsStay old new) where
         ap is_some after.1,
       )
 
-  -- so an instance is of the same user, and its owner's host stands
+  -- so an instance belongs to the same user, and its owner's host exists
   same_user : (x : Instance) → HasOwnerAmong old x → (user_of new x ≡ user_of old x) × HasOwnerAmong new x
   same_user x among = cases (host_of x) among
     where
@@ -95,7 +95,7 @@ with_hosts w hosts sound stay each keys few = record {
   units = λ k d within. unit_among w.hosts hosts stay w.apps (get_or w.units k d) (sound.units k d within);
 }
 
--- a row is of a host's key where it has its account and its name
+-- the row of a key has its account and its name
 of_key : (account : ℕ) (cpid : List ℕ) (h : HostRow) → is_host_of account cpid h ≡ true → (h.account ≡ account) × (h.cpid ≡ cpid)
 of_key account cpid h is =
     let both = and_parts (eqb h.account account) (bytes_eq h.cpid cpid) is in
@@ -108,7 +108,7 @@ not_of_key account cpid h fails same also =
     let never : true ≡ false = sym second ∙ sym (ap (λ b. b && bytes_eq h.cpid cpid) first) ∙ fails in
     absurd cc
 
--- a new row of hosts, or a renewed one, leaves each its account
+-- a new row of hosts, or a renewed one, changes no host's account
 pub accounts_at_entry : (w : World) (c : Caller) (r : Request) → IsCaller w c r → AccountsStay w.hosts (hosts_at_entry w c r c.host)
 accounts_at_entry w c r caller n h at = with_host c.host caller.host
   where
@@ -192,7 +192,7 @@ module _ (w : World) (c : Caller) (r : Request) (sound : Sound w) (caller : IsCa
       stay : AccountsStay w.hosts (modify_nth renewed w.hosts host)
       stay = subst (λ o. AccountsStay w.hosts (hosts_at_entry w c r o)) is (accounts_at_entry w c r caller)
 
-  -- a new host gets a row behind the others
+  -- a new host gets a row after the others
   makes : c.host ≡ None → length w.hosts < w.settings.max_hosts → Sound (record w { hosts = w.hosts ++ row_of_call c r w.settings.daily_result_quota ∷ [] })
   makes none room =
       with_hosts w (w.hosts ++ row ∷ []) sound stay

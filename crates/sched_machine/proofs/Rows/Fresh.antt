@@ -1,4 +1,4 @@
--- A new workunit is sound: all instances that it needs, and nothing done with them.
+-- A new workunit is sound: it has all instances that it needs, and nothing was done with them.
 use Rattle.std.proofs.Common.{◌≡◌, ℕ, zero, suc, ◌+◌, ◌-◌, ◌≤◌, max, Bool, true, false, cond, List, [], length, replicate, None, sym, refl, ap, ◌∙◌, arith, leb-true}
 use Rattle.std.specs.Prelude.{IsTrue, nat_le, fold, count_by, is_some, option_map, IfSome}
 use Rattle.std.proofs.lemmas.List.{length-replicate}
@@ -18,7 +18,7 @@ use Rattle.sched_book.proofs.ByPlace.{all_get}
 use Rattle.quorum_credit.proofs.GrownFits.{fresh_in_limits}
 use Rattle.sched_machine.proofs.Rows.Listed.{pairs_from}
 
--- instances that nobody was given are all live, none is judged, and none is a success
+-- instances without owner are all live, none is judged, and none is a success
 fresh_live : (n : ℕ) → live (replicate n fresh) ≡ n
 fresh_live zero = refl
 fresh_live (suc n) =
@@ -41,7 +41,7 @@ no_numbers m (suc n) = no_numbers (m + 1) n
 none_good : (n : ℕ) → good (replicate n fresh) ≡ []
 none_good n = ap (fold (put_by (place_of (replicate n fresh))) []) (no_numbers 0 n)
 
--- it needs no more than it begins with
+-- it needs no more than its first instances
 nothing_needed : (u : Workunit) → 1 ≤ u.min_quorum → need u (replicate u.target_nresults fresh) ≡ 0
 nothing_needed u quorum =
     ap (λ reports. want u (length reports) - live (replicate u.target_nresults fresh) - length reports) (none_good u.target_nresults)

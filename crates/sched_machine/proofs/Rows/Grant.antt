@@ -1,4 +1,4 @@
--- A grant to a host that stands leaves a settled world settled.
+-- A grant to a host that exists keeps a settled world settled.
 use Rattle.std.proofs.Common.{◌≡◌, ◌≢◌, ℕ, ◌+◌, ◌<◌, ◌≤◌, Bool, true, false, not, cond, eqb, eq-eqb, ne_eqb, List, [], ◌∷◌, get_or, All, AllPairs, Option, Some, None, slice_get, option_map, option_and_then, unwrap_or, sym, refl, ap, ◌∙◌, subst, arith}
 use Rattle.std.specs.Prelude.{◌&&◌, ◌==◌, IsTrue, count_by, is_some, is_none, IfSome}
 use Rattle.std.specs.List.{list_any}
@@ -28,14 +28,14 @@ use Rattle.sched_machine.proofs.Rows.Listed.{all_changed, pairs_changed, all_cha
 use Rattle.sched_machine.proofs.Rows.Counted.{need_stays, status_stays}
 use Rattle.sched_machine.proofs.Moves.Moves.{free_first}
 
--- what is not the user's went to no host of the user
+-- an instance that does not belong to the user went to no host of the user
 other_user : (account : ℕ) (user : Option ℕ) → option_any (λ n. n == account) user ≡ false → user ≡ Some account → ⊥
 other_user account user fails is =
     let equal : eqb account account ≡ true = eq-eqb account account refl in
     let apart : eqb account account ≡ false = sym (ap (option_any (λ n. n == account)) is) ∙ fails in
     absurd cc
 
--- An instance that nobody was given goes to a host of a user that was given none of the workunit.
+-- An instance without owner goes to a host of a user that was given none of the workunit.
 module _ (hosts : List HostRow) (apps : List App) (account : ℕ) (o : Owner) (b : UnitBook) (n : ℕ) (x : Instance)
     (settled : IsSettledUnit hosts apps b) (stands : slice_get b.instances n ≡ Some x) (free : x.owner ≡ None)
     (had : list_any (is_of_user hosts account) b.instances ≡ false) (of_user : account_at hosts o.host ≡ Some account)
@@ -84,7 +84,7 @@ module _ (hosts : List HostRow) (apps : List App) (account : ℕ) (o : Owner) (b
     };
   }
 
--- what it tells that an instance is eligible: its workunit went to no host of the user
+-- an eligible instance is of a workunit that went to no host of the user
 not_had : (a b c d : Bool) → (a && (b && c && not d)) ≡ true → d ≡ false
 not_had true true true false is = refl
 not_had true true true true is = absurd cc
@@ -121,7 +121,7 @@ module _ (host now : ℕ) (h : HostRow) (soon : now ≤ last_moment) where
           (ap is_some stands) soon
           (let late : now + delay_at w p ≤ last_deadline = omega arith in late)
 
-  -- what is eligible of another workunit stays so
+  -- an eligible instance of another workunit stays eligible
   elsewhere : (f : Instance → Instance) (w : World) (p r : Place) → p.unit < r.unit → is_eligible (with_changed f w p) h r ≡ is_eligible w h r
   elsewhere f w p r before =
       ap (λ o. unwrap_or (option_and_then (λ (b : UnitBook). option_map (λ (x : Instance). is_none x.owner && is_for w h b) (slice_get b.instances r.number)) o) false)
@@ -139,6 +139,6 @@ module _ (host now : ℕ) (h : HostRow) (soon : now ≤ last_moment) where
       (pairs_head (λ (p r : Place). p.unit < r.unit) p jobs rising k d within)))
       (All-tail (λ p. IsTrue (is_eligible w h p)) p jobs eligible k d within))
 
--- all jobs of a grant go to it
+-- all jobs of a grant go to a host
 pub grant_keeps_settled : GrantKeepsSettled
 grant_keeps_settled w q jobs settled stands soon grant = all_given q.number q.now q.host soon jobs w settled stands grant.rising grant.eligible

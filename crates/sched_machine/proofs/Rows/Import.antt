@@ -1,4 +1,4 @@
--- An import whose rows were checked leaves a sound world sound.
+-- An import whose rows were checked keeps a sound world sound.
 use Rattle.std.proofs.Common.{◌≡◌, ◌≢◌, ℕ, ◌+◌, ◌≤◌, List, [], ◌∷◌, ◌++◌, length, map, get_or, All, AllPairs, None, sym, refl, ap, ◌∙◌, subst, arith, length-append}
 use Rattle.std.specs.Prelude.{IsTrue}
 use Rattle.std.proofs.lemmas.List.{length-map}
@@ -35,7 +35,7 @@ unrefused w new checked =
     let parts = no_fault (duplicate_at (shelf_of w) new) (unknown_at (shelf_of w) new) (has_room (shelved (shelf_of w) new)) checked.unrefused in
     record { new_ones = parts.0; known_apps = parts.1; room = room_from (shelved (shelf_of w) new) parts.2 }
 
--- a host where there are more accounts, a workunit and a version where there are more applications
+-- a host stays sound with more accounts, a workunit and a version with more applications
 host_stays : (accounts more : List Account) (limit : ℕ) (h : HostRow) → IsSoundHost (length accounts) limit h → IsSoundHost (length (accounts ++ more)) limit h
 host_stays accounts more limit h sound = record {
   account = (sound.account.0, let long : length (accounts ++ more) ≡ length accounts + length more = length-append accounts more in omega (arith, sound.account.1));

@@ -1,4 +1,4 @@
--- Other workunits leave the rows of a world sound.
+-- Other workunits keep the rows of a world sound.
 use Rattle.std.proofs.Common.{◌≢◌, ◌≤◌, List, length, AllPairs, ◌≡◌, ℕ, sym, ◌∙◌, subst}
 use Rattle.sched_book.specs.Limits.{most_workunits}
 use Rattle.sched_book.specs.Reports.{modify_nth}
@@ -8,7 +8,7 @@ use Rattle.sched_book.specs.declared.world.World.{World}
 use Rattle.sched_book.proofs.PlacesOf.{length-modify_nth}
 use Rattle.sched_machine.proofs.Rows.Listed.{pairs_changed_nth}
 
--- as long as no two have one name and there are not too many
+-- if no two have the same name and there are not too many
 pub rows_kept : (w : World) (bs : List UnitBook) → AreRowsSound w → AllPairs (λ a b. a.unit.name ≢ b.unit.name) bs → length bs ≤ most_workunits
     → AreRowsSound (record w { units = bs })
 rows_kept w bs rows names few = record {
@@ -29,7 +29,7 @@ rows_kept w bs rows names few = record {
   host_count = rows.host_count;
 }
 
--- so where one is changed, and not in its name
+-- so if one is changed, but not its name
 pub rows_changed : (w : World) (f : UnitBook → UnitBook) (n : ℕ) → ((b : UnitBook) → (f b).unit.name ≡ b.unit.name) → AreRowsSound w
     → AreRowsSound (record w { units = modify_nth f w.units n })
 rows_changed w f n same rows =

@@ -1,4 +1,4 @@
--- Facts of each element of a list and of each two, by what stands at each index, and after one element is changed.
+-- Facts about each element of a list and about each two: by the element at each index, and after one element is changed.
 use Rattle.std.proofs.Common.{◌≡◌, ℕ, zero, suc, ◌+◌, ◌-◌, ◌<◌, Bool, true, false, cond, eqb, List, [], ◌∷◌, map, get_or, All, AllPairs, Some, None, slice_get, option_map, sym, refl, ap, ◌∙◌, subst, arith}
 use Rattle.std.specs.Prelude.{◌||◌, count_by, sum_by}
 use Rattle.std.specs.List.{list_any, position_from}
@@ -14,7 +14,7 @@ use Rattle.sched_book.proofs.ByPlace.{all_get}
 use Rattle.sched_book.proofs.Rising.{pairs_head, pairs_tail}
 use Rattle.sched_machine.proofs.OptionParts.{mapped_by}
 
--- a fact of each element, and of each two, by index
+-- a fact about each element, and about each two, by index
 pub all_from : {X : Type 0} (P : X → Type 0) (xs : List X) → ((i : ℕ) (x : X) → slice_get xs i ≡ Some x → P x) → All P xs
 all_from P xs each k d within = each k (get_or xs k d) (slice_get-get_or xs k d within)
 
@@ -43,7 +43,7 @@ pairs_of_map f R xs all =
     pairs_from (λ a b. R (f a) (f b)) xs (λ i j x y less here there. pairs_get R (map f xs) i j (f x) (f y) all less
     (slice_get-map f xs i ∙ ap (option_map f) here) (slice_get-map f xs j ∙ ap (option_map f) there))
 
--- after one element is changed, where the change keeps the fact
+-- after one element is changed, if the change keeps the fact
 pub all_changed : {X : Type 0} (P : X → Type 0) (f : X → X) (xs : List X) (n : ℕ) → All P xs
     → ((x : X) → slice_get xs n ≡ Some x → P x → P (f x)) → All P (modify_at f xs n)
 all_changed P f [] n all keeps = all
@@ -81,7 +81,7 @@ pairs_changed_nth {X} R f xs n all keeps = cases (eqb n 0) keeps
     cases true keeps = all
     cases false keeps = pairs_changed R f xs (n - 1) all (λ x is k z there. keeps x is z)
 
--- a sum where one element changes and counts as much
+-- a sum if one element changes and counts as much as before
 pub sum_changed_at : {X : Type 0} (g : X → ℕ) (f : X → X) (xs : List X) (i : ℕ) → ((x : X) → slice_get xs i ≡ Some x → g (f x) ≡ g x)
     → sum_by g (modify_at f xs i) ≡ sum_by g xs
 sum_changed_at g f [] i same = refl
@@ -89,7 +89,7 @@ sum_changed_at g f (x ∷ xs) zero same = sum_by-cons g (f x) xs ∙ ap (λ n. n
 sum_changed_at g f (x ∷ xs) (suc i) same =
     sum_by-cons g x (modify_at f xs i) ∙ ap (λ n. g x + n) (sum_changed_at g f xs i same) ∙ sym (sum_by-cons g x xs)
 
--- as many pass after a change that the test does not see, and some do where some did
+-- a change that does not affect the test changes neither how many pass nor whether any does
 pub count_changed : {X : Type 0} (p : X → Bool) (f : X → X) (xs : List X) (n : ℕ) → ((x : X) → slice_get xs n ≡ Some x → p (f x) ≡ p x)
     → count_by p (modify_at f xs n) ≡ count_by p xs
 count_changed p f xs n same =
@@ -101,7 +101,7 @@ any_changed p f [] n same = refl
 any_changed p f (x ∷ xs) zero same = ap (λ b. b || list_any p xs) (same x refl)
 any_changed p f (x ∷ xs) (suc n) same = ap (λ b. p x || b) (any_changed p f xs n same)
 
--- where none passes, each fails
+-- if no element passes, each fails
 pub none_any : {X : Type 0} (p : X → Bool) (xs : List X) → list_any p xs ≡ false → (i : ℕ) (x : X) → slice_get xs i ≡ Some x → p x ≡ false
 none_any p [] none i x there = absurd cc
 none_any p (y ∷ ys) none zero x there = let same : y ≡ x = cc in ap p (sym same) ∙ (or_parts (p y) (list_any p ys) none).0

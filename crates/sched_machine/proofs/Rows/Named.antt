@@ -1,4 +1,4 @@
--- What it says of new rows that an import has nothing to refuse.
+-- What follows for new rows if an import has no reason to refuse them.
 use Rattle.std.proofs.Common.{◌≡◌, ◌≢◌, ℕ, ◌+◌, ◌≤◌, Bool, true, false, not, cond, eqb, eqb-true, eq-eqb, List, [], ◌∷◌, ◌++◌, length, get_or, AllPairs, Option, Some, None, slice_get, sym, refl, ap, ◌∙◌, subst, append_assoc, append-nil, leb-true}
 use Rattle.std.specs.Prelude.{◌&&◌, ◌||◌, IsTrue, nat_le, find, bytes_eq, option_map, unwrap_or}
 use Rattle.std.specs.List.{list_any}
@@ -21,7 +21,7 @@ no_fault None (Some n) room is = absurd cc
 no_fault None None false is = absurd cc
 no_fault None None true is = (refl, refl, refl)
 
--- rows whose names no row before them has: of each two the names differ
+-- rows whose names no earlier row has: the names of each two differ
 pub new_names : {X : Type 0} (same : X → X → Bool) (R : X → X → Type 0) → ((a b : X) → same b a ≡ false → R a b)
     → (n : ℕ) (known xs : List X) → first_known same n known xs ≡ None → AllPairs R known → AllPairs R (known ++ xs)
 new_names same R apart n known [] none before = subst (AllPairs R) (sym (append-nil known)) before
@@ -85,7 +85,7 @@ room_from s room =
       units = leb-true (length s.units) most_workunits all.3;
     }
 
--- more applications behind those that stand
+-- more applications after the existing ones
 pub app_stays : (apps new : List App) (name : List ℕ) → IsTrue (has_app apps name) → IsTrue (has_app (apps ++ new) name)
 app_stays apps new name stands =
     let p = λ (a : App). bytes_eq a.name name in

@@ -9,7 +9,7 @@ use Rattle.sched_machine.specs.Laws.{AreCallsInLimits}
 use Rattle.sched_machine.specs.Runs.{HoldsInRuns, world_after}
 use Rattle.sched_machine.proofs.Moves.Sound.{step_keeps_sound}
 
--- R holds of a world and itself, through one part and the next, and through each step of a sound world
+-- R holds of a world and itself, through two parts in turn, and through each step from a sound world
 module _ (R : World → World → Type 0) (self : (w : World) → R w w) (chain : (u v w : World) → R u v → R v w → R u w)
     (step : (w after : World) (c : Call) (now : ℕ) (answer : Answered) → Sound w → Step w c now after answer → R w after) where
   pub from_first : (w : World) (calls : List (Call × ℕ)) (turns : List (Answered × World)) → Sound w → AreCallsInLimits calls → Trace w calls turns

@@ -1,4 +1,4 @@
--- A step changes the deadline of an instance that was given to a host only where it sends it again.
+-- A step changes the deadline of an instance that was given to a host only if it sends the instance again.
 use Rattle.std.proofs.Common.{◌≡◌, ◌⊎◌, inl, inr, Option, Some, None, sym, ap, ◌∙◌}
 use Rattle.std.specs.Prelude.{option_map, option_and_then, unwrap_or}
 use Rattle.std.proofs.lemmas.Bool.{eqb-true}
@@ -14,12 +14,12 @@ use Rattle.sched_machine.specs.Runs.{owner_at, DeadlinesMoveByResends, IsSentAga
 use Rattle.sched_machine.proofs.OptionParts.{then_by}
 use Rattle.sched_machine.proofs.Moves.Moves.{Lasts, IsOf, IsResentBy, step_lasts}
 
--- an owner stays as it is, with its deadline, or the call sends the instance again to it
+-- an owner stays as it is, with its deadline, or the call sends it the instance again
 abbrev StaysOrAgain : World → Call → Place → Option Instance → Option Instance → Type 0
 StaysOrAgain w c p i j = (o : Owner) → option_and_then (λ (x : Instance). x.owner) i ≡ Some o
     → (option_and_then (λ (x : Instance). x.owner) j ≡ Some o) ⊎ IsSentAgain w c p o
 
--- what the call sends again is its host's
+-- what the call sends again belongs to its host
 sent_again : (w : World) (c : Call) (p : Place) (x : Instance) (o : Owner) → IsOf w c x → IsResentBy w c p → x.owner ≡ Some o → IsSentAgain w c p o
 sent_again w (call.Rpc c r) p x o own again is = (
   eqb-true o.host (host_number w c)

@@ -1,4 +1,4 @@
--- What stays of each instance through every run: its owner's host and moment, its report and its lapse.
+-- What stays of each instance in every run: its owner's host and moment, its report and its lapse.
 use Rattle.std.proofs.Common.{◌≡◌, ℕ, Option, Some, None, sym, refl, ap, ◌∙◌}
 use Rattle.std.specs.Prelude.{option_and_then}
 use Rattle.sched_book.specs.Step.{Step}
@@ -12,7 +12,7 @@ use Rattle.sched_machine.specs.Runs.{HoldsInRuns, OwnersStay, ReportsStay, Lapse
 use Rattle.sched_machine.proofs.Runs.Between.{holds_in_runs}
 use Rattle.sched_machine.proofs.Moves.Moves.{Lasts, step_lasts}
 
--- of an owner the host and the moment of sending stay
+-- the host of an owner and the moment of sending stay
 abbrev OwnerStays : Option Instance → Option Instance → Type 0
 OwnerStays i j = (o : Owner) → option_and_then (λ (x : Instance). x.owner) i ≡ Some o
     → (n : Owner) × (option_and_then (λ (x : Instance). x.owner) j ≡ Some n) × (n.host ≡ o.host) × (n.sent ≡ o.sent)
@@ -41,7 +41,7 @@ owners_stay =
     (λ u v w first second p o is. (let n = first p o is in let m = second p n.0 n.1 in (m.0, m.1, m.2 ∙ n.2, m.3 ∙ n.3)))
     (λ w after c now answer sound step. owners_stay_in_step w after c now answer step)
 
--- what was told of an instance stays
+-- what was noted of an instance stays
 abbrev ToldStays : {Y : Type 0} → (Instance → Option Y) → Option Instance → Option Instance → Type 0
 ToldStays {Y} told i j = (t : Y) → option_and_then told i ≡ Some t → option_and_then told j ≡ Some t
 

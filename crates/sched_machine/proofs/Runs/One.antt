@@ -1,4 +1,4 @@
--- There is no more than one step of each call, and no more than one run of a list of calls.
+-- There is at most one step for each call, and at most one run for a list of calls.
 use Rattle.std.proofs.Common.{◌≡◌, ℕ, true, false, List, [], ◌∷◌, ◌++◌, map, sym, refl, ap, ◌∙◌, subst, length}
 use Rattle.std.specs.Prelude.{filter_map}
 use Rattle.rpc_records.specs.declared.reply.Reply.{Reply}
@@ -39,7 +39,7 @@ module _ (w : World) (c : Caller) (r : Request) (now : ℕ) where
     user_total_credit = user_credit after c.account;
   }
 
--- what a step of a call leaves and answers, but for which jobs it grants
+-- what a step of a call leaves and answers, for some grant of jobs
 abbrev Leaves : World → Call → ℕ → World → Answered → Type 0
 Leaves w (call.Rpc c r) now v a =
     (jobs : List Place) × IsGrant (after_settlement w c r now) (asking_of w c r now) jobs × (v ≡ after_grant w c r now jobs)
@@ -65,7 +65,7 @@ a_step_is_determined w v u c now a b first second = same c (leaves w v c now a f
     same (call.Import new) one other = (one.0 ∙ sym other.0, one.1 ∙ sym other.1)
     same call.Tick one other = (one.0 ∙ sym other.0, one.1 ∙ sym other.1)
 
--- each further turn is one of the same world
+-- each further turn begins in the same world
 pub a_run_is_determined : RunIsDetermined
 a_run_is_determined w [] [] [] first second = refl
 a_run_is_determined w [] [] (o ∷ os) first second = absurd second

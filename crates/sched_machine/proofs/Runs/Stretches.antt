@@ -26,19 +26,19 @@ use Rattle.sched_machine.proofs.Moves.Sound.{step_keeps_sound}
 
 -- ---- deadlines
 
--- what is said of an owner is said of one with the same host
+-- what holds of an owner holds of one with the same host
 same_host : (w : World) (c : Call) (p : Place) (n o : Owner) → n.host ≡ o.host → IsSentAgain w c p n → IsSentAgain w c p o
 same_host w (call.Rpc c r) p n o same again = (sym same ∙ again.0, again.1)
 same_host w (call.Import new) p n o same again = again
 same_host w call.Tick p n o same again = again
 
--- the deadline stays up to a world of a run, or a call before it sends the job again
+-- up to a world of a run the deadline stays, or an earlier call sends the job again
 abbrev MovesBefore : World → List (Call × ℕ) → List (Answered × World) → ℕ → ℕ → Place → Owner → Type 0
 MovesBefore w calls turns i j p o =
     (deadline_at (world_after w turns j) p ≡ deadline_at (world_after w turns i) p)
     ⊎ ((n : ℕ) × (i ≤ n) × (n < j) × IsSentAgainAfter w calls turns n p o)
 
--- one call more at the beginning
+-- one more call at the beginning
 one_before : (w : World) (calls : List (Call × ℕ)) (turns : List (Answered × World)) (e : Call × ℕ) (t : Answered × World) (i j : ℕ) (p : Place) (n o : Owner)
     → n.host ≡ o.host → MovesBefore t.1 calls turns i j p n → MovesBefore w (e ∷ calls) (t ∷ turns) (suc i) (suc j) p o
 one_before w calls turns e t i j p n o same moves = elim moves [
@@ -75,7 +75,7 @@ deadlines_move_by_resends_in_runs w calls turns trace i j less within = moves w 
 
 -- ---- held jobs
 
--- an import, and each step, leave the settings
+-- an import, and each step, keep the settings
 pub settings_stay_in_step : (w after : World) (c : Call) (now : ℕ) (answer : Answered) → Step w c now after answer → after.settings ≡ w.settings
 settings_stay_in_step w after c now answer step =
     by_call w after now (λ c answer. after.settings ≡ w.settings)

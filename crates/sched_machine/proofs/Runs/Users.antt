@@ -1,4 +1,4 @@
--- Each world of a run is sound, so none has two instances of a workunit given to one user.
+-- Each world of a run is sound, so in none of them a user was given two instances of a workunit.
 use Rattle.std.proofs.Common.{List, [], ◌∷◌}
 use Rattle.sched_book.specs.Sound.{Sound}
 use Rattle.sched_book.specs.declared.machine.Answered.{Answered}
@@ -7,7 +7,7 @@ use Rattle.sched_machine.specs.Laws.{AllSound}
 use Rattle.sched_machine.specs.Runs.{AllAfter, HoldsAlways, OneForEachUser}
 use Rattle.sched_machine.proofs.Moves.Sound.{runs_keep_sound}
 
--- what follows of soundness holds in each world of a run
+-- what follows from soundness holds in each world of a run
 pub always : (P : World → Type 0) → ((w : World) → Sound w → P w) → HoldsAlways P
 always P also w calls turns sound limits trace = (also w sound, all turns (runs_keep_sound w calls turns sound limits trace))
   where

@@ -1,4 +1,4 @@
--- A list and one that has what is like each element at its index; and a list with one element changed.
+-- A list, and another whose elements are like those at the same index; and a list with one element changed.
 use Rattle.std.proofs.Common.{◌≡◌, ℕ, zero, suc, ◌+◌, Bool, true, false, cond, List, [], ◌∷◌, get_or, Some, None, sym, refl, ap, ◌∙◌, subst, arith}
 use Rattle.std.specs.Prelude.{◌||◌, All, AllPairs, count_by, map, slice_get}
 use Rattle.std.specs.List.{list_any, enumerate_from}
@@ -14,7 +14,7 @@ use Rattle.sched_machine.proofs.Rows.Listed.{count_changed}
 abbrev pub Alike : {X : Type 0} → (X → X → Type 0) → List X → List X → Type 0
 Alike {X} R xs ys = (i : ℕ) (y : X) → slice_get ys i ≡ Some y → (x : X) × (slice_get xs i ≡ Some x) × R x y
 
--- what is said of each, and of each two, is carried on
+-- a fact about each element, and about each two, carries over
 pub all_alike : {X : Type 0} (P Q : X → Type 0) (R : X → X → Type 0) (xs ys : List X) → Alike R xs ys
     → ((x y : X) → R x y → P x → Q y) → All P xs → All Q ys
 all_alike P Q R xs ys alike carry all k d within =
@@ -37,7 +37,7 @@ modify_at-none f [] i none = refl
 modify_at-none f (x ∷ xs) zero none = absurd cc
 modify_at-none f (x ∷ xs) (suc i) none = ap (λ ys. x ∷ ys) (modify_at-none f xs i none)
 
--- how many pass, where the changed one passes as before, or newly
+-- how many pass, if the changed one passes as before, or newly
 pub count_cons : {X : Type 0} (p : X → Bool) (x : X) (xs : List X) (b : Bool) → p x ≡ b
     → count_by p (x ∷ xs) ≡ cond {A = ℕ} b 1 0 + count_by p xs
 count_cons p x xs b is = sum_by-cons (λ y. cond {A = ℕ} (p y) 1 0) x xs ∙ ap (λ (c : Bool). cond {A = ℕ} c 1 0 + count_by p xs) is
@@ -63,7 +63,7 @@ count_more p f (y ∷ ys) (suc i) x stands not_yet now =
     let rest : count_by p (modify_at f ys i) ≡ count_by p ys + 1 = count_more p f ys i x stands not_yet now in
     omega arith
 
--- whether any passes, where the changed one passes if it did, or does now
+-- whether any passes, if the changed one passes as before, or newly
 pub any_kept : {X : Type 0} (q : X → Bool) (f : X → X) (xs : List X) (i : ℕ) → ((x : X) → slice_get xs i ≡ Some x → q x ≡ true → q (f x) ≡ true)
     → list_any q xs ≡ true → list_any q (modify_at f xs i) ≡ true
 any_kept q f [] i keeps any = any
@@ -94,12 +94,12 @@ any_here q f (y ∷ ys) (suc i) x stands now = cases (q y) (any_here q f ys i x 
     cases true rest = refl
     cases false rest = rest
 
--- each element made into one that is like it
+-- each element replaced by one that is like it
 pub alike_map : {X : Type 0} (R : X → X → Type 0) (f : X → X) (xs : List X) → ((x : X) → R x (f x)) → Alike R xs (map f xs)
 alike_map R f xs makes i y stands =
     let x = mapped_by f (slice_get xs i) y (sym (slice_get-map f xs i) ∙ stands) in (x.0, x.1, subst (R x.0) x.2 (makes x.0))
 
--- the same where each comes with its number
+-- the same for a function of the element and its number
 pub alike_numbered : {X : Type 0} (R : X → X → Type 0) (f : ℕ × X → X) (xs : List X) → ((n : ℕ) (x : X) → R x (f (n, x)))
     → Alike R xs (map f (enumerate_from 1 xs))
 alike_numbered R f xs makes i y stands =

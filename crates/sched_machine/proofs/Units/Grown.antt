@@ -21,7 +21,7 @@ use Rattle.sched_book.specs.declared.rows.Workunit.{Workunit}
 use Rattle.sched_machine.proofs.Units.Alike.{count_cons}
 use Rattle.quorum_credit.proofs.GrownFits.{fresh_in_limits, open_total}
 
--- several of the same behind a list
+-- several equal elements after a list
 pub pairs_more : {X : Type 0} (R : X → X → Type 0) (xs : List X) (n : ℕ) (y : X) → ((x : X) → R x y) → AllPairs R xs → AllPairs R (xs ++ replicate n y)
 pairs_more R [] zero y apart pairs = pairs
 pairs_more R [] (suc n) y apart pairs =
@@ -31,7 +31,7 @@ pairs_more R (x ∷ xs) n y apart pairs =
     (All-append (R x) xs (replicate n y) (λ k d within. pairs 0 (suc k) d (omega arith) (omega arith)) (All-replicate (R x) n y (apart x)))
     (pairs_more R xs n y apart (λ i j d below within. pairs (suc i) (suc j) d (omega arith) (omega arith)))
 
--- how many pass, with so many of the same behind
+-- how many pass, with so many equal elements after the list
 count_with : {X : Type 0} (p : X → Bool) (xs : List X) (n : ℕ) (y : X) (b : Bool) → p y ≡ b
     → count_by p (xs ++ replicate n y) ≡ count_by p xs + n * cond {A = ℕ} b 1 0
 count_with p xs n y b is =
@@ -45,7 +45,7 @@ count_none p xs n y is = let whole : count_by p (xs ++ replicate n y) ≡ count_
 pub count_all : {X : Type 0} (p : X → Bool) (xs : List X) (n : ℕ) (y : X) → p y ≡ true → count_by p (xs ++ replicate n y) ≡ count_by p xs + n
 count_all p xs n y is = let whole : count_by p (xs ++ replicate n y) ≡ count_by p xs + n * 1 = count_with p xs n y true is in omega arith
 
--- the good reports are as many as the judged successes
+-- there are as many good reports as judged successes
 length_numbers : (n : ℕ) (p : Instance → Bool) (xs : List Instance) → length (numbers_from n p xs) ≡ count_by p xs
 length_numbers n p [] = refl
 length_numbers n p (x ∷ xs) = cases (p x) (length_numbers (n + 1) p xs) ∙ sym (count_cons p x xs (p x) refl)
@@ -70,7 +70,7 @@ length_good xs =
     length_put (place_of xs) [] (numbers_from 0 (λ x. tells_success x.report) xs) in omega arith) in
     put ∙ length_numbers 0 (λ x. tells_success x.report) xs
 
--- with what it needs it needs nothing
+-- with what it needs it needs nothing more
 enough : (wanted running done : ℕ) → wanted - (running + (wanted - running - done)) - done ≡ 0
 enough wanted running done = omega arith
 
@@ -83,12 +83,12 @@ grown_needs_none u xs =
     ∙ ap (λ m. want u (length (good xs)) - m - length (good xs)) (count_all is_live xs (need u xs) fresh refl)
     ∙ enough (want u (length (good xs))) (live xs) (length (good xs))
 
--- these hosts have the accounts of those
+-- the hosts of both lists have the same accounts
 pub record HaveSameUsers (hosts others : List HostRow) : Type 0 where
   pub account : (n : ℕ) → account_at others n ≡ account_at hosts n
   pub stands : (n : ℕ) → is_some (nth others n) ≡ is_some (nth hosts n)
 
--- a workunit after settlement, where the hosts after it are the others
+-- a workunit after settlement, if `others` are the hosts after it
 module _ (hosts others : List HostRow) (apps : List App) (users : HaveSameUsers hosts others) where
   other_users : (x y : Instance) → AreOfOtherUsers hosts x y → AreOfOtherUsers others x y
   other_users x y apart =
@@ -108,7 +108,7 @@ module _ (hosts others : List HostRow) (apps : List App) (users : HaveSameUsers 
   all_apart : (xs : List Instance) → AllPairs (AreOfOtherUsers hosts) xs → AllPairs (AreOfOtherUsers others) xs
   all_apart xs pairs = λ i j d below within. other_users (get_or xs i d) (get_or xs j d) (pairs i j d below within)
 
-  -- one that is not open stays as it is
+  -- a workunit that is not open stays as it is
   closed_settled : (b : UnitBook) → IsWellUnit hosts apps b → is_open (book_status apps b) ≡ false → IsSettledUnit others apps b
   closed_settled b well closed = record {
     satisfied = λ now. (let never : true ≡ false = sym now ∙ closed in absurd cc);
@@ -125,7 +125,7 @@ module _ (hosts others : List HostRow) (apps : List App) (users : HaveSameUsers 
     };
   }
 
-  -- fresh instances behind its own
+  -- fresh instances after its own
   open_settled : (b : UnitBook) → IsWellUnit hosts apps b → is_open (book_status apps b) ≡ true
       → IsSettledUnit others apps (record b { instances = b.instances ++ replicate (need b.unit b.instances) fresh })
   open_settled b well is_it =

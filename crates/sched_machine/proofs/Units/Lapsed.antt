@@ -1,4 +1,4 @@
--- Jobs that were given to hosts, changed one after another; lapses leave a world well.
+-- Jobs that were given to hosts, changed one after another; and lapses keep a world well.
 use Rattle.std.proofs.Common.{◌≡◌, inl, true, false, refl, ap, ◌∙◌, ℕ, Bool, cond, List, [], ◌∷◌, Option, Some, None, sym}
 use Rattle.std.proofs.lemmas.Bool.{and_parts}
 use Rattle.std.proofs.lemmas.List.Elements.{All-head, All-tail, All-weaker}
@@ -21,16 +21,16 @@ use Rattle.sched_machine.specs.Laws.{LapsesKeepWell}
 use Rattle.sched_machine.proofs.OptionParts.{any_by, mapped_by}
 use Rattle.sched_machine.proofs.Units.Well.{Keeps, changed_well}
 
--- what stands at a place was given to a host
+-- the instance at a place was given to a host
 abbrev pub IsGiven : World → Place → Type 0
 IsGiven w p = (x : Instance) → instance_at w p ≡ Some x → is_some x.owner ≡ true
 
--- what a host owns was given to it
+-- an instance that a host owns was given to it
 pub owned_given : (host : ℕ) (x : Instance) → is_owned_by host x ≡ true → is_some x.owner ≡ true
 owned_given host x owned =
     let n = any_by (λ n. n == host) (host_of x) owned in ap is_some (mapped_by (λ (o : Owner). o.host) x.owner n.0 n.1).1
 
--- a change that takes no owner away
+-- a change that removes no owner
 pub given_after : (f : Instance → Instance) (w : World) (p q : Place) → ((x : Instance) → is_some (f x).owner ≡ is_some x.owner)
     → IsGiven w q → IsGiven (with_changed f w p) q
 given_after f w p q keeps given y stands = cases (is_same p q) (instance_at w q) refl (sym (instance_at-with_changed f w p q) ∙ stands)
@@ -42,7 +42,7 @@ given_after f w p q keeps given y stands = cases (is_same p q) (instance_at w q)
         ap (λ z. is_some z.owner) (sym value) ∙ keeps x ∙ given x is
     cases false o is put = given y (is ∙ put)
 
--- one change after another keeps the world well, where each does so at a job that was given
+-- one change after another keeps the world well, if each does so at a job that was given
 pub fold_well : (step : World → Place → World) → ((w : World) (p : Place) → IsWell w → IsGiven w p → IsWell (step w p))
     → ((w : World) (p q : Place) → IsGiven w q → IsGiven (step w p) q)
     → (places : List Place) (w : World) → IsWell w → All (IsGiven w) places → IsWell (fold step w places)
@@ -52,7 +52,7 @@ fold_well step good keeps (p ∷ places) w well given =
     (good w p well (All-head (IsGiven w) p places given))
     (λ k d within. keeps w p _ (All-tail (IsGiven w) p places given k d within))
 
--- the places of a test that only those pass that were given to hosts
+-- the places of a test that only instances with an owner pass
 pub places_given : (w : World) (test : Instance → Bool) → ((x : Instance) → test x ≡ true → is_some x.owner ≡ true)
     → All (IsGiven w) (places_where w (λ b x. test x))
 places_given w test owned =
@@ -60,7 +60,7 @@ places_given w test owned =
     (λ p pass x stands. owned x (sym (passes-is w test p ∙ ap (λ o. unwrap_or (option_map test o) false) stands) ∙ pass))
     (places_where w (λ b x. test x)) (each_passes w (λ b x. test x))
 
--- what was given is not bare, whatever lapses
+-- a lapse of an instance with an owner keeps its host, and keeps it bare and within limits
 pub lapse_keeps : (lapse : Lapse) (x : Instance) → is_some x.owner ≡ true → Keeps x (with_lapse lapse x)
 lapse_keeps lapse x given = record {
   host = refl;
@@ -73,7 +73,7 @@ lapse_keeps lapse x given = record {
   };
 }
 
--- what is held was given
+-- an instance that is held was given to a host
 pub held_given : (x : Instance) → is_held x ≡ true → is_some x.owner ≡ true
 held_given x held =
     (and_parts (is_some x.owner) (is_none x.report) (and_parts (is_some x.owner && is_none x.report) (is_none x.lapse) held).0).0

@@ -1,4 +1,4 @@
--- Lost jobs, sent again or dropped, leave a world well.
+-- Lost jobs, sent again or dropped, keep a world well.
 use Rattle.std.proofs.Common.{◌≡◌, ℕ, ◌+◌, ◌≤◌, inl, Bool, true, false, cond, List, Option, Some, None, refl, arith, ap, sym, ◌∙◌}
 use Rattle.std.specs.Prelude.{All, nat_le, is_some, option_map, unwrap_or}
 use Rattle.std.proofs.lemmas.List.Elements.{All-weaker}
@@ -26,11 +26,11 @@ use Rattle.sched_machine.specs.Laws.{LostJobsKeepWell}
 use Rattle.sched_machine.proofs.Units.Lapsed.{held_given, lapse_well, IsGiven, given_after, fold_well}
 use Rattle.sched_machine.proofs.Units.Well.{Keeps, changed_well, keeps_self}
 
--- what a host holds was given to it
+-- an instance that a host holds was given to it
 held_by_given : (host : ℕ) (x : Instance) → is_held_by host x ≡ true → is_some x.owner ≡ true
 held_by_given host x held = held_given x (and_parts (is_owned_by host x) (is_held x) held).1
 
--- so was what is lost
+-- so was a lost one
 pub lost_given : (w : World) (host : ℕ) (names : Option (List (List ℕ))) → All (IsGiven w) (lost w host names)
 lost_given w host names =
     All-weaker (IsLost w host names) (IsGiven w)
@@ -38,7 +38,7 @@ lost_given w host names =
     held_by_given host x (sym (passes-is w (is_held_by host) p ∙ ap (λ o. unwrap_or (option_map (is_held_by host) o) false) stands) ∙ lost.held))
     (lost w host names) (lost_are_held_and_unlisted w host names).each
 
--- a new deadline changes its host and moment of sending as little
+-- a new deadline changes neither the host nor the moment of sending
 pub deadline_keeps : (f : ℕ → ℕ) → ((d : ℕ) → d ≤ last_deadline → f d ≤ last_deadline) → (x : Instance) → Keeps x (with_deadline f x)
 deadline_keeps f low x = cases x.owner
   where
@@ -53,7 +53,7 @@ deadline_keeps f low x = cases x.owner
       limits = λ limits. record { sent = limits.sent; deadline = low o.deadline limits.deadline; output = limits.output; place = limits.place };
     }
 
--- a workunit's delay keeps a deadline within limits
+-- a workunit's delay bound is low enough to keep a deadline within limits
 pub delay_is_low : (w : World) (p : Place) → IsWell w → delay_at w p ≤ most_delay
 delay_is_low w p well = cases (unit_at w p.unit) refl
   where
@@ -91,7 +91,7 @@ module _ (entry : World) (h : HostRow) (now : ℕ) (entered : IsWell entry) (ear
       cases true = given_after (with_deadline (later p)) w p q (λ x. is_some-option_map _ x.owner) given
       cases false = given_after (with_lapse Dropped) w p q (λ x. refl) given
 
--- and all
+-- all lost jobs
 pub lost_jobs_keep_well : LostJobsKeepWell
 lost_jobs_keep_well entry w h now host names entered early well =
     fold_well (resend_or_drop entry h now) (one_well entry h now entered early) (one_given entry h now entered early) (lost w host names) w well

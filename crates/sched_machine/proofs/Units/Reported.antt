@@ -1,4 +1,4 @@
--- Reports leave a world well.
+-- Reports keep a world well.
 use Rattle.std.proofs.Common.{◌≡◌, ℕ, ◌+◌, ◌≤◌, inl, inr, Bool, true, false, cond, [], length, Option, Some, None, sym, refl, ap, ◌∙◌, arith}
 use Rattle.std.specs.Prelude.{count_by, is_some, is_none, option_map, option_and_then, unwrap_or, slice_get, IfSome, Contains}
 use Rattle.std.proofs.lemmas.List.Elements.{All-contains}
@@ -24,7 +24,7 @@ use Rattle.sched_machine.proofs.Units.Alike.{count_more}
 use Rattle.sched_machine.proofs.Units.Lapsed.{owned_given}
 use Rattle.sched_machine.proofs.Units.Well.{Keeps, IsGoodChange, changed_well}
 
--- what awaits a report was given, and is not judged
+-- an instance that awaits a report was given to a host, and is not judged
 awaits_given : (host : ℕ) (x : Instance) → awaits_report host x ≡ true → is_some x.owner ≡ true
 awaits_given host x awaits = owned_given host x (and_parts (is_owned_by host x) (is_none x.report) awaits).0
 
@@ -48,7 +48,7 @@ module _ (host : ℕ) (r : Report) (known : IsReport r) (x : Instance) (awaits :
     };
   }
 
-  -- the next place is within limits, since this one is not judged yet
+  -- the next place is within limits, because this instance is not judged yet
   next_is_low : (b : UnitBook) (i n : ℕ) → length b.instances ≤ most_instances → slice_get b.instances i ≡ Some x → n ≡ 1 + count_by is_judged b.instances → n ≤ most_instances
   next_is_low b i n few is next =
       let f : Instance → Instance = with_report r (Some 1) in

@@ -1,4 +1,4 @@
--- A world stays well where one instance is changed and keeps what is said of it.
+-- A world stays well if one instance is changed and keeps what well worlds say of it.
 use Rattle.std.proofs.Common.{◌≡◌, ℕ, ◌+◌, ◌<◌, ◌≤◌, ◌⊎◌, inl, inr, Bool, true, false, ltb, List, length, Option, Some, None, sym, refl, ap, ◌∙◌, subst, arith}
 use Rattle.std.proofs.lemmas.List.Elements.{All-weaker}
 use Rattle.std.specs.Prelude.{◌==◌, All, IsTrue, count_by, is_some, option_and_then, slice_get, IfSome}
@@ -21,13 +21,13 @@ use Rattle.sched_machine.proofs.Rows.Kept.{rows_changed}
 use Rattle.sched_machine.proofs.Rows.Listed.{all_changed, all_changed_nth, pairs_changed}
 use Rattle.sched_machine.proofs.Units.Alike.{modify_at-none, count_same, count_more, any_kept, any_here}
 
--- the changed instance is with the same host, and stays bare and within limits
+-- the changed instance has the same host, and stays bare and within limits
 pub record Keeps (x y : Instance) : Type 0 where
   pub host : host_of y ≡ host_of x
   pub bare : IsBare x → IsBare y
   pub limits : IsInstanceInLimits x → IsInstanceInLimits y
 
--- it is judged as before, or newly at the place behind so many
+-- it is judged as before, or newly at the next place
 abbrev pub IsJudgedAlike : Instance → Instance → Type 0
 IsJudgedAlike x y = report_place y ≡ report_place x
 
@@ -49,7 +49,7 @@ IsInRange n x = IfSome (report_place x) (λ place. place ≤ n)
 abbrev IsAt : ℕ → Instance → Bool
 IsAt n x = option_any (λ place. place == n) (report_place x)
 
--- one is changed, which stands there
+-- the instance at an index is changed
 module _ (f : Instance → Instance) (xs : List Instance) (i : ℕ) (x : Instance) (stands : slice_get xs i ≡ Some x) (placed : ArePlaced xs) where
   in_range_after : (m : ℕ) → count_by is_judged xs ≤ m → IsInRange m (f x) → All (IsInRange m) (modify_at f xs i)
   in_range_after m more now =
@@ -103,7 +103,7 @@ module _ (f : Instance → Instance) (xs : List Instance) (i : ℕ) (x : Instanc
           any_here (IsAt (n + 1)) f xs i x stands
           (ap (option_any (λ place. place == n + 1)) new.1 ∙ eq-eqb (count_by is_judged xs + 1) (n + 1) (omega arith))
 
--- a changed instance, where one stands or not
+-- a changed instance, if there is one
 placed_after : (f : Instance → Instance) (xs : List Instance) (i : ℕ) → ArePlaced xs
     → ((x : Instance) → slice_get xs i ≡ Some x → IsJudgedAlike x (f x) ⊎ IsNewlyJudged (count_by is_judged xs) x (f x))
     → ArePlaced (modify_at f xs i)
@@ -116,7 +116,7 @@ placed_after f xs i placed judged = cases (slice_get xs i) refl
       | inr new ↦ placed_newly f xs i x is placed new
     ]
 
--- the owner's host is the same, so that its user is
+-- the owner's host is the same, so its user is the same
 other_users : (hosts : List HostRow) (x y a b : Instance) → Keeps x a → Keeps y b → AreOfOtherUsers hosts x y → AreOfOtherUsers hosts a b
 other_users hosts x y a b first second others = λ given also same.
     others (sym (ap is_some first.host) ∙ given) (sym (ap is_some second.host) ∙ also)

@@ -2,7 +2,7 @@ use Rattle.std.proofs.Common.{sym, ◌∙◌}
 use Rattle.call_sheet.proofs.Pages.{read_in_turn}
 use Rattle.call_sheet.proofs.reading.ask_leaf.Goals as goal
 
--- src/reading.rt:19:1
+-- the three look-ups read one world
 pub returns-clause-answer : goal.returns-clause-answer
 returns-clause-answer g c honest kept =
     let honest_b = g.met.D.Units.stays_honest _ _ c.instances_of.ensures.reads honest in

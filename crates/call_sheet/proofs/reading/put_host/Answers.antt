@@ -9,7 +9,7 @@ use Rattle.sched_book.specs.declared.world.World.{World}
 use Rattle.call_sheet.proofs.Pages.{stands_there}
 use Rattle.call_sheet.proofs.reading.put_host.Goals as goal
 
--- the host stands, so its number is a place
+-- the host exists, so its number is a place
 has_place : (w : World) (old new : List Change) (number : ℕ) (r : Option HostRow) (h : HostRow) → new ≡ old → r ≡ host_at (applied w old) number → r ≡ Some h
     → HasPlace (applied w new) number
 has_place w old new number r h same is found =

@@ -1,4 +1,4 @@
--- All that was read and offered is of the world that the desk stood for at the beginning.
+-- Everything that was read and offered is of the world that the desk represented at the beginning.
 use Rattle.std.proofs.Common.{◌≡◌}
 use Rattle.sched_book.specs.Grant.{Asking}
 use Rattle.job_choice.proofs.Taking.{chosen_at}

@@ -1,4 +1,4 @@
--- Both answers are of the world that the desk stood for before.
+-- Both answers are of the world that the desk represented before.
 use Rattle.std.proofs.Common.{subst}
 use Rattle.std.specs.Prelude.{OnOk}
 use Rattle.std.proofs.lemmas.Result.{on_ok_weaker}

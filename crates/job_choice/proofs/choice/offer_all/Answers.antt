@@ -1,4 +1,4 @@
--- All that was offered in one turn is of the world that the desk stood for at the beginning.
+-- Everything that was offered in one turn is of the world that the desk represented at the beginning.
 use Rattle.std.proofs.Common.{◌≡◌, false, sym, ◌∙◌, subst}
 use Rattle.job_choice.specs.Choosing.{is_full}
 use Rattle.job_choice.specs.Offered.{IsRight}

@@ -2,7 +2,7 @@ use Rattle.job_choice.specs.Offered.{IsReady}
 use Rattle.job_choice.proofs.Turns.{Resumes}
 use Rattle.job_choice.proofs.choice.offer_all.Given as goal
 
--- what is chosen from the present place on is chosen of all
+-- what is chosen from the present place on is chosen from all
 abbrev pub invariant-loop : goal.invariant-loop
 invariant-loop g l = record {
   reads : g.D.Units.reads l.initial.desk l.desk;

@@ -3,7 +3,7 @@ use Rattle.std.specs.List.{list_any}
 use Rattle.sched_book.specs.Places.{is_of_user}
 use Rattle.job_choice.proofs.past.is_any_of_user.Given as goal
 
--- whether there is one is whether there is one among those that are left
+-- there is one if and only if there is one among those that are left
 abbrev pub invariant-loop-instance : goal.invariant-loop-instance
 invariant-loop-instance g l = record {
   reads : g.D.Units.reads l.fn.desk l.desk;

@@ -3,7 +3,7 @@ use Rattle.std.specs.Prelude.{filter}
 use Rattle.sched_book.specs.Lost.{is_aborted, aborts}
 use Rattle.lost_jobs.proofs.aborted.aborts.Given as goal
 
--- those so far, and those among the names which are left
+-- the names so far, and those among the names that are left
 abbrev pub invariant-loop-name : goal.invariant-loop-name
 invariant-loop-name g l = record {
   reads : g.U.Units.reads l.fn.units l.units;

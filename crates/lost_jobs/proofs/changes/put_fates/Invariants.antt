@@ -3,7 +3,7 @@ use Rattle.std.specs.Prelude.{filter_map}
 use Rattle.lost_jobs.specs.Fated.{fate_change}
 use Rattle.lost_jobs.proofs.changes.put_fates.Given as goal
 
--- the changes so far, and those of the fates which are left
+-- the changes so far, and those of the fates that are left
 abbrev pub invariant-loop-fate : goal.invariant-loop-fate
 invariant-loop-fate g l = record {
   reads : g.S.Units.reads l.fn.sheet l.sheet;

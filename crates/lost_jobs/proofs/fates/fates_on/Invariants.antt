@@ -2,7 +2,7 @@ use Rattle.std.proofs.Common.{◌≡◌, take, map}
 use Rattle.lost_jobs.specs.Fates.{fate}
 use Rattle.lost_jobs.proofs.fates.fates_on.Given as goal
 
--- what becomes of the jobs so far
+-- the fates of the jobs so far
 abbrev pub invariant-loop-place : goal.invariant-loop-place
 invariant-loop-place g l = record {
   reads : g.S.Units.reads l.fn.sheet l.sheet;

@@ -3,7 +3,7 @@ use Rattle.std.specs.Prelude.{filter}
 use Rattle.lost_jobs.specs.Holding.{is_missing}
 use Rattle.lost_jobs.proofs.missing.lost_on.Given as goal
 
--- those so far, and those among the places which are left
+-- the places so far, and those among the places that are left
 abbrev pub invariant-loop-place : goal.invariant-loop-place
 invariant-loop-place g l = record {
   reads : g.S.Units.reads l.fn.sheet l.sheet;

@@ -8,7 +8,7 @@ use Rattle.call_sheet.specs.Sheets.{IsPageOf}
 use Rattle.lost_jobs.proofs.Requested.{lost_of_both, lost_by_request}
 use Rattle.lost_jobs.proofs.outer_calls.lost.Goals as goal
 
--- each step on the sheet left the world that the desk had
+-- each step on the sheet kept the world that the desk had
 pub returns-clause-answer : goal.returns-clause-answer
 returns-clause-answer g c = λ honest kept.
     let d = g.met.D.Units in

@@ -2,7 +2,7 @@ use Rattle.std.proofs.Common.{◌≡◌, ◌++◌, drop}
 use Rattle.quorum_credit.specs.Growing.{all_growth}
 use Rattle.quorum_credit.proofs.growth.growth_in_turn.Given as goal
 
--- the new instances so far, and those of the workunits which are left
+-- the new instances so far, and those of the workunits that are left
 abbrev pub invariant-loop-unit : goal.invariant-loop-unit
 invariant-loop-unit g l = record {
   reads : g.S.Units.reads l.fn.sheet l.sheet;

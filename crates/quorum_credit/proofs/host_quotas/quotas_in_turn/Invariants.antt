@@ -2,7 +2,7 @@ use Rattle.std.proofs.Common.{◌≡◌, ◌++◌, drop}
 use Rattle.quorum_credit.specs.Tallies.{new_quotas}
 use Rattle.quorum_credit.proofs.host_quotas.quotas_in_turn.Given as goal
 
--- the hosts so far, and those of the tallies which are left
+-- the hosts so far, and those of the tallies that are left
 abbrev pub invariant-loop-tally : goal.invariant-loop-tally
 invariant-loop-tally g l = record {
   reads : g.S.Units.reads l.fn.sheet l.sheet;

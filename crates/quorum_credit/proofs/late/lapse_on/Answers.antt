@@ -1,4 +1,4 @@
--- One lapse more: the sheet is of the call that it was of at the beginning.
+-- One more lapse: the sheet belongs to the same call as at the beginning.
 use Rattle.std.proofs.Common.{◌+◌, drop, sym, ap, ◌∙◌, subst}
 use Rattle.std.specs.Prelude.{fold}
 use Rattle.std.proofs.lemmas.List.{at_drop_more}

@@ -6,7 +6,7 @@ use Rattle.sched_book.specs.declared.instance.Lapse.TheVariants.{Late}
 use Rattle.quorum_credit.specs.Limited.{FitWithin}
 use Rattle.quorum_credit.proofs.late.lapse_on.Given as goal
 
--- what those lapses make of the world which are left, and that the changes so far fit
+-- what the lapses that are left do to the world; and the changes so far fit
 abbrev pub invariant-loop-place : goal.invariant-loop-place
 invariant-loop-place g l = record {
   works : g.S.Draft.works l.fn.sheet l.sheet;

@@ -9,7 +9,7 @@ use Rattle.quorum_credit.proofs.SettledAll.{joined_put, joined_settle, joined_fi
 use Rattle.quorum_credit.proofs.outer_calls.settle_all.Given
 use Rattle.quorum_credit.proofs.outer_calls.settle_all.Goals as goal
 
--- what was settled over the page, of the desk's first world, and that the changes of the page put rows
+-- what was settled over the page, in the desk's first world; and the changes of the page put rows
 record Told (g : Given.Over) (c : goal.After-drop-page-4 g) : Type 0 where
   settlement : IsSettlement (g.D.Units.world c.args.desk.now) c.args.delta.now c.settle_onto.new.page.delta c.args.touched.now
   puts : list_all puts_row c.settle_onto.new.page.delta ≡ true

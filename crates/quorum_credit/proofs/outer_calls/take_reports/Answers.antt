@@ -4,7 +4,7 @@ use Rattle.call_sheet.specs.declared.page.Page.{Page}
 use Rattle.quorum_credit.proofs.FitReports.{page_fits}
 use Rattle.quorum_credit.proofs.outer_calls.take_reports.Goals as goal
 
--- the sheet gave back its desk and its page as the reports left them
+-- the sheet returned its desk and its page as the reports left them
 pub returns-clause-fits : goal.returns-clause-fits
 returns-clause-fits g c = λ honest kept told sound.
     let d = g.met.D.Units in

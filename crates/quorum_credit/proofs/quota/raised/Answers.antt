@@ -2,7 +2,7 @@ use Rattle.std.proofs.Common.{◌≤◌, ◌*◌, ◌^◌, lit<, arith}
 use Rattle.std.proofs.Math.Nat.{pow-le-pow_right, mul-le-mul_left}
 use Rattle.quorum_credit.proofs.quota.raised.Goals as goal
 
--- further doublings would only go further past the limit
+-- further doublings would only move further past the limit
 pub returns-then-raised-from : goal.returns-then-raised-from
 returns-then-raised-from c =
     let i = c.loop.counter in

@@ -5,7 +5,7 @@ use Rattle.sched_book.specs.Reports.{record_one}
 use Rattle.quorum_credit.specs.Limited.{FitWithin}
 use Rattle.quorum_credit.proofs.reports.take_in_turn.Given as goal
 
--- what those reports make of the world which are left, and that the changes so far fit
+-- what the reports that are left do to the world; and the changes so far fit
 abbrev pub invariant-loop-report : goal.invariant-loop-report
 invariant-loop-report g l = record {
   works : g.S.Draft.works l.fn.sheet l.sheet;

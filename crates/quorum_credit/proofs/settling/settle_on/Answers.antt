@@ -10,7 +10,7 @@ use Rattle.quorum_credit.proofs.SettledAll.{AreSteps, scores_hold, settles, sett
 use Rattle.quorum_credit.proofs.settling.settle_on.Given
 use Rattle.quorum_credit.proofs.settling.settle_on.Goals as goal
 
--- what the steps told, of the world that the call found and of those between
+-- what the steps say of the world that the call found, and of those in between
 steps : (g : Given.Over) (c : goal.After-drop-quotas-inside-2 g) → g.S.Units.honest c.put_all.new.sheet → g.S.Units.well_kept c.args.sheet.now
     → AreSteps (g.S.Draft.entry c.args.sheet.now) (g.S.Units.world c.args.sheet.now) (g.S.Units.world c.grow_on.new.sheet) (g.S.Units.world c.put_all.new.sheet)
     (g.S.Draft.delta c.args.sheet.now) (g.S.Draft.delta c.put_all.new.sheet) c.in_ok-quotas.quotas c.args.touched.now c.in_ok-scores.scores

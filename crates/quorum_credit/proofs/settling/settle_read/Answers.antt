@@ -4,7 +4,7 @@ use Rattle.quorum_credit.proofs.SettledAll.{read_touch, settled_touch_just}
 use Rattle.quorum_credit.proofs.settling.settle_read.Given
 use Rattle.quorum_credit.proofs.settling.settle_read.Goals as goal
 
--- no workunit is touched but those that were read
+-- only workunits that were read are touched
 touched : (g : Given.Over) (c : goal.After-drop-touched-2 g) → g.S.Units.well_kept c.args.sheet.now
     → TouchJust c.as_slice.result.now (g.S.Draft.entry c.args.sheet.now) (g.S.Units.world c.args.sheet.now)
 touched g c kept =

@@ -1,4 +1,4 @@
--- An item is put behind the first ones just where its name is new.
+-- An item is added after the first ones if and only if its name is new.
 use Rattle.std.proofs.Common.{◌≡◌, Bool, true, false, [], ◌∷◌, ◌++◌, sym, ap, ◌∙◌, map, append_assoc}
 use Rattle.std.specs.Prelude.{◌||◌, not}
 use Rattle.std.specs.Str.{bytes_eq}

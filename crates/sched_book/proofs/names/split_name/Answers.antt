@@ -4,7 +4,7 @@ use Rattle.sched_book.specs.Names.{small_number}
 use Rattle.sched_book.proofs.SplitNames.{name_parts-some}
 use Rattle.sched_book.proofs.names.split_name.Goals as goal
 
--- what stands behind the last underscore is no number, or is one
+-- what follows the last underscore is no number, or is one
 pub returns-in-None : goal.returns-in-None
 returns-in-None c =
     sym (name_parts-some _ _ _ c.in-Some.ensures.cases

@@ -3,7 +3,7 @@ use Rattle.sched_book.specs.Offers.{unsent_in}
 use Rattle.sched_book.proofs.Offering.{offered_none}
 use Rattle.sched_book.proofs.offers.offer_unit.Goals as goal
 
--- the copy of the workunit found no memory, and nothing was offered yet
+-- there was no memory to copy the workunit, and nothing was offered yet
 pub returns-in_err-clone-clause-err : goal.returns-in_err-clone-clause-err
 returns-in_err-clone-clause-err g c =
     let book = c.args.book.now in

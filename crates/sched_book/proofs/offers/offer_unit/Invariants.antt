@@ -3,7 +3,7 @@ use Rattle.sched_book.specs.Offers.{unsent_in, Leads}
 use Rattle.sched_book.specs.declared.desk.Candidate.{Candidate}
 use Rattle.sched_book.proofs.offers.offer_unit.Given as goal
 
--- the offers so far lead to those of the instances which are left
+-- the offers so far lead to those of the instances that are left
 abbrev pub invariant-loop-number : goal.invariant-loop-number
 invariant-loop-number g l = record {
   unit : l.candidate.unit ≡ l.book.unit;

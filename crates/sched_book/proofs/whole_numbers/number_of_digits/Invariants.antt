@@ -2,7 +2,7 @@ use Rattle.std.proofs.Common.{◌≡◌, ◌<◌, ◌^◌, take}
 use Rattle.sched_book.specs.WholeNumbers.{number_of}
 use Rattle.sched_book.proofs.whole_numbers.number_of_digits.Given as goal
 
--- what the digits so far say, which is below 10 to their count
+-- the number that the digits so far denote, which is below 10 to the power of their count
 abbrev pub invariant-loop-digit : goal.invariant-loop-digit
 invariant-loop-digit l = record {
   said : l.number ≡ number_of (take l.digit-index l.digits);

@@ -5,7 +5,7 @@ use Rattle.sched_book.specs.Step.{job_at}
 use Rattle.sched_machine.specs.Granting.{AreRunBy}
 use Rattle.sched_machine.proofs.jobs.add_granted.Given as goal
 
--- what is said of the jobs so far, and of those which are left
+-- what is said of the jobs so far, and of those that are left
 abbrev pub invariant-loop-job : goal.invariant-loop-job
 invariant-loop-job g l = record {
   reads : g.S.Units.reads l.fn.sheet l.sheet;

@@ -3,7 +3,7 @@ use Rattle.std.specs.Prelude.{filter_map}
 use Rattle.sched_book.specs.Step.{job_at}
 use Rattle.sched_machine.proofs.jobs.resent_jobs.Given as goal
 
--- what is said of the jobs so far, and of those which are left
+-- what is said of the jobs so far, and of those that are left
 abbrev pub invariant-loop-place : goal.invariant-loop-place
 invariant-loop-place g l = record {
   reads : g.S.Units.reads l.fn.sheet l.sheet;

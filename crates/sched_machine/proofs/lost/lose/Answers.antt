@@ -12,7 +12,7 @@ use Rattle.sched_machine.proofs.Calls.Lost.{AreLost, fates_are, before_is, put_i
 use Rattle.sched_machine.proofs.lost.lose.Given
 use Rattle.sched_machine.proofs.lost.lose.Goals as goal
 
--- what the steps told, of the world that the call found and of those between
+-- what the steps say of the world that the call found, and of those in between
 lost : (g : Given.Over) (c : goal.After-drop-lost-inside-2 g) → g.S.Units.honest c.put_fates.new.sheet → g.S.Units.well_kept c.args.sheet.now
     → c.args.held.now ≡ held_by (g.S.Draft.entry c.args.sheet.now) c.args.call.now.number
     → AreLost (g.S.Draft.entry c.args.sheet.now) (g.S.Units.world c.args.sheet.now) (g.S.Units.world c.put_fates.new.sheet)

@@ -5,7 +5,7 @@ use Rattle.job_choice.specs.Chosen.{places_of}
 use Rattle.sched_machine.specs.Granting.{FitWithHost}
 use Rattle.sched_machine.proofs.owners.own_all.Given as goal
 
--- what the jobs make of the world which are left, and that the changes so far fit
+-- what the jobs that are left do to the world; and the changes so far fit
 abbrev pub invariant-loop-job : goal.invariant-loop-job
 invariant-loop-job g l = record {
   works : g.S.Draft.works l.fn.sheet l.sheet;

@@ -2,7 +2,7 @@ use Rattle.std.proofs.Common.{◌≡◌, ℕ, drop}
 use Rattle.sched_machine.specs.Granting.{with_classes, CanTake, FitWithHost}
 use Rattle.sched_machine.proofs.owners.take_classes.Given as goal
 
--- what the classes make of the world which are left, and that the changes so far fit
+-- what the classes that are left do to the world; and the changes so far fit
 abbrev pub invariant-loop-job : goal.invariant-loop-job
 invariant-loop-job g l = record {
   works : g.S.Draft.works l.fn.sheet l.sheet;

@@ -13,7 +13,7 @@ use Rattle.sched_machine.specs.Totals.{user_credits_in}
 use Rattle.sched_machine.proofs.reply.conclude.Given
 use Rattle.sched_machine.proofs.reply.conclude.Goals as goal
 
--- once the jobs are given the sheet is only read
+-- after the jobs are given, the sheet is only read
 read : (g : Given.Over) (c : goal.In_ok-add_granted g) → g.S.Units.reads c.give.new.sheet c.add_granted.new.sheet
 read g c =
     let u = g.met.S.Units in

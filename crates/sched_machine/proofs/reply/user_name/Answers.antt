@@ -14,7 +14,7 @@ returns-in-Some-clause-answer g c = λ honest kept caller.
     (sym c.in-Some.is ∙ c.in_ok-account_by_key.ensures.answer honest kept ∙ ap (account_by_key w) c.as_str.ensures)
     ∙ name_is w c.args.caller c.args.request.now caller.account
 
--- empty where none was
+-- empty if none was found
 pub returns-in_ok-copied-in-None-clause-answer : goal.returns-in_ok-copied-in-None-clause-answer
 returns-in_ok-copied-in-None-clause-answer g c = λ honest kept caller.
     let w = g.S.Draft.entry c.args.sheet.now in

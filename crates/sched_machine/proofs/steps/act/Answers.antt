@@ -13,13 +13,13 @@ use Rattle.sched_machine.proofs.Calls.Done.{call_is_step}
 use Rattle.sched_machine.proofs.steps.act.Given
 use Rattle.sched_machine.proofs.steps.act.Goals as goal
 
--- the desk as the sheet gave it back was honest
+-- the desk that the sheet returned was honest
 given_honest : (g : Given.Over) (c : goal.After-reply_of g) → g.D.Units.honest c.grant_jobs.new.desk → g.D.Units.honest c.prepare.new.sheet.desk.now
 given_honest g c honest =
     let same : c.prepare.new.sheet.desk.now ≡ c.desk-2-1.given.0 = search rules in
     subst g.D.Units.honest (sym same) (g.met.D.Units.stays_honest _ _ c.grant_jobs.ensures.reads honest)
 
--- what the two parts told, of the one world that they read
+-- what the two parts say of the one world that they read
 granted_by : (g : Given.Over) (c : goal.After-reply_of g) → g.D.Units.honest c.grant_jobs.new.desk → g.D.Units.well_kept c.args.desk.now
     → IsPageOf (g.D.Units.world c.args.desk.now) c.args.page.now → c.args.page.now.delta ≡ [] → Sound (g.D.Units.world c.args.desk.now)
     → IsAdmitted (g.D.Units.world c.args.desk.now) c.args.caller.now c.args.request.now

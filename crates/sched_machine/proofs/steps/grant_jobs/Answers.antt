@@ -11,7 +11,7 @@ use Rattle.sched_machine.proofs.Calls.Done.{granted_is}
 use Rattle.sched_machine.proofs.Calls.Choice.{choice_settled, choice_ends, jobs_run}
 use Rattle.sched_machine.proofs.steps.grant_jobs.Goals as goal
 
--- both calls read one world, and the sheet gave back its desk and its page as the grant left them
+-- both calls read one world, and the sheet returned its desk and its page as the grant left them
 pub returns-clause-step : goal.returns-clause-step
 returns-clause-step g c = λ honest kept page ready.
     let d = g.met.D.Units in

@@ -3,7 +3,7 @@ use Rattle.sched_book.specs.Places.{user_credit}
 use Rattle.sched_machine.specs.Totals.{user_credits_in}
 use Rattle.sched_machine.proofs.totals.user_total.Given as goal
 
--- the sum so far, and what the scores bring that are left
+-- the sum so far, and what the scores that are left bring
 abbrev pub invariant-loop-score : goal.invariant-loop-score
 invariant-loop-score g l = record {
   reads : g.S.Units.reads l.fn.sheet l.sheet;

@@ -1,4 +1,4 @@
--- A row whose key came by has that of a row before it, and another leaves each key once.
+-- A row whose key was seen has the key of a row before it. Any other row keeps each key once.
 use Rattle.std.proofs.Common.{◌≡◌, ◌<◌, length, take, sym, refl, ap, ◌∙◌, subst, AllPairs, arith}
 use Rattle.std.specs.Prelude.{◌||◌}
 use Rattle.std.proofs.lemmas.Bool.{false≢true}

@@ -1,4 +1,4 @@
--- `all` over the numbers below a count passes where the test holds of each of them.
+-- `all` over the numbers below a count passes if and only if the test holds for each of them.
 use Rattle.std.proofs.Common.{◌≡◌, ℕ, ◌+◌, ◌<◌, Bool, length, get_or, sym, refl, ap, ◌∙◌, arith, rules, tests}
 use Rattle.std.specs.Prelude.{◌↔◌, IsTrue}
 use Rattle.std.specs.List.{list_all, range_with_len}

@@ -1,4 +1,4 @@
--- An instance of a user who has one before it shows that the user has two, and another leaves one for each.
+-- If the user of an instance has one before it, some user has two. Otherwise each user still has at most one.
 use Rattle.std.proofs.Common.{◌≡◌, ◌<◌, length, take, sym, refl, ◌∙◌, subst, AllPairs, arith}
 use Rattle.std.proofs.lemmas.Bool.{false≢true}
 use Rattle.std.proofs.lemmas.List.{take_all}

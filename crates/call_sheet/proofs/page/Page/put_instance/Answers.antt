@@ -2,7 +2,7 @@ use Rattle.std.proofs.Common.{sym, ◌∙◌}
 use Rattle.call_sheet.proofs.Pages.{instance_put}
 use Rattle.call_sheet.proofs.page.Page.put_instance.Goals as goal
 
--- src/page.rt:102:5
+-- the page with the instance is a page of the same call
 pub returns-in-Ok-clause-page : goal.returns-in-Ok-clause-page
 returns-in-Ok-clause-page c w page =
     instance_put w c.args.self.now c.put_on_leaf.new.self c.args.place c.in_ok-pushed.pushed c.in_ok-put.put

@@ -5,7 +5,7 @@ use Rattle.sched_book.specs.Selections.{includes}
 use Rattle.sched_book.specs.declared.instance.UnitBook.{UnitBook}
 use Rattle.sched_book.proofs.selection.Selection.units.Given as goal
 
--- the workunits so far, and those among the ones which are left
+-- the workunits so far, and those among the ones that are left
 abbrev pub invariant-loop-index : goal.invariant-loop-index
 invariant-loop-index l =
     l.units ++ units_from (l.index + 1) (λ (b : UnitBook). list_any (includes l.world.hosts l.self) b.instances) (drop l.index l.book-items)
