@@ -22,7 +22,7 @@ some_digits (c ∷ cs) h = omega arith
 pub digits_read : {E : Type 0} (text : List ℕ) (r : Result ℕ E) → ParsesUnsigned 64 10 text r → are_digits text ≡ true → result_ok r ≡ number_in text
 digits_read text r h are = rw are (digits.digits_read 64 text r h (some_digits text are) (all_digits text are))
 
--- so few digits always fit
+-- a number of so few digits always fits
 pub short_number : (text : List ℕ) → length text ≤ 10 → number_in text ≡ length_in text
 short_number text short = by (are_digits text) refl
   where
