@@ -13,7 +13,7 @@ use Rattle.command_line.specs.declared.order.Order.TheVariants.{Create, Serve, I
 use Rattle.command_line.specs.declared.order.OrderFault.{OrderFault}
 use Rattle.command_line.specs.declared.order.OrderFault.TheVariants.{Refused, Help, Memory}
 
--- what is said goes to the next step, if it was said at all
+-- if something was said, the next step gets it
 infixl 10 ◌>>=◌
 abbrev pub ◌>>=◌ : {A B : Type 0} → Option A → (A → Option B) → Option B
 said >>= next = option_and_then next said

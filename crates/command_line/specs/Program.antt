@@ -17,7 +17,7 @@ wanted name = record (optional name) { required = true }
 abbrev pub command : Text → List Rule → App
 command name options = record (new_app name) { top = record (new_shape name) { rules = options } }
 
--- it is this command, and none of its options also holds for its subcommands
+-- it is this command, and its options do not hold for its subcommands
 pub record IsSubcommand (app : App) (c : Command) : Type 0 where
   pub is : app_of c ≡ app
   pub local : (out-Command c).has_globals ≡ false

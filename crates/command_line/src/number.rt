@@ -6,7 +6,7 @@ ghost use Rattle.std.specs.List.{list_all};
 ghost use Rattle.std.specs.Str.Parse.{digits_value};
 ghost use Rattle.command_line.specs.Numbers as spec;
 
-/// The number that a text says, a digit 1 to 9 followed by digits, if it is from 1 to `most`.
+/// The number in a text, which must be a digit 1 to 9 followed by digits, if it is at most `most`.
 pub(crate) fn number_up_to(most: u32, text: &str) -> Option<u32>
     ensures value { result ≡ spec.number_up_to most text.now }
     ensures range { IfSome result (λ n. n ≤ most) }

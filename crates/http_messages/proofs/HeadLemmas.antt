@@ -39,7 +39,7 @@ never_with_fields bytes over more h rest at =
     let few = at.has_room in
     absurd (omega (arith, many, few))
 
--- if there is room, no head was found and one may come
+-- if no head was found, there is room, and one may come, then the bytes await a head
 pub awaits : (bytes : List ℕ) → length bytes < head_limit → HasNoRequest (head_room bytes) → MayBecomeRequest (head_room bytes) → AwaitsHead bytes
 awaits bytes room none may =
     let same : head_room bytes ≡ bytes = take_all head_limit bytes (omega (arith, room)) in

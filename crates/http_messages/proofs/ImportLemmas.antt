@@ -1,4 +1,4 @@
--- What an import that bytes ask for may be: its batch has a word as its name, and its text is not too long.
+-- An import that bytes ask for has a word as the name of its batch, and a text that is not too long.
 use Rattle.std.proofs.Common.{◌≡◌, ℕ, zero, suc, ◌+◌, ◌≤◌, Bool, true, false, ◌&&◌, cond, List, [], ◌∷◌, length, map, take, drop, codes, Option, Some, None, Result, Ok, Err, refl, sym, subst, arith, inl, inr, IsTrue}
 use Rattle.std.specs.Prelude.{nat_le, nat_lt, nat_eq, not, position}
 use Rattle.std.specs.List.{starts_with}

@@ -1,4 +1,4 @@
--- What bytes mean once a head was read: they mean one thing, and sometimes no further bytes can change it.
+-- What bytes mean once a head was read: that they mean one thing, and when no further bytes can change it.
 use Rattle.std.proofs.Common.{◌≡◌, ℕ, ◌≤◌, ◌<◌, true, false, List, [], ◌++◌, length, map, refl, sym, ap, ◌∙◌, subst, arith, inl, inr, append-nil, length-append, rules, Option, Some, None}
 use Rattle.std.proofs.lemmas.Bool.Decides.{nat_tests}
 use Rattle.std.proofs.lemmas.List.{take-append-le}

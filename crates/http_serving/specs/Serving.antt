@@ -4,7 +4,7 @@ use Rattle.std.specs.Io.KnownBytes.{Consumes, IsAtEnd}
 use Rattle.http_responses.specs.Answers.{answer_bytes}
 use Rattle.http_responses.specs.declared.answer.Answer.TheVariants.{Unavailable}
 
--- Without the last read the bytes still awaited more.
+-- There are no bytes, or before the last read, of at most 4,096 bytes, they still awaited more.
 abbrev pub IsWanted : (wanting : List ℕ → Type 0) → List ℕ → Type 0
 IsWanted wanting bytes =
     (bytes ≡ []) ⊎ ((front : List ℕ) × (last : List ℕ) × (bytes ≡ front ++ last) × (length last ≤ 4096) × wanting front)

@@ -10,9 +10,9 @@ use std::fmt;
 /// Why one read gave nothing, or one write took nothing.
 #[derive(Clone, Copy, Debug, PartialEq, Eq)]
 pub enum StreamFault {
-    /// A signal interrupted it. Another call may succeed.
+    /// A signal interrupted the call. Another call may succeed.
     Interrupted,
-    /// It failed.
+    /// The call failed.
     Failed,
 }
 

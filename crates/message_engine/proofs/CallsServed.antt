@@ -1,4 +1,4 @@
--- A call over a store: what it is answered, and what acting on it does.
+-- A call over a store: its answer, and what acting on it does.
 use Rattle.std.proofs.Common.{◌≡◌, ℕ, ◌≤◌, ◌<◌, Bool, true, false, cond, List, length, Option, Some, None, Result, Ok, Err, refl, sym, ◌∙◌, ap, subst}
 use Rattle.std.specs.Prelude.{is_none, option_and_then, IfOk, OnOk}
 use Rattle.std.proofs.lemmas.Bool.{and_parts, lt-ltb, le-ltb}
@@ -53,7 +53,7 @@ number_named w c r named =
 abbrev room_for : World → Caller → Bool
 room_for w c = has_host_room w.settings.max_hosts c.host (length w.hosts)
 
--- a named caller is answered by its place among its host's kept calls, and by room
+-- the answer to a named caller follows from the place of its call among its host's kept calls, and from room
 told_named : (w : World) (c : Caller) (r : Request) (kept : List Kept) → IsNamed w c r
     → told_call w kept r ≡ told_beside (room_for w c) kept r.rpc_seqno (canonical_text r)
 told_named w c r kept named =
@@ -88,7 +88,7 @@ no_room : (max count : ℕ) (number : Option ℕ) → number ≡ None → max �
 no_room max count None none full = le-ltb count max full
 no_room max count (Some number) none full = absurd (none-some number (sym none))
 
--- if a call may act, only room decides what it is answered
+-- if a call may act, only room decides its answer
 told_acting : (held : Held) (c : Caller) (r : Request) → MayAct held c r → told_call held.world (calls_by_number held.world held.calls (key_of r)) r ≡ told_fresh (room_for held.world c)
 told_acting held c r may =
     told_named held.world c r (calls_by_number held.world held.calls (key_of r)) may.0

@@ -65,7 +65,7 @@ call_may_be_kept w after c r now reply text range step =
 
 -- ---- what is kept
 
--- what may be kept with a world may be kept with one that has its hosts
+-- what may be kept with a world may be kept with any world that still has its hosts
 kept_on : (w after : World) → ((host : ℕ) → IsTrue (is_some (host_at w host)) → IsTrue (is_some (host_at after host))) → (e : Entry) → MayBeKept w e → MayBeKept after e
 kept_on w after stay (entry.Kept host k) may = (stay host may.0, may.1)
 kept_on w after stay (entry.Batch kind name b) may = may

@@ -1,4 +1,4 @@
--- Words. What a call of an admitted caller is answered, and what it does. (This project's own.)
+-- Words. The answer to a call of an admitted caller, and what the call does. (This project's own.)
 use Rattle.std.specs.Prelude.{◌≡◌, ℕ, true, List, Option, None}
 use Rattle.rpc_records.specs.Replies.{reply_text_of}
 use Rattle.rpc_records.specs.Spelling.{canonical_text}
@@ -21,7 +21,7 @@ use Rattle.message_engine.specs.Stores.{ServesIn, IsServed}
 abbrev pub IsNamed : World → Caller → Request → Type 0
 IsNamed w c r = IsCaller w c r × (names_host r.hostid c.host ≡ true)
 
--- what a call of this number and text is answered without a step, by the kept calls of its caller, if there is room for its host
+-- the answer to a call of this number and text without a step, from the kept calls of its caller, if there is room for its host
 abbrev pub told_caller : Calls → Caller → ℕ → List ℕ → Option Answer
 told_caller calls c seqno text = told_beside true (kept_at calls c.host) seqno text
 

@@ -32,7 +32,7 @@ fn kept_reply(kept: &[Kept], place: usize) -> Result<Answer, Memory>
     Ok(Answer::Good(kept[place].reply.clone()?))
 }
 
-/// What a call of this number and canonical text is answered by the kept calls of its host; `None` if it is fresh.
+/// The answer to a call of this number and canonical text from the kept calls of its host; `None` if it is fresh.
 fn told_beside(kept: &[Kept], seqno: u32, text: &str) -> Result<Option<Answer>, Memory>
     ensures { IfOk result (λ told. told ≡ told_beside true kept.now seqno text.now) }
 {
@@ -59,7 +59,7 @@ fn kept_of<S: Store>(
     }
 }
 
-/// What a call of this caller, number and canonical text is answered by what is kept; `None` if it is fresh.
+/// The answer to a call of this caller, number and canonical text from what is kept; `None` if it is fresh.
 fn told_kept<S: Store>(
     alloc: Global,
     store: &mut S,

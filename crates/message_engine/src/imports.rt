@@ -43,7 +43,7 @@ fn read_rows(alloc: Global, kind: Kind, text: &[u8]) -> Result<Rows, RowsFault>
     }
 }
 
-/// What a kept batch is answered if its name comes again with these bytes.
+/// The answer to a kept batch whose name comes again with these bytes.
 fn told_again(kept: KeptBatch, text: &[u8]) -> Answer
     ensures { result ≡ (if bytes_eq kept.text text.now then answers.Good kept.answer else answers.Refusal fault.BatchReused) }
 {

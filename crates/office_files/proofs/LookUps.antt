@@ -1,4 +1,4 @@
--- A look-up finds a row just if some row passes its test.
+-- A look-up finds a row exactly if some row passes its test.
 use Rattle.std.proofs.Common.{◌≡◌, ℕ, ◌+◌, Bool, true, false, cond, List, [], ◌∷◌, length, Option, Some, None, refl, ap, ◌∙◌, add-one}
 use Rattle.std.specs.Prelude.{find, map, position, is_some, is_none, not, nat_lt, option_map, option_and_then, ◌||◌, ◌&&◌, ◌==◌}
 use Rattle.std.specs.List.{list_any, position_from, position_or_len}

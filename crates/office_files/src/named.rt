@@ -26,7 +26,7 @@ pub(crate) trait NamedRow: Keyed {
         ensures reads { D.reads desk.old desk.new }
         ensures answer { Trusted D.Units desk.old desk.new (IfOk result (λ known. known ≡ list_any (same self.now) (shelf (D.world desk.old)))) };
 
-    // Names are the same just if keys are.
+    // Names are the same exactly if keys are.
     ghost same_by_key: { (x y : Self) → same x y ≡ same_key (Self.key_of x) (Self.key_of y) };
 }
 

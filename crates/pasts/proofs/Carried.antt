@@ -69,7 +69,7 @@ new_tables_stand s t same =
 
 -- ---- one message
 
--- what a message is answered without a step, from the run that tables agree with
+-- the answer to a message without a step, from the run that tables agree with
 pub told_by_run : (t : Tables) (past : Past) (turns : List Turn) → StandsBy t past turns → (said : Said)
     → told_by t said ≡ told (world_of t.world.settings turns) (kept_of turns) (batch_of turns) said
 told_by_run t past turns by said = λ i. told (by.world i) (λ key. by.calls key i) (λ kind batch. by.batches kind batch i) said

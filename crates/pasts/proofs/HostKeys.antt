@@ -82,7 +82,7 @@ same_tests true b so back = sym (so refl)
 same_tests false true so back = back refl
 same_tests false false so back = refl
 
--- two keys are equal just if their account and name are
+-- two keys are equal exactly if their account and name are
 pub same_test : (shelf : Shelf) (key k : Key) (name : ℕ × List ℕ) (account : ℕ) → account_on shelf key.authenticator ≡ Some account
     → account_on shelf k.authenticator ≡ Some name.0 → name.1 ≡ k.host_cpid → same_key key k ≡ is_name account key.host_cpid name
 same_test shelf key k name account here there named =

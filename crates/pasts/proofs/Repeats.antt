@@ -1,5 +1,4 @@
--- What a message is answered that comes again: a call, compared with the kept ones of its key, and an import, compared with the newest of
--- its name.
+-- The answer to a message that comes again: to a call from the kept ones of its key, and to an import from the newest of its name.
 use Rattle.std.proofs.Common.{◌≡◌, ◌≢◌, ℕ, zero, suc, ◌+◌, ◌<◌, List, [], ◌∷◌, ◌++◌, length, take, Bool, true, false, cond, get_or, nat_lt, slice_get, refl, sym, ◌∙◌, ap, subst, inl, inr, arith}
 use Rattle.std.specs.Prelude.{◌&&◌, ◌||◌, ◌==◌, if◌then◌else◌, position, All, Contains, Option, Some, None, option_and_then, option_map, unwrap_or, is_some, Result, Ok, Err}
 use Rattle.std.specs.Option.{option_or}
@@ -336,7 +335,7 @@ found_nowhere shelf keys key (h ∷ hs) (k ∷ ks) seqno are apart zero d less =
 found_nowhere shelf keys key (h ∷ hs) (k ∷ ks) seqno are apart (suc i) d less =
     found_nowhere shelf keys key hs ks seqno are.2 (λ j g r there says. apart (suc j) g r there says) i d (omega (arith, less))
 
--- ---- what calls are answered, compared with the kept ones
+-- ---- the answers to calls, compared with the kept ones
 
 module _ (t : Tables) (shelf : Shelf) (keys : List Key) (key : Key) (rows : shelf_of t.world ≡ shelf)
     (host : host_of_key t.world key ≡ place_where (same_key key) keys) (h : Heard) (hs : List Heard) (k : Kept) (ks : List Kept)

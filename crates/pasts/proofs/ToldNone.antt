@@ -1,4 +1,4 @@
--- After the messages of a run, a message is first heard just if the run's world and what it kept have no answer for it.
+-- After the messages of a run, a message is first heard exactly if the run's world and what it kept have no answer for it.
 use Rattle.std.proofs.Common.{◌≡◌, ℕ, List, [], ◌∷◌, take, length, Bool, true, false, refl, sym, ◌∙◌, ap, nat_lt}
 use Rattle.std.specs.Prelude.{◌&&◌, ◌||◌, not, if◌then◌else◌, position, Option, Some, None, option_map, option_and_then, is_none, is_some, Ok, Err}
 use Rattle.std.specs.Str.{bytes_eq}
@@ -74,7 +74,7 @@ above_step s era Tick body older kept first above key seqno = above key seqno
 above_step s era (Read tells) body older kept first above key seqno = above key seqno
 above_step s era (Refused fault) body older kept first above key seqno = above key seqno
 
--- a number is above the first-heard calls of a key just if it is above the kept ones
+-- a number is above the first-heard calls of a key exactly if it is above the kept ones
 pub above_run : (s : Settings) (turns : List Turn) → IsRun s turns
     → (key : Key) (seqno : ℕ) → is_above key seqno (messages_of turns) ≡ is_above_all seqno (kept_of turns key)
 above_run s [] run = λ key seqno. refl

@@ -36,7 +36,7 @@ StandsCarriedByAll =
 
 -- ---- what agreeing with a past says
 
--- a message is first heard after the past just if the tables have no answer for it without a step
+-- a message is first heard after the past exactly if the tables have no answer for it without a step
 abbrev pub FirstHeardIsToldNothing : Type 0
 FirstHeardIsToldNothing =
     (t : Tables) (past : Past) → Stands t past → (said : Said)

@@ -1,5 +1,5 @@
--- Rule. What a step leaves as it was: the settings, the imported rows, and whose host each number is. (That workunits and hosts are told apart
--- by these is BOINC's; that nothing is ever deleted is this project's.)
+-- Rule. What a step leaves as it was: the settings, the imported rows, and whose host each number is. (That these distinguish workunits and
+-- hosts is BOINC's; that nothing is ever deleted is this project's.)
 use Rattle.std.specs.Prelude.{◌≡◌, ℕ, List, map, Option, option_and_then}
 use Rattle.reply_register.specs.declared.key.Key.{Key}
 use Rattle.sched_book.specs.Imports.{Shelf, shelf_of, with_rows}

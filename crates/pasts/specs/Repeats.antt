@@ -1,5 +1,5 @@
--- Rule. What a message is answered that comes again, or resembles one that came: from the past alone. (This profile's; that a lost reply is
--- asked for again is BOINC's.)
+-- Rule. The answer to a message that comes again, or resembles one that came. It follows from the past alone. (This profile's; that a lost
+-- reply is asked for again is BOINC's.)
 use Rattle.std.specs.Prelude.{◌≡◌, ◌≢◌, ℕ, ◌<◌, ◌≤◌, Bool, true, false, ◌&&◌, if◌then◌else◌, List, [], ◌∷◌, ◌++◌, take, Contains, Option, Some, None, Result}
 use Rattle.std.specs.List.{AllByRecursion}
 use Rattle.reply_register.specs.Keys.{same_key}
@@ -60,9 +60,9 @@ IsCallOf t key q = (key_of q ≡ key) × (names_host q.hostid (host_of_key t.wor
 abbrev pub IsHeardAs : List Heard → Heard → Request → Type 0
 IsHeardAs kept h r = Contains kept h × (h.message.said ≡ Rpc r)
 
--- What calls of a key are answered, with these kept calls, of which the last has this number. A repeat of a kept call gets the same answer.
--- Another text with its number is refused, and so is any other number below the last one. A greater number has no such answer, since it is
--- first heard.
+-- The answers to calls of a key that has these kept calls, the last with this number. A repeat of a kept call gets the same answer. Another
+-- text with its number is refused, and so is any other number below the last one. A greater number has no such answer, since it is first
+-- heard.
 pub record AreToldBeside (t : Tables) (key : Key) (kept : List Heard) (last : ℕ) : Type 0 where
   pub repeat : (h : Heard) (r : Request) → IsHeardAs kept h r → told_by t (Rpc r) ≡ Some h.answer
   pub reused : (h : Heard) (r q : Request) → IsHeardAs kept h r → IsCallOf t key q → q.rpc_seqno ≡ r.rpc_seqno
@@ -76,7 +76,7 @@ CallsAreToldBesideTheKept =
     (t : Tables) (past : Past) (h : Heard) (older : List Heard) (r : Request) → Stands t past
     → kept_calls t.world.settings (key_of r) past ≡ h ∷ older → h.message.said ≡ Rpc r → AreToldBeside t (key_of r) (h ∷ older) r.rpc_seqno
 
--- What an import is answered if its name was heard, with this answer. The same bytes get that answer again, and other bytes are refused.
+-- What follows if the name of an import was heard, with this answer: the same bytes get that answer again, and other bytes are refused.
 pub record IsBatchTold (t : Tables) (h : Heard) (kind : Kind) (batch text : List ℕ) : Type 0 where
   pub again : (read : Result Rows Fault) → told_by t (Import kind batch text read) ≡ Some h.answer
   pub reused : (other : List ℕ) (read : Result Rows Fault) → other ≢ text → told_by t (Import kind batch other read) ≡ Some (Refusal fault.BatchReused)

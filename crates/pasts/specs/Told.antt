@@ -48,7 +48,7 @@ abbrev pub told_account : World → List Kept → Request → Option ℕ → Opt
 told_account w kept r None = Some (Refusal fault.BadAccount)
 told_account w kept r (Some account) = told_number w kept r (known_host w account r.host.host_cpid)
 
--- what a call is answered without a step; the first of these that fails decides: account, number, place among the host's calls, room
+-- the answer to a call without a step; the first of these that fails decides: account, number, place among the host's calls, room
 abbrev pub told_call : World → List Kept → Request → Option Answer
 told_call w kept r = told_account w kept r (account_place w r.authenticator)
 

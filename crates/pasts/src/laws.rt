@@ -22,8 +22,8 @@ pub fn stands_is_carried_by_all()
     ensures { StandsCarriedByAll }
 {}
 
-/// A message is first heard after a past, which the messages alone decide, just if tables that agree with the past have
-/// no answer for it without a step.
+/// If tables agree with a past, they have no answer for a message without a step exactly if it is first heard after
+/// that past. Whether it is follows from the messages alone.
 pub fn first_heard_is_told_nothing()
     ensures { FirstHeardIsToldNothing }
 {}

@@ -34,7 +34,7 @@ level_both Less s = refl
 level_both Equal s = refl
 level_both Greater s = refl
 
--- keys compare as equal just if their texts are the same
+-- keys compare as equal exactly if their texts are the same
 pub eq_by_cmp-keys : (a b : Key) → eq_by_cmp key_cmp a b ≡ same_key a b
 eq_by_cmp-keys a b =
     level_both (slice_cmp nat_cmp a.authenticator b.authenticator) (slice_cmp nat_cmp a.host_cpid b.host_cpid)

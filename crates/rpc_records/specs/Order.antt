@@ -47,7 +47,7 @@ is_faulty d WorkReqSeconds = is_spoiled seconds_in (get (key_of WorkReqSeconds) 
 is_faulty d OtherResults = is_spoiled listed_in (get (key_of OtherResults) d)
 is_faulty d Results = is_spoiled reports_in (get (key_of Results) d)
 
--- The refusal, if a reading is one.
+-- The refusal, if a reading gives one.
 abbrev pub refusal_of : {A : Type 0} → Result A Fault → Option Fault
 refusal_of (Ok x) = None
 refusal_of (Err e) = Some e

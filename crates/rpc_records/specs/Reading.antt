@@ -63,7 +63,7 @@ request_at d = do
   })
 
 -- The value of a body: the one JSON text (RFC 8259) of its bytes, which are UTF-8, nested at most 127 deep. A name that occurs twice in one
--- object has its last value. A number too large for a float makes the whole text none.
+-- object has its last value. A text with a number too large for a float has no value.
 unfoldable pub json_of : List ℕ → Option Data
 json_of body = if is_utf8 body then read body else None
 

@@ -67,6 +67,6 @@ request_json r = object (
     member (codes "work_req_seconds") (whole r.asked)
     no_members)))))))))
 
--- The canonical text: two requests are equal just if theirs are.
+-- The canonical text: two requests are equal exactly if theirs are.
 unfoldable pub canonical_text : Request → List ℕ
 canonical_text r = compact_text (request_json r)

@@ -35,7 +35,7 @@ fn request_value(alloc: Global, request: &Request) -> Result<Value, Memory>
     Ok(Value::Object(members))
 }
 
-/// Puts who calls, and for which time.
+/// Puts who calls, and the number of the call.
 fn put_caller(
     members: &mut Map<String, Value>,
     alloc: Global,

@@ -1,4 +1,4 @@
--- A message of bytes: what it means is served, and the response is the one to the answer.
+-- A message of bytes: what it means is served, and the response is the one for the answer.
 use Rattle.std.proofs.Common.{◌≡◌, true, inl, inr, ℕ, List, refl, sym, ap, subst, true≢false}
 use Rattle.std.specs.Prelude.{Option, Some, None, Result, Ok, Err, is_ok, IfOk, OnErr}
 use Rattle.http_messages.specs.Deciding.{Asked}

@@ -34,8 +34,8 @@ abbrev pub answered : List Came → List Answered
 answered [] = []
 answered (c ∷ before) = with_answer c.arrival c.answer (answered before)
 
--- What was heard is what the bytes of an arrival mean, in its era and at its moment. The response is the one to the answer of the past. (An
--- operator's message has this key.)
+-- What was heard is what the bytes of an arrival mean, in its era and at its moment. The response is the one for the answer in the past.
+-- (An operator's message has this key.)
 pub record IsHeard (key : List ℕ) (a : Answered) (h : Heard) : Type 0 where
   pub asked : Asked
   pub means : Means key a.arrival.bytes asked

@@ -40,7 +40,7 @@ OwnersAreOfClassesOverMessages =
     (key : List ℕ) (old new : Held) (upgrade_points : List ℕ) (came before : List Came) → StandsFor key old upgrade_points before → (all : HandledInTurn key came old new)
     → (p : Place) (o : Owner) → owner_at new.world p ≡ Some o → HadOwner old.world p o ⊎ IsGivenAmong key came old new all new.world p o
 
--- Each owner in what is stored got its instance by a turn of the run that it agrees with.
+-- Each owner in the stored world got its instance by a turn of the run that the store agrees with.
 abbrev pub OwnersWereGiven : Type 0
 OwnersWereGiven =
     (key : List ℕ) (held : Held) (upgrade_points : List ℕ) (before : List Came) → (st : StandsFor key held upgrade_points before)

@@ -28,7 +28,7 @@ response_to allowed (tells.Good body) = good_response body
 response_to allowed (tells.Statement text) = statement_response text
 response_to allowed (tells.Refusal fault) = refusal_to allowed fault
 
--- The bytes of a message mean what it asks for. That says something to the scheduler, which is served. The response is the one to the
+-- The bytes of a message mean what it asks for. That says something to the scheduler, which is served. The response is the one for its
 -- answer.
 pub record Handles (key bytes : List ℕ) (now : ℕ) (r : Response) (old new : Held) : Type 0 where
   pub asked : Asked

@@ -101,7 +101,7 @@ pub fn credits_add_up()
     ensures { HoldsOfWhatStands CreditsAddUp }
 {}
 
-/// All credit together is at most 2 x 10^15 millicredits, so that of each host and each user is.
+/// All credit together is at most 2 x 10^15 millicredits. So is that of each host and each user.
 pub fn credit_is_bounded()
     ensures { HoldsOfWhatStands IsCreditBounded }
 {}
@@ -134,8 +134,8 @@ pub fn owners_are_of_classes_over_messages()
     ensures { OwnersAreOfClassesOverMessages }
 {}
 
-/// Each owner in what is stored got its instance by a call of its host, in the run that it agrees with. The version was
-/// of the class that the workunit keeps to.
+/// Each owner in the stored world got its instance by a call of its host, in the run that the store agrees with. The
+/// version was of the class that the workunit keeps to.
 pub fn owners_were_given()
     ensures { OwnersWereGiven }
 {}

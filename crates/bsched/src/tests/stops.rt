@@ -468,8 +468,8 @@ fn ended_by_a_fault(alloc: Global, ended: Failure, answer: &str) -> Result<bool,
     Ok(ended.status() == 2 && line.as_str() == "unavailable" && answer.starts_with("HTTP/1.1 503 "))
 }
 
-/// Serves over a log that fails after each of its calls in turn. Whether each end is by a fault, and there is at least
-/// one. (A log that fails before a commit's last byte leaves the store open: then serving continues.)
+/// Serves over a log that fails after each of its calls in turn. Whether serving ends only by faults, and does so at
+/// least once. (A log that fails before a commit's last byte leaves the store open: then serving continues.)
 fn ends_by_faults(rt: &HostRuntime) -> Result<bool, Fail> {
     let image = done_in(rt.alloc(), &empty(rt.alloc()), LASTING, Create)?;
     let arrivals = arrivals(rt.alloc())?;

@@ -1,4 +1,4 @@
--- All bytes are the same just if those so far are, and the others are.
+-- All bytes are the same exactly if those so far are, and the others are.
 use Rattle.std.proofs.Common.{◌≡◌, drop}
 use Rattle.std.specs.Prelude.{◌&&◌}
 use Rattle.std.specs.Str.{bytes_eq}
