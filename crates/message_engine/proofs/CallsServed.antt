@@ -191,7 +191,7 @@ module _ (old new : Held) (w : World) (world_is : old.world ≡ w) (c : Caller) 
   kept_serves (Ok answer) told commits = λ may.
       subst (λ x. ServesCall r now x old new) (sym told) (acts (λ may_be soundly. commits may_be) may)
 
-  -- a stop during the commit leaves the call served
+  -- if a stop leaves the commit whole, the call was served
   pub kept_ahead : IsKeptSoundly delta (entry_of_call r.rpc_seqno text reply) old new
       → MayAct old c r → IsCallServed r now old new
   kept_ahead commits may = (Good (reply_text_of reply), acts commits may)

@@ -36,7 +36,7 @@ left_same old new left = record {
 pub left_sound : (old new : Held) → IsLeft old new → IsSoundStore old → IsSoundStore new
 left_sound old new left = subst IsSoundStore (sym (left_is old new left))
 
--- and may be held by a store that can be opened again, if it could before
+-- and can be opened again if it could before
 pub left_stands : (old new : Held) → IsLeft old new → MayStand old → MayStand new
 left_stands old new left = subst MayStand (sym (left_is old new left))
 

@@ -116,7 +116,7 @@ module _ (now count : ℕ) (kind : Kind) (batch text : List ℕ) (new_rows : Row
       subst (λ a. ServesIn (import_of now kind batch text (Ok new_rows)) a old new) (sym is) (rows_serve (λ may_be soundly. done may_be) none unrefused)
   rows_done (Err e) is done = tt
 
-  -- a stop during the commit leaves the import served
+  -- if a stop leaves the commit whole, the import was served
   pub rows_ahead : IsKeptSoundly delta (entry_of_batch kind batch text count) old new
       → old.batches kind batch ≡ None → fault_of_rows (shelf_of old.world) new_rows ≡ None → IsServed (import_of now kind batch text (Ok new_rows)) old new
   rows_ahead done none unrefused = (Good (imported_text (kind_name kind) batch count), rows_serve done none unrefused)

@@ -98,7 +98,7 @@ batches_stand w (entry.Batch kind name b) batches may all = λ k n. cases k n (s
 batches_stand w (entry.Kept host k) batches may all = all
 batches_stand w entry.Nothing batches may all = all
 
--- What a step leaves, with what is kept of its message, may be held by a store that can be opened again.
+-- What a step leaves, with what is kept of its message, can be opened again if what it began with could.
 pub stands_with : (c : Call) (now : ℕ) (a : Answered) (delta : List Change) (e : Entry) (old new : Held) → Step old.world c now (applied old.world delta) a
     → Sound (applied old.world delta) → MayBeKept (applied old.world delta) e → IsCommitted delta e old new → MayStand old → MayStand new
 stands_with c now a delta e old new step sound may done stood =
@@ -111,7 +111,7 @@ stands_with c now a delta e old new step sound may done stood =
     } in
     subst MayStand (λ i. record { world = sym done.world_is i; calls = λ host. sym (done.calls_are host) i; batches = λ kind batch. sym (done.batches_are kind batch) i }) made
 
--- what a store may hold is sound, with calls kept only of its hosts
+-- what can be opened again is sound, with calls kept only of its hosts
 pub sound_where_stands : (held : Held) → MayStand held → IsSoundStore held
 sound_where_stands held stands = record { world = stands.sound; hosts = λ host beyond. none_kept host beyond (held.calls host) (stands.calls host) }
   where

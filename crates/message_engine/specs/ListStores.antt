@@ -41,6 +41,6 @@ stays_left_alone a b same = record {
   batches_are = λ kind batch. λ i. (held_of (sym same i)).batches kind batch;
 }
 
--- and what it holds may be held by a store that can be opened again, if what it held may
+-- and can be opened again if it could before
 pub stays_standing : (a b : ListStore) → a ≡ b → MayStand (held_of a) → MayStand (held_of b)
 stays_standing a b same stands = subst (λ s. MayStand (held_of s)) same stands

@@ -26,7 +26,8 @@ MayBeSaid Tick = Unit {0}
 MayBeSaid (Read tells) = Unit {0}
 MayBeSaid (Refused fault) = Unit {0}
 
--- What one message does to a sound store. The store stays sound. If it could be opened again, it still can be.
+-- What one message does to a sound store. The store stays sound. If what the message says may be kept, a store that could be opened again
+-- still can be.
 pub record ServesSoundly (m : Message) (answer : Answer) (old new : Held) : Type 0 where
   pub serves : Serves (tables_by old) m answer (tables_by new)
   pub sound : IsSoundStore new

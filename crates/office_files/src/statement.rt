@@ -12,7 +12,7 @@
 //! | `server_state` | 5 if the instance is over, by a report or a lapse, and else 4 |
 //! | `outcome` | 1 for a success, 3 for a client error; without a report 4 for a lapse, and else 0 |
 //! | `validate_state` | 1 for a valid result, 2 for an invalid one, 3 for a report that was not judged, and else 0 |
-//! | `credit` | the workunit's for a valid result, and else none, in credits of three places; in the last row that of all rows |
+//! | `credit` | the workunit's for a valid result, and else none, in credits of three places; in the last row the sum |
 
 ghost use Rattle.std.specs.Prelude.{◌≡◌, IfOk};
 ghost use Rattle.sched_book.specs.Trusted.{Trusted};

@@ -10,8 +10,9 @@ use texts::Memory;
 
 /// The records of a text of comma-separated values, with any number of fields each.
 ///
-/// `csv` can return several errors. A fault of its reader can't occur, since a slice never fails, though no contract says
-/// so. Records of bytes may have any length, so the only other error is a lack of memory. Each error is returned as that.
+/// `csv` can return several errors. A fault of its reader can't occur, since a slice never fails, though no contract
+/// says so. Records of bytes may have any length, so the only other error is a lack of memory. Each error is returned
+/// as that.
 pub(crate) fn records_of(alloc: Global, text: &[u8]) -> Result<Vec<ByteRecord>, Memory>
     ensures { IfOk result (λ records. AreRecordsOf text.now (map fields_of records.items)) }
 {

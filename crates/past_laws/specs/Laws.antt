@@ -63,7 +63,7 @@ abbrev pub IsSentAgainBySome : (old : Tables) (more : List Heard) (new : Tables)
 IsSentAgainBySome old [] new all p o = ⊥
 IsSentAgainBySome old (h ∷ more) new all p o = IsSentAgainBy old.world h.message p o ⊎ IsSentAgainBySome all.0 more new all.2 p o
 
--- through many messages, after any others, the deadline stays, or a call of its host among them has the instance sent again
+-- through many messages, from any tables, the deadline stays, or a call of its host among them has the instance sent again
 abbrev pub DeadlinesMoveByResendsOverMessages : Type 0
 DeadlinesMoveByResendsOverMessages =
     (old new : Tables) (more : List Heard) (all : ServesAll old more new) (p : Place) (o : Owner) → owner_at old.world p ≡ Some o

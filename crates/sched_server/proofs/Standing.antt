@@ -1,4 +1,4 @@
--- If what a store held before a message may be stored, so may what it holds after it.
+-- If what a store held before a message can be opened again, so can what it holds after the message.
 use Rattle.std.proofs.Common.{ℕ, List, Result, Ok, Err, subst, sym}
 use Rattle.http_messages.specs.Deciding.{Asked}
 use Rattle.http_messages.specs.Deciding as asks

@@ -35,7 +35,7 @@ ReadsStand {S} store =
     (old new : S) → store.reads old new → (key upgrade_points : List ℕ) (before : List Came) → StoreStandsFor store key upgrade_points before old
     → StoreStandsFor store key upgrade_points before new
 
--- a store that handled a message in this way agrees with the arrivals before and that message
+-- a store that acted on a message, and handled it, agrees with the arrivals before and that message
 abbrev pub HandledStands : {S : Type 0} → Parts S → Type 0
 HandledStands {S} store =
     (key bytes : List ℕ) (now : ℕ) (a : Answer) (old new : S) → Acts store (is_answered a) (IsHandled key bytes now (store.holds old)) old new

@@ -46,7 +46,7 @@ pub record Acts {S : Type 0} (store : Parts S) (good : Bool) (P : Held → Type 
   pub stays_kept : store.honest new → store.well_kept old → store.well_kept new
   -- A stop at any moment leaves what it could leave before. If the store was open and well kept, it may also leave what P says.
   pub left : (h : Held) → store.may_leave new h → store.may_leave old h ⊎ (store.honest old × (store.well_kept old → P h))
-  -- A store that could be opened again still can be, if a store may hold everything that P allows.
+  -- A store that could be opened again still can be, if everything that P allows can be opened again.
   pub reopens : store.reopens old → (store.honest old → store.well_kept old × ((h : Held) → P h → MayStand h)) → store.reopens new
 
 -- The call acts. If its answer is not good and the store is open, it changed nothing.

@@ -36,8 +36,8 @@ pub trait Store: Desk {
     /// is opened again.
     ghost may_leave: { Self → Held → Type 0 };
 
-    /// It can be opened again, as it is and as a stop may leave it now. What is then opened is a store's, and only the
-    /// disk or a lack of memory could prevent it.
+    /// It can be opened again, as it is and as a stop may leave it now. What it is then opened from is a store's, so
+    /// only the disk or a lack of memory could prevent it.
     ghost reopens: { Self → Type 0 };
 
     /// The kept calls of the host of this number, the last call first.
@@ -66,8 +66,8 @@ pub trait Store: Desk {
         ensures shut { clean self.new → result ≡ Ok false → ¬ Self.honest self.new };
 
     /// Makes these changes and keeps this entry, in one commit. If it is unavailable, neither is done, unless a fault
-    /// has shut the store. A stop at any moment leaves what it could leave before. If the store was open, it may also
-    /// leave both. A call must be the newest of its host: its number is above those of the kept ones.
+    /// has shut the store. A stop at any moment leaves what it could leave before or, if the store was open, both done.
+    /// A call must be the newest of its host: its number is above those of the kept ones.
     fn commit(&mut self, delta: &Delta, entry: &Entry) -> Result<(), Unavailable>
         ensures acts { ActsWhole (parts_of Self.Units holds clean lasting may_leave reopens) (is_ok result)
             (IsKeptSoundly delta.now entry.now (holds self.old)) self.old self.new }
@@ -94,7 +94,7 @@ pub trait Store: Desk {
     // A store that can be opened again still can be after a read.
     ghost stays_reopened: { (a b : Self) → Self.reads a b → (Self.honest a → Self.well_kept a) → reopens a → reopens b };
 
-    // A store that can be opened again holds what a store may hold.
+    // A store that can be opened again is sound, and everything that it keeps may be kept.
     ghost may_stand: { (a : Self) → Self.honest a → Self.well_kept a → reopens a → MayStand (holds a) };
 
     // With no open transaction, a stop leaves what is held: all that was committed, and nothing else.
