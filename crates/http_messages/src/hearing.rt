@@ -44,10 +44,10 @@ fn decide<'b>(
     }
 }
 
-/// Returns what the bytes that came so far mean, if `key` is the operator's, and how many more are needed at least
-/// before no further bytes can change that.
+/// Returns what the bytes that came so far mean, if `key` is the operator's. Also returns how many more are needed at
+/// least before no further bytes can change that.
 ///
-/// The checks come in this order, and the first that fails gives the refusal: the head, the route, the method, the
+/// The first check that fails gives the refusal. The checks come in this order: the head, the route, the method, the
 /// operator's key on its routes, the length of the body, and whether the body is whole. What a path names is checked
 /// with the route, except a host's number, which comes last.
 ///

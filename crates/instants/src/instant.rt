@@ -7,8 +7,8 @@ use jiff::Timestamp;
 use sched_book::Moment;
 use texts::utf8_text;
 
-/// Returns the moment of an instant of ISO 8601. It is `None` if the bytes are not UTF-8, if `jiff` reads no instant,
-/// if the instant is not on a whole second, or if it is no moment.
+/// Returns the moment of an instant of ISO 8601. It is `None` if the bytes are not UTF-8, or if `jiff` reads no
+/// instant. It is also `None` if the instant is not on a whole second, or is no moment.
 pub fn moment_of(text: &[u8]) -> Option<Moment>
     ensures { result ≡ spec.moment_of text.now }
 {

@@ -21,7 +21,7 @@ use Rattle.message_engine.specs.Stores.{ServesIn, IsServed}
 abbrev pub IsNamed : World → Caller → Request → Type 0
 IsNamed w c r = IsCaller w c r × (names_host r.hostid c.host ≡ true)
 
--- the answer to a call of this number and text without a step, from the kept calls of its caller, if there is room for its host
+-- The answer to a call of this number and text without a step. It follows from the kept calls of its caller, if there is room for its host.
 abbrev pub told_caller : Calls → Caller → ℕ → List ℕ → Option Answer
 told_caller calls c seqno text = told_beside true (kept_at calls c.host) seqno text
 

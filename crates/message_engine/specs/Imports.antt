@@ -18,8 +18,8 @@ use Rattle.pasts.specs.Messages.{Import, Message, heard_now}
 use Rattle.pasts.specs.declared.answer.Answer.{Answer}
 use Rattle.message_engine.specs.Stores.{ServesIn, IsServed}
 
--- how the records of a text are read as rows of a kind, by the formats of an era: before the second upgrade versions had no classes, and
--- workunits no marks
+-- How the records of a text are read as rows of a kind, by the formats of an era. Before the second upgrade versions had no classes, and
+-- workunits no marks.
 abbrev pub reading_in : ℕ → Kind → List Record → Result Rows RowsFault
 reading_in era Accounts = accounts_in
 reading_in era Apps = apps_in

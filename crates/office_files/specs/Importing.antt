@@ -132,8 +132,8 @@ abbrev pub rows_under : {X : Type 0} → (ℕ → Record → Result X RowsFault)
 rows_under reads header records None = rows_from (row_of reads (length header)) 1 records
 rows_under reads header records (Some column) = Err (BadCsv 0 column)
 
--- the rows of an import with such headers: the number of fields of the first record decides which header it has, and each row must have as
--- many
+-- The rows of an import with such headers. The number of fields of the first record decides which header it has, and each row must have as
+-- many.
 abbrev pub rows_in : {X : Type 0} → (ℕ → Record → Result X RowsFault) → (ℕ → Record) → List Record → Result (List X) RowsFault
 rows_in reads header [] = Err (BadCsv 0 0)
 rows_in reads header (fields ∷ records) = rows_under reads (header (length fields)) records (header_fault (header (length fields)) fields)

@@ -143,8 +143,8 @@ fn has_room<D: Desk>(desk: &mut D, rows: &Rows) -> Result<bool, Unavailable>
 
 /// Checks the rows of an import against the rows that exist.
 ///
-/// It first looks through all rows for a name that exists or was seen before ([`RowsFault::DuplicateName`]), and then
-/// for an application that does not exist ([`RowsFault::UnknownReference`]). Then no table may get too many rows
+/// It first looks through all rows for a name that exists or was seen before ([`RowsFault::DuplicateName`]). Then it
+/// looks for an application that does not exist ([`RowsFault::UnknownReference`]). Then no table may get too many rows
 /// ([`RowsFault::TableFull`]). The fault names the first such row. [`RowsFault::Unavailable`] means that there is no
 /// memory, or that the desk is unavailable.
 pub fn check_rows<D: Desk>(alloc: Global, desk: &mut D, rows: &Rows) -> Result<(), RowsFault>

@@ -1,4 +1,4 @@
--- Rule. The owners of instances, in tables that agree with a past and through messages: each got its instance by a call of its host, with a
+-- Rule. The owners of instances, in tables that agree with a past and through messages. Each got its instance by a call of its host, with a
 -- version of the class that the workunit keeps to. (This project's own.)
 use Rattle.std.specs.Prelude.{◌≡◌, ◌⊎◌, List, [], ◌∷◌, Some}
 use Rattle.rpc_records.specs.declared.request.Request.{Request}
@@ -39,8 +39,8 @@ abbrev pub IsGivenBySome : (old : Tables) (more : List Heard) (new : Tables) →
 IsGivenBySome old [] new all later p o = ⊥
 IsGivenBySome old (h ∷ more) new all later p o = IsGivenByMessage old.world later h.message p o ⊎ IsGivenBySome all.0 more new all.2 later p o
 
--- if a host owns an instance after many messages, it owned it before them, or one of them gives it; the class is read in the world at the
--- end
+-- If a host owns an instance after many messages, it owned it before them, or one of them gives it. The class is read in the world at the
+-- end.
 abbrev pub OwnersAreOfClassesOverMessages : Type 0
 OwnersAreOfClassesOverMessages =
     (old new : Tables) (more : List Heard) (all : ServesAll old more new) → HaveStood old → (p : Place) (o : Owner)

@@ -67,8 +67,8 @@ pub fn one_for_each_user()
     ensures { HoldsWhereTablesStand OneForEachUser }
 {}
 
-/// If a first-heard call lists what its client has, and lost jobs are sent again, its host then holds just these: what
-/// it held, lists and did not report, and what the reply names.
+/// Suppose that a first-heard call lists what its client has, and that lost jobs are sent again. Then its host holds
+/// just what it held, lists and did not report, and what the reply names.
 pub fn no_held_job_drops_from_sight()
     ensures { NoHeldJobDropsFromSight }
 {}

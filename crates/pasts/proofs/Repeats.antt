@@ -1,4 +1,4 @@
--- The answer to a message that comes again: to a call from the kept ones of its key, and to an import from the newest of its name.
+-- The answer to a message that comes again. For a call it follows from the kept ones of its key, for an import from the newest of its name.
 use Rattle.std.proofs.Common.{◌≡◌, ◌≢◌, ℕ, zero, suc, ◌+◌, ◌<◌, List, [], ◌∷◌, ◌++◌, length, take, Bool, true, false, cond, get_or, nat_lt, slice_get, refl, sym, ◌∙◌, ap, subst, inl, inr, arith}
 use Rattle.std.specs.Prelude.{◌&&◌, ◌||◌, ◌==◌, if◌then◌else◌, position, All, Contains, Option, Some, None, option_and_then, option_map, unwrap_or, is_some, Result, Ok, Err}
 use Rattle.std.specs.Option.{option_or}

@@ -38,8 +38,8 @@ abbrev pub keys_of : List Message → List Key
 keys_of [] = []
 keys_of (m ∷ older) = keys_said m.said (keys_of older)
 
--- whether there is room for the host of a call: it has a number, or there are fewer hosts than the settings allow; this decides the HasRoom
--- of a step
+-- Whether there is room for the host of a call: it has a number, or there are fewer hosts than the settings allow. This decides the HasRoom
+-- of a step.
 abbrev pub has_host_room : ℕ → Option ℕ → ℕ → Bool
 has_host_room max_hosts number count = is_some number || nat_lt count max_hosts
 
@@ -70,9 +70,9 @@ abbrev pub is_first_call : Settings → Request → Option ℕ → Option ℕ �
 is_first_call s request account number above count =
     is_some account && names_host request.hostid number && above && has_host_room s.max_hosts number count
 
--- Whether a message is first heard after these first-heard messages. A call must be of an existing account, name no wrong host, have a
--- number above the earlier ones of its key, and have room for its host. An import must have a new name and good rows, and its rows no fault
--- with those that exist. A tick always is.
+-- Whether a message is first heard after these first-heard messages. A call must be of an existing account, and name its host's number or
+-- none. Its number must be above the earlier ones of its key, and there must be room for its host. An import must have a new name and good
+-- rows, and its rows no fault with those that exist. A tick always is.
 abbrev pub is_first_heard : Settings → List Message → Said → Bool
 is_first_heard s older (Rpc request) =
     is_first_call s request (account_on (rows_of older) request.authenticator) (place_where (same_key (key_of request)) (keys_of older))

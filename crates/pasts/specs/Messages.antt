@@ -10,8 +10,8 @@ use Rattle.stores.specs.Eras.{this_era}
 use Rattle.pasts.specs.declared.answer.Answer.{Answer}
 use Rattle.stores.specs.declared.kind.Kind.{Kind}
 
--- What a message can be: a call of a host; an import with its bytes, and the rows that they say or their first fault; a tick; a read of
--- what is stored; or a message that is refused for its bytes alone.
+-- What a message can be. It is a call of a host; an import with its bytes, and the rows that they say or their first fault; a tick; a read
+-- of what is stored. Or it is refused for its bytes alone.
 pub data Said : Type 0 where
   Rpc : (request : Request) → Said
   Import : (kind : Kind) (batch text : List ℕ) (read : Result Rows Fault) → Said

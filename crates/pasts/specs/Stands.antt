@@ -1,5 +1,5 @@
--- Promise. What it means that tables agree with a past, and with the one run of the machine over its first-heard messages; and what one
--- message does to tables. (This project's own.)
+-- Promise. What it means that tables agree with a past, and with the one run of the machine over its first-heard messages. What one message
+-- does to tables. (This project's own.)
 use Rattle.std.specs.Prelude.{◌≡◌, ◌⊎◌, ℕ, true, false, List, [], ◌∷◌, map, Option, Some, None}
 use Rattle.reply_register.specs.declared.kept.Kept.{Kept}
 use Rattle.reply_register.specs.declared.key.Key.{Key}
@@ -66,7 +66,7 @@ Answers s (h ∷ past) turns =
     ((first ≡ true) × (turn : Turn) × (older : List Turn) × (turns ≡ turn ∷ older) × Acts s h turn older × Answers s past older)
     ⊎ ((first ≡ false) × (told (world_of s turns) (kept_of turns) (batch_of turns) h.message.said ≡ Some h.answer) × Answers s past turns)
 
--- Tables agree with a past, with a run that answers it: their world is the one that the run leaves, and for each key and batch they keep
+-- Tables agree with a past, with a run that answers it. Their world is the one that the run leaves, and for each key and batch they keep
 -- what it kept.
 pub record StandsBy (t : Tables) (past : Past) (turns : List Turn) : Type 0 where
   pub answers : Answers t.world.settings past turns

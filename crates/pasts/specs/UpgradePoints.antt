@@ -14,7 +14,7 @@ abbrev pub AreOfEras : List ℕ → Past → Type 0
 AreOfEras upgrade_points [] = Unit {0}
 AreOfEras upgrade_points (h ∷ past) = (h.message.era ≡ era_at upgrade_points (length past)) × AreOfEras upgrade_points past
 
--- A past is in an era, with its upgrade points: there were as many upgrades, none later than its last message, and each message is of the era of its
+-- A past is in an era, with its upgrade points. There were as many upgrades, none later than its last message. Each message is of the era of its
 -- place.
 pub record IsInEra (era : ℕ) (upgrade_points : List ℕ) (past : Past) : Type 0 where
   pub upgrades : length upgrade_points ≡ era
@@ -41,8 +41,8 @@ abbrev pub NewTablesHaveOneEra : Type 0
 NewTablesHaveOneEra =
     (era : ℕ) (past : Past) → IsInEra era (new_upgrade_points era) past → AllByRecursion (λ h. h.message.era ≡ era) past
 
--- What is kept of a key, if no upgrade point is earlier than the first upgrade's: its latest four calls, counted from its last call before that point
--- on. With the upgrade points of new tables there is no call before it.
+-- What is kept of a key, if no upgrade point is earlier than the first upgrade's. It is its latest four calls, counted from its last call before that
+-- point on. With the upgrade points of new tables there is no call before it.
 abbrev pub KeptSinceTheFirstUpgrade : Type 0
 KeptSinceTheFirstUpgrade =
     (s : Settings) (key : Key) (era upgrade_point : ℕ) (upgrade_points : List ℕ) (newer older : Past)

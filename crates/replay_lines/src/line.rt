@@ -22,9 +22,9 @@ pub struct Line {
 }
 
 /// Reads a line of a replay, `INSTANT WORD BODY` without its line feed; `None` if the line does not have that form. The
-/// words are `account`, whose body is a word; `import/KIND/BATCH`, whose body is a JSON string; `scheduler`, whose body
-/// is a request's bytes, or none if it is left out; and `tick` and `hosts/ID`, which have no body. An operator's
-/// message has the key.
+/// words are `account`, whose body is a word; `import/KIND/BATCH`, whose body is a JSON string; and `scheduler`, whose
+/// body is a request's bytes, or none if it is left out. `tick` and `hosts/ID` have no body. An operator's message has
+/// the key.
 pub fn line_of(alloc: Global, key: &str, text: &[u8]) -> Result<Option<Line>, Memory>
     ensures { IfOk result (λ line. line ≡ spec.line_of key.now text.now) }
 {

@@ -29,8 +29,8 @@ abbrev pub DoFall : List Kept → Type 0
 DoFall [] = Unit {0}
 DoFall (k ∷ kept) = (is_above_all k.seqno kept ≡ true) × DoFall kept
 
--- If kept calls have falling numbers and another is above all of them, then at most four are kept, again with falling numbers: the new one
--- and the latest three.
+-- Suppose that kept calls have falling numbers, and that another is above all of them. Then at most four are kept, again with falling
+-- numbers: the new one and the latest three.
 abbrev pub KeepsTheLatest : Type 0
 KeepsTheLatest =
     (kept : Kept) (older calls : List Kept) → DoFall older → length older ≤ most_kept → is_above_all kept.seqno older ≡ true

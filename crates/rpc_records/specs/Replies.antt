@@ -1,4 +1,4 @@
--- Rule. The texts of the answers to a scheduler call: compact JSON as serde_json writes it, with the members of each object in byte order of
+-- Rule. The texts of the answers to a scheduler call: compact JSON as serde_json writes it. The members of each object are in byte order of
 -- their names. If BOINC's scheduler RPC protocol has a member of a reply, it has BOINC's name. The refusals are this profile's.
 use Rattle.std.specs.Prelude.{ℕ, List, [], ◌∷◌, codes}
 use Rattle.serde_json.specs.Data.{Data, string, boolean, object, member, no_members}

@@ -50,8 +50,8 @@ Tells key (a ∷ before) (h ∷ past) = IsHeard key a h × Tells key before past
 Tells key [] (h ∷ past) = ⊥
 Tells key (a ∷ before) [] = ⊥
 
--- What a store of an era holds agrees with the arrivals, with these upgrade points: it agrees with a past of them that is in that era, and
--- it is sound. The operator's key is that of its settings.
+-- What a store of an era holds agrees with the arrivals, with these upgrade points. There is a past of them that is in that era, and with
+-- which it agrees. It is sound. The operator's key is that of its settings.
 pub record StandsIn (era : ℕ) (key : List ℕ) (held : Held) (upgrade_points : List ℕ) (before : List Came) : Type 0 where
   pub past : Past
   pub tells : Tells key (answered before) past

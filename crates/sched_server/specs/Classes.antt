@@ -1,4 +1,4 @@
--- Rule. Who owns the instances before and after messages of bytes: each owner got its instance by a call of its host, with a version of the
+-- Rule. Who owns the instances before and after messages of bytes. Each owner got its instance by a call of its host, with a version of the
 -- class that the workunit keeps to. Arrivals are listed with the newest first. (This project's own.)
 use Rattle.std.specs.Prelude.{◌≡◌, ◌⊎◌, ℕ, List, [], ◌∷◌, Some}
 use Rattle.http_responses.specs.declared.answer.Answer.{Answer}

@@ -53,7 +53,7 @@ module _ {S : Type 0} (store : Parts S) (old mid : S)
   pub said_on : (P : Held → Type 0) → store.honest mid → store.well_kept old → P (store.holds mid) → P (store.holds old)
   said_on P honest kept = subst P (left_is (store.holds old) (store.holds mid) (stays_held honest kept))
 
-  -- A call that acts after the read acts on what was held before it: what Q says of what was held at mid, P says of what was held before.
+  -- A call that acts after the read acts on what was held before it. What Q says of what was held at mid, P says of what was held before.
   pub acts_on : (good : Bool) (Q : Held → Held → Type 0) (P : Held → Type 0) (new : S)
       → (store.honest mid → store.well_kept old → (h : Held) → Q (store.holds old) h → P h)
       → ActsWhole store good (Q (store.holds mid)) mid new → ActsWhole store good P old new

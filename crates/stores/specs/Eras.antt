@@ -6,8 +6,8 @@ abbrev pub era_at : List ℕ → ℕ → ℕ
 era_at [] answered = 0
 era_at (upgrade_point ∷ upgrade_points) answered = if nat_le upgrade_point answered then suc (era_at upgrade_points answered) else era_at upgrade_points answered
 
--- the era of this program, whose tables were upgraded twice: from the schema that kept only the last call of a host, and from the one whose
--- versions had no classes
+-- The era of this program. Its tables were upgraded twice: from the schema that kept only the last call of a host, and from the one whose
+-- versions had no classes.
 abbrev pub this_era : ℕ
 this_era = 2
 

@@ -17,11 +17,11 @@ use texts::{Listed, Memory};
 
 /// A desk that keeps calls with their replies, and imports with their answers.
 ///
-/// Its answer about a kept call or a kept import counts as a desk's does: if the store is honest after the call and was
-/// well kept before it. Such a call changes nothing. A store is honest if it is clean and open. It is *clean* while its
-/// disk returns what was written; every promise assumes that. It is *open* until a fault of the disk shuts it, which
-/// may happen on any disk. No answer assumes that a store is open: [`Store::is_open`] and a good [`Store::commit`] show
-/// it.
+/// Its answer about a kept call or a kept import counts as a desk's does. The store must be honest after the call, and
+/// must have been well kept before it. Such a call changes nothing. A store is honest if it is clean and open. It is
+/// *clean* while its disk returns what was written; every promise assumes that. It is *open* until a fault of the disk
+/// shuts it, which may happen on any disk. No answer assumes that a store is open: [`Store::is_open`] and a good
+/// [`Store::commit`] show it.
 pub trait Store: Desk {
     /// What it holds, while it is open.
     ghost holds: { Self → Held };

@@ -327,8 +327,8 @@ fn a_message_that_is_not_read_whole_never_was(rt: HostRuntime) -> Result<(), Fai
     Ok(())
 }
 
-/// Whether an answer whose writer fails, at first before its first byte and then after each of its bytes in turn, ends
-/// as a fault of the writer. In between the whole answer must come again.
+/// Whether an answer whose writer fails ends as a fault of the writer. The writer fails before the first byte, and then
+/// after each byte in turn. In between the whole answer must come again.
 fn fronts_come_again<S: Store>(
     alloc: Global,
     service: &mut Service<S>,

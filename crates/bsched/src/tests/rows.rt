@@ -30,7 +30,7 @@ pub fn lines_of(alloc: Global, row: &str) -> Result<String, Fail> {
     behind(alloc, row, "> ")
 }
 
-/// The name of the first row that does not hold, if there may be so many hosts: after the project's imports each line
+/// The name of the first row that does not hold, if there may be so many hosts. After the project's imports each line
 /// must get its answer.
 pub fn first_wrong(
     alloc: Global,

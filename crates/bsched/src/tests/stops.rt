@@ -366,8 +366,8 @@ fn ran_over(
 /// The most calls after which a file is made to stop.
 pub const MOST_CALLS: u64 = 100_000;
 
-/// How many stops of the log, or of the database file, there were, if everything went on as without a stop after each
-/// one; none if it did not.
+/// How many stops of the log, or of the database file, there were, if after each one everything went on as without a
+/// stop. If not, none.
 fn stops_survived(alloc: Global, in_log: bool) -> Result<Option<u64>, Fail> {
     let image = done_in(alloc, &empty(alloc), LASTING, Create)?;
     let arrivals = arrivals(alloc)?;

@@ -22,8 +22,8 @@ pub const WORKUNITS: &str =
 const REPORT: &str =
     "1970-01-01T00:33:20Z scheduler {\"authenticator\":\"k1\",\"rpc_seqno\":2,\"host_info\":{\"host_cpid\":\"c1\",\"p_fpops\":1000,\"m_nbytes\":8000,\"d_free\":9000},\"platform_name\":\"linux\",\"other_results\":[\"w2_0\"],\"results\":[{\"name\":\"w1_0\",\"exit_status\":0,\"output\":\"42\"}]}\n";
 
-/// The lines of a short life: the project, a call that gets a job of each workunit, a report that makes a quorum, the
-/// same call again, an older one, and a tick. At the end one instance is held, one waits, and one is valid.
+/// The lines of a short life: the project, a call that gets a job of each workunit, a report that makes a quorum. Then
+/// come the same call again, an older one, and a tick. At the end one instance is held, one waits, and one is valid.
 fn lines(alloc: Global) -> Result<String, Fail> {
     Ok(format!(in alloc;
         "{PROJECT}{WORKUNITS}{CALL_START},\"work_req_seconds\":7200}}\n{REPORT}{REPORT}{CALL_START}}}\n1970-01-01T00:50:00Z tick\n"
@@ -233,8 +233,8 @@ fn answers_on(rt: &HostRuntime, path: &str, lines: &str) -> Result<bool, Fail> {
     )
 }
 
-/// The lines of a life in which a workunit takes a class, and a host that lost its job comes back with a version of
-/// another class.
+/// The lines of a life in which a workunit takes a class. A host that lost its job comes back with a version of another
+/// class.
 fn lines_of_a_class(alloc: Global) -> Result<String, Fail> {
     let row = classes::ROWS.split(NEXT).nth(2).unwrap_or("");
     Ok(format!(in alloc; "{PROJECT}{}", lines_of(alloc, row)?)?)

@@ -378,7 +378,7 @@ fn schema_left(alloc: Global, left: &Image, rows: &str) -> Result<Option<u32>, F
 }
 
 /// The numbers of the schemas that were left whole when the log, or the database file, stopped at each call of an
-/// upgrade in turn; none if one stop left no schema whole.
+/// upgrade in turn. None if one stop left no schema whole.
 fn schemas_left(alloc: Global, in_log: bool) -> Result<Option<Vec<u32>>, Fail> {
     let image = done_in(alloc, &empty(alloc), LASTING, MakeFirst)?;
     let (_, whole) = done_in(alloc, &image, LASTING, Upgrade)?;
