@@ -131,8 +131,8 @@ fn answers_in_project(
     Ok(ended == Ended::Good && printed.as_slice() == output.as_bytes())
 }
 
-/// The name of the first row that does not hold, if there may be so many hosts. A row does not hold either if a message
-/// gets another answer when it is sent again.
+/// The name of the first row that does not hold, if there may be so many hosts. If all hold, that of the first in which
+/// a message gets another answer when it is sent again.
 fn first_wrong_twice(
     alloc: Global,
     max_hosts: u32,
