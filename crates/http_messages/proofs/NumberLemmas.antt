@@ -18,7 +18,7 @@ some_digits : (text : List ℕ) → are_digits text ≡ true → 0 < length text
 some_digits [] h = cc
 some_digits (c ∷ cs) h = omega arith
 
--- what std reads of digits
+-- what std reads from digits
 pub digits_read : {E : Type 0} (text : List ℕ) (r : Result ℕ E) → ParsesUnsigned 64 10 text r → are_digits text ≡ true → result_ok r ≡ number_in text
 digits_read text r h are = rw are (digits.digits_read 64 text r h (some_digits text are) (all_digits text are))
 

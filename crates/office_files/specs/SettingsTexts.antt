@@ -1,4 +1,4 @@
--- Rule. The settings of a project as a TOML text. The keys are this profile's; what a text is as a table is TOML's.
+-- Rule. The settings of a project as a TOML text. The keys are this profile's; how a text is read as a table is TOML's.
 use Rattle.std.specs.Prelude.{◌≡◌, ◌≤◌, ℕ, ℤ, pos, Bool, ◌||◌, List, length, codes, Option, Some, option_and_then, IsSome, IsTrue}
 use Rattle.std.specs.Str.{bytes_eq}
 use Rattle.toml.specs.Data.{Members, get_member, as_integer, as_str, as_bool}

@@ -48,7 +48,7 @@ sent_of (Some owner) = owner.sent
 abbrev pub credit_by : Option Verdict → Workunit → ℕ
 credit_by v unit = if is_valid v then unit.credit else 0
 
--- what a line says of an instance, by the verdict on it
+-- what a line says of an instance with this verdict
 abbrev pub line_by : Option Verdict → Workunit → ℕ → Instance → Line
 line_by v unit number x = record {
   result = instance_name unit.name number;

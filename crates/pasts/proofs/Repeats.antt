@@ -44,7 +44,7 @@ use Rattle.pasts.proofs.ToldNone.{above_run, call_rises}
 
 -- ---- down a past, to the newest first-heard message that passes
 
--- what holds where that message acted, and is kept by later ones that do not pass, holds of the run
+-- what holds once that message acted, and is kept by later ones that do not pass, holds of the run
 module _ (s : Settings) (passes : Said → Bool) (h : Heard) (K : List Turn → List Message → Type 0)
     (here : (turn : Turn) (older : List Turn) (heard : List Message) → is_first_heard s heard h.message.said ≡ true → passes h.message.said ≡ true
     → Acts s h turn older → K (turn ∷ older) (h.message ∷ heard))

@@ -1,4 +1,4 @@
-//! Laws of the register, which do no work.
+//! Laws of the register. Each function does nothing; its contract is the law.
 ghost use Rattle.reply_register.specs.Calls.{GreatestIsGreatest};
 ghost use Rattle.reply_register.specs.Keeping.{KeepsTheLatest};
 ghost use Rattle.reply_register.specs.Keys.{KeepsAtOneKey, KeepsOtherKeys};

@@ -22,7 +22,7 @@ pub only : {A E : Type 0} (result : Result A E) (a : A) (Q : A → Type 0) → I
 only (Ok answer) a Q is says = subst Q (sym is) says
 only (Err e) a Q is says = tt
 
--- ---- by the test for good answers
+-- ---- from the test for good answers
 
 pub on_ok : {A E : Type 0} (r : Result A E) (P : Type 0) → OnOk r P → is_ok r ≡ true → P
 on_ok (Ok x) P holds good = holds

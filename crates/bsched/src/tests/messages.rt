@@ -1,4 +1,4 @@
-//! Messages of HTTP by their bytes, streams that stop in the middle, a socket, and the words of a command line.
+//! Messages of HTTP as bytes, streams that stop in the middle, a socket, and the words of a command line.
 
 use super::{Broken, CALL_START, PROJECT, REPLY, new_store, replayed_by, service_over};
 use command_line::{Order, OrderFault, order_of};

@@ -13,7 +13,7 @@ use sched_book::{Agreement, Desk, Instance, Place, Unavailable, Verdict, Workuni
 use std::alloc::Global;
 use texts::{Listed, Memory};
 
-/// The line of the instance of this number, by the verdict on it.
+/// The line of the instance of this number, with this verdict.
 fn line_by(
     alloc: Global,
     verdict: Option<Verdict>,
